@@ -1,0 +1,10 @@
+pub mod IdTextLemmas
+pub mod Lookups
+pub mod Names
+pub mod Prefixes
+pub mod Repeats
+pub mod Rising
+pub mod SameSorted
+pub mod UriGrammar
+pub mod UriParts
+pub mod Weights

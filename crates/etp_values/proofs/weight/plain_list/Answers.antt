@@ -1,0 +1,6 @@
+use Rattle.std.proofs.Common.{arith}
+use Rattle.etp_values.proofs.Weights.{weigh-plain}
+use Rattle.etp_values.proofs.weight.plain_list.Goals as goal
+
+pub returns : goal.returns
+returns g c = omega (arith, weigh-plain c.args.items.now)

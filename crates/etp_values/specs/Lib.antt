@@ -1,0 +1,11 @@
+pub mod Code
+pub mod Entries
+pub mod Id
+pub mod Laws
+pub mod Named
+pub mod Weight
+pub mod formers
+pub mod Gives
+pub mod IdText
+pub mod SameUri
+pub mod Uri

@@ -1,0 +1,56 @@
+-- Which URIs a derived comparison finds the same, for tables whose keys are URIs.
+use Rattle.std.specs.Prelude.{ℕ, Bool, true, false, List, ◌≡◌, ◌&&◌, nat_eq, Option, Some, None, refl}
+use Rattle.std.proofs.Common.{ap}
+use Rattle.std.proofs.lemmas.Bool.{false≢true}
+use Rattle.std.proofs.lemmas.Slice.Eq.{bytes_eq-Decides}
+use Rattle.std.specs.Cmp.{IsEquivalence, and_equiv, on_equiv}
+use Rattle.std.specs.Cmp.Lexicographic.{nat_list_eq_equiv, options_equiv}
+use Rattle.std.specs.Str.{bytes_eq}
+use Rattle.std.specs.Option.{option_eq}
+use Rattle.etp_values.specs.declared.uri.ObjectName.{ObjectName}
+use Rattle.etp_values.specs.declared.uri.StoreUri.{StoreUri}
+
+abbrev pub same_name : ObjectName → ObjectName → Bool
+same_name a b = bytes_eq a.domain b.domain && bytes_eq a.name b.name && bytes_eq a.id b.id
+
+abbrev pub same_uri : StoreUri → StoreUri → Bool
+same_uri u v = bytes_eq u.space v.space && option_eq same_name u.object v.object
+
+-- ---- they are equivalences
+
+pub same_name-equiv : IsEquivalence same_name
+same_name-equiv = and_equiv (and_equiv (on_equiv (λ n. n.domain) nat_list_eq_equiv) (on_equiv (λ n. n.name) nat_list_eq_equiv)) (on_equiv (λ n. n.id) nat_list_eq_equiv)
+
+pub same_uri-equiv : IsEquivalence same_uri
+same_uri-equiv = and_equiv (on_equiv (λ u. u.space) nat_list_eq_equiv) (on_equiv (λ u. u.object) (options_equiv same_name-equiv))
+
+-- ---- what is the same is equal
+
+text_is : (x y : List ℕ) → bytes_eq x y ≡ true → x ≡ y
+text_is x y h = (bytes_eq-Decides x y).0 h
+
+both : (a b : Bool) → (a && b) ≡ true → (a ≡ true) × (b ≡ true)
+both true b h = (refl, h)
+both false b h = absurd (false≢true h)
+
+pub same_name-is : (a b : ObjectName) → same_name a b ≡ true → a ≡ b
+same_name-is a b h =
+    let names = both (bytes_eq a.domain b.domain && bytes_eq a.name b.name) (bytes_eq a.id b.id) h in
+    let front = both (bytes_eq a.domain b.domain) (bytes_eq a.name b.name) names.0 in
+    let domain = text_is a.domain b.domain front.0 in
+    let name = text_is a.name b.name front.1 in
+    let id = text_is a.id b.id names.1 in
+    (λ j. record { domain = domain j; name = name j; id = id j })
+
+object_is : (a b : Option ObjectName) → option_eq same_name a b ≡ true → a ≡ b
+object_is None None h = refl
+object_is None (Some b) h = absurd (false≢true h)
+object_is (Some a) None h = absurd (false≢true h)
+object_is (Some a) (Some b) h = ap Some (same_name-is a b h)
+
+pub same_uri-is : (u v : StoreUri) → same_uri u v ≡ true → u ≡ v
+same_uri-is u v h =
+    let parts = both (bytes_eq u.space v.space) (option_eq same_name u.object v.object) h in
+    let space = text_is u.space v.space parts.0 in
+    let object = object_is u.object v.object parts.1 in
+    (λ j. record { space = space j; object = object j })

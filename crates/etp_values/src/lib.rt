@@ -1,0 +1,47 @@
+//! The values that messages and the store are made of.
+//!
+//! [`Text`], [`Blob`], [`List`] and [`Named`] are `String`, `Bytes`, `Vec` and a sorted `Vec` of pairs that contracts see
+//! as what they hold: the bytes, the items, the names with their values. So a contract compares two records of any
+//! depth by `≡`, and no record needs a second type for specifications.
+//!
+//! [`StoreUri`] names a dataspace or an object in one, and is read from exactly the texts of its grammar. [`Id16`] is an
+//! identifier, [`DataValue`] a value of any kind, [`Point`] one at an index, and [`ErrorCode`] why a request is refused.
+#![tactic(auto)]
+
+mod bits;
+mod blob;
+mod code;
+mod copied;
+mod data;
+mod id;
+mod id_text;
+mod laws;
+mod list;
+mod memory;
+mod named;
+mod point;
+mod same;
+#[cfg(test)]
+mod tests;
+mod text;
+mod uri;
+mod weight;
+
+pub use bits::{Bits32, Bits64};
+pub use blob::Blob;
+pub use code::ErrorCode;
+pub use copied::Copied;
+pub use data::{AnyArray, AnySubarray, DataValue};
+pub use id::Id16;
+pub use id_text::ID_TEXT_LEN;
+pub use laws::{lookup_laws, prefix_laws};
+pub use list::List;
+pub use memory::NoMemory;
+pub use named::Named;
+pub use point::{ChannelPoint, Point};
+pub use text::Text;
+pub use uri::{
+    MAX_PATH_LEN, MAX_URI_LEN, ObjectName, StoreUri, UriError, id_texts, is_type_filter,
+    uri_equality, uri_texts,
+};
+pub use weight::custom_weight;

@@ -1,0 +1,124 @@
+//! The URIs of dataspaces and of objects in them.
+//!
+//! A dataspace is `eml:///` (the default one) or `eml:///dataspace('PATH')`. An object is `eml:///DOMAIN.TYPE(ID)` or
+//! `eml:///dataspace('PATH')/DOMAIN.TYPE(ID)`. A quote in a path is doubled, there are no percent escapes, and the
+//! identifier is in its hyphenated form. One value has one canonical text, in which the identifier is in lower case.
+ghost use Rattle.std.specs.Prelude.{◌≡◌, ◌↔◌, IfOk, Ok, IsTrue};
+ghost use Rattle.etp_values.specs.Gives.{Gives};
+ghost use Rattle.etp_values.specs.SameUri.{same_uri};
+ghost use Rattle.etp_values.specs.Uri.{IsUri, plain_uri, uri_of};
+
+use crate::copied::Copied;
+use crate::id::Id16;
+use crate::memory::NoMemory;
+use crate::text::Text;
+use crate::uri::reading::{after, agreeing, read_body};
+use crate::uri::writing::{put_object, put_space};
+use std::alloc::Global;
+
+mod laws;
+mod reading;
+#[cfg(test)]
+mod tests;
+mod writing;
+
+pub use laws::{id_texts, uri_equality, uri_texts};
+pub use reading::is_type_filter;
+
+/// The greatest number of bytes of a URI's text.
+pub const MAX_URI_LEN: usize = 2_048;
+
+/// The greatest number of bytes of a dataspace's path, counted before quotes are doubled.
+pub const MAX_PATH_LEN: usize = 256;
+
+/// What names an object in its dataspace: `DOMAIN.NAME(ID)`. The domain is lower-case letters and then two digits, the
+/// name a letter and then letters, digits and underscores.
+#[derive(Debug, Drop, PartialEq, Eq, PartialOrd, Ord, Hash)]
+pub struct ObjectName {
+    pub domain: Text,
+    pub name: Text,
+    pub id: Id16,
+}
+
+/// A dataspace by its path, or an object in it. The default dataspace has the empty path.
+#[derive(Debug, Drop, PartialEq, Eq, PartialOrd, Ord, Hash)]
+pub struct StoreUri {
+    pub space: Text,
+    pub object: Option<ObjectName>,
+}
+
+/// Why a text is no URI, with the place of the first byte of what is refused.
+#[derive(Clone, Copy, Debug, PartialEq, Eq)]
+pub enum UriError {
+    /// The text has more than 2,048 bytes.
+    TooLong,
+    /// It does not begin with `eml:///`: the first byte that differs, or the end of a shorter text.
+    Prefix(usize),
+    /// What begins with `dataspace(` is no dataspace: quotes are missing or single, or the path has no byte or more than
+    /// 256.
+    Space(usize),
+    /// An object was to follow, and no domain, dot, type name and parenthesis stand there.
+    TypeName(usize),
+    /// No hyphenated identifier and closing parenthesis follow the object's type.
+    Uuid(usize),
+    /// More follows a form that had ended.
+    Rest(usize),
+    /// Memory was refused.
+    NoMemory,
+}
+
+impl StoreUri {
+    /// The URI of a text, or the first reason from the left why the text is none.
+    pub fn read(alloc: Global, text: &str) -> Result<StoreUri, UriError>
+        ensures said { Gives UriError.NoMemory result (uri_of text.now) }
+        ensures form { IfOk result IsUri }
+    {
+        if text.len() > MAX_URI_LEN {
+            return Err(UriError::TooLong);
+        }
+        match after(text, "eml:///") {
+            Some(body) => read_body(alloc, text.len(), body),
+            None => Err(UriError::Prefix(agreeing(b"eml:///", text.as_bytes()))),
+        }
+    }
+
+    /// The canonical text.
+    pub fn write(&self, alloc: Global) -> Result<Text, NoMemory>
+        ensures { IfOk result (λ text. text ≡ plain_uri self.now) }
+    {
+        let mut out = String::new(alloc);
+        put_space(&mut out, self.space.as_str())?;
+        if let Some(name) = &self.object {
+            put_object(&mut out, self.space.as_str(), name)?;
+        }
+        Ok(Text::from_string(out))
+    }
+
+    /// Whether two URIs are equal. Those of two texts are equal where the canonical texts are.
+    pub fn same(&self, other: &StoreUri) -> bool
+        ensures test { result ≡ same_uri self.now other.now }
+        ensures value { IsTrue result ↔ (self.now ≡ other.now) }
+        ensures texts { IsUri self.now → IsUri other.now → (IsTrue result ↔ (plain_uri self.now ≡ plain_uri other.now)) }
+    {
+        *self == *other
+    }
+}
+
+impl Copied for ObjectName {
+    fn copy(&self, alloc: Global) -> Result<ObjectName, NoMemory> {
+        Ok(ObjectName {
+            domain: self.domain.copy(alloc)?,
+            name: self.name.copy(alloc)?,
+            id: self.id,
+        })
+    }
+}
+
+impl Copied for StoreUri {
+    fn copy(&self, alloc: Global) -> Result<StoreUri, NoMemory> {
+        Ok(StoreUri {
+            space: self.space.copy(alloc)?,
+            object: self.object.copy(alloc)?,
+        })
+    }
+}
