@@ -1,0 +1,13 @@
+-- The calls of an object in memory.
+use Rattle.std.specs.Prelude.{ℕ, Bool, true, false, ◌==◌, if◌then◌else◌}
+use Rattle.std.specs.List.{list_any}
+use Rattle.etp_outside.specs.Faults.{next_count}
+use Rattle.etp_outside.specs.declared.script.Script.{Script}
+
+-- whether the next call has a number that is listed
+abbrev pub fails_next : Script → Bool
+fails_next s = list_any (λ n. n == next_count s.made) s.fails
+
+-- after one more call, which failed or not
+abbrev pub after_call : Script → Bool → Script
+after_call s failed = record { fails = s.fails; made = next_count s.made; faults = (if failed then next_count s.faults else s.faults) }

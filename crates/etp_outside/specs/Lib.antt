@@ -1,0 +1,13 @@
+pub mod Faults
+pub mod Told
+pub mod Source
+pub mod Sink
+pub mod Host
+pub mod Whole
+pub mod Calls
+pub mod Input
+pub mod Output
+pub mod Folder
+pub mod Memory
+pub mod Decimal
+pub mod Status
