@@ -1,0 +1,6 @@
+pub mod FoundLemmas
+pub mod MagicLemmas
+pub mod WriterLemmas
+pub mod HeadLemmas
+pub mod CaptureLemmas
+pub mod AnswerLemmas

@@ -1,0 +1,28 @@
+use Rattle.std.proofs.Common.{rules, arith, ◌≡◌, ◌≤◌, ◌<◌, ◌++◌, ◌+◌, List, [], ◌∷◌, ℕ, take, drop, sym, ◌-◌, min, ◌∙◌, length-take-le, length, length-append, length-drop}
+use lib.Seq.{take-append-le}
+use Rattle.etp_outside.proofs.ToldLemmas.{told_weaker}
+use Rattle.etp_capture.specs.Reader.{HeadOf}
+use Rattle.etp_capture.proofs.FoundLemmas.{head_ok, head_err}
+use Rattle.etp_capture.proofs.reader.read_head.Goals as goal
+
+abbrev zeros : List ℕ
+zeros = 0 ∷ 0 ∷ 0 ∷ 0 ∷ 0 ∷ 0 ∷ 0 ∷ 0 ∷ 0 ∷ 0 ∷ 0 ∷ 0 ∷ 0 ∷ 0 ∷ 0 ∷ 0 ∷ 0 ∷ []
+
+pub returns-in-Ok-clause-bytes : goal.returns-in-Ok-clause-bytes
+returns-in-Ok-clause-bytes g c =
+    let buf = c.read_up.new.buf in
+    let size : length buf ≡ c.min-want.result = c.read_up.auto.buf ∙ length-take-le c.min-want.result zeros (omega arith) in
+    let got = c.in-Some.got in
+    let h = c.in-Some.ensures.bytes in
+    let same = take-append-le got buf (drop c.min-want.result zeros) h.0 in
+    let long : length (buf ++ drop c.min-want.result zeros) ≡ 17 = simp (length-append, length-drop) (omega arith) in
+    told_weaker _ _ _ _ (λ xs ys e. head_ok c.args.at got _ buf xs ys c.in-Ok.ensures.fits.0 long (sym same) e.0 (c.in-Ok.ensures.bytes ys (λ within short. e.1 (omega arith)))) h.1
+
+pub returns-in-Err-clause-bytes : goal.returns-in-Err-clause-bytes
+returns-in-Err-clause-bytes g c =
+    let buf = c.read_up.new.buf in
+    let size : length buf ≡ c.min-want.result = c.read_up.auto.buf ∙ length-take-le c.min-want.result zeros (omega arith) in
+    let got = c.in-Some.got in
+    let h = c.in-Some.ensures.bytes in
+    let same = take-append-le got buf (drop c.min-want.result zeros) h.0 in
+    told_weaker _ _ _ _ (λ xs ys e. head_err c.in-Err.e c.args.at got _ buf xs ys (sym same) e.0 (c.in-Err.ensures.bytes ys (λ within short. e.1 (omega arith)))) h.1

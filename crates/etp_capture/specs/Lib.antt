@@ -1,0 +1,6 @@
+pub mod Frames
+pub mod Found
+pub mod Reader
+pub mod Writer
+pub mod Capture
+pub mod Laws

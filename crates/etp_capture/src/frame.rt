@@ -1,0 +1,68 @@
+//! One frame of a capture, and its bytes.
+ghost use Rattle.std.specs.Prelude.{◌≡◌, ◌++◌, OnOk};
+ghost use Rattle.std.specs.Int.{to_be_bytes, cast_unsigned, w64};
+ghost use Rattle.etp_capture.specs.Frames.{head_bytes, frame_bytes, magic};
+
+use etp_values::{Blob, NoMemory};
+
+/// A frame of a capture.
+#[derive(Debug, Drop)]
+pub struct Frame {
+    /// What the frame is: 1, 2, 3, 17 or 19.
+    pub kind: u8,
+    /// The session that it belongs to, by a number of the capture's own.
+    pub tag: u32,
+    /// When it happened, in microseconds since 1970-01-01 UTC.
+    pub moment: i64,
+    /// The payload.
+    pub bytes: Blob,
+}
+
+/// Appends the eight bytes that a capture begins with. After an error nothing is said of what was appended.
+pub fn push_magic(into: &mut Vec<u8>) -> Result<(), NoMemory>
+    ensures { OnOk result (into.new.items ≡ into.old.items ++ magic) }
+{
+    into.extend_from_slice(b"ETPCAP01")?;
+    Ok(())
+}
+
+/// Appends the bytes of a frame. Of a payload of 2^32 bytes or more the stated length is what is left modulo 2^32. After
+/// an error nothing is said of what was appended.
+pub fn push_frame(into: &mut Vec<u8>, frame: &Frame) -> Result<(), NoMemory>
+    ensures { OnOk result (into.new.items ≡ into.old.items ++ frame_bytes frame.now) }
+{
+    let bytes = frame.bytes.as_bytes();
+    push_head(
+        into,
+        frame.kind,
+        frame.tag,
+        frame.moment,
+        bytes.len() as u64,
+    )?;
+    into.extend_from_slice(bytes)?;
+    Ok(())
+}
+
+/// Appends the 17 bytes that a frame begins with.
+pub(crate) fn push_head(
+    into: &mut Vec<u8>,
+    kind: u8,
+    tag: u32,
+    moment: i64,
+    length: u64,
+) -> Result<(), NoMemory>
+    ensures { OnOk result (into.new.items ≡ into.old.items ++ head_bytes kind tag moment length) }
+{
+    into.push(kind)?;
+    into.extend_from_slice(&tag.to_be_bytes())?;
+    into.extend_from_slice(&moment_bytes(moment))?;
+    let stated = (length % (1 << 32)) as u32;
+    into.extend_from_slice(&stated.to_be_bytes())?;
+    Ok(())
+}
+
+fn moment_bytes(moment: i64) -> [u8; 8]
+    ensures { result ≡ to_be_bytes w64 (cast_unsigned w64 moment) }
+{
+    moment.to_be_bytes()
+}
