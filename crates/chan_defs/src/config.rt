@@ -1,0 +1,59 @@
+//! A server's configuration.
+use etp_values::{Copied, Id16, List, NoMemory, StoreUri, Text};
+use std::alloc::Global;
+
+/// What a channel's values are.
+#[derive(Clone, Copy, Debug, PartialEq, Eq)]
+pub enum ValueKind {
+    Boolean,
+    Int,
+    Long,
+    Float,
+    Double,
+    String,
+    Bytes,
+}
+
+/// A channel: the object that it is, its name, what its values are, and their unit of measure.
+#[derive(Debug, Drop)]
+pub struct ChannelDef {
+    pub uri: StoreUri,
+    pub name: Text,
+    pub kind: ValueKind,
+    pub uom: Text,
+}
+
+/// A server's configuration. `types` is none where objects of all types are accepted.
+#[derive(Debug, Drop)]
+pub struct Config {
+    pub instance: Id16,
+    pub name: Text,
+    pub lag: u64,
+    pub journal: u64,
+    pub types: Option<List<Text>>,
+    pub channels: List<ChannelDef>,
+}
+
+impl Copied for ChannelDef {
+    fn copy(&self, alloc: Global) -> Result<ChannelDef, NoMemory> {
+        Ok(ChannelDef {
+            uri: self.uri.copy(alloc)?,
+            name: self.name.copy(alloc)?,
+            kind: self.kind,
+            uom: self.uom.copy(alloc)?,
+        })
+    }
+}
+
+impl Copied for Config {
+    fn copy(&self, alloc: Global) -> Result<Config, NoMemory> {
+        Ok(Config {
+            instance: self.instance,
+            name: self.name.copy(alloc)?,
+            lag: self.lag,
+            journal: self.journal,
+            types: self.types.copy(alloc)?,
+            channels: self.channels.copy(alloc)?,
+        })
+    }
+}

@@ -1,0 +1,57 @@
+//! Why a configuration is refused.
+ghost use Rattle.std.specs.Prelude.{◌≡◌};
+
+use etp_values::NoMemory;
+use std::alloc::{AllocError, AllocFailed};
+
+/// The first reason, in the order of the variants' tests: the whole file, the keys of the server by their numbers, and then
+/// each channel, of which the first has the number 1.
+#[derive(Clone, Copy, Debug, PartialEq, Eq)]
+pub enum DefsError {
+    /// The file has more than 1,048,576 bytes.
+    TooLong,
+    /// The file is no TOML 1.1 document.
+    Toml,
+    /// A key is missing or not in its form. The channel is 0 for the keys of the server.
+    Key { channel: u64, key: u8 },
+    /// There are more than 4,096 channels.
+    TooMany,
+    /// The URI is no object's.
+    Uri { channel: u64 },
+    /// The kind is none of the seven.
+    Kind { channel: u64 },
+    /// An earlier channel has the URI.
+    DoubleUri { channel: u64 },
+    /// Memory was refused.
+    NoMemory,
+}
+
+impl From<NoMemory> for DefsError {
+    ghost use Rattle.chan_defs.specs.declared.error.DefsError.{DefsError};
+
+    ghost from_gives = { λ _ e. e ≡ DefsError.NoMemory };
+
+    fn from(_error: NoMemory) -> DefsError {
+        DefsError::NoMemory
+    }
+}
+
+impl From<AllocError> for DefsError {
+    ghost use Rattle.chan_defs.specs.declared.error.DefsError.{DefsError};
+
+    ghost from_gives = { λ _ e. e ≡ DefsError.NoMemory };
+
+    fn from(_error: AllocError) -> DefsError {
+        DefsError::NoMemory
+    }
+}
+
+impl<T: Drop> From<AllocFailed<T>> for DefsError {
+    ghost use Rattle.chan_defs.specs.declared.error.DefsError.{DefsError};
+
+    ghost from_gives = { λ _ e. e ≡ DefsError.NoMemory };
+
+    fn from(_error: AllocFailed<T>) -> DefsError {
+        DefsError::NoMemory
+    }
+}
