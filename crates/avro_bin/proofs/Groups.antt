@@ -1,0 +1,67 @@
+use Rattle.std.proofs.Common.{◌≡◌, ℕ, zero, suc, ◌+◌, ◌-◌, ◌*◌, ◌/◌, ◌%◌, ◌<◌, ◌≤◌, Bool, true, false, List, [], ◌∷◌, Result, Ok, Err, ltb, cond, length, get_or, take, drop, refl, sym, ap, arith, ◌⊎◌, inl, inr}
+use Rattle.std.proofs.lemmas.Bool.{ltb-true, le-ltb}
+use Rattle.std.proofs.lemmas.List.{take_all}
+use Rattle.avro_bin.specs.declared.fault.Why.{Why}
+use Rattle.avro_bin.specs.declared.fault.Why.TheVariants as why
+use Rattle.avro_bin.specs.Number.{top, shortest}
+use Rattle.avro_bin.specs.Reading.{groups_at, more_groups}
+
+-- which way a test went
+pub chosen : {A : Type 0} (b : Bool) (x y z : A) → cond b x y ≡ z → ((b ≡ true) × (x ≡ z)) ⊎ ((b ≡ false) × (y ≡ z))
+chosen true x y z e = inl (refl, e)
+chosen false x y z e = inr (refl, e)
+
+-- a result, at the type that readings have
+abbrev pub done : {A E : Type 0} → A → Result A E
+done x = Ok x
+
+pub ok_is : {A E : Type 0} (x y : A) → done {E = E} x ≡ done y → x ≡ y
+ok_is x y e = cc
+
+pub ok_pair : {A B E : Type 0} (a c : A) (b d : B) → done {A = A × B} {E = E} (a, b) ≡ done (c, d) → (a ≡ c) × (b ≡ d)
+ok_pair {A} {B} a c b d e = (ap (λ (p : A × B). p.0) (ok_is (a, b) (c, d) e), ap (λ (p : A × B). p.1) (ok_is (a, b) (c, d) e))
+
+abbrev pub Groups : Type 0
+Groups = Result (ℕ × List ℕ) Why
+
+pub more_ok : (b : ℕ) (r : Groups) (z : ℕ) (rest : List ℕ) → more_groups b r ≡ Ok (z, rest) → (high : ℕ) × (r ≡ Ok (high, rest)) × (z ≡ b % 128 + 128 * high)
+more_ok b (Ok x) z rest e = let p = ok_pair {E = Why} (b % 128 + 128 * x.0) z x.1 rest e in (x.0, ap (λ (r : List ℕ). Ok (x.0, r)) p.1, sym p.0)
+more_ok b (Err w) z rest e = absurd cc
+
+pub top_some : (k : ℕ) → 0 < top k
+top_some zero = omega arith
+top_some (suc zero) = omega arith
+top_some (suc (suc k)) = omega (arith, top_some (suc k))
+
+-- what k groups make is below the top
+pub groups_small : (k : ℕ) (bytes : List ℕ) (z : ℕ) (rest : List ℕ) → groups_at k bytes ≡ Ok (z, rest) → z < top k
+groups_small zero bytes z rest e = absurd cc
+groups_small (suc k) [] z rest e = absurd cc
+groups_small (suc zero) (b ∷ bytes) z rest e =
+    elim (chosen (ltb b 2) (Ok (b, bytes)) (Err why.Number) (Ok (z, rest)) e) [
+      | inl h ↦ let lt : b < 2 = ltb-true _ _ h.0 in let p = ok_pair {E = Why} b z bytes rest h.1 in omega arith
+      | inr h ↦ absurd (let bad : Err why.Number ≡ done (z, rest) = h.1 in cc)
+    ]
+groups_small (suc (suc k)) (b ∷ bytes) z rest e =
+    elim (chosen (ltb b 128) (Ok (b, bytes)) (more_groups b (groups_at (suc k) bytes)) (Ok (z, rest)) e) [
+      | inl h ↦ let lt : b < 128 = ltb-true _ _ h.0 in let p = ok_pair {E = Why} b z bytes rest h.1 in omega (arith, top_some (suc k))
+      | inr h ↦
+          let m = more_ok b (groups_at (suc k) bytes) z rest h.1 in
+          omega (arith, groups_small (suc k) bytes m.0 rest m.1, m.2)
+    ]
+
+pub shortest_more : (k z : ℕ) → 0 < k → 128 ≤ z → shortest k z ≡ (z % 128 + 128) ∷ shortest (k - 1) (z / 128)
+shortest_more zero z h le = absurd (omega arith)
+shortest_more (suc k) z h le =
+    let e : k ≡ suc k - 1 = omega arith in
+    rw (le-ltb z 128 le) (ap (λ (j : ℕ). (z % 128 + 128) ∷ shortest j (z / 128)) e)
+
+-- a byte that isn't the last
+pub groups_more : (k : ℕ) (bytes : List ℕ) → 1 < k → 1 ≤ length bytes → 128 ≤ get_or bytes 0 0 → groups_at k bytes ≡ more_groups (get_or bytes 0 0) (groups_at (k - 1) (take (length bytes - 1) (drop 1 bytes)))
+groups_more zero bytes h len le = absurd (omega arith)
+groups_more (suc zero) bytes h len le = absurd (omega arith)
+groups_more (suc (suc k)) [] h len le = absurd (omega arith)
+groups_more (suc (suc k)) (b ∷ bytes) h len le =
+    let e : suc k ≡ suc (suc k) - 1 = omega arith in
+    let r : bytes ≡ take (length (b ∷ bytes) - 1) bytes = sym (take_all (length (b ∷ bytes) - 1) bytes (omega arith)) in
+    rw (le-ltb b 128 le) (cc)

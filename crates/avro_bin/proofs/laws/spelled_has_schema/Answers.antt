@@ -1,0 +1,5 @@
+use Rattle.avro_bin.proofs.Typed.{has_schema}
+use Rattle.avro_bin.proofs.laws.spelled_has_schema.Goals as goal
+
+pub returns : goal.returns
+returns c = has_schema

@@ -1,0 +1,13 @@
+pub mod Value
+pub mod View
+pub mod Number
+pub mod Schema
+pub mod Ranges
+pub mod Reading
+pub mod Grammar
+pub mod Steps
+pub mod Failing
+pub mod Refusing
+pub mod Plain
+pub mod Shape
+pub mod Laws

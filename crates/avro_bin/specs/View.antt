@@ -1,0 +1,35 @@
+-- What a tree stands for.
+use Rattle.std.specs.Prelude.{List, ℕ}
+use Rattle.avro_bin.specs.Value.{Value, VNull, VBoolean, VInt, VLong, VFloat, VDouble, VBytes, VText, VFixed, VEnum, VArray, VMap, VUnion, VFields, row, entries}
+use Rattle.avro_bin.specs.declared.tree.Tree.{Tree}
+use Rattle.avro_bin.specs.declared.tree.Tree.TheOpen.{Tree-F, Null, Boolean, Int, Long, Float, Double, Bytes, Text, Fixed, Enum, Array, Map, Union, Fields}
+use Rattle.avro_bin.specs.declared.tree.Tree.TheFolds.{fold-Tree}
+
+-- one level of a tree, with what each child stands for in its place
+abbrev pub level : Tree-F Value → Value
+level Null = VNull
+level (Boolean b) = VBoolean b
+level (Int x) = VInt x
+level (Long x) = VLong x
+level (Float x) = VFloat x.0
+level (Double x) = VDouble x.0
+level (Bytes b) = VBytes b
+level (Text b) = VText b
+level (Fixed b) = VFixed b
+level (Enum n) = VEnum n
+level (Array l) = VArray (row l)
+level (Map m) = VMap (entries m)
+level (Union n v) = VUnion n v.value
+level (Fields l) = VFields (row l)
+
+-- the value that a tree stands for
+abbrev pub value_of : Tree → Value
+value_of = fold-Tree Value level
+
+-- the same name, with what its value becomes
+abbrev pub with_value : {K X Y : Type 0} → (X → Y) → K × X → K × Y
+with_value f p = (p.0, f p.1)
+
+-- the entry that a name and a tree stand for
+abbrev pub entry_of : List ℕ × Tree → List ℕ × Value
+entry_of = with_value value_of

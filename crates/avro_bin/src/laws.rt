@@ -1,0 +1,31 @@
+//! Laws of the encoding. Each function does nothing: its contract is the law.
+ghost use Rattle.avro_bin.specs.Laws.{OneSpelling, SomeOutcome, NotBoth, OneRefusal, ReadsExactly, RefusesExactly, PlainSpells, ReadsBack, SpelledHasSchema};
+
+/// Bytes begin with at most one spelling of a schema, and it spells one value: no spelling begins another.
+pub fn one_spelling()
+    ensures { OneSpelling }
+{}
+
+/// Bytes either begin with a value or are refused, and in one way.
+pub fn one_outcome()
+    ensures some { SomeOutcome }
+    ensures not_both { NotBoth }
+    ensures one_refusal { OneRefusal }
+{}
+
+/// Reading is a function of the bytes, `read_value` of `specs/Laws`, which answers exactly what the grammar has.
+pub fn reading_is_exact()
+    ensures read { ReadsExactly }
+    ensures refused { RefusesExactly }
+{}
+
+/// What is written of a value spells it, so that it is read again whatever follows it.
+pub fn reads_back()
+    ensures spelled { PlainSpells }
+    ensures read { ReadsBack }
+{}
+
+/// What is spelled as a value of a schema is one of it.
+pub fn spelled_has_schema()
+    ensures { SpelledHasSchema }
+{}

@@ -1,0 +1,34 @@
+//! Values in Avro's binary encoding, read and written by a schema.
+//!
+//! A [`Table`] is a schema as a static list of [`Node`]s, in which children stand before the nodes that hold them. A
+//! [`Tree`] is a value. [`decode`] reads the value of a node from the front of some bytes: it accepts each spelling that
+//! the encoding allows, in any blocks and with numbers of up to ten bytes, and refuses everything else with one
+//! [`Refusal`] at its place. [`encode`] appends the one spelling that is written: shortest numbers, one block, and a
+//! map's names in byte order. [`size`] is that spelling's length.
+//!
+//! The grammar is the relation `Spells` of `specs/Grammar`, by recursion on the schema. [`one_spelling`],
+//! [`one_outcome`], [`reading_is_exact`] and [`reads_back`] carry its laws: bytes begin with at most one value, they are
+//! either read or refused in one way, and what was written is read again whatever follows it.
+#![tactic(auto)]
+
+mod decoding;
+mod encoding;
+mod fault;
+mod laws;
+mod leaves;
+mod numbers;
+mod refusal;
+mod schema;
+mod sizing;
+mod tree;
+
+pub use decoding::{NODE_LIMIT, decode};
+pub use encoding::encode;
+pub use laws::{one_outcome, one_spelling, reading_is_exact, reads_back, spelled_has_schema};
+pub use refusal::Refusal;
+pub use schema::{Node, Table};
+pub use sizing::{TooLong, size};
+pub use tree::Tree;
+
+#[cfg(test)]
+mod tests;
