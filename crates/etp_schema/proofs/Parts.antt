@@ -1,0 +1,36 @@
+-- What parts of trees are.
+use Rattle.std.proofs.Common.{◌≡◌, ℕ, ◌<◌, List, [], ◌∷◌, Option, Some, None, map, arith, subst, sym}
+use Rattle.std.specs.List.{AllByRecursion}
+use Rattle.avro_bin.specs.Value.{Value, row, list, entries, pairs}
+use Rattle.avro_bin.specs.View.{with_value}
+use Rattle.avro_bin.specs.Shape.{HasSchema}
+use Rattle.avro_bin.proofs.Views.{values}
+use Rattle.etp_schema.specs.Form.{Form, Holds, list_row, pairs_entries, list_form, named_form, option_form}
+
+pub ruleset parts = (values, list_row, pairs_entries)
+
+all_have : {A : Type 0} (f : Form A) (xs : List A) → AllByRecursion (Holds f) xs → AllByRecursion (HasSchema f.schema) (list (row (map f.as_value xs)))
+unfolding Holds
+all_have f [] h = tt
+all_have f (x ∷ xs) h = (h.0, all_have f xs h.1)
+
+pub list_holds : {A : Type 0} (f : Form A) (xs : List A) → AllByRecursion (Holds f) xs → Holds (list_form f) xs
+unfolding Holds
+list_holds f xs h = all_have f xs h
+
+all_named_have : {A : Type 0} (f : Form A) (xs : List (List ℕ × A)) → AllByRecursion (λ e. Holds f e.1) xs → AllByRecursion (λ e. HasSchema f.schema e.1) (pairs (entries (map (with_value f.as_value) xs)))
+unfolding Holds
+all_named_have f [] h = tt
+all_named_have f (x ∷ xs) h = (h.0, all_named_have f xs h.1)
+
+pub named_holds : {A : Type 0} (f : Form A) (xs : List (List ℕ × A)) → AllByRecursion (λ e. Holds f e.1) xs → Holds (named_form f) xs
+unfolding Holds
+named_holds f xs h = all_named_have f xs h
+
+pub none_holds : {A : Type 0} (f : Form A) → Holds (option_form f) None
+unfolding Holds
+none_holds f = (omega arith, tt)
+
+pub some_holds : {A : Type 0} (f : Form A) (x : A) → Holds f x → Holds (option_form f) (Some x)
+unfolding Holds
+some_holds f x h = (omega arith, h)

@@ -1,0 +1,9 @@
+pub mod Form
+pub mod Left
+pub mod AnyArray
+pub mod DataValue
+pub mod Status
+pub mod Shapes
+pub mod Bodies
+pub mod Family
+pub mod Size

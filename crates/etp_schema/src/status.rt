@@ -1,0 +1,41 @@
+//! Whether a channel or an object is active.
+use crate::in_tree::InTree;
+use crate::leaves::symbol_of;
+use avro_bin::Tree;
+use etp_values::{Copied, NoMemory};
+use std::alloc::Global;
+
+/// Whether what a record describes is in use.
+#[derive(Clone, Copy, Debug, PartialEq, Eq, Drop)]
+pub enum ActiveStatusKind {
+    Active,
+    Inactive,
+}
+
+impl InTree for ActiveStatusKind {
+    ghost use Rattle.etp_schema.specs.Status.{active_status_kind_form};
+
+    ghost form = { active_status_kind_form };
+
+    #[tactic(auto, using(avro_bin::proofs::Views::values), unfolding(crate::specs::Form::Holds))]
+    fn to_tree(&self, _alloc: Global) -> Result<Tree, NoMemory> {
+        match self {
+            ActiveStatusKind::Active => Ok(Tree::Enum(0)),
+            ActiveStatusKind::Inactive => Ok(Tree::Enum(1)),
+        }
+    }
+
+    fn from_tree(_alloc: Global, tree: Tree) -> Result<ActiveStatusKind, NoMemory> {
+        Ok(symbol_of(
+            tree,
+            &[ActiveStatusKind::Active, ActiveStatusKind::Inactive],
+            ActiveStatusKind::Inactive,
+        ))
+    }
+}
+
+impl Copied for ActiveStatusKind {
+    fn copy(&self, _alloc: Global) -> Result<ActiveStatusKind, NoMemory> {
+        Ok(*self)
+    }
+}
