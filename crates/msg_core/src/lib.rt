@@ -1,0 +1,28 @@
+//! The messages of the protocols Core, Dataspace and Transaction, with their records.
+//!
+//! Each message and record is a struct with the schema's fields in order, and is [`InTree`](etp_schema::InTree): its tree
+//! gives it back, and a tree of its schema is the tree of what is read of it. The messages of a protocol are an enum, as
+//! [`CoreMessage`], which knows each message's number and reads a body by it. The forms and the tables of numbers stand in
+//! `specs/Core`, `specs/Dataspace` and `specs/Transaction`.
+//!
+//! All moments are in microseconds since 1970-01-01 UTC.
+#![tactic(auto)]
+
+mod core_messages;
+mod dataspace_messages;
+#[cfg(test)]
+mod tests;
+mod transaction_messages;
+
+pub use core_messages::{
+    Acknowledge, CloseSession, CoreMessage, ErrorInfo, OpenSession, Ping, Pong, ProtocolException,
+    RequestSession, SupportedDataObject, SupportedProtocol, Version, core_laws,
+};
+pub use dataspace_messages::{
+    Dataspace, DataspaceMessage, DeleteDataspaces, DeleteDataspacesResponse, GetDataspaces,
+    GetDataspacesResponse, PutDataspaces, PutDataspacesResponse, dataspace_laws,
+};
+pub use transaction_messages::{
+    CommitTransaction, CommitTransactionResponse, RollbackTransaction, RollbackTransactionResponse,
+    StartTransaction, StartTransactionResponse, TransactionMessage, transaction_laws,
+};
