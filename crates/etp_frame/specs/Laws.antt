@@ -1,0 +1,32 @@
+-- The laws of messages.
+use Rattle.std.specs.Prelude.{◌≡◌, ◌↔◌, ◌≤◌, List, ℕ, Ok}
+use Rattle.avro_bin.specs.Value.{nodes}
+use Rattle.avro_bin.specs.Shape.{HasSchema, FitsTree}
+use Rattle.avro_bin.specs.Laws.{IsBytes}
+use Rattle.etp_schema.specs.declared.body.Side.{Side}
+use Rattle.etp_frame.specs.Header.{header_form}
+use Rattle.etp_frame.specs.Message.{message_body, Names}
+use Rattle.etp_frame.specs.Reading.{node_limit, read_of}
+use Rattle.etp_frame.specs.Wire.{IsPlain, Sends, IsMessage, message_bytes}
+use Rattle.etp_frame.specs.declared.header.Header.{Header}
+use Rattle.etp_frame.specs.declared.message.Message.{Message}
+
+-- bytes are read as a header and message exactly where they are of the wire form
+abbrev pub ReadsExactly : Type 0
+ReadsExactly = (side : Side) (h : Header) (x : Message) (bytes : List ℕ) → IsBytes bytes → (read_of side bytes ≡ Ok (h, x)) ↔ IsMessage side h x bytes
+
+-- bytes are the wire form of one header and message at most
+abbrev pub OneReading : Type 0
+OneReading = (side : Side) (h k : Header) (x y : Message) (bytes : List ℕ) → IsMessage side h x bytes → IsMessage side k y bytes → (h ≡ k) × (x ≡ y)
+
+-- such as the types of a message hold: numbers in their ranges, texts of UTF-8, identifiers of sixteen bytes, few enough nodes
+pub record Fits (h : Header) (x : Message) : Type 0 where
+  pub header : FitsTree (header_form.as_value h)
+  pub typed : HasSchema (message_body x).schema (message_body x).value
+  pub body : FitsTree (message_body x).value
+  pub few : nodes (message_body x).value ≤ node_limit
+
+-- what is written of a header and the message that it names is of the wire form, and is read as they are
+abbrev pub WrittenIsRead : Type 0
+WrittenIsRead = (side : Side) (h : Header) (x : Message) → IsPlain h → Names h x → Sends side h x → Fits h x
+    → IsMessage side h x (message_bytes h x) × (read_of side (message_bytes h x) ≡ Ok (h, x))

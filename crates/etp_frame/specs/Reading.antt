@@ -1,0 +1,99 @@
+-- Reading a whole message: the header, then the body that it names, and the first cause that refuses them.
+use Rattle.std.specs.Prelude.{ℕ, ◌+◌, List, length, drop, ◌==◌, if◌then◌else◌, Option, Some, None, Result, Ok, Err}
+use Rattle.avro_bin.specs.Value.{Value}
+use Rattle.avro_bin.specs.Schema.{Schema}
+use Rattle.avro_bin.specs.Laws.{read_value}
+use Rattle.avro_bin.specs.declared.refusal.Refusal.{Refusal}
+use Rattle.avro_bin.specs.declared.refusal.Refusal.TheVariants as r
+use Rattle.etp_schema.specs.Bodies.{known_protocol, body_schema}
+use Rattle.etp_schema.specs.Family.{Kind}
+use Rattle.etp_schema.specs.declared.body.Side.{Side}
+use Rattle.etp_frame.specs.Header.{header_form, has_flag}
+use Rattle.etp_frame.specs.Message.{typed_kind}
+use Rattle.etp_frame.specs.declared.flags.TheConstants.{EXTENSION, COMPRESSED}
+use Rattle.etp_frame.specs.declared.header.Header.{Header}
+use Rattle.etp_frame.specs.declared.message.Message.{Message}
+use Rattle.etp_frame.specs.declared.error.FrameError.{FrameError}
+use Rattle.etp_frame.specs.declared.error.FrameError.TheVariants as f
+
+infixl 10 ◌>>=◌
+abbrev pub ◌>>=◌ : {A B : Type 0} → Result A FrameError → (A → Result B FrameError) → Result B FrameError
+(Ok x) >>= next = next x
+(Err e) >>= next = Err e
+
+-- how many nodes a header or a body may have
+abbrev pub node_limit : ℕ
+node_limit = 8388608
+
+-- the header that was read, where one was
+abbrev pub header_of_error : FrameError → Option Header
+header_of_error (f.Header e) = None
+header_of_error (f.Extension h) = Some h
+header_of_error (f.Compressed h) = Some h
+header_of_error (f.UnknownProtocol h) = Some h
+header_of_error (f.UnknownKind h) = Some h
+header_of_error (f.Body h e) = Some h
+header_of_error (f.Rest h place) = Some h
+header_of_error f.NoMemory = None
+
+-- a refusal so many bytes further on
+abbrev pub shifted : ℕ → Refusal → Refusal
+shifted by (r.Short place) = r.Short (by + place)
+shifted by (r.Number place) = r.Number (by + place)
+shifted by (r.Range place) = r.Range (by + place)
+shifted by (r.Bool place) = r.Bool (by + place)
+shifted by (r.Branch place) = r.Branch (by + place)
+shifted by (r.Utf8 place) = r.Utf8 (by + place)
+shifted by (r.Length place) = r.Length (by + place)
+shifted by (r.BlockSize place) = r.BlockSize (by + place)
+shifted by (r.DoubleKey place) = r.DoubleKey (by + place)
+shifted by (r.Limit place) = r.Limit (by + place)
+shifted by r.NoMemory = r.NoMemory
+
+abbrev pub as_header : Result (Value × ℕ) Refusal → Result (Header × ℕ) FrameError
+as_header (Ok x) = Ok (header_form.from_value x.0, x.1)
+as_header (Err e) = Err (f.Header e)
+
+-- the header at the front of the bytes, and how many of them spell it
+abbrev pub header_in : List ℕ → Result (Header × ℕ) FrameError
+header_in bytes = as_header (read_value header_form.schema node_limit bytes)
+
+-- nothing, where a header has neither an extension nor a compressed body, and a protocol has its number
+abbrev pub admitted : Header → Result (Unit {0}) FrameError
+admitted h =
+    if has_flag h.flags EXTENSION then Err (f.Extension h)
+    else if has_flag h.flags COMPRESSED then Err (f.Compressed h)
+    else if known_protocol h.protocol then Ok tt
+    else Err (f.UnknownProtocol h)
+
+-- the body's schema, and what is read by it, where both are known
+abbrev pub with_schema : Option Schema → Option (Kind Message) → Option (Kind Message)
+with_schema (Some s) (Some k) = Some (record { number = k.number; schema = s; read = k.read })
+with_schema (Some s) None = None
+with_schema None k = None
+
+-- the message that a header names among those that a side sends, where it has a type
+abbrev pub sent_kind : Side → Header → Option (Kind Message)
+sent_kind side h = with_schema (body_schema h.protocol h.kind side) (typed_kind h.protocol h.kind)
+
+abbrev pub known_kind : Header → Option (Kind Message) → Result (Kind Message) FrameError
+known_kind h (Some k) = Ok k
+known_kind h None = Err (f.UnknownKind h)
+
+-- the value of a body of so many bytes that stands behind so many bytes, if it ends with them
+abbrev pub as_body : Header → ℕ → ℕ → Result (Value × ℕ) Refusal → Result Value FrameError
+as_body h front size (Ok x) = if x.1 == size then Ok x.0 else Err (f.Rest h (front + x.1))
+as_body h front size (Err e) = Err (f.Body h (shifted front e))
+
+-- the body's value behind so many bytes
+abbrev pub body_in : Header → Schema → ℕ → List ℕ → Result Value FrameError
+body_in h s front bytes = as_body h front (length (drop front bytes)) (read_value s node_limit (drop front bytes))
+
+-- the header and message that the side's bytes are read as, or the first cause that refuses them
+unfoldable pub read_of : Side → List ℕ → Result (Header × Message) FrameError
+read_of side bytes = do
+  front ← header_in bytes
+  plain ← admitted front.0
+  kind ← known_kind front.0 (sent_kind side front.0)
+  value ← body_in front.0 kind.schema front.1 bytes
+  Ok (front.0, kind.read value)

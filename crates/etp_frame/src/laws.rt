@@ -1,0 +1,18 @@
+//! The laws of messages. Each function does nothing: its contract is the law.
+ghost use Rattle.etp_frame.specs.Laws.{ReadsExactly, OneReading, WrittenIsRead};
+
+/// Bytes are read as a header and message exactly where they are their wire form.
+pub fn wire_form_is_read()
+    ensures { ReadsExactly }
+{}
+
+/// Bytes are the wire form of at most one header and message.
+pub fn one_reading()
+    ensures { OneReading }
+{}
+
+/// What is written of a header and the message that it names is their wire form, for each side that sends such messages, and
+/// is read as that header and message.
+pub fn written_is_read()
+    ensures { WrittenIsRead }
+{}

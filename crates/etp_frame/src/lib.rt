@@ -1,0 +1,28 @@
+//! Whole messages: a header and a body.
+//!
+//! [`read_message`] reads the bytes of one message: a [`Header`], and then the body that the header's protocol and number
+//! name for the side that sends it, as a [`Message`] of the protocol's own enum. It accepts exactly the wire form,
+//! `IsMessage` of `specs/Wire`, and else answers the one [`FrameError`] that `read_of` of `specs/Reading` names.
+//! [`write_message`] writes the one spelling that is written, `message_bytes`. The laws between them stand on
+//! [`wire_form_is_read`], [`one_reading`] and [`written_is_read`].
+//!
+//! ProtocolException and Acknowledge are messages of every protocol and stand in Core's enum for all of them, so that the
+//! header says under which protocol such a message goes.
+#![tactic(auto)]
+
+mod error;
+pub mod flags;
+mod header;
+mod laws;
+mod message;
+mod reading;
+#[cfg(test)]
+mod tests;
+mod writing;
+
+pub use error::FrameError;
+pub use header::Header;
+pub use laws::{one_reading, wire_form_is_read, written_is_read};
+pub use message::Message;
+pub use reading::read_message;
+pub use writing::write_message;

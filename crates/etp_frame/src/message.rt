@@ -1,0 +1,169 @@
+//! The messages of all protocols.
+ghost use Rattle.std.specs.Prelude.{◌≡◌, ◌↔◌, ◌++◌, IfOk, OnOk, IsTrue, pos, is_some};
+ghost use Rattle.avro_bin.specs.Shape.{HasSchema};
+ghost use Rattle.avro_bin.specs.View.{value_of};
+ghost use Rattle.etp_schema.specs.Bodies.{BodyRow, row_of};
+ghost use Rattle.etp_schema.specs.Family.{kind_in, read_as, read_kind};
+ghost use Rattle.etp_schema.specs.declared.body.Side.{Side};
+ghost use Rattle.msg_core.specs.Core.{core_kinds};
+ghost use Rattle.msg_core.specs.Dataspace.{dataspace_kinds};
+ghost use Rattle.msg_core.specs.Transaction.{transaction_kinds};
+ghost use Rattle.etp_frame.specs.Message.{message_body, IsOf, protocol_of, typed_kind, is_typed, under, common_kinds};
+ghost use Rattle.etp_frame.specs.declared.message.Message.TheVariants as m;
+
+use avro_bin::Tree;
+use etp_schema::{is_protocol, protocols};
+use etp_values::NoMemory;
+use msg_core::{CoreMessage, DataspaceMessage, TransactionMessage};
+use std::alloc::Global;
+
+/// A message of any protocol. ProtocolException and Acknowledge stand in Core's enum under every protocol.
+#[derive(Debug, Drop, PartialEq, Eq)]
+pub enum Message {
+    Core(CoreMessage),
+    Transaction(TransactionMessage),
+    Dataspace(DataspaceMessage),
+}
+
+impl Message {
+    /// The message's number.
+    pub fn kind(&self) -> i32
+        ensures { result ≡ pos (message_body self.now).number }
+    {
+        match self {
+            Message::Core(message) => message.kind(),
+            Message::Transaction(message) => message.kind(),
+            Message::Dataspace(message) => message.kind(),
+        }
+    }
+
+    /// The number of the protocol in whose enum the message stands.
+    pub fn protocol(&self) -> i32
+        ensures { result ≡ pos (protocol_of self.now) }
+    {
+        match self {
+            Message::Core(_) => protocols::CORE,
+            Message::Transaction(_) => protocols::TRANSACTION,
+            Message::Dataspace(_) => protocols::DATASPACE,
+        }
+    }
+
+    /// Whether the protocol of this number has the message.
+    pub fn is_of(&self, protocol: i32) -> bool
+        ensures { IsTrue result ↔ IsOf self.now protocol }
+    {
+        match self {
+            Message::Core(CoreMessage::ProtocolException(_)) => is_protocol(protocol),
+            Message::Core(CoreMessage::Acknowledge(_)) => is_protocol(protocol),
+            Message::Core(_) => protocol == protocols::CORE,
+            Message::Transaction(_) => protocol == protocols::TRANSACTION,
+            Message::Dataspace(_) => protocol == protocols::DATASPACE,
+        }
+    }
+
+    /// The tree of the message's body.
+    pub(crate) fn to_tree(&self, alloc: Global) -> Result<Tree, NoMemory>
+        ensures value { IfOk result (λ t. value_of t ≡ (message_body self.now).value) }
+        ensures typed { OnOk result (HasSchema (message_body self.now).schema (message_body self.now).value) }
+    {
+        match self {
+            Message::Core(message) => message.to_tree(alloc),
+            Message::Transaction(message) => message.to_tree(alloc),
+            Message::Dataspace(message) => message.to_tree(alloc),
+        }
+    }
+
+    /// The message of this protocol and number with this body, where there is a type for it.
+    pub(crate) fn from_tree(
+        alloc: Global,
+        protocol: i32,
+        kind: i32,
+        tree: Tree,
+    ) -> Result<Option<Message>, NoMemory>
+        ensures { IfOk result (λ x. x ≡ read_as (value_of tree) (typed_kind protocol kind)) }
+    {
+        match protocol {
+            protocols::CORE => core_message(alloc, kind, tree),
+            protocols::DATASPACE => dataspace_message(alloc, kind, tree),
+            protocols::STORE => common_message(alloc, kind, tree),
+            protocols::TRANSACTION => transaction_message(alloc, kind, tree),
+            protocols::DATA_ARRAY => common_message(alloc, kind, tree),
+            protocols::CHANNEL_SUBSCRIBE => common_message(alloc, kind, tree),
+            protocols::CHANNEL_DATA_LOAD => common_message(alloc, kind, tree),
+            _ => Ok(None),
+        }
+    }
+}
+
+/// Whether the message of this protocol and number, which is one of the profile, has a type here.
+pub(crate) fn is_typed(protocol: i32, kind: i32) -> bool
+    ensures { (side : Side) (row : BodyRow) → row_of protocol kind side ≡ Some row → result ≡ is_typed protocol kind }
+{
+    match protocol {
+        protocols::CORE => true,
+        protocols::DATASPACE => true,
+        protocols::TRANSACTION => true,
+        protocols::STORE => is_common(kind),
+        protocols::DATA_ARRAY => is_common(kind),
+        protocols::CHANNEL_SUBSCRIBE => is_common(kind),
+        protocols::CHANNEL_DATA_LOAD => is_common(kind),
+        _ => false,
+    }
+}
+
+/// Whether this is the number of a message of every protocol.
+fn is_common(kind: i32) -> bool
+    ensures { result ≡ is_some (kind_in common_kinds kind) }
+{
+    match kind {
+        protocols::PROTOCOL_EXCEPTION_KIND => true,
+        protocols::ACKNOWLEDGE_KIND => true,
+        _ => false,
+    }
+}
+
+/// A message that every protocol has.
+fn common_message(alloc: Global, kind: i32, tree: Tree) -> Result<Option<Message>, NoMemory>
+    ensures { IfOk result (λ x. x ≡ read_kind common_kinds kind (value_of tree)) }
+{
+    if !is_common(kind) {
+        return Ok(None);
+    }
+    core_message(alloc, kind, tree)
+}
+
+fn core_message(alloc: Global, kind: i32, tree: Tree) -> Result<Option<Message>, NoMemory>
+    ensures { IfOk result (λ x. x ≡ read_kind (under m.Core core_kinds) kind (value_of tree)) }
+{
+    match CoreMessage::from_tree(alloc, kind, tree) {
+        Ok(Some(message)) => Ok(Some(Message::Core(message))),
+        Ok(None) => Ok(None),
+        Err(error) => Err(error),
+    }
+}
+
+fn transaction_message(alloc: Global, kind: i32, tree: Tree) -> Result<Option<Message>, NoMemory>
+    ensures { IfOk result (λ x. x ≡ read_kind (common_kinds ++ under m.Transaction transaction_kinds) kind (value_of tree)) }
+{
+    if is_common(kind) {
+        return common_message(alloc, kind, tree);
+    }
+    match TransactionMessage::from_tree(alloc, kind, tree) {
+        Ok(Some(message)) => Ok(Some(Message::Transaction(message))),
+        Ok(None) => Ok(None),
+        Err(error) => Err(error),
+    }
+}
+
+fn dataspace_message(alloc: Global, kind: i32, tree: Tree) -> Result<Option<Message>, NoMemory>
+    ensures { IfOk result (λ x. x ≡ read_kind (common_kinds ++ under m.Dataspace dataspace_kinds) kind (value_of tree)) }
+{
+    if is_common(kind) {
+        return common_message(alloc, kind, tree);
+    }
+    match DataspaceMessage::from_tree(alloc, kind, tree) {
+        Ok(Some(message)) => Ok(Some(Message::Dataspace(message))),
+        Ok(None) => Ok(None),
+        Err(error) => Err(error),
+    }
+}

@@ -1,0 +1,140 @@
+//! Reading whole messages.
+ghost use Rattle.std.specs.Prelude.{◌≡◌, ◌<◌, ◌≤◌, ◌+◌, ◌^◌, length, IfOk};
+ghost use Rattle.etp_values.specs.Gives.{Gives};
+ghost use Rattle.etp_schema.specs.Shapes.{shape_at};
+ghost use Rattle.etp_frame.specs.Reading.{read_of, header_in, admitted, sent_kind, body_in};
+ghost use Rattle.etp_frame.specs.Parts.{place_in, as_header_error, as_body_error, IsPlace, GivesValue};
+ghost use Rattle.etp_frame.specs.Wire.{IsMessage};
+ghost use Rattle.etp_frame.specs.declared.error.FrameError.TheVariants as f;
+
+use crate::error::FrameError;
+use crate::flags;
+use crate::header::Header;
+use crate::message::{Message, is_typed};
+use avro_bin::{Refusal, Tree, decode};
+use etp_schema::{InTree, Side, body_of, is_protocol, places, schema_table};
+use std::alloc::Global;
+
+/// The header and the message of these bytes, which `sender` sent. Where several causes refuse them, the first in the order of
+/// [`FrameError`] is answered. Flags other than those of a compressed body and of an extension refuse nothing.
+pub fn read_message(
+    alloc: Global,
+    bytes: &[u8],
+    sender: Side,
+) -> Result<(Header, Message), FrameError>
+    ensures gives { Gives f.NoMemory result (read_of sender bytes.now) }
+    ensures form { IfOk result (λ r. IsMessage sender r.0 r.1 bytes.now) }
+{
+    let (header, length) = match read_header(alloc, bytes) {
+        Ok(front) => front,
+        Err(error) => return Err(error),
+    };
+    if let Err(error) = admit(&header) {
+        return Err(error);
+    }
+    let Some(place) = body_place(&header, sender) else {
+        return Err(FrameError::UnknownKind(header));
+    };
+    let tree = match read_body(alloc, header, place, length, bytes) {
+        Ok(tree) => tree,
+        Err(error) => return Err(error),
+    };
+    match Message::from_tree(alloc, header.protocol, header.kind, tree) {
+        Ok(Some(message)) => Ok((header, message)),
+        Ok(None) => Err(FrameError::UnknownKind(header)),
+        Err(_) => Err(FrameError::NoMemory),
+    }
+}
+
+/// The header at the front of the bytes, and how many of them spell it.
+fn read_header(alloc: Global, bytes: &[u8]) -> Result<(Header, usize), FrameError>
+    ensures gives { Gives f.NoMemory result (header_in bytes.now) }
+    ensures within { IfOk result (λ r. r.1 ≤ length bytes.now) }
+{
+    match decode(alloc, schema_table(), places::MESSAGE_HEADER, bytes) {
+        Ok((tree, length)) => match Header::from_tree(alloc, tree) {
+            Ok(header) => Ok((header, length)),
+            Err(_) => Err(FrameError::NoMemory),
+        },
+        Err(refusal) => Err(header_error(refusal)),
+    }
+}
+
+fn header_error(refusal: Refusal) -> FrameError
+    ensures { result ≡ as_header_error refusal }
+{
+    match refusal {
+        Refusal::NoMemory => FrameError::NoMemory,
+        _ => FrameError::Header(refusal),
+    }
+}
+
+/// Refuses a header whose body can't be read, whatever it is.
+fn admit(header: &Header) -> Result<(), FrameError>
+    ensures { result ≡ admitted header.now }
+{
+    if header.has_flag(flags::EXTENSION) {
+        return Err(FrameError::Extension(*header));
+    }
+    if header.has_flag(flags::COMPRESSED) {
+        return Err(FrameError::Compressed(*header));
+    }
+    if !is_protocol(header.protocol) {
+        return Err(FrameError::UnknownProtocol(*header));
+    }
+    Ok(())
+}
+
+/// The place of the body's schema, where the sender sends such messages and they have a type.
+fn body_place(header: &Header, sender: Side) -> Option<u32>
+    ensures { IsPlace result (sent_kind sender header.now) }
+{
+    let place = body_of(header.protocol, header.kind, sender)?;
+    if !is_typed(header.protocol, header.kind) {
+        return None;
+    }
+    Some(place)
+}
+
+/// The body's tree behind so many bytes, where it ends with them.
+fn read_body(
+    alloc: Global,
+    header: Header,
+    place: u32,
+    front: usize,
+    bytes: &[u8],
+) -> Result<Tree, FrameError>
+    requires place { place < 165 }
+    requires front { front ≤ length bytes.now }
+    ensures { GivesValue result (body_in header (shape_at place) front bytes.now) }
+{
+    let rest = &bytes[front..];
+    match decode(alloc, schema_table(), place, rest) {
+        Ok((tree, length)) => {
+            if length != rest.len() {
+                return Err(FrameError::Rest(header, front + length));
+            }
+            Ok(tree)
+        }
+        Err(refusal) => Err(body_error(header, front, refusal)),
+    }
+}
+
+fn body_error(header: Header, front: usize, refusal: Refusal) -> FrameError
+    requires { front + place_in refusal < 2 ^ 64 }
+    ensures { result ≡ as_body_error header front refusal }
+{
+    match refusal {
+        Refusal::Short(place) => FrameError::Body(header, Refusal::Short(front + place)),
+        Refusal::Number(place) => FrameError::Body(header, Refusal::Number(front + place)),
+        Refusal::Range(place) => FrameError::Body(header, Refusal::Range(front + place)),
+        Refusal::Bool(place) => FrameError::Body(header, Refusal::Bool(front + place)),
+        Refusal::Branch(place) => FrameError::Body(header, Refusal::Branch(front + place)),
+        Refusal::Utf8(place) => FrameError::Body(header, Refusal::Utf8(front + place)),
+        Refusal::Length(place) => FrameError::Body(header, Refusal::Length(front + place)),
+        Refusal::BlockSize(place) => FrameError::Body(header, Refusal::BlockSize(front + place)),
+        Refusal::DoubleKey(place) => FrameError::Body(header, Refusal::DoubleKey(front + place)),
+        Refusal::Limit(place) => FrameError::Body(header, Refusal::Limit(front + place)),
+        Refusal::NoMemory => FrameError::NoMemory,
+    }
+}

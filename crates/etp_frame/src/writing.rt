@@ -1,0 +1,32 @@
+//! Writing whole messages.
+ghost use Rattle.std.specs.Prelude.{◌≡◌, ◌≤◌, IfOk};
+ghost use Rattle.avro_bin.specs.Value.{nodes};
+ghost use Rattle.etp_schema.specs.declared.body.Side.{Side};
+ghost use Rattle.etp_frame.specs.Message.{message_body, Names};
+ghost use Rattle.etp_frame.specs.Reading.{node_limit};
+ghost use Rattle.etp_frame.specs.Wire.{IsPlain, Sends, IsMessage, message_bytes};
+
+use crate::header::Header;
+use crate::message::Message;
+use avro_bin::encode;
+use etp_schema::{InTree, places, schema_table};
+use etp_values::{Blob, NoMemory};
+use std::alloc::Global;
+
+/// The bytes of a header and of the message that it names: shortest numbers, at most one block, names in byte order.
+pub fn write_message(alloc: Global, header: &Header, message: &Message) -> Result<Blob, NoMemory>
+    requires names { Names header.now message.now }
+    requires plain { IsPlain header.now }
+    ensures bytes { IfOk result (λ b. b ≡ message_bytes header.now message.now) }
+    ensures form { IfOk result (λ b. (side : Side) → Sends side header.now message.now → nodes (message_body message.now).value ≤ node_limit
+        → IsMessage side header.now message.now b) }
+{
+    let mut bytes = Vec::new(alloc);
+    let front = header.to_tree(alloc)?;
+    let body = message.to_tree(alloc)?;
+    encode(schema_table(), places::MESSAGE_HEADER, &front, &mut bytes)?;
+    // A tree says by itself how it is written; the place names a schema for readers of the clauses alone.
+    encode(schema_table(), places::NULL, &body, &mut bytes)?;
+    let blob = Blob::from_vec(bytes)?;
+    Ok(blob)
+}
