@@ -1,0 +1,4 @@
+pub mod Applying
+pub mod Found
+pub mod Listed
+pub mod UriKeys

@@ -1,0 +1,39 @@
+-- What operations leave at each key.
+use Rattle.std.specs.Prelude.{ℕ, ℤ, List, ◌≡◌, if◌then◌else◌, fold, Option, Some, None}
+use Rattle.std.specs.Str.{bytes_eq}
+use Rattle.etp_values.specs.declared.uri.StoreUri.{StoreUri}
+use Rattle.etp_values.specs.SameUri.{same_uri}
+use Rattle.object_store.specs.declared.records.SpaceRecord.{SpaceRecord}
+use Rattle.object_store.specs.declared.records.ObjectRecord.{ObjectRecord}
+use Rattle.object_store.specs.declared.op.ObjectOp.{ObjectOp}
+use Rattle.object_store.specs.declared.op.ObjectOp.TheVariants.{SetSpace, DropSpace, SetObject, DropObject}
+use Rattle.object_store.specs.Tables.{Tables, space_in, object_in}
+
+-- the dataspace that a put leaves: it was made when the one before was, or now where there was none
+abbrev pub put_space : Option SpaceRecord → SpaceRecord → SpaceRecord
+put_space None r = record r { created = r.written }
+put_space (Some before) r = record r { created = before.created }
+
+-- the object that a put leaves: it was made when the one before was, or now where there was none
+abbrev pub put_object : Option ObjectRecord → ObjectRecord → ObjectRecord
+put_object None r = record r { created = r.written }
+put_object (Some before) r = record r { created = before.created }
+
+-- what an operation leaves of the dataspace of a path
+abbrev pub space_after : List ℕ → Option SpaceRecord → ObjectOp → Option SpaceRecord
+space_after path before (SetSpace r) = if bytes_eq path r.path then Some (put_space before r) else before
+space_after path before (DropSpace p) = if bytes_eq path p then None else before
+space_after path before (SetObject r) = before
+space_after path before (DropObject u) = before
+
+-- what an operation leaves of the object of a URI; a dropped dataspace takes its objects along
+abbrev pub object_after : StoreUri → Option ObjectRecord → ObjectOp → Option ObjectRecord
+object_after uri before (SetSpace r) = before
+object_after uri before (DropSpace p) = if bytes_eq uri.space p then None else before
+object_after uri before (SetObject r) = if same_uri uri r.uri then Some (put_object before r) else before
+object_after uri before (DropObject u) = if same_uri uri u then None else before
+
+-- each key has what these operations left, one after the other
+pub record Applies (ops : List ObjectOp) (old new : Tables) : Type 0 where
+  pub spaces : (path : List ℕ) → space_in new path ≡ fold (space_after path) (space_in old path) ops
+  pub objects : (uri : StoreUri) → object_in new uri ≡ fold (object_after uri) (object_in old uri) ops

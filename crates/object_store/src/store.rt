@@ -1,0 +1,127 @@
+//! The store of dataspaces and objects.
+ghost use Rattle.std.specs.Prelude.{◌≡◌, ◌<◌, ◌+◌, ◌≤◌, ◌∷◌, [], OnOk, IfOk, IfSome, length};
+ghost use Rattle.std.specs.Option.{option_copied};
+
+use crate::op::ObjectOp;
+use crate::records::{ObjectRecord, SpaceRecord};
+use crate::tables::{drop_object, drop_objects_in, drop_space, object_at, put_object, put_space};
+use etp_values::{List, Named, NoMemory, StoreUri, Text};
+use indexmap::IndexMap;
+use std::alloc::Global;
+use std::marker::Model;
+
+/// Dataspaces by their path and objects by their URI. A contract sees the two tables, and as `spare` how many operations
+/// can be done without memory.
+#[derive(Drop)]
+pub struct ObjectStore {
+    spaces: IndexMap<Text, SpaceRecord>,
+    objects: IndexMap<StoreUri, ObjectRecord>,
+}
+
+impl Model for ObjectStore {
+    ghost use Rattle.std.specs.Prelude.{min};
+    ghost use Rattle.indexmap.specs.IndexMap.{spare};
+    ghost use Rattle.object_store.specs.Tables.{Tables};
+
+    ghost Value = { Tables };
+
+    ghost use Rattle.object_store.specs.Keys.{StandAtKeys};
+
+    ghost view = { λ s. record { spaces = s.spaces.entries; objects = s.objects.entries; spare = min (spare s.spaces) (spare s.objects) } };
+
+    ghost invariant = { λ s. StandAtKeys s.spaces.entries s.objects.entries };
+}
+
+impl ObjectStore {
+    ghost use Rattle.object_store.specs.Tables.{space_in, object_in, ListsSpaces, SameTables, IsFirst};
+    ghost use Rattle.object_store.specs.Changes.{Applies};
+
+    /// A store with the default dataspace alone, made at the moment 0.
+    pub fn new(alloc: Global) -> Result<ObjectStore, NoMemory>
+        ensures { IfOk result IsFirst }
+    {
+        let mut spaces = IndexMap::new(alloc);
+        let record = SpaceRecord {
+            path: Text::new(alloc),
+            written: 0,
+            created: 0,
+            custom: Named::new(alloc),
+        };
+        spaces.insert(Text::new(alloc), record)?;
+        Ok(ObjectStore {
+            spaces,
+            objects: IndexMap::new(alloc),
+        })
+    }
+
+    /// The dataspace of a path.
+    pub fn space(&self, path: &Text) -> Option<&SpaceRecord>
+        ensures value { option_copied result ≡ space_in self.now path.now }
+        ensures path { IfSome result (λ r. r.now.path ≡ path.now) }
+    {
+        self.spaces.get(path)
+    }
+
+    /// The object of a URI.
+    pub fn look(&self, uri: &StoreUri) -> Option<&ObjectRecord>
+        ensures value { option_copied result ≡ object_in self.now uri.now }
+        ensures uri { IfSome result (λ r. r.now.uri ≡ uri.now) }
+    {
+        object_at(&self.objects, uri)
+    }
+
+    /// The dataspaces, in no order that is promised.
+    pub fn spaces(&self) -> &[SpaceRecord]
+        ensures { ListsSpaces self.now result.now }
+    {
+        // The map's length is asked for its clause that no path comes twice.
+        let _count = self.spaces.len();
+        self.spaces.values().as_slice()
+    }
+
+    /// Makes room for these operations, whatever they are.
+    pub fn reserve(&mut self, ops: &List<ObjectOp>) -> Result<(), NoMemory>
+        ensures same { SameTables self.old self.new }
+        ensures room { OnOk result (length ops.now ≤ self.new.spare) }
+        ensures keeps { self.old.spare ≤ self.new.spare }
+    {
+        let count = ops.len();
+        self.spaces.reserve(count)?;
+        self.objects.reserve(count)?;
+        Ok(())
+    }
+
+    /// Does one operation.
+    fn apply_one(&mut self, op: ObjectOp)
+        requires { 0 < self.old.spare }
+        ensures each { Applies (op ∷ []) self.old self.new }
+        ensures room { self.old.spare ≤ self.new.spare + 1 }
+    {
+        match op {
+            ObjectOp::SetSpace(keyed) => {
+                let (path, record) = keyed.into_parts();
+                put_space(&mut self.spaces, path, record);
+            }
+            ObjectOp::DropSpace(path) => {
+                drop_space(&mut self.spaces, &path);
+                drop_objects_in(&mut self.objects, &path);
+            }
+            ObjectOp::SetObject(keyed) => {
+                let (uri, record) = keyed.into_parts();
+                put_object(&mut self.objects, uri, record);
+            }
+            ObjectOp::DropObject(uri) => drop_object(&mut self.objects, &uri),
+        }
+    }
+
+    /// Does these operations in order. It takes no memory.
+    pub fn apply(&mut self, ops: List<ObjectOp>)
+        requires { length ops ≤ self.old.spare }
+        ensures each { Applies ops self.old self.new }
+        ensures room { self.old.spare ≤ self.new.spare + length ops }
+    {
+        for op in ops.into_vec() {
+            self.apply_one(op);
+        }
+    }
+}

@@ -1,0 +1,105 @@
+//! The tables' own steps, one map at a time.
+ghost use Rattle.std.specs.Prelude.{◌≡◌, ◌≤◌, ◌<◌, ◌+◌, ℕ, List, Some, None, if◌then◌else◌, not};
+ghost use Rattle.std.specs.Map.{lookup};
+ghost use Rattle.std.specs.Option.{option_copied};
+ghost use Rattle.std.specs.Str.{bytes_eq};
+ghost use Rattle.indexmap.specs.IndexMap.{spare};
+ghost use Rattle.etp_values.specs.declared.uri.StoreUri.{StoreUri};
+ghost use Rattle.etp_values.specs.SameUri.{same_uri};
+ghost use Rattle.object_store.specs.Changes as change;
+
+use crate::records::{ObjectRecord, SpaceRecord};
+use etp_values::{StoreUri, Text};
+use indexmap::IndexMap;
+
+/// The record as it is put: it keeps the moment at which the one before was made.
+fn space_made(
+    spaces: &IndexMap<Text, SpaceRecord>,
+    path: &Text,
+    mut space: SpaceRecord,
+) -> SpaceRecord
+    ensures { result ≡ change.put_space (lookup (bytes_eq path.now) spaces.now.entries) space }
+{
+    match spaces.get(path) {
+        Some(before) => space.created = before.created,
+        None => space.created = space.written,
+    }
+    space
+}
+
+/// Puts a dataspace in place of the one of its path.
+pub(crate) fn put_space(spaces: &mut IndexMap<Text, SpaceRecord>, path: Text, space: SpaceRecord)
+    requires { 0 < spare spaces.old }
+    ensures each { (q : List ℕ) → lookup (bytes_eq q) spaces.new.entries ≡ (if bytes_eq q path then Some (change.put_space (lookup (bytes_eq q) spaces.old.entries) space) else lookup (bytes_eq q) spaces.old.entries) }
+    ensures room { spare spaces.old ≤ spare spaces.new + 1 }
+{
+    let space = space_made(spaces, &path, space);
+    let _ = spaces.insert(path, space);
+}
+
+/// Takes out the dataspace of a path.
+pub(crate) fn drop_space(spaces: &mut IndexMap<Text, SpaceRecord>, path: &Text)
+    ensures each { (q : List ℕ) → lookup (bytes_eq q) spaces.new.entries ≡ (if bytes_eq q path.now then None else lookup (bytes_eq q) spaces.old.entries) }
+    ensures room { spare spaces.old ≤ spare spaces.new }
+{
+    let _ = spaces.swap_remove(path);
+}
+
+/// The record as it is put: it keeps the moment at which the one before was made.
+fn object_made(
+    objects: &IndexMap<StoreUri, ObjectRecord>,
+    uri: &StoreUri,
+    mut object: ObjectRecord,
+) -> ObjectRecord
+    ensures { result ≡ change.put_object (lookup (same_uri uri.now) objects.now.entries) object }
+{
+    match objects.get(uri) {
+        Some(before) => object.created = before.created,
+        None => object.created = object.written,
+    }
+    object
+}
+
+/// The object of a URI.
+pub(crate) fn object_at<'a>(
+    objects: &'a IndexMap<StoreUri, ObjectRecord>,
+    uri: &StoreUri,
+) -> Option<&'a ObjectRecord>
+    ensures { option_copied result ≡ lookup (same_uri uri.now) objects.now.entries }
+{
+    objects.get(uri)
+}
+
+/// Puts an object in place of the one of its URI.
+pub(crate) fn put_object(
+    objects: &mut IndexMap<StoreUri, ObjectRecord>,
+    uri: StoreUri,
+    object: ObjectRecord,
+)
+    requires { 0 < spare objects.old }
+    ensures each { (q : StoreUri) → lookup (same_uri q) objects.new.entries ≡ (if same_uri q uri then Some (change.put_object (lookup (same_uri q) objects.old.entries) object) else lookup (same_uri q) objects.old.entries) }
+    ensures room { spare objects.old ≤ spare objects.new + 1 }
+{
+    let object = object_made(objects, &uri, object);
+    let _ = objects.insert(uri, object);
+}
+
+/// Takes out the object of a URI.
+pub(crate) fn drop_object(objects: &mut IndexMap<StoreUri, ObjectRecord>, uri: &StoreUri)
+    ensures each { (q : StoreUri) → lookup (same_uri q) objects.new.entries ≡ (if same_uri q uri.now then None else lookup (same_uri q) objects.old.entries) }
+    ensures room { spare objects.old ≤ spare objects.new }
+{
+    let _ = objects.swap_remove(uri);
+}
+
+/// Takes out the objects of a dataspace.
+pub(crate) fn drop_objects_in(objects: &mut IndexMap<StoreUri, ObjectRecord>, path: &Text)
+    ensures each { (q : StoreUri) → lookup (same_uri q) objects.new.entries ≡ (if bytes_eq q.space path.now then None else lookup (same_uri q) objects.old.entries) }
+    ensures room { spare objects.old ≤ spare objects.new }
+{
+    objects.retain(
+        |uri: &StoreUri, object: &mut ObjectRecord| -> bool
+            ensures { (result ≡ not (bytes_eq uri.now.space path.entry.now)) × (object.new ≡ object.old) }
+        { uri.space != *path },
+    );
+}
