@@ -1,0 +1,6 @@
+pub mod Judging
+pub mod Lawful
+pub mod Numbers
+pub mod Places
+pub mod Standing
+pub mod Values

@@ -1,0 +1,117 @@
+-- No entry of a legal history stands under a number that is not a place of it.
+use Rattle.std.specs.Prelude.{ℕ, ℤ, pos, Bool, true, false, cond, drop, List, [], ◌∷◌, ◌++◌, ◌≡◌, ◌+◌, ◌≤◌, ◌<◌, ◌==◌, Some, IsSomeAnd, slice_get, length, if◌then◌else◌}
+use Rattle.std.specs.List.{AllByRecursion}
+use Rattle.std.proofs.Common.{ap, sym, ◌∙◌, subst, refl, arith, suc, zero}
+use Rattle.std.proofs.lemmas.Grind.{common_steps}
+use Rattle.chan_defs.specs.declared.config.Config.{Config}
+use Rattle.std.specs.Map.{values_of}
+use Rattle.store_machine.specs.declared.call.SpacePut.{SpacePut}
+use Rattle.store_machine.specs.declared.call.StoreCall.{StoreCall}
+use Rattle.store_machine.specs.declared.call.StoreCall.TheVariants as call
+use Rattle.store_machine.specs.declared.journal.Act.{Act}
+use Rattle.store_machine.specs.declared.journal.Act.TheVariants.{Enter, PutSpaces, DropSpaces}
+use Rattle.store_machine.specs.declared.journal.Entry.{Entry}
+use Rattle.store_machine.specs.History.{DropSpace, set_space, changes_of}
+use Rattle.store_machine.specs.Laws.{IsOfSession}
+use Rattle.store_machine.specs.Answers.{accepted, act_of, granted, has_room_for, entry, entered, entries_of}
+use Rattle.store_machine.specs.Legal.{own, IsNext, MayAct, MayAsk, LegalFrom, Legal}
+
+-- a place at which something stands is below the length
+below_length : {X : Type 0} (P : X → Type 0) (xs : List X) (k : ℕ) → IsSomeAnd (slice_get xs k) P → k < length xs
+below_length P [] k h = absurd h
+below_length P (x ∷ xs) zero h = omega arith
+below_length P (x ∷ xs) (suc k) h = let rest = below_length P xs k h in omega (arith, rest)
+
+first_by : List Entry → ℕ
+first_by [] = 0
+first_by (e ∷ es) = e.by
+
+-- an entry's number is no further than its place
+by_within : (config : Config) (earlier : List Entry) (by nth : ℕ) (at : ℤ) (a : Act) → entered config earlier by nth at (granted earlier a) ≡ record { by = by; nth = nth; at = at; act = a } ∷ [] → MayAct earlier by nth a → by ≤ length earlier
+unfolding first_by
+by_within config earlier by nth at Enter same may = from (has_room_for config earlier Enter) same
+  where
+    from : (b : Bool) → (if b then entry earlier by nth at Enter ∷ [] else []) ≡ record { by = by; nth = nth; at = at; act = Enter } ∷ [] → by ≤ length earlier
+    from true h = let e : length earlier ≡ by = ap first_by h in omega (arith, e)
+    from false h = absurd (cc)
+by_within config earlier by nth at (PutSpaces puts) same may = let h = below_length (λ (e : Entry). e.act ≡ Enter) earlier by may.session in omega (arith, h)
+by_within config earlier by nth at (DropSpaces paths) same may = let h = below_length (λ (e : Entry). e.act ≡ Enter) earlier by may.session in omega (arith, h)
+
+all_below : (config : Config) (n : ℕ) (earlier es : List Entry) → length earlier + length es ≤ n → LegalFrom config earlier es → AllByRecursion (λ (e : Entry). e.by < n) es
+all_below config n earlier [] l h = tt
+all_below config n earlier (e ∷ es) l h =
+    let within = by_within config earlier e.by e.nth e.at e.act h.0.same h.0.may in
+    let below : e.by < n = omega (arith, within, l) in
+    let longer : length (earlier ++ e ∷ []) ≡ length earlier + 1 = grind (arith, common_steps) in
+    let room : length (earlier ++ e ∷ []) + length es ≤ n = omega (arith, longer, l) in
+    (below, all_below config n (earlier ++ e ∷ []) es room h.1)
+
+differs : (a n : ℕ) → a < n → (a == n) ≡ false
+differs a n h = grind (arith, h)
+
+own-none : (n : ℕ) (es : List Entry) → AllByRecursion (λ (e : Entry). e.by < n) es → own n es ≡ []
+own-none n [] h = refl
+own-none n (e ∷ es) h = ap (λ b. cond b (e ∷ own n es) (own n es)) (differs e.by n h.0) ∙ own-none n es h.1
+
+pub fresh-number : (config : Config) (history : List Entry) → Legal config history → own (length history) history ≡ []
+fresh-number config [] h = absurd h
+fresh-number config (e ∷ es) h =
+    let first : e.by < length (e ∷ es) = subst (λ (d : Entry). d.by < suc (length es)) (sym h.0) (omega arith) in
+    own-none (length (e ∷ es)) (e ∷ es) (first, all_below config (length (e ∷ es)) (e ∷ []) es (omega arith) h.1)
+
+pub door-session : (config : Config) (history : List Entry) → Legal config history → IsSomeAnd (slice_get history 0) (λ (e : Entry). e.act ≡ Enter)
+door-session config [] h = absurd h
+door-session config (e ∷ es) h = ap (λ (d : Entry). d.act) h.0
+
+pub number-stays : (history later : List Entry) (by : ℕ) → IsSomeAnd (slice_get history by) (λ (e : Entry). e.act ≡ Enter) → IsSomeAnd (slice_get (history ++ later) by) (λ (e : Entry). e.act ≡ Enter)
+number-stays [] later by h = absurd h
+number-stays (e ∷ es) later zero h = h
+number-stays (e ∷ es) later (suc by) h = number-stays es later by h
+
+-- whose an entry is
+abbrev IsHers : ℕ → ℕ → ℤ → Entry → Type 0
+IsHers by nth at e = (e.by ≡ by) × ((e.nth ≡ nth) × (e.at ≡ at))
+
+one_or_none : (b : Bool) (by nth : ℕ) (at : ℤ) (e : Entry) → IsHers by nth at e → AllByRecursion (IsHers by nth at) (if b then e ∷ [] else [])
+one_or_none true by nth at e h = (h, tt)
+one_or_none false by nth at e h = tt
+
+pub entries-of_session : (config : Config) (history : List Entry) (by nth : ℕ) (at : ℤ) (c : StoreCall) → IsOfSession c → AllByRecursion (IsHers by nth at) (entries_of config history by nth at c)
+entries-of_session config history by nth at call.Enter h = absurd h
+entries-of_session config history by nth at (call.Spaces newer) h = tt
+entries-of_session config history by nth at (call.PutSpaces items) h = from (accepted (set_space (pos 0)) (changes_of history) (values_of items))
+  where
+    from : (puts : List SpacePut) → AllByRecursion (IsHers by nth at) (entered config history by nth at (act_of PutSpaces puts))
+    from [] = tt
+    from (p ∷ ps) = one_or_none (has_room_for config history (PutSpaces (p ∷ ps))) by nth at _ (refl, (refl, refl))
+entries-of_session config history by nth at (call.DropSpaces items) h = from (accepted DropSpace (changes_of history) (values_of items))
+  where
+    from : (paths : List (List ℕ)) → AllByRecursion (IsHers by nth at) (entered config history by nth at (act_of DropSpaces paths))
+    from [] = tt
+    from (p ∷ ps) = one_or_none (has_room_for config history (DropSpaces (p ∷ ps))) by nth at _ (refl, (refl, refl))
+
+-- the entry that was read stands before the rest
+pub drop-entry : {X : Type 0} (xs : List X) (k : ℕ) (x : X) → slice_get xs k ≡ Some x → drop k xs ≡ x ∷ drop (suc k) xs
+drop-entry [] k x h = absurd (cc)
+drop-entry (y ∷ ys) zero x h = let e : y ≡ x = cc in ap (λ z. z ∷ ys) e
+drop-entry (y ∷ ys) (suc k) x h = drop-entry ys k x h
+
+split : (b : Bool) (e : Entry) (rest : List Entry) → length (cond b (e ∷ rest) rest) ≡ length (cond b (e ∷ []) []) + length rest
+split true e rest = grind (arith, common_steps)
+split false e rest = grind (arith, common_steps)
+
+-- a count of a session's entries, one entry on
+pub own-step : (by : ℕ) (history : List Entry) (k : ℕ) (e : Entry) → slice_get history k ≡ Some e → length (own by (drop k history)) ≡ length (own by (e ∷ [])) + length (own by (drop (k + 1) history))
+own-step by history k e h = ap (λ l. length (own by l)) (drop-entry history k e h)
+    ∙ split (e.by == by) e (own by (drop (suc k) history))
+    ∙ ap (λ n. length (own by (e ∷ [])) + length (own by (drop n history))) (next_place k)
+  where
+    next_place : (k : ℕ) → suc k ≡ k + 1
+    next_place k = omega arith
+
+-- a session's next call may be made
+pub may_ask : (history : List Entry) (by nth : ℕ) (c : StoreCall) → IsNext history by nth → MayAsk history by nth c
+may_ask history by nth call.Enter n = tt
+may_ask history by nth (call.Spaces newer) n = n
+may_ask history by nth (call.PutSpaces items) n = n
+may_ask history by nth (call.DropSpaces items) n = n

@@ -1,0 +1,60 @@
+-- The value of a key after further changes, and after further entries.
+use Rattle.std.specs.Prelude.{ℕ, Bool, true, false, cond, List, [], ◌∷◌, ◌++◌, ◌≡◌, ◌||◌, Option, None, fold, filter, map, refl}
+use Rattle.std.specs.List.{list_any}
+use Rattle.std.specs.Str.{bytes_eq}
+use Rattle.std.proofs.Common.{ap, sym, ◌∙◌, append-nil}
+use Rattle.std.proofs.lemmas.Bool.{false≢true}
+use Rattle.std.proofs.lemmas.List.Elements.{filter-append}
+use Rattle.std.proofs.lemmas.List.Sums.{fold-append}
+use Rattle.std.proofs.lemmas.List.Concat.{flat_map-append}
+use Rattle.store_machine.specs.declared.journal.Entry.{Entry}
+use Rattle.store_machine.specs.History.{Key, Space, Value, Change, DropSpace, alters, left, first, value, entry_changes, changes_of, value_after, entry_alters}
+
+-- none passes: nothing is kept
+filter-none : {X : Type 0} (p : X → Bool) (xs : List X) → list_any p xs ≡ false → filter p xs ≡ []
+filter-none p [] h = refl
+filter-none p (x ∷ xs) h = by (p x) h (filter-none p xs)
+  where
+    by : (b : Bool) → (b || list_any p xs) ≡ false → (list_any p xs ≡ false → filter p xs ≡ []) → cond b (x ∷ filter p xs) (filter p xs) ≡ []
+    by true h rest = absurd (false≢true (sym h))
+    by false h rest = rest h
+
+pub value-append : (key : Key) (before later : List Change) → value key (before ++ later) ≡ fold left (value key before) (filter (λ c. alters c key) later)
+value-append key before later =
+    ap (fold left (first key)) (filter-append (λ c. alters c key) before later) ∙ fold-append left (first key) (filter (λ c. alters c key) before) (filter (λ c. alters c key) later)
+
+pub value-push : (key : Key) (before : List Change) (c : Change) → value key (before ++ c ∷ []) ≡ cond (alters c key) (left (value key before) c) (value key before)
+value-push key before c = value-append key before (c ∷ []) ∙ by (alters c key)
+  where
+    by : (b : Bool) → fold left (value key before) (cond b (c ∷ []) []) ≡ cond b (left (value key before) c) (value key before)
+    by true = refl
+    by false = refl
+
+-- changes that don't alter the key
+pub value-unaltered : (key : Key) (before later : List Change) → list_any (λ c. alters c key) later ≡ false → value key (before ++ later) ≡ value key before
+value-unaltered key before later h = value-append key before later ∙ ap (fold left (value key before)) (filter-none (λ c. alters c key) later h)
+
+-- the changes of one more entry
+pub changes-push : (history : List Entry) (e : Entry) → changes_of (history ++ e ∷ []) ≡ changes_of history ++ entry_changes e
+changes-push history e = flat_map-append entry_changes history (e ∷ []) ∙ ap (λ l. changes_of history ++ l) (append-nil (entry_changes e))
+
+-- an entry that doesn't alter the key
+pub value_after-push : (key : Key) (history : List Entry) (e : Entry) → entry_alters key e ≡ false → value_after key (history ++ e ∷ []) ≡ value_after key history
+value_after-push key history e h = ap (value key) (changes-push history e) ∙ value-unaltered key (changes_of history) (entry_changes e) h
+
+nothing_left : {X : Type 0} (b : Bool) (r : Option X) → r ≡ None → cond b None r ≡ r
+nothing_left true r h = sym h
+nothing_left false r h = refl
+
+-- dataspaces that were dropped are gone, and the others as they were
+pub value-dropped : (path : List ℕ) (before : List Change) (gone : List (List ℕ)) → value (Space path) (before ++ map DropSpace gone) ≡ cond (list_any (bytes_eq path) gone) None (value (Space path) before)
+value-dropped path before gone = value-append (Space path) before (map DropSpace gone) ∙ drops gone (value (Space path) before)
+  where
+    drops : (gone : List (List ℕ)) (v : Option Value) → fold left v (filter (λ c. alters c (Space path)) (map DropSpace gone)) ≡ cond (list_any (bytes_eq path) gone) None v
+    drops [] v = refl
+    drops (g ∷ gs) v = by (bytes_eq path g) (drops gs)
+      where
+        by : (b : Bool) → ((v : Option Value) → fold left v (filter (λ c. alters c (Space path)) (map DropSpace gs)) ≡ cond (list_any (bytes_eq path) gs) None v)
+            → fold left v (cond b (DropSpace g ∷ filter (λ c. alters c (Space path)) (map DropSpace gs)) (filter (λ c. alters c (Space path)) (map DropSpace gs))) ≡ cond (b || list_any (bytes_eq path) gs) None v
+        by true rest = rest None ∙ nothing_left (list_any (bytes_eq path) gs) None refl
+        by false rest = rest v

@@ -1,0 +1,8 @@
+use Rattle.store_machine.proofs.Values.{value-unaltered, value_after-push}
+use Rattle.store_machine.proofs.laws.state_laws.Goals as goal
+
+pub returns-clause-changes : goal.returns-clause-changes
+returns-clause-changes c = value-unaltered
+
+pub returns-clause-entries : goal.returns-clause-entries
+returns-clause-entries c = value_after-push

@@ -1,0 +1,12 @@
+use Rattle.std.proofs.Common.{arith, ◌≡◌, ◌∷◌, []}
+use Rattle.std.proofs.lemmas.Grind.{common_steps}
+use Rattle.store_machine.specs.History.{default_space}
+use Rattle.store_machine.specs.Legal.{door}
+use Rattle.store_machine.proofs.Lawful.{keeps-first}
+use Rattle.store_machine.proofs.store.Store.new.Goals as goal
+
+pub invariant_of-result : goal.invariant_of-result
+invariant_of-result c =
+    let journal : c.push-2.new.self.items ≡ door ∷ [] = grind (arith, common_steps) in
+    let spaces : c.push.new.self.items ≡ default_space ∷ [] = grind (arith, common_steps) in
+    rw (journal, spaces) (keeps-first c.args.config)

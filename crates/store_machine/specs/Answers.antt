@@ -1,0 +1,109 @@
+-- What a call answers, and the entry that it adds, by the history before it.
+use Rattle.std.specs.Prelude.{ℕ, ℤ, pos, Bool, true, false, ◌&&◌, ◌+◌, List, [], ◌∷◌, ◌++◌, if◌then◌else◌, is_some, length, nat_lt, nat_le, map, filter}
+use Rattle.std.specs.Map.{values_of}
+use Rattle.etp_values.specs.declared.code.ErrorCode.TheVariants.{RequestDenied, NotFound}
+use Rattle.chan_defs.specs.declared.config.Config.{Config}
+use Rattle.store_machine.specs.declared.call.StoreCall.{StoreCall}
+use Rattle.store_machine.specs.declared.call.StoreCall.TheVariants as call
+use Rattle.store_machine.specs.declared.call.Verdict.{Verdict}
+use Rattle.store_machine.specs.declared.call.Verdict.TheVariants.{Accepted, Refused}
+use Rattle.store_machine.specs.declared.call.Reply.{Reply}
+use Rattle.store_machine.specs.declared.call.Reply.TheVariants.{Entered, Spaces, Verdicts, JournalFull}
+use Rattle.store_machine.specs.declared.call.Answer.{Answer}
+use Rattle.store_machine.specs.declared.journal.Act.{Act}
+use Rattle.store_machine.specs.declared.journal.Act.TheVariants.{Enter, PutSpaces, DropSpaces}
+use Rattle.store_machine.specs.declared.journal.Entry.{Entry}
+use Rattle.store_machine.specs.History.{Key, Space, Change, SetSpace, DropSpace, is_default, value, set_space, changes_of}
+use Rattle.store_machine.specs.Spaces.{spaces, is_newer}
+use Rattle.store_machine.specs.Counted.{counted_act, counted}
+
+-- ---- verdicts
+
+-- whether something stands at a key after these changes
+abbrev pub is_there : Key → List Change → Bool
+is_there key changes = is_some (value key changes)
+
+-- the verdict on a change after those so far. The default dataspace is neither put nor dropped; only what is there is dropped
+abbrev pub verdict : List Change → Change → Verdict
+verdict sofar (SetSpace path custom at) = if is_default path then Refused RequestDenied else Accepted
+verdict sofar (DropSpace path) = if is_default path then Refused RequestDenied else (if is_there (Space path) sofar then Accepted else Refused NotFound)
+
+abbrev pub is_accepted : Verdict → Bool
+is_accepted Accepted = true
+is_accepted (Refused code) = false
+
+-- the changes so far, and a further one where it is accepted
+abbrev pub sofar_with : List Change → Change → List Change
+sofar_with sofar c = if is_accepted (verdict sofar c) then sofar ++ c ∷ [] else sofar
+
+-- the verdicts on the items of a call in order, each after the accepted ones before it
+abbrev pub verdicts : {X : Type 0} → (X → Change) → List Change → List (List ℕ × X) → List (List ℕ × Verdict)
+verdicts change sofar [] = []
+verdicts change sofar (item ∷ items) = (item.0, verdict sofar (change item.1)) ∷ verdicts change (sofar_with sofar (change item.1)) items
+
+-- the items that are accepted
+abbrev pub accepted : {X : Type 0} → (X → Change) → List Change → List X → List X
+accepted change sofar [] = []
+accepted change sofar (x ∷ xs) = if is_accepted (verdict sofar (change x)) then x ∷ accepted change (sofar ++ change x ∷ []) xs else accepted change sofar xs
+
+-- ---- entries
+
+-- an act of these items, where there are any
+abbrev pub act_of : {X : Type 0} → (List X → Act) → List X → List Act
+act_of act [] = []
+act_of act (x ∷ xs) = act (x ∷ xs) ∷ []
+
+-- what is done of an act that is asked for at the end of a history: its accepted items, and nothing where there are none.
+-- The moment decides no verdict, so what is put is judged as if put at 0
+abbrev pub granted : List Entry → Act → List Act
+granted history Enter = Enter ∷ []
+granted history (PutSpaces puts) = act_of PutSpaces (accepted (set_space (pos 0)) (changes_of history) puts)
+granted history (DropSpaces paths) = act_of DropSpaces (accepted DropSpace (changes_of history) paths)
+
+-- what a call would do: one act or none
+abbrev pub wanted : List Entry → StoreCall → List Act
+wanted history call.Enter = granted history Enter
+wanted history (call.Spaces newer) = []
+wanted history (call.PutSpaces items) = granted history (PutSpaces (values_of items))
+wanted history (call.DropSpaces items) = granted history (DropSpaces (values_of items))
+
+-- whether the journal takes a further entry of this act: it has fewer entries than configured, and with that one at most
+-- 536,870,912 counted bytes
+abbrev pub has_room_for : Config → List Entry → Act → Bool
+has_room_for config history a = nat_lt (length history) config.journal && nat_le (counted history + counted_act a) 536870912
+
+abbrev pub has_room : Config → List Entry → List Act → Bool
+has_room config history [] = true
+has_room config history (a ∷ more) = has_room_for config history a
+
+-- the entry of an act: an Enter stands under its own place, with no entry before it
+abbrev pub entry : List Entry → ℕ → ℕ → ℤ → Act → Entry
+entry history by nth at Enter = record { by = length history; nth = 0; at = at; act = Enter }
+entry history by nth at (PutSpaces puts) = record { by = by; nth = nth; at = at; act = PutSpaces puts }
+entry history by nth at (DropSpaces paths) = record { by = by; nth = nth; at = at; act = DropSpaces paths }
+
+-- the entry that these acts add, where the journal has room
+abbrev pub entered : Config → List Entry → ℕ → ℕ → ℤ → List Act → List Entry
+entered config history by nth at acts = if has_room config history acts then map (entry history by nth at) acts else []
+
+-- the entries that a call adds: one or none
+abbrev pub entries_of : Config → List Entry → ℕ → ℕ → ℤ → StoreCall → List Entry
+entries_of config history by nth at c = entered config history by nth at (wanted history c)
+
+-- ---- answers
+
+-- the reply where the journal has room
+abbrev pub reply : List Entry → StoreCall → Reply
+reply history call.Enter = Entered (length history)
+reply history (call.Spaces newer) = Spaces (filter (is_newer newer) (spaces (changes_of history)))
+reply history (call.PutSpaces items) = Verdicts (verdicts (set_space (pos 0)) (changes_of history) items)
+reply history (call.DropSpaces items) = Verdicts (verdicts DropSpace (changes_of history) items)
+
+-- the answer to a call
+abbrev pub answer : Config → List Entry → StoreCall → Answer
+answer config history c = record { mark = length history; reply = if has_room config history (wanted history c) then reply history c else JournalFull }
+
+-- what a contract sees of a store
+pub record Kept : Type 0 where
+  pub config : Config
+  pub journal : List Entry

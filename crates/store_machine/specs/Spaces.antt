@@ -1,0 +1,31 @@
+-- The dataspaces that are there, in byte order of their paths.
+use Rattle.std.specs.Prelude.{ℕ, ℤ, Bool, true, List, [], ◌∷◌, Option, Some, None, fold, int_lt}
+use Rattle.std.specs.List.{flat_map}
+use Rattle.std.specs.BTreeSet.{insert_key}
+use Rattle.std.specs.Ordering.{nat_cmp}
+use Rattle.std.specs.Cmp.Lexicographic.{slice_cmp}
+use Rattle.object_store.specs.declared.records.SpaceRecord.{SpaceRecord}
+use Rattle.store_machine.specs.History.{Space, Value, SpaceValue, Change, SetSpace, DropSpace, value}
+
+-- the paths among others that a change puts one to, in its place and not twice
+abbrev pub with_path : List (List ℕ) → Change → List (List ℕ)
+with_path paths (SetSpace path custom at) = insert_key (slice_cmp nat_cmp) paths path
+with_path paths (DropSpace path) = paths
+
+-- the default path and all that were ever put, in order
+abbrev pub paths : List Change → List (List ℕ)
+paths changes = fold with_path ([] ∷ []) changes
+
+-- the dataspace that a value is, or none
+abbrev pub space_in : Option Value → List SpaceRecord
+space_in None = []
+space_in (Some (SpaceValue r)) = r ∷ []
+
+-- the dataspaces that are there after these changes
+abbrev pub spaces : List Change → List SpaceRecord
+spaces changes = flat_map (λ path. space_in (value (Space path) changes)) (paths changes)
+
+-- whether a dataspace was written after a moment, where one is given
+abbrev pub is_newer : Option ℤ → SpaceRecord → Bool
+is_newer None r = true
+is_newer (Some moment) r = int_lt moment r.written

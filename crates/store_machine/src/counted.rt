@@ -1,0 +1,65 @@
+//! The bytes that entries count against the limit of a journal.
+ghost use Rattle.std.specs.Prelude.{◌≡◌, ◌≤◌, ◌+◌, ◌&&◌, Some, None, nat_lt, nat_le, if◌then◌else◌};
+ghost use Rattle.etp_values.specs.Weight.{capped, weigh};
+ghost use Rattle.store_machine.specs.Counted.{put_bytes, drop_bytes, act_bytes, counted_act};
+
+use crate::call::SpacePut;
+use crate::journal::Act;
+use etp_values::{List, Text, custom_weight};
+
+/// How many bytes the entries of a journal count at most.
+pub const MAX_JOURNAL_BYTES: u64 = 536_870_912;
+
+/// What an entry counts besides its items.
+const ENTRY_BYTES: u64 = 64;
+
+/// What an item counts besides its texts and values.
+const ITEM_BYTES: u64 = 64;
+
+fn puts_bytes(puts: &List<SpacePut>) -> u64
+    ensures { result ≡ capped (weigh put_bytes puts.now) }
+{
+    let mut sum = 0u64;
+    for put in puts.as_slice() {
+        let texts = (put.path.len() as u64).saturating_add(custom_weight(&put.custom));
+        sum = sum.saturating_add(ITEM_BYTES.saturating_add(texts));
+    }
+    sum
+}
+
+fn paths_bytes(paths: &List<Text>) -> u64
+    ensures { result ≡ capped (weigh drop_bytes paths.now) }
+{
+    let mut sum = 0u64;
+    for path in paths.as_slice() {
+        sum = sum.saturating_add(ITEM_BYTES.saturating_add(path.len() as u64));
+    }
+    sum
+}
+
+/// The items of an act together; a sum above `u64::MAX` is `u64::MAX`.
+fn items_bytes(act: &Act) -> u64
+    ensures { result ≡ capped (act_bytes act.now) }
+{
+    match act {
+        Act::Enter => 0,
+        Act::PutSpaces(puts) => puts_bytes(puts),
+        Act::DropSpaces(paths) => paths_bytes(paths),
+    }
+}
+
+/// What the entries count together after a further one of this act, if the journal takes it: it has fewer than `limit`
+/// entries, and the sum stays in its own limit.
+pub(crate) fn bytes_with(limit: u64, entries: u64, bytes: u64, act: &Act) -> Option<u64>
+    requires { bytes ≤ 536870912 }
+    ensures { result ≡ (if nat_lt entries limit && nat_le (bytes + counted_act act.now) 536870912 then Some (bytes + counted_act act.now) else None) }
+{
+    if entries >= limit {
+        return None;
+    }
+    let sum = bytes.saturating_add(ENTRY_BYTES.saturating_add(items_bytes(act)));
+    if sum > MAX_JOURNAL_BYTES {
+        return None;
+    }
+    Some(sum)
+}
