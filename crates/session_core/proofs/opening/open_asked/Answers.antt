@@ -1,0 +1,18 @@
+use Rattle.std.proofs.Common.{◌≡◌, ◌≢◌, ◌∙◌, ap, sym, length, arith, rules}
+use Rattle.session_core.specs.Opening.{accepted, formats_of, opening_by, open_session}
+use Rattle.session_core.specs.declared.opening.Opening.TheVariants.{Opened}
+use Rattle.session_core.proofs.Cases.{opened}
+use Rattle.session_core.proofs.opening.open_asked.Goals as goal
+
+pub returns : goal.returns
+returns c =
+    let protocols = c.in_ok-accepted.accepted in
+    let formats = c.in_ok-formats.formats in
+    let same_protocols : protocols ≡ accepted c.args.request.requested_protocols = search rules in
+    let same_formats : formats ≡ formats_of c.args.request.supported_formats = search rules in
+    let answered : c.in_ok-reply.reply ≡ open_session c.args.config.now c.args.number c.args.moment protocols formats = search rules in
+    let some_protocols : length protocols ≢ 0 = omega arith in
+    let some_formats : length formats ≢ 0 = omega arith in
+    ap (λ reply. Opened protocols formats reply) answered
+    ∙ sym (opened c.args.config.now c.args.number c.args.moment protocols formats some_protocols some_formats)
+    ∙ (λ i. opening_by c.args.config.now c.args.number c.args.moment (same_protocols i) (same_formats i))

@@ -1,0 +1,10 @@
+pub mod Saying
+pub mod Scheme
+pub mod Spaces
+pub mod Opening
+pub mod State
+pub mod Arriving
+pub mod Sending
+pub mod Machine
+pub mod Session
+pub mod Run

@@ -1,0 +1,28 @@
+-- What callers see of a session.
+use Rattle.std.specs.Prelude.{ℕ, List, Option, Some, None}
+use Rattle.std.specs.Option.{option_map}
+use Rattle.etp_frame.specs.Wire.{message_bytes}
+use Rattle.session_core.specs.declared.state.Outgoing.{Outgoing}
+use Rattle.session_core.specs.declared.state.Phase.{Phase}
+use Rattle.session_core.specs.declared.state.Phase.TheVariants.{Waiting, Open, Ended}
+use Rattle.session_core.specs.declared.state.End.{End}
+use Rattle.session_core.specs.State.{State}
+use Rattle.session_core.specs.Sending.{first_of, rest_of}
+
+-- a message as it is sent
+abbrev pub bytes_of : Outgoing → List ℕ
+bytes_of o = message_bytes o.header o.message
+
+-- the first message as it is sent
+abbrev pub next_bytes : List Outgoing → Option (List ℕ)
+next_bytes out = option_map bytes_of (first_of out)
+
+-- the state after the first message was sent
+abbrev pub sent_one : State → State
+sent_one s = record s { out = rest_of s.out }
+
+-- how a session ended
+abbrev pub end_of : Phase → Option End
+end_of Waiting = None
+end_of Open = None
+end_of (Ended e) = Some e

@@ -1,0 +1,94 @@
+//! What arrives: a message, or why there is none.
+ghost use Rattle.std.specs.Prelude.{◌≡◌, IfOk, OnOk};
+ghost use Rattle.session_core.specs.Arriving.{arrived_message, came, failed, follows, refused, IsFault};
+
+use crate::state::{Arrived, Request};
+use etp_frame::{FrameError, Header, Message, read_message};
+use etp_schema::Side;
+use etp_values::{ErrorCode, NoMemory};
+use std::alloc::Global;
+
+/// The greatest number of bytes of a message.
+pub(crate) const MAX_MESSAGE_LEN: usize = 16_777_216;
+
+/// The message of these bytes, after one with the id `last_id`.
+pub(crate) fn arrive(
+    alloc: Global,
+    last_id: i64,
+    bytes: &[u8],
+    moment: i64,
+) -> Result<Arrived, NoMemory>
+    ensures { IfOk result (λ a. a ≡ arrived_message last_id moment bytes.now) }
+{
+    if bytes.len() > MAX_MESSAGE_LEN {
+        return Ok(Arrived::Unreadable(ErrorCode::SizeExceeded));
+    }
+    match read_message(alloc, bytes, Side::Client) {
+        Ok((header, message)) => Ok(came(last_id, moment, &header, message)),
+        Err(error) => {
+            let arrived = failed(last_id, error)?;
+            Ok(arrived)
+        }
+    }
+}
+
+fn came(last_id: i64, moment: i64, header: &Header, message: Message) -> Arrived
+    ensures { result ≡ came last_id moment header.now message }
+{
+    let request = Request {
+        protocol: header.protocol,
+        id: header.id,
+    };
+    if follows(last_id, request.id) {
+        Arrived::Fresh {
+            request,
+            moment,
+            message,
+        }
+    } else {
+        Arrived::Stale(request)
+    }
+}
+
+fn failed(last_id: i64, error: FrameError) -> Result<Arrived, NoMemory>
+    ensures value { IfOk result (λ a. a ≡ failed last_id error) }
+    ensures fault { OnOk result (IsFault error) }
+{
+    match error {
+        FrameError::Header(_) => Ok(Arrived::Unreadable(ErrorCode::InvalidMessage)),
+        FrameError::Extension(header) => Ok(refused(last_id, &header, ErrorCode::InvalidMessage)),
+        FrameError::Compressed(header) => {
+            Ok(refused(last_id, &header, ErrorCode::CompressionNotSupported))
+        }
+        FrameError::UnknownProtocol(header) => {
+            Ok(refused(last_id, &header, ErrorCode::UnsupportedProtocol))
+        }
+        FrameError::UnknownKind(header) => {
+            Ok(refused(last_id, &header, ErrorCode::InvalidMessageType))
+        }
+        FrameError::Body(header, _) => Ok(refused(last_id, &header, ErrorCode::InvalidMessage)),
+        FrameError::Rest(header, _) => Ok(refused(last_id, &header, ErrorCode::InvalidMessage)),
+        FrameError::NoMemory => Err(NoMemory),
+    }
+}
+
+fn refused(last_id: i64, header: &Header, code: ErrorCode) -> Arrived
+    ensures { result ≡ refused last_id header.now code }
+{
+    let request = Request {
+        protocol: header.protocol,
+        id: header.id,
+    };
+    if follows(last_id, request.id) {
+        Arrived::Refused { request, code }
+    } else {
+        Arrived::Stale(request)
+    }
+}
+
+/// Whether a message of this id may come after one of that.
+fn follows(last_id: i64, id: i64) -> bool
+    ensures { result ≡ follows last_id id }
+{
+    last_id < id && id % 2 == 0
+}
