@@ -1,0 +1,94 @@
+-- A journal grows by the entries of one session.
+use Rattle.std.proofs.Common.{◌≡◌, ◌≢◌, ℕ, zero, suc, ◌+◌, ◌<◌, ◌≤◌, Bool, true, false, cond, List, [], ◌∷◌, ◌++◌, length, filter, refl, ap, sym, ◌∙◌, subst, arith, append_assoc, append-nil, length-append, None, Some, ◌==◌, nat_eq, eq-eqb}
+use Rattle.std.specs.Prelude.{IsSomeAnd, slice_get}
+use Rattle.std.specs.declared.option.Option.{Option}
+use Rattle.std.proofs.lemmas.Bool.Decides.{nat_tests}
+use Rattle.std.proofs.lemmas.List.Elements.{filter-append}
+use Rattle.store_machine.specs.Legal.{own, IsNext}
+use Rattle.store_machine.specs.declared.journal.Entry.{Entry}
+use Rattle.store_machine.specs.declared.journal.Act.TheVariants.{Enter}
+
+-- all are of one session
+abbrev pub By : ℕ → List Entry → Type 0
+By n [] = Unit {0}
+By n (e ∷ es) = (e.by ≡ n) × By n es
+
+-- a journal and what it has grown to
+pub record Grows (n : ℕ) (h h' : List Entry) : Type 0 where
+  pub more : List Entry
+  pub is : h' ≡ h ++ more
+  pub by : By n more
+
+pub grows_none : (n : ℕ) (h : List Entry) → Grows n h h
+grows_none n h = record { more = []; is = sym (append-nil h); by = tt }
+
+By-append : (n : ℕ) (xs ys : List Entry) → By n xs → By n ys → By n (xs ++ ys)
+By-append n [] ys a b = b
+By-append n (x ∷ xs) ys a b = (a.0, By-append n xs ys a.1 b)
+
+pub grows_trans : (n : ℕ) (h i j : List Entry) → Grows n h i → Grows n i j → Grows n h j
+grows_trans n h i j a b = record {
+  more = a.more ++ b.more;
+  is = b.is ∙ ap (λ l. l ++ b.more) a.is ∙ append_assoc h a.more b.more;
+  by = By-append n a.more b.more a.by b.by;
+}
+
+-- ---- the entry of entering stays where it is
+
+entry_kept : (h more : List Entry) (i : ℕ) (P : Entry → Type 0) → IsSomeAnd (slice_get h i) P → IsSomeAnd (slice_get (h ++ more) i) P
+entry_kept [] more i P there = absurd there
+entry_kept (e ∷ es) more zero P there = there
+entry_kept (e ∷ es) more (suc i) P there = entry_kept es more i P there
+
+pub entry_last : (h : List Entry) (e : Entry) (P : Entry → Type 0) → P e → IsSomeAnd (slice_get (h ++ e ∷ []) (length h)) P
+entry_last [] e P is = is
+entry_last (x ∷ xs) e P is = entry_last xs e P is
+
+pub entry_within : (h : List Entry) (i : ℕ) (P : Entry → Type 0) → IsSomeAnd (slice_get h i) P → i < length h
+entry_within [] i P there = absurd there
+entry_within (e ∷ es) zero P there = omega arith
+entry_within (e ∷ es) (suc i) P there = let below = entry_within es i P there in omega arith
+
+-- ---- counts of own entries
+
+is_other : (a m : ℕ) → a ≢ m → nat_eq a m ≡ false
+is_other a m other = grind (arith, nat_tests)
+
+own_other : (n m : ℕ) (es : List Entry) → m ≢ n → By n es → own m es ≡ []
+own_other n m [] other by = refl
+own_other n m (e ∷ es) other by =
+    ap (λ b. cond b (e ∷ own m es) (own m es)) (is_other e.by m (λ same. other (sym same ∙ by.0))) ∙ own_other n m es other by.1
+
+pub own_all : (n : ℕ) (es : List Entry) → By n es → own n es ≡ es
+own_all n [] by = refl
+own_all n (e ∷ es) by = ap (λ b. cond b (e ∷ own n es) (own n es)) (eq-eqb e.by n by.0) ∙ ap (λ l. e ∷ l) (own_all n es by.1)
+
+pub own_more : (m : ℕ) (h es : List Entry) → own m (h ++ es) ≡ own m h ++ own m es
+own_more m h es = filter-append (λ (e : Entry). e.by == m) h es
+
+-- the entries of another session are as many as before
+pub next_kept : (n m k : ℕ) (h h' : List Entry) → Grows n h h' → m ≢ n → IsNext h m k → IsNext h' m k
+next_kept n m k h h' grows other next =
+    let same : own m h' ≡ own m h = ap (own m) grows.is ∙ own_more m h grows.more ∙ ap (λ l. own m h ++ l) (own_other n m grows.more other grows.by) ∙ append-nil (own m h) in
+    record {
+      session = subst (λ l. IsSomeAnd (slice_get l m) (λ (e : Entry). e.act ≡ Enter)) (sym grows.is) (entry_kept h grows.more m (λ (e : Entry). e.act ≡ Enter) next.session);
+      entries = next.entries ∙ ap length (sym same);
+    }
+
+-- its own are more by those
+pub next_more : (n k : ℕ) (h es : List Entry) → By n es → IsNext h n k → IsNext (h ++ es) n (k + length es)
+next_more n k h es by next =
+    let all : own n (h ++ es) ≡ own n h ++ es = own_more n h es ∙ ap (λ l. own n h ++ l) (own_all n es by) in
+    record {
+      session = entry_kept h es n (λ (e : Entry). e.act ≡ Enter) next.session;
+      entries = ap (λ x. x + length es) next.entries ∙ sym (length-append (own n h) es) ∙ ap length (sym all);
+    }
+
+few : (b : Bool) (e : Entry) (xs : List Entry) (k : ℕ) → length xs ≤ k → length (cond b (e ∷ xs) xs) ≤ suc k
+few true e xs k below = omega arith
+few false e xs k below = omega arith
+
+-- own entries are no more than all
+pub own_few : (n : ℕ) (h : List Entry) → length (own n h) ≤ length h
+own_few n [] = omega arith
+own_few n (e ∷ es) = few (nat_eq e.by n) e (own n es) (length es) (own_few n es)

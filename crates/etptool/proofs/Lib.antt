@@ -1,0 +1,10 @@
+pub mod Fronts
+pub mod Runs
+pub mod Seats
+pub mod Growth
+pub mod Calls
+pub mod Soundness
+pub mod Once
+pub mod Entering
+pub mod Begun
+pub mod TooLong

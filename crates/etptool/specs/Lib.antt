@@ -1,0 +1,10 @@
+pub mod Words
+pub mod Settings
+pub mod Turns
+pub mod Play
+pub mod Plays
+pub mod Sound
+pub mod Reading
+pub mod Replay
+pub mod Top
+pub mod Laws
