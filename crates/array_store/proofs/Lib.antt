@@ -1,0 +1,6 @@
+pub mod Counts
+pub mod Keys
+pub mod Rows
+pub mod Regions
+pub mod Sound
+pub mod Steps

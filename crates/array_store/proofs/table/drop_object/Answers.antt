@@ -1,0 +1,22 @@
+use Rattle.std.specs.Prelude.{◌≡◌, ◌-◌, not, filter, length}
+use Rattle.std.specs.Map.{lookup}
+use Rattle.std.proofs.Common.{rules, ap, ◌∙◌, sym, arith}
+use Rattle.indexmap.proofs.CallerLemmas.{filter-RetainsPairs}
+use Rattle.etp_values.proofs.Lookups.{lookup-filter}
+use Rattle.array_store.specs.Table.{same_key, is_of_object, is_in_space}
+use Rattle.array_store.proofs.Counts.{counted}
+use Rattle.array_store.proofs.Keys.{same_key-is}
+use Rattle.array_store.proofs.table.drop_object.Goals as goal
+
+pub returns-clause-each : goal.returns-clause-each
+returns-clause-each c = λ q.
+    let old = c.args.arrays.now.entries in
+    let kept : c.retain.new.self.entries ≡ filter (λ e. not (is_of_object c.args.uri.now e.0)) old = filter-RetainsPairs _ (λ e. not (is_of_object c.args.uri.now e.0)) _ (λ k v b w g call. search rules) _ _ c.retain.ensures.filtered in
+    ap (lookup (same_key q)) kept ∙ lookup-filter same_key (is_of_object c.args.uri.now) (λ x y h. ap (is_of_object c.args.uri.now) (same_key-is x y h)) q old
+
+pub returns-clause-count : goal.returns-clause-count
+returns-clause-count c =
+    let old = c.args.arrays.now.entries in
+    let kept : c.retain.new.self.entries ≡ filter (λ e. not (is_of_object c.args.uri.now e.0)) old = filter-RetainsPairs _ (λ e. not (is_of_object c.args.uri.now e.0)) _ (λ k v b w g call. search rules) _ _ c.retain.ensures.filtered in
+    let sizes = counted (λ e. is_of_object c.args.uri.now e.0) old in
+    omega (arith, sizes, ap length kept)

@@ -1,0 +1,60 @@
+-- What a contract sees of an `ArrayStore`, and what its calls leave at each key.
+use Rattle.std.specs.Prelude.{ℕ, ◌≡◌, ℤ, Bool, ◌&&◌, List, Option, Some, None, if◌then◌else◌, filter, length}
+use Rattle.std.specs.Map.{lookup}
+use Rattle.std.specs.Str.{bytes_eq}
+use Rattle.etp_values.specs.declared.data.AnyArray.{AnyArray}
+use Rattle.etp_values.specs.declared.uri.StoreUri.{StoreUri}
+use Rattle.etp_values.specs.SameUri.{same_uri}
+use Rattle.array_store.specs.declared.key.ArrayKey.{ArrayKey}
+use Rattle.array_store.specs.declared.record.ArrayRecord.{ArrayRecord}
+use Rattle.array_store.specs.Shape.{sizes}
+use Rattle.array_store.specs.Arrays.{patch_of}
+use Rattle.array_store.specs.Faults.{record_fault}
+
+-- the arrays by their keys, and how many more fit without memory
+pub record Arrays : Type 0 where
+  pub arrays : List (ArrayKey × ArrayRecord)
+  pub spare : ℕ
+
+abbrev pub same_key : ArrayKey → ArrayKey → Bool
+same_key a b = same_uri a.uri b.uri && bytes_eq a.path b.path
+
+-- the array of a key
+abbrev pub array_in : Arrays → ArrayKey → Option ArrayRecord
+array_in t key = lookup (same_key key) t.arrays
+
+-- the array that a put leaves: it was made when the one before was, or now where there was none
+abbrev pub put_array : Option ArrayRecord → ArrayRecord → ArrayRecord
+put_array None r = record r { created = r.written }
+put_array (Some before) r = record r { created = before.created }
+
+-- the array that a patch leaves
+abbrev pub patch_array : ArrayRecord → List ℤ → List ℤ → AnyArray → ArrayRecord
+patch_array r ss cs values = record r { values = patch_of (sizes r.dims) (sizes ss) (sizes cs) r.values values }
+
+-- the same array, last written at this moment
+abbrev pub rewritten : ArrayRecord → ℤ → ArrayRecord
+rewritten r at = record r { written = at }
+
+-- one key has this array, and the others have what they had
+abbrev pub Sets : Arrays → Arrays → ArrayKey → ArrayRecord → Type 0
+Sets old new key r = (q : ArrayKey) → array_in new q ≡ (if same_key q key then Some r else array_in old q)
+
+-- an array of an object, and one of a dataspace
+abbrev pub is_of_object : StoreUri → ArrayKey → Bool
+is_of_object uri key = same_uri uri key.uri
+
+abbrev pub is_in_space : List ℕ → ArrayKey → Bool
+is_in_space path key = bytes_eq path key.uri.space
+
+-- the keys that go have no array, and the others have what they had
+abbrev pub Drops : Arrays → Arrays → (ArrayKey → Bool) → Type 0
+Drops old new goes = (q : ArrayKey) → array_in new q ≡ (if goes q then None else array_in old q)
+
+-- how many arrays have such keys
+abbrev pub how_many : (ArrayKey → Bool) → Arrays → ℕ
+how_many goes t = length (filter (λ e. goes e.0) t.arrays)
+
+-- every array is one that a put accepts
+abbrev pub AllSound : List (ArrayKey × ArrayRecord) → Type 0
+AllSound arrays = (key : ArrayKey) (r : ArrayRecord) → lookup (same_key key) arrays ≡ Some r → record_fault r ≡ None

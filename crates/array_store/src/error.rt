@@ -1,0 +1,30 @@
+//! Why an array is refused.
+use etp_values::NoMemory;
+
+/// Why an array, a region or values are refused. The variants stand in the order in which they are tested.
+#[derive(Clone, Copy, Debug, PartialEq, Eq)]
+pub enum ArrayError {
+    /// There are not 1 to 8 dimensions, or not as many starts or counts as dimensions.
+    Rank,
+    /// A dimension, a start or a count is negative, or a start and its count pass the dimension.
+    Outside,
+    /// The values are of another kind than the array.
+    Kind,
+    /// There are not as many elements as the dimensions or counts make.
+    Count,
+    /// An array would have more than 4,194,304 elements, or they would count more than 33,554,432 bytes.
+    TooLarge,
+    /// Memory was refused.
+    NoMemory,
+}
+
+impl From<NoMemory> for ArrayError {
+    ghost use Rattle.std.specs.Prelude.{◌≡◌};
+    ghost use Rattle.array_store.specs.declared.error.ArrayError.TheVariants.{NoMemory};
+
+    ghost from_gives = { λ _ e. e ≡ NoMemory };
+
+    fn from(_error: NoMemory) -> ArrayError {
+        ArrayError::NoMemory
+    }
+}

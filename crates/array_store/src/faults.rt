@@ -1,0 +1,46 @@
+//! Why arrays, regions and values are refused.
+ghost use Rattle.std.specs.Prelude.{◌≡◌};
+ghost use Rattle.array_store.specs.Faults.{record_fault, region_fault, values_fault};
+
+use crate::elements::{element_count, is_same_kind, weight_fault};
+use crate::error::ArrayError;
+use crate::record::ArrayRecord;
+use crate::region::is_region;
+use crate::shape::{dims, volume};
+use etp_values::AnyArray;
+
+/// Why a record is no array.
+pub(crate) fn record_fault(array: &ArrayRecord) -> Option<ArrayError>
+    ensures { result ≡ record_fault array.now }
+{
+    match dims(&array.dims, Some(element_count(&array.values) as u64)) {
+        Ok(_) => weight_fault(&array.values),
+        Err(error) => Some(error),
+    }
+}
+
+/// Why starts and counts are no region of an array of these dimensions.
+pub(crate) fn region_fault(dims: &[i64], starts: &[i64], counts: &[i64]) -> Option<ArrayError>
+    ensures { result ≡ region_fault dims.now starts.now counts.now }
+{
+    if starts.len() != dims.len() || counts.len() != dims.len() {
+        return Some(ArrayError::Rank);
+    }
+    if !is_region(dims, starts, counts) {
+        return Some(ArrayError::Outside);
+    }
+    None
+}
+
+/// Why values are none for a region of an array with these elements.
+pub(crate) fn values_fault(held: &AnyArray, counts: &[i64], values: &AnyArray) -> Option<ArrayError>
+    ensures { result ≡ values_fault held.now counts.now values.now }
+{
+    if !is_same_kind(held, values) {
+        return Some(ArrayError::Kind);
+    }
+    if volume(counts) != Some(element_count(values) as u64) {
+        return Some(ArrayError::Count);
+    }
+    None
+}

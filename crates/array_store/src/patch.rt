@@ -1,0 +1,68 @@
+//! An array's own calls: reading a region and writing one.
+ghost use Rattle.std.specs.Prelude.{◌≡◌, Err, None, IfOk, OnOk, OnErr, true};
+ghost use Rattle.array_store.specs.Shape.{sizes};
+ghost use Rattle.array_store.specs.Arrays.{slice_of, is_bytes};
+ghost use Rattle.array_store.specs.Faults.{record_fault, region_fault, patch_fault, Refuses};
+ghost use Rattle.array_store.specs.Table.{patch_array};
+
+use crate::error::ArrayError;
+use crate::faults::{region_fault, values_fault};
+use crate::record::ArrayRecord;
+use crate::window::{patch_values, slice_values};
+use etp_values::{AnyArray, Blob};
+use std::alloc::Global;
+use std::mem;
+
+/// The elements of a region.
+pub(crate) fn slice_record(
+    alloc: Global,
+    array: &ArrayRecord,
+    starts: &[i64],
+    counts: &[i64],
+) -> Result<AnyArray, ArrayError>
+    requires { record_fault array.now ≡ None }
+    ensures done { Refuses result (region_fault array.now.dims starts.now counts.now) }
+    ensures ok { IfOk result (λ r. r ≡ slice_of (sizes array.now.dims) (sizes starts.now) (sizes counts.now) array.now.values) }
+{
+    let dims = array.dims.as_slice();
+    if let Some(error) = region_fault(dims, starts, counts) {
+        return Err(error);
+    }
+    match slice_values(alloc, &array.values, dims, starts, counts) {
+        Ok(values) => Ok(values),
+        Err(_) => Err(ArrayError::NoMemory),
+    }
+}
+
+/// Moves values into a region.
+pub(crate) fn patch_record(
+    alloc: Global,
+    array: &mut ArrayRecord,
+    starts: &[i64],
+    counts: &[i64],
+    values: AnyArray,
+) -> Result<(), ArrayError>
+    requires { record_fault array.old ≡ None }
+    ensures done { Refuses result (patch_fault array.old starts.now counts.now values) }
+    ensures ok { OnOk result (array.new ≡ patch_array array.old starts.now counts.now values) }
+    ensures err { OnErr result (array.new ≡ array.old) }
+    ensures memory { result ≡ Err ArrayError.NoMemory → is_bytes array.old.values ≡ true }
+{
+    if let Some(error) = region_fault(array.dims.as_slice(), starts, counts) {
+        return Err(error);
+    }
+    if let Some(error) = values_fault(&array.values, counts, &values) {
+        return Err(error);
+    }
+    let held = mem::replace(&mut array.values, AnyArray::Bytes(Blob::new()));
+    match patch_values(alloc, held, values, array.dims.as_slice(), starts, counts) {
+        Ok(patched) => {
+            array.values = patched;
+            Ok(())
+        }
+        Err((held, error)) => {
+            array.values = held;
+            Err(error)
+        }
+    }
+}

@@ -1,0 +1,152 @@
+//! The store of arrays.
+ghost use Rattle.std.specs.Prelude.{◌≡◌, ◌<◌, ◌+◌, ◌≤◌, [], Err, None, IsSome, IsOk, IfOk, IfSome, OnOk, OnErr, true};
+ghost use Rattle.std.specs.Option.{option_copied};
+
+use crate::error::ArrayError;
+use crate::faults::record_fault;
+use crate::key::ArrayKey;
+use crate::patch::slice_record;
+use crate::record::ArrayRecord;
+use crate::table::{drop_object, drop_space, patch_array, put_array, set_written};
+use etp_values::{AnyArray, List, NoMemory, StoreUri, Text};
+use indexmap::IndexMap;
+use std::alloc::Global;
+use std::marker::Model;
+
+/// Arrays by their keys. A contract sees them in the order of the table, and as `spare` how many more fit without memory.
+#[derive(Drop)]
+pub struct ArrayStore {
+    arrays: IndexMap<ArrayKey, ArrayRecord>,
+}
+
+impl Model for ArrayStore {
+    ghost use Rattle.indexmap.specs.IndexMap.{spare};
+    ghost use Rattle.array_store.specs.Table.{Arrays, AllSound};
+
+    ghost Value = { Arrays };
+
+    ghost view = { λ s. record { arrays = s.arrays.entries; spare = spare s.arrays } };
+
+    ghost invariant = { λ s. AllSound s.arrays.entries };
+}
+
+impl ArrayStore {
+    ghost use Rattle.array_store.specs.Shape.{sizes};
+    ghost use Rattle.array_store.specs.Arrays.{slice_of, is_bytes};
+    ghost use Rattle.array_store.specs.Faults.{record_fault, region_fault, patch_fault, Refuses};
+    ghost use Rattle.array_store.specs.Table.{array_in, put_array, patch_array, rewritten, Sets, Drops, is_of_object, is_in_space, how_many};
+
+    /// A store without arrays.
+    pub fn new(alloc: Global) -> ArrayStore
+        ensures { result.arrays ≡ [] }
+    {
+        ArrayStore {
+            arrays: IndexMap::new(alloc),
+        }
+    }
+
+    /// The array of a key.
+    pub fn get(&self, key: &ArrayKey) -> Option<&ArrayRecord>
+        ensures { option_copied result ≡ array_in self.now key.now }
+    {
+        self.arrays.get(key)
+    }
+
+    /// Puts an array in place of the one of its key. It keeps the moment at which that one was made, and counts as made
+    /// when it was written where there was none.
+    pub fn put(&mut self, key: ArrayKey, value: ArrayRecord) -> Result<(), ArrayError>
+        ensures done { Refuses result (record_fault value) }
+        ensures ok { OnOk result (Sets self.old self.new key (put_array (array_in self.old key) value)) }
+        ensures err { OnErr result (self.new.arrays ≡ self.old.arrays) }
+        ensures succeeds { 0 < self.old.spare → record_fault value ≡ None → IsOk result }
+        ensures room { self.old.spare ≤ self.new.spare + 1 }
+    {
+        if let Some(error) = record_fault(&value) {
+            return Err(error);
+        }
+        put_array(&mut self.arrays, key, value)
+    }
+
+    /// The elements of a region, in row-major order.
+    pub fn slice(
+        &self,
+        alloc: Global,
+        key: &ArrayKey,
+        starts: &List<i64>,
+        counts: &List<i64>,
+    ) -> Result<AnyArray, ArrayError>
+        requires { IsSome (array_in self.now key.now) }
+        ensures done { IfSome (array_in self.now key.now) (λ r. Refuses result (region_fault r.dims starts.now counts.now)) }
+        ensures ok { IfSome (array_in self.now key.now) (λ r. IfOk result (λ values. values ≡ slice_of (sizes r.dims) (sizes starts.now) (sizes counts.now) r.values)) }
+    {
+        let Some(array) = self.arrays.get(key) else {
+            unreachable!();
+        };
+        slice_record(alloc, array, starts.as_slice(), counts.as_slice())
+    }
+
+    /// Moves values into a region. Only a patch of bytes takes memory, since others may read the bytes of a [`Blob`].
+    ///
+    /// [`Blob`]: etp_values::Blob
+    pub fn patch(
+        &mut self,
+        alloc: Global,
+        key: &ArrayKey,
+        starts: &List<i64>,
+        counts: &List<i64>,
+        values: AnyArray,
+    ) -> Result<(), ArrayError>
+        requires { IsSome (array_in self.old key.now) }
+        ensures done { IfSome (array_in self.old key.now) (λ r. Refuses result (patch_fault r starts.now counts.now values)) }
+        ensures ok { IfSome (array_in self.old key.now) (λ r. OnOk result (Sets self.old self.new key.now (patch_array r starts.now counts.now values))) }
+        ensures err { OnErr result (self.new.arrays ≡ self.old.arrays) }
+        ensures memory { IfSome (array_in self.old key.now) (λ r. result ≡ Err ArrayError.NoMemory → is_bytes r.values ≡ true) }
+        ensures room { self.new.spare ≡ self.old.spare }
+    {
+        patch_array(
+            alloc,
+            &mut self.arrays,
+            key,
+            starts.as_slice(),
+            counts.as_slice(),
+            values,
+        )
+    }
+
+    /// Notes when the array of a key was last written, which a patch by itself does not know.
+    pub fn set_written(&mut self, key: &ArrayKey, at: i64)
+        requires { IsSome (array_in self.old key.now) }
+        ensures each { IfSome (array_in self.old key.now) (λ r. Sets self.old self.new key.now (rewritten r at)) }
+        ensures room { self.new.spare ≡ self.old.spare }
+    {
+        set_written(&mut self.arrays, key, at);
+    }
+
+    /// Makes room for more arrays.
+    pub fn reserve(&mut self, more: u64) -> Result<(), NoMemory>
+        ensures same { self.new.arrays ≡ self.old.arrays }
+        ensures room { OnOk result (more ≤ self.new.spare) }
+        ensures keeps { self.old.spare ≤ self.new.spare }
+    {
+        self.arrays.reserve(more as usize)?;
+        Ok(())
+    }
+
+    /// Removes the arrays of an object, and counts them.
+    pub fn drop_object(&mut self, uri: &StoreUri) -> u64
+        ensures each { Drops self.old self.new (is_of_object uri.now) }
+        ensures count { result ≡ how_many (is_of_object uri.now) self.old }
+        ensures room { self.old.spare ≤ self.new.spare }
+    {
+        drop_object(&mut self.arrays, uri)
+    }
+
+    /// Removes the arrays of a dataspace, and counts them.
+    pub fn drop_space(&mut self, path: &Text) -> u64
+        ensures each { Drops self.old self.new (is_in_space path.now) }
+        ensures count { result ≡ how_many (is_in_space path.now) self.old }
+        ensures room { self.old.spare ≤ self.new.spare }
+    {
+        drop_space(&mut self.arrays, path)
+    }
+}

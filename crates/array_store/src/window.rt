@@ -1,0 +1,271 @@
+//! Regions of arrays of every kind.
+ghost use Rattle.std.specs.Prelude.{◌≡◌, ◌<◌, ◌≤◌, true, IfOk, None, length, MatchResult};
+ghost use Rattle.array_store.specs.Shape.{sizes, volume};
+ghost use Rattle.array_store.specs.Region.{is_region, sliced, patched};
+ghost use Rattle.array_store.specs.Arrays.{elements, is_same_kind, slice_of, patch_of};
+ghost use Rattle.array_store.specs.Faults.{Patches, PatchesTexts};
+
+use crate::element::Element;
+use crate::elements::are_too_large;
+use crate::error::ArrayError;
+use crate::region::{read_region, swap_region};
+use crate::shape::volume;
+use etp_values::{AnyArray, Blob, List, NoMemory, Text};
+use std::alloc::Global;
+
+/// A new array of the elements of a region.
+pub(crate) fn slice_values(
+    alloc: Global,
+    values: &AnyArray,
+    dims: &[i64],
+    starts: &[i64],
+    counts: &[i64],
+) -> Result<AnyArray, NoMemory>
+    requires region { is_region dims.now starts.now counts.now ≡ true }
+    requires some { 0 < length dims.now }
+    requires full { elements values.now ≡ volume (sizes dims.now) }
+    ensures { IfOk result (λ r. r ≡ slice_of (sizes dims.now) (sizes starts.now) (sizes counts.now) values.now) }
+{
+    match values {
+        AnyArray::ArrayOfBoolean(items) => Ok(AnyArray::ArrayOfBoolean(slice_list(
+            alloc, items, dims, starts, counts,
+        )?)),
+        AnyArray::ArrayOfInt(items) => Ok(AnyArray::ArrayOfInt(slice_list(
+            alloc, items, dims, starts, counts,
+        )?)),
+        AnyArray::ArrayOfLong(items) => Ok(AnyArray::ArrayOfLong(slice_list(
+            alloc, items, dims, starts, counts,
+        )?)),
+        AnyArray::ArrayOfFloat(items) => Ok(AnyArray::ArrayOfFloat(slice_list(
+            alloc, items, dims, starts, counts,
+        )?)),
+        AnyArray::ArrayOfDouble(items) => Ok(AnyArray::ArrayOfDouble(slice_list(
+            alloc, items, dims, starts, counts,
+        )?)),
+        AnyArray::ArrayOfString(items) => Ok(AnyArray::ArrayOfString(slice_list(
+            alloc, items, dims, starts, counts,
+        )?)),
+        AnyArray::Bytes(bytes) => Ok(AnyArray::Bytes(slice_blob(
+            alloc, bytes, dims, starts, counts,
+        )?)),
+    }
+}
+
+fn slice_list<T: Element>(
+    alloc: Global,
+    items: &List<T>,
+    dims: &[i64],
+    starts: &[i64],
+    counts: &[i64],
+) -> Result<List<T>, NoMemory>
+    requires region { is_region dims.now starts.now counts.now ≡ true }
+    requires some { 0 < length dims.now }
+    requires full { length items.now ≡ volume (sizes dims.now) }
+    ensures { IfOk result (λ l. l ≡ sliced (sizes dims.now) (sizes starts.now) (sizes counts.now) items.now) }
+{
+    let out = slice_items(alloc, items.as_slice(), dims, starts, counts)?;
+    Ok(List::from_vec(out))
+}
+
+fn slice_blob(
+    alloc: Global,
+    bytes: &Blob,
+    dims: &[i64],
+    starts: &[i64],
+    counts: &[i64],
+) -> Result<Blob, NoMemory>
+    requires region { is_region dims.now starts.now counts.now ≡ true }
+    requires some { 0 < length dims.now }
+    requires full { length bytes.now ≡ volume (sizes dims.now) }
+    ensures { IfOk result (λ b. b ≡ sliced (sizes dims.now) (sizes starts.now) (sizes counts.now) bytes.now) }
+{
+    let out = slice_items(alloc, bytes.as_bytes(), dims, starts, counts)?;
+    Blob::from_vec(out)
+}
+
+fn slice_items<T: Element>(
+    alloc: Global,
+    items: &[T],
+    dims: &[i64],
+    starts: &[i64],
+    counts: &[i64],
+) -> Result<Vec<T>, NoMemory>
+    requires region { is_region dims.now starts.now counts.now ≡ true }
+    requires some { 0 < length dims.now }
+    requires full { length items.now ≡ volume (sizes dims.now) }
+    ensures { IfOk result (λ v. v.items ≡ sliced (sizes dims.now) (sizes starts.now) (sizes counts.now) items.now) }
+{
+    let room = volume(counts).unwrap_or(0);
+    let mut out = Vec::with_capacity(alloc, room as usize)?;
+    read_region(alloc, &mut out, items, dims, starts, counts)?;
+    Ok(out)
+}
+
+/// The array with these values in a region, or as it was with the reason. They are of its kind, as many as the region has,
+/// and are moved in. Memory is taken for bytes alone, since others may read a [`Blob`]'s bytes.
+pub(crate) fn patch_values(
+    alloc: Global,
+    held: AnyArray,
+    values: AnyArray,
+    dims: &[i64],
+    starts: &[i64],
+    counts: &[i64],
+) -> Result<AnyArray, (AnyArray, ArrayError)>
+    requires region { is_region dims.now starts.now counts.now ≡ true }
+    requires some { 0 < length dims.now }
+    requires full { elements held ≡ volume (sizes dims.now) }
+    requires few { elements held ≤ 4194304 }
+    requires kinds { is_same_kind held values ≡ true }
+    requires all { elements values ≡ volume (sizes counts.now) }
+    ensures { Patches result held (patch_of (sizes dims.now) (sizes starts.now) (sizes counts.now) held values) }
+{
+    match (held, values) {
+        (AnyArray::ArrayOfBoolean(held), AnyArray::ArrayOfBoolean(values)) => {
+            Ok(AnyArray::ArrayOfBoolean(patch_list(held, values, dims, starts, counts)))
+        }
+        (AnyArray::ArrayOfInt(held), AnyArray::ArrayOfInt(values)) => {
+            Ok(AnyArray::ArrayOfInt(patch_list(held, values, dims, starts, counts)))
+        }
+        (AnyArray::ArrayOfLong(held), AnyArray::ArrayOfLong(values)) => {
+            Ok(AnyArray::ArrayOfLong(patch_list(held, values, dims, starts, counts)))
+        }
+        (AnyArray::ArrayOfFloat(held), AnyArray::ArrayOfFloat(values)) => {
+            Ok(AnyArray::ArrayOfFloat(patch_list(held, values, dims, starts, counts)))
+        }
+        (AnyArray::ArrayOfDouble(held), AnyArray::ArrayOfDouble(values)) => {
+            Ok(AnyArray::ArrayOfDouble(patch_list(held, values, dims, starts, counts)))
+        }
+        (AnyArray::ArrayOfString(held), AnyArray::ArrayOfString(values)) => {
+            match patch_texts(held, values, dims, starts, counts) {
+                Ok(held) => Ok(AnyArray::ArrayOfString(held)),
+                Err(held) => Err((AnyArray::ArrayOfString(held), ArrayError::TooLarge)),
+            }
+        }
+        (AnyArray::Bytes(held), AnyArray::Bytes(values)) => {
+            match patch_blob(alloc, held, values, dims, starts, counts) {
+                Ok(held) => Ok(AnyArray::Bytes(held)),
+                Err(held) => Err((AnyArray::Bytes(held), ArrayError::NoMemory)),
+            }
+        }
+        _ => unreachable!(),
+    }
+}
+
+fn patch_list<T: Drop>(
+    held: List<T>,
+    values: List<T>,
+    dims: &[i64],
+    starts: &[i64],
+    counts: &[i64],
+) -> List<T>
+    requires region { is_region dims.now starts.now counts.now ≡ true }
+    requires some { 0 < length dims.now }
+    requires full { length held ≡ volume (sizes dims.now) }
+    requires all { length values ≡ volume (sizes counts.now) }
+    ensures value { result ≡ patched (sizes dims.now) (sizes starts.now) (sizes counts.now) held values }
+    ensures len { length result ≡ length held }
+{
+    let mut items = held.into_vec();
+    let mut values = values.into_vec();
+    swap_items(&mut items, &mut values, dims, starts, counts);
+    List::from_vec(items)
+}
+
+/// As `patch_list`, or the texts as they were, where they would count too much. What the patch took out is put back then.
+fn patch_texts(
+    held: List<Text>,
+    values: List<Text>,
+    dims: &[i64],
+    starts: &[i64],
+    counts: &[i64],
+) -> Result<List<Text>, List<Text>>
+    requires region { is_region dims.now starts.now counts.now ≡ true }
+    requires some { 0 < length dims.now }
+    requires full { length held ≡ volume (sizes dims.now) }
+    requires all { length values ≡ volume (sizes counts.now) }
+    ensures { PatchesTexts result held (patched (sizes dims.now) (sizes starts.now) (sizes counts.now) held values) }
+{
+    let mut items = held.into_vec();
+    let mut values = values.into_vec();
+    swap_items(&mut items, &mut values, dims, starts, counts);
+    if are_too_large(items.as_slice()) {
+        swap_items(&mut items, &mut values, dims, starts, counts);
+        return Err(List::from_vec(items));
+    }
+    Ok(List::from_vec(items))
+}
+
+/// As `patch_list`, in a copy of the bytes, or the bytes as they were, where memory was refused.
+fn patch_blob(
+    alloc: Global,
+    held: Blob,
+    values: Blob,
+    dims: &[i64],
+    starts: &[i64],
+    counts: &[i64],
+) -> Result<Blob, Blob>
+    requires region { is_region dims.now starts.now counts.now ≡ true }
+    requires some { 0 < length dims.now }
+    requires full { length held ≡ volume (sizes dims.now) }
+    requires all { length values ≡ volume (sizes counts.now) }
+    ensures value { MatchResult result (λ b. b ≡ patched (sizes dims.now) (sizes starts.now) (sizes counts.now) held values) (λ b. b ≡ held) }
+    ensures len { length (patched (sizes dims.now) (sizes starts.now) (sizes counts.now) held values) ≡ length held }
+{
+    match patched_blob(
+        alloc,
+        held.as_bytes(),
+        values.as_bytes(),
+        dims,
+        starts,
+        counts,
+    ) {
+        Ok(patched) => Ok(patched),
+        Err(_) => Err(held),
+    }
+}
+
+fn patched_blob(
+    alloc: Global,
+    held: &[u8],
+    values: &[u8],
+    dims: &[i64],
+    starts: &[i64],
+    counts: &[i64],
+) -> Result<Blob, NoMemory>
+    requires region { is_region dims.now starts.now counts.now ≡ true }
+    requires some { 0 < length dims.now }
+    requires full { length held.now ≡ volume (sizes dims.now) }
+    requires all { length values.now ≡ volume (sizes counts.now) }
+    ensures { IfOk result (λ b. b ≡ patched (sizes dims.now) (sizes starts.now) (sizes counts.now) held.now values.now) }
+{
+    let mut items = Vec::from_slice(alloc, held)?;
+    let mut values = Vec::from_slice(alloc, values)?;
+    swap_items(&mut items, &mut values, dims, starts, counts);
+    Blob::from_vec(items)
+}
+
+/// Exchanges the elements of a region with these values.
+fn swap_items<T>(
+    items: &mut Vec<T>,
+    values: &mut Vec<T>,
+    dims: &[i64],
+    starts: &[i64],
+    counts: &[i64],
+)
+    requires region { is_region dims.now starts.now counts.now ≡ true }
+    requires some { 0 < length dims.now }
+    requires full { length items.old.items ≡ volume (sizes dims.now) }
+    requires all { length values.old.items ≡ volume (sizes counts.now) }
+    ensures items { items.new.items ≡ patched (sizes dims.now) (sizes starts.now) (sizes counts.now) items.old.items values.old.items }
+    ensures values { values.new.items ≡ sliced (sizes dims.now) (sizes starts.now) (sizes counts.now) items.old.items }
+    ensures len { length items.new.items ≡ length items.old.items }
+    ensures values_len { length values.new.items ≡ length values.old.items }
+{
+    swap_region(
+        items.as_mut_slice(),
+        values.as_mut_slice(),
+        dims,
+        starts,
+        counts,
+    );
+}
