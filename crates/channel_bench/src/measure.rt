@@ -1,0 +1,52 @@
+//! The time that appending and reading take.
+use crate::error::FeedError;
+use crate::feed::Feed;
+use std::io;
+use std::time::{Duration, Instant};
+
+/// How many points are read at once.
+const READ: u32 = 1000;
+
+/// The nanoseconds for each of `count` points.
+fn each(time: Duration, count: u32) -> u128 {
+    time.as_nanos() / (count as u128).max(1)
+}
+
+fn append(feed: &mut Feed, count: u32) -> Result<(), FeedError> {
+    for index in 0..count {
+        feed.append(&[(index as i64, index as i64)])?;
+    }
+    Ok(())
+}
+
+/// Reads them all, and says how many there were.
+fn read(feed: &Feed, count: u32) -> Result<u64, FeedError> {
+    let mut found = 0u64;
+    for part in 0..count.div_ceil(READ) {
+        let from = part as i64 * READ as i64;
+        let points = feed.range(from, from + READ as i64 - 1)?;
+        found = found.saturating_add(points.len() as u64);
+    }
+    Ok(found)
+}
+
+pub(crate) fn measure(rt: &HostRuntime, count: u32) -> io::Result<()> {
+    let Ok(mut feed) = Feed::new(rt.alloc()) else {
+        return println!(rt; "no memory for the store");
+    };
+    let start = Instant::now(rt)?;
+    let appended = append(&mut feed, count);
+    let appending = start.elapsed(rt)?;
+    if let Err(error) = appended {
+        return println!(rt; "{error:?}");
+    }
+    let start = Instant::now(rt)?;
+    let read = read(&feed, count);
+    let reading = start.elapsed(rt)?;
+    match read {
+        Ok(found) => println!(rt; "points read: {found}")?,
+        Err(error) => println!(rt; "{error:?}")?,
+    }
+    println!(rt; "append: {} ns for each point", each(appending, count))?;
+    println!(rt; "read: {} ns for each point", each(reading, count))
+}

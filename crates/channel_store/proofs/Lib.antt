@@ -1,0 +1,10 @@
+pub mod ChangeLemmas
+pub mod Copies
+pub mod Ended
+pub mod Looks
+pub mod Numbered
+pub mod Ordered
+pub mod PointLemmas
+pub mod RowLemmas
+pub mod Staged
+pub mod TrackLemmas

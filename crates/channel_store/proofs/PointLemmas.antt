@@ -1,0 +1,211 @@
+-- The points of a channel in order.
+use Rattle.std.proofs.Common.{refl, ℕ, zero, suc, ◌≡◌, ◌<◌, ◌≤◌, ◌+◌, ◌-◌, Bool, true, false, cond, not, ◌&&◌, List, [], ◌∷◌, ◌++◌, length, take, drop, filter, map, ap, sym, ◌∙◌, arith, subst, append-nil, append_assoc, length-drop, Option, Some, None, option_map}
+use Rattle.std.specs.Prelude.{ℤ, int_lt, slice_get, fold, Ok, Err}
+use Rattle.std.specs.List.{AllByRecursion}
+use Rattle.std.proofs.lemmas.Int.{ints}
+use Rattle.std.proofs.lemmas.List.{take_all}
+use Rattle.std.proofs.lemmas.Bool.{false≢true}
+use Rattle.etp_values.specs.declared.point.Point.{Point}
+use Rattle.channel_store.specs.declared.change.What.{What}
+use Rattle.channel_store.specs.declared.change.What.TheVariants.{Append, Replace, Truncate}
+use Rattle.channel_store.specs.declared.change.ChannelChange.{ChannelChange}
+use Rattle.channel_store.specs.declared.error.ChannelError.TheVariants.{Order, Outside}
+use Rattle.channel_store.specs.Points.{at_most, is_within, put_below, outside, inside, up_to, after, copy, Rises, last_of, lies_past, follows}
+use Rattle.channel_store.specs.Channels.{Channel, whats_of, happened, IsKept, IsPastAll, PlacesRise}
+use Rattle.channel_store.specs.declared.draft.Way.{Way}
+use Rattle.channel_store.specs.declared.draft.Way.TheVariants.{Behind, Between, UpTo}
+use Rattle.channel_store.specs.Rows.{Fits, takes, with_point, what_by, before_next, joins}
+use Rattle.channel_store.specs.Splits.{RisesBy, IsSplit}
+use Rattle.channel_store.proofs.Ordered.{all-map, all-push, all-append, all-filter, filter-all, all-cross, rises-push, rises-append, rises-filter, partitioned, none-pass, all-fail}
+
+-- ---- tests on indexes
+
+pub lt_before : (i x y : ℤ) → int_lt x y ≡ true → int_lt y i ≡ true → int_lt x i ≡ true
+lt_before i x y h k = grind (arith, ints)
+
+pub at_most_before : (i x y : ℤ) → int_lt x y ≡ true → at_most y i ≡ true → at_most x i ≡ true
+at_most_before i x y h k = grind (arith, ints)
+
+above_after : (i x y : ℤ) → int_lt x y ≡ true → at_most x i ≡ false → at_most y i ≡ false
+above_after i x y h k = grind (arith, ints)
+
+not_below_after : (i x y : ℤ) → int_lt x y ≡ true → int_lt x i ≡ false → int_lt y i ≡ false
+not_below_after i x y h k = grind (arith, ints)
+
+-- what lies at or below an end, and not in the interval, lies below the interval
+below_both : (from to x : ℤ) → at_most x to ≡ true → not (is_within from to x) ≡ true → int_lt x from ≡ true
+below_both from to x h k = grind (arith, ints)
+
+across_front : (from to x y : ℤ) → int_lt x from ≡ true → is_within from to y ≡ true → int_lt x y ≡ true
+across_front from to x y h k = grind (arith, ints)
+
+across_back : (from to x y : ℤ) → is_within from to x ≡ true → not (at_most y to) ≡ true → int_lt x y ≡ true
+across_back from to x y h k = grind (arith, ints)
+
+across : (to x y : ℤ) → at_most x to ≡ true → not (at_most y to) ≡ true → int_lt x y ≡ true
+across to x y h k = grind (arith, ints)
+
+-- ---- the last point
+
+pub last_of-get : (xs : List Point) → last_of xs ≡ option_map (λ x. x.index) (slice_get xs (length xs - 1))
+last_of-get [] = refl
+last_of-get (x ∷ []) = refl
+last_of-get (x ∷ y ∷ ys) =
+    let e : length (x ∷ y ∷ ys) - 1 ≡ suc (length (y ∷ ys) - 1) = omega arith in
+    last_of-get (y ∷ ys) ∙ sym (ap (λ n. option_map (λ x. x.index) (slice_get (x ∷ y ∷ ys) n)) e)
+
+-- the last index of two lists
+abbrev pub or_last : Option ℤ → Option ℤ → Option ℤ
+or_last (Some i) other = Some i
+or_last None other = other
+
+last_of-cons : (x : Point) (ys : List Point) → last_of (x ∷ ys) ≡ or_last (last_of ys) (Some x.index)
+last_of-cons x [] = refl
+last_of-cons x (y ∷ []) = refl
+last_of-cons x (y ∷ z ∷ zs) = last_of-cons x (z ∷ zs)
+
+or_last-assoc : (a b c : Option ℤ) → or_last (or_last a b) c ≡ or_last a (or_last b c)
+or_last-assoc (Some i) b c = refl
+or_last-assoc None b c = refl
+
+pub last_of-append : (xs ys : List Point) → last_of (xs ++ ys) ≡ or_last (last_of ys) (last_of xs)
+last_of-append [] ys = by (last_of ys)
+  where
+    by : (r : Option ℤ) → r ≡ or_last r None
+    by None = refl
+    by (Some i) = refl
+last_of-append (x ∷ xs) ys =
+    last_of-cons x (xs ++ ys) ∙ ap (λ r. or_last r (Some x.index)) (last_of-append xs ys) ∙ or_last-assoc (last_of ys) (last_of xs) (Some x.index) ∙ ap (or_last (last_of ys)) (sym (last_of-cons x xs))
+
+follows-all : (xs : List Point) (i : ℤ) → Rises xs → follows xs i ≡ true → AllByRecursion (λ x. int_lt x.index i ≡ true) xs
+follows-all [] i rises h = tt
+follows-all (x ∷ []) i rises h = (h, tt)
+follows-all (x ∷ y ∷ ys) i rises h =
+    let rest = follows-all (y ∷ ys) i rises.1 h in
+    (lt_before i x.index y.index rises.0.0 rest.0, rest)
+
+pub rises-follows : (xs : List Point) (p : Point) → Rises xs → follows xs p.index ≡ true → Rises (xs ++ p ∷ [])
+rises-follows xs p rises h = rises-push _ xs p rises (follows-all xs p.index rises h)
+
+-- what takes a point goes on to fit
+pub fits-with_point : (xs : List Point) (w : What) (p : Point) → Fits xs w → takes w p ≡ true → follows (before_next xs w) p.index ≡ true → Fits xs (with_point p w)
+fits-with_point xs (Append points) p fits h k = subst Rises (append_assoc xs points (p ∷ [])) (rises-follows (xs ++ points) p fits k)
+fits-with_point xs (Replace from to points) p fits h k = (rises-follows points p fits.0 k, all-push _ points p fits.1 h)
+fits-with_point xs (Truncate end) p fits h k = tt
+
+-- ---- an interval of points
+
+pub rest-is : {X : Type 0} (n : ℕ) (xs : List X) → take (length xs - n) (drop n xs) ≡ drop n xs
+rest-is n xs = ap (λ k. take k (drop n xs)) (sym (length-drop n xs)) ∙ take_all (length (drop n xs)) (drop n xs) (omega arith)
+
+pub inside-parts : (from to : ℤ) (xs : List Point) → filter (λ x. at_most x.index to) (filter (λ x. not (int_lt x.index from)) xs) ≡ inside from to xs
+inside-parts from to [] = refl
+inside-parts from to (x ∷ xs) = by (not (int_lt x.index from)) (at_most x.index to) refl refl (inside-parts from to xs)
+  where
+    by : (a b : Bool) → not (int_lt x.index from) ≡ a → at_most x.index to ≡ b → filter (λ x. at_most x.index to) (filter (λ x. not (int_lt x.index from)) xs) ≡ inside from to xs
+        → filter (λ x. at_most x.index to) (cond (not (int_lt x.index from)) (x ∷ filter (λ x. not (int_lt x.index from)) xs) (filter (λ x. not (int_lt x.index from)) xs))
+        ≡ cond (is_within from to x.index) (x ∷ inside from to xs) (inside from to xs)
+    by true true ea eb rest = grind arith
+    by true false ea eb rest = grind arith
+    by false b ea eb rest = grind arith
+
+pub outside-parts : (from to : ℤ) (xs : List Point) → Rises xs → filter (λ x. int_lt x.index from) xs ++ filter (λ x. not (at_most x.index to)) (filter (λ x. not (int_lt x.index from)) xs) ≡ outside from to xs
+outside-parts from to [] rises = refl
+outside-parts from to (x ∷ xs) rises = by (int_lt x.index from) (at_most x.index to) refl refl (outside-parts from to xs rises.1)
+  where
+    by : (a b : Bool) → int_lt x.index from ≡ a → at_most x.index to ≡ b → filter (λ x. int_lt x.index from) xs ++ filter (λ x. not (at_most x.index to)) (filter (λ x. not (int_lt x.index from)) xs) ≡ outside from to xs
+        → cond (int_lt x.index from) (x ∷ filter (λ x. int_lt x.index from) xs) (filter (λ x. int_lt x.index from) xs) ++ filter (λ x. not (at_most x.index to)) (cond (not (int_lt x.index from)) (x ∷ filter (λ x. not (int_lt x.index from)) xs) (filter (λ x. not (int_lt x.index from)) xs))
+        ≡ cond (not (is_within from to x.index)) (x ∷ outside from to xs) (outside from to xs)
+    by true b ea eb rest = grind arith
+    by false true ea eb rest = grind arith
+    by false false ea eb rest =
+        let none : filter (λ x. int_lt x.index from) xs ≡ [] = none-pass (λ y. int_lt y.index from) xs (all-map _ _ (λ y h. not_below_after from x.index y.index h ea) xs rises.0) in
+        grind arith
+
+pub copied-is : (from to : ℤ) (xs : List Point) (start count : ℕ) → IsSplit (λ x. int_lt x.index from) xs start → IsSplit (λ x. at_most x.index to) (drop start xs) count → take count (drop start xs) ≡ inside from to xs
+copied-is from to xs start count below within = within.front ∙ ap (filter (λ x. at_most x.index to)) below.back ∙ inside-parts from to xs
+
+pub dropped-is : (from to : ℤ) (xs : List Point) (start count : ℕ) → Rises xs → IsSplit (λ x. int_lt x.index from) xs start → IsSplit (λ x. at_most x.index to) (drop start xs) count → take start xs ++ drop count (drop start xs) ≡ outside from to xs
+dropped-is from to xs start count rises below within =
+    (λ j. below.front j ++ within.back j)
+    ∙ ap (λ l. filter (λ x. int_lt x.index from) xs ++ filter (λ x. not (at_most x.index to)) l) below.back
+    ∙ outside-parts from to xs rises
+
+pub ends-within : {X : Type 0} (p q : X → Bool) (xs : List X) (start count : ℕ) → IsSplit p xs start → IsSplit q (drop start xs) count → start + count ≤ length xs
+ends-within p q xs start count below within = omega (arith, below.within, within.within, length-drop start xs)
+
+pub rises-outside : (from to : ℤ) (xs : List Point) → Rises xs → Rises (outside from to xs)
+rises-outside from to xs rises = rises-filter _ (λ x. not (is_within from to x.index)) xs rises
+
+pub rises-rest : (from : ℤ) (xs : List Point) (start : ℕ) → Rises xs → IsSplit (λ x. int_lt x.index from) xs start → Rises (drop start xs)
+rises-rest from xs start rises below = subst Rises (sym below.back) (rises-filter _ (λ x. not (int_lt x.index from)) xs rises)
+
+put_below-filter : (to : ℤ) (points xs : List Point) → Rises xs → put_below to points xs ≡ filter (λ x. at_most x.index to) xs ++ (points ++ filter (λ x. not (at_most x.index to)) xs)
+put_below-filter to points [] rises = sym (append-nil points)
+put_below-filter to points (x ∷ xs) rises = by (at_most x.index to) refl (put_below-filter to points xs rises.1)
+  where
+    by : (b : Bool) → at_most x.index to ≡ b → put_below to points xs ≡ filter (λ x. at_most x.index to) xs ++ (points ++ filter (λ x. not (at_most x.index to)) xs)
+        → cond b (x ∷ put_below to points xs) (points ++ x ∷ xs) ≡ cond b (x ∷ filter (λ x. at_most x.index to) xs) (filter (λ x. at_most x.index to) xs) ++ (points ++ cond (not b) (x ∷ filter (λ x. not (at_most x.index to)) xs) (filter (λ x. not (at_most x.index to)) xs))
+    by true e rest = ap (λ l. x ∷ l) rest
+    by false e rest =
+        let fails : AllByRecursion (λ y. at_most y.index to ≡ false) xs = all-map _ _ (λ y h. above_after to x.index y.index h e) xs rises.0 in
+        sym ((λ j. none-pass (λ y. at_most y.index to) xs fails j ++ (points ++ x ∷ all-fail (λ y. at_most y.index to) xs fails j)))
+
+pub put_below-split : (to : ℤ) (points xs : List Point) (n : ℕ) → Rises xs → IsSplit (λ x. at_most x.index to) xs n → take n xs ++ (points ++ drop n xs) ≡ put_below to points xs
+put_below-split to points xs n rises split = (λ j. split.front j ++ (points ++ split.back j)) ∙ sym (put_below-filter to points xs rises)
+
+-- ---- what a change leaves is in order
+
+all-both : (from to : ℤ) (xs : List Point) → AllByRecursion (λ x. at_most x.index to ≡ true) xs → AllByRecursion (λ x. not (is_within from to x.index) ≡ true) xs → AllByRecursion (λ x. int_lt x.index from ≡ true) xs
+all-both from to [] below out = tt
+all-both from to (x ∷ xs) below out = (below_both from to x.index below.0 out.0, all-both from to xs below.1 out.1)
+
+all-joined : {X : Type 0} (R : X → X → Type 0) (xs ys zs : List X) → AllByRecursion (λ x. AllByRecursion (R x) ys) xs → AllByRecursion (λ x. AllByRecursion (R x) zs) xs → AllByRecursion (λ x. AllByRecursion (R x) (ys ++ zs)) xs
+all-joined R [] ys zs first second = tt
+all-joined R (x ∷ xs) ys zs first second = (all-append (R x) ys zs first.0 second.0, all-joined R xs ys zs first.1 second.1)
+
+rises-put : (from to : ℤ) (points xs : List Point) → Rises xs → Rises points → AllByRecursion (λ x. is_within from to x.index ≡ true) points → Rises (put_below to points (outside from to xs))
+rises-put from to points xs rises more within =
+    let R : Point → Point → Type 0 = λ x y. int_lt x.index y.index ≡ true in
+    let ys : List Point = outside from to xs in
+    let rest : Rises ys = rises-filter R (λ x. not (is_within from to x.index)) xs rises in
+    let low : List Point = filter (λ x. at_most x.index to) ys in
+    let high : List Point = filter (λ x. not (at_most x.index to)) ys in
+    let low_to : AllByRecursion (λ x. at_most x.index to ≡ true) low = filter-all (λ x. at_most x.index to) ys in
+    let low_out : AllByRecursion (λ x. not (is_within from to x.index) ≡ true) low = all-filter _ (λ x. at_most x.index to) ys (filter-all (λ x. not (is_within from to x.index)) xs) in
+    let high_over : AllByRecursion (λ x. not (at_most x.index to) ≡ true) high = filter-all (λ x. not (at_most x.index to)) ys in
+    let low_from : AllByRecursion (λ x. int_lt x.index from ≡ true) low = all-both from to low low_to low_out in
+    let back : Rises (points ++ high) = rises-append R points high more (rises-filter R _ ys rest) (all-cross _ _ R (λ x y h k. across_back from to x.index y.index h k) points high within high_over) in
+    let front : AllByRecursion (λ x. AllByRecursion (R x) (points ++ high)) low =
+    all-joined R low points high (all-cross _ _ R (λ x y h k. across_front from to x.index y.index h k) low points low_from within) (all-cross _ _ R (λ x y h k. across to x.index y.index h k) low high low_to high_over) in
+    subst Rises (sym (put_below-filter to points ys rest)) (rises-append R low (points ++ high) (rises-filter R _ ys rest) back front)
+
+pub rises-after : (xs : List Point) (w : What) → Rises xs → Fits xs w → Rises (after xs w)
+rises-after xs (Append points) rises fits = fits
+rises-after xs (Replace from to points) rises fits = rises-put from to points xs rises fits.0 fits.1
+rises-after xs (Truncate end) rises fits = rises-filter _ (λ x. at_most x.index end) xs rises
+
+fold-push : (start : List Point) (changes : List ChannelChange) (x : ChannelChange) → fold after start (whats_of (changes ++ x ∷ [])) ≡ after (fold after start (whats_of changes)) x.what
+fold-push start [] x = refl
+fold-push start (y ∷ ys) x = fold-push (after start y.what) ys x
+
+pub kept-happened : (place : ℕ) (id at : ℤ) (c : Channel) (w : What) → IsKept c → Fits c.points w → IsPastAll place c.changes → IsKept (happened place id at c w)
+kept-happened place id at c w kept fits past = record {
+  rising = rises-after c.points w kept.rising fits;
+  folded = ap (λ l. after l w) kept.folded ∙ sym (fold-push [] c.changes (record { place = place; channel = id; at = at; what = w }));
+  placed = rises-push _ c.changes (record { place = place; channel = id; at = at; what = w }) kept.placed past;
+}
+
+pub with_point-by : (way : Way) (points more : List Point) (p : Point) → more ≡ points ++ p ∷ [] → with_point p (what_by way points) ≡ what_by way more
+with_point-by Behind points more p e = ap Append (sym e)
+with_point-by (Between from to) points more p e = ap (Replace from to) (sym e)
+with_point-by (UpTo end) points more p e = refl
+
+pub joins-ok : (id : ℤ) (points : List Point) (w : What) (p : Point) → takes w p ≡ true → follows (before_next points w) p.index ≡ true → joins id points w p ≡ Ok (with_point p w)
+joins-ok id points w p h k =
+    ap (λ b. cond b (cond (follows (before_next points w) p.index) (Ok (with_point p w)) (Err (Order id))) (Err (Outside id))) h
+    ∙ ap (λ b. cond b (Ok (with_point p w)) (Err (Order id))) k
+
+-- what the next point of a draft has to follow
+pub last-behind : (points told : List Point) (way : Way) → way ≡ Behind → or_last (last_of told) (last_of points) ≡ last_of (before_next points (what_by way told))
+last-behind points told way h = sym (last_of-append points told) ∙ ap (λ w. last_of (before_next points (what_by w told))) (sym h)

@@ -1,0 +1,275 @@
+-- What the code's writes to one row do to all.
+use Rattle.std.proofs.Common.{refl, ℕ, zero, suc, ◌≡◌, ◌<◌, ◌≤◌, ◌+◌, Bool, true, false, cond, ◌||◌, List, [], ◌∷◌, ◌++◌, length, map, take, drop, append-nil, get_or, ap, sym, ◌∙◌, arith, subst, zero-add, add-one, Option, Some, None, Ok, Err}
+use Rattle.std.specs.Prelude.{ℤ, pos, negsuc, slice_get, slice_set, Result, nat_lt, int_lt, zip}
+use Rattle.std.specs.List.{AllByRecursion}
+use Rattle.std.proofs.Math.IntN.{nat_abs}
+use Rattle.std.proofs.lemmas.Int.{ints}
+use Rattle.std.proofs.lemmas.List.{take_all}
+use Rattle.std.proofs.lemmas.Bool.{false≢true}
+use Rattle.std.proofs.lemmas.Bool.Decides.{nat_tests}
+use Rattle.etp_values.specs.declared.point.ChannelPoint.{ChannelPoint}
+use Rattle.channel_store.specs.declared.error.ChannelError.{ChannelError}
+use Rattle.channel_store.specs.declared.error.ChannelError.TheVariants.{NoChannel}
+use Rattle.channel_store.specs.declared.change.What.{What}
+use Rattle.channel_store.specs.Channels.{Channel}
+use Rattle.channel_store.specs.Rows.{Row, plain, cleared, done, done_by, IsDue, Becomes}
+use Rattle.channel_store.specs.Refusals.{int_eq, is_listed, or_else, first_refusal, verdict}
+use Rattle.channel_store.specs.Store.{by_number}
+use Rattle.channel_store.specs.Sweeps.{shown_of, place_in, row_at, step_row, step_at, before_rows, with_row, modify, modify_at, all_done, AllDue, next_rows, steps}
+use Rattle.channel_store.proofs.Ended.{verdict-ok, verdict-err}
+use Rattle.channel_store.proofs.Ordered.{all-at}
+use Rattle.channel_store.proofs.Numbered.{by_number-same, by_number-modify, step_row-set, step_row-fails, step_row-beyond, shown-set, modify-set, modify-beyond}
+use Rattle.channel_store.proofs.Staged.{int_eq-refl, apart, apart_neg}
+
+-- ---- the place of an id
+
+pub place-some : (len : ℕ) (id : ℤ) (k : ℕ) → place_in len id ≡ Some k → (id ≡ pos k) × (k < len)
+place-some len (pos n) k h = by (nat_lt n len) refl h
+  where
+    by : (b : Bool) → nat_lt n len ≡ b → cond b (Some n) None ≡ Some k → (pos n ≡ pos k) × (k < len)
+    by true e g =
+        let same : n ≡ k = cc in
+        let below : n < len = grind (arith, nat_tests) in
+        (ap pos same, subst (λ m. m < len) same below)
+    by false e g = cc
+place-some len (negsuc n) k h = cc
+
+get-beyond : {X : Type 0} (xs : List X) (k : ℕ) → length xs ≤ k → slice_get xs k ≡ None
+get-beyond [] k h = refl
+get-beyond (x ∷ xs) zero h = absurd (omega arith)
+get-beyond (x ∷ xs) (suc k) h = get-beyond xs k (omega arith)
+
+beyond : (len n : ℕ) → cond (nat_lt n len) (Some n) None ≡ None → len ≤ n
+beyond len n h = by (nat_lt n len) refl h
+  where
+    by : (b : Bool) → nat_lt n len ≡ b → cond b (Some n) None ≡ None → len ≤ n
+    by true e g = cc
+    by false e g = grind (arith, nat_tests)
+
+pub step-absent : (rows : List Row) (id : ℤ) (f : Row → Result Row ChannelError) → place_in (length rows) id ≡ None → step_at id f rows ≡ Err (NoChannel id)
+step-absent rows (pos n) f h = step_row-beyond f (NoChannel (pos n)) n rows (beyond (length rows) n h)
+step-absent rows (negsuc n) f h = refl
+
+pub row-absent : (rows : List Row) (id : ℤ) → place_in (length rows) id ≡ None → row_at rows id ≡ None
+row-absent rows (pos n) h = get-beyond rows n (beyond (length rows) n h)
+row-absent rows (negsuc n) h = refl
+
+pub modify-absent : (rows : List Row) (id : ℤ) (f : Row → Row) → place_in (length rows) id ≡ None → modify_at id f rows ≡ rows
+modify-absent rows (pos n) f h = modify-beyond f n rows (beyond (length rows) n h)
+modify-absent rows (negsuc n) f h = refl
+
+get-there : {X : Type 0} (xs : List X) (k : ℕ) (x : X) → k < length xs → x ≡ get_or xs k x → slice_get xs k ≡ Some x
+get-there [] k x h e = absurd (omega arith)
+get-there (y ∷ ys) zero x h e = ap Some (sym e)
+get-there (y ∷ ys) (suc k) x h e = get-there ys k x (omega arith) e
+
+pub row-there : (rows : List Row) (id : ℤ) (k : ℕ) (r : Row) → place_in (length rows) id ≡ Some k → r ≡ get_or rows k r → row_at rows id ≡ Some r
+row-there rows id k r h at =
+    let found = place-some (length rows) id k h in
+    ap (row_at rows) found.0 ∙ get-there rows k r found.1 at
+
+-- ---- a write to the row of an id
+
+pub step-there : (rows : List Row) (id : ℤ) (k : ℕ) (f : Row → Result Row ChannelError) (r new : Row) → place_in (length rows) id ≡ Some k → r ≡ get_or rows k r → f r ≡ Ok new → step_at id f rows ≡ Ok (slice_set rows k new)
+step-there rows id k f r new h at e =
+    let found = place-some (length rows) id k h in
+    ap (λ i. step_at i f rows) found.0 ∙ step_row-set f (NoChannel (pos k)) k rows r new found.1 at e
+
+pub step-fails : (rows : List Row) (id : ℤ) (k : ℕ) (f : Row → Result Row ChannelError) (r : Row) (why : ChannelError) → place_in (length rows) id ≡ Some k → r ≡ get_or rows k r → f r ≡ Err why → step_at id f rows ≡ Err why
+step-fails rows id k f r why h at e =
+    let found = place-some (length rows) id k h in
+    ap (λ i. step_at i f rows) found.0 ∙ step_row-fails f (NoChannel (pos k)) why k rows r found.1 at e
+
+pub shown-there : (rows : List Row) (id : ℤ) (k : ℕ) (r new : Row) → place_in (length rows) id ≡ Some k → r ≡ get_or rows k r → new.shown ≡ r.shown → shown_of (slice_set rows k new) ≡ shown_of rows
+shown-there rows id k r new h at e = shown-set k rows r new (place-some (length rows) id k h).1 at e
+
+pub modify-there : (rows : List Row) (id : ℤ) (k : ℕ) (f : Row → Row) (r : Row) → place_in (length rows) id ≡ Some k → r ≡ get_or rows k r → slice_set rows k (f r) ≡ modify_at id f rows
+modify-there rows id k f r h at =
+    let found = place-some (length rows) id k h in
+    modify-set f k rows r found.1 at ∙ ap (λ i. modify_at i f rows) (sym found.0)
+
+-- ---- what is done to each row of a list of ids
+
+done-twice : (place : ℕ) (id at : ℤ) (c : Channel) (o : Option What) → done place id at (done_by place id at c o) ≡ done_by place id at c o
+done-twice place id at c None = refl
+done-twice place id at c (Some w) = refl
+
+here-first : (place : ℕ) (k : ℕ) (at : ℤ) (r : Row) (b : Bool) → cond b (done place (pos k) at (done place (pos k) at r)) (done place (pos k) at r) ≡ done place (pos k) at r
+here-first place k at r true = done-twice place (pos k) at r.shown r.staged
+here-first place k at r false = refl
+
+pub done-first : (place : ℕ) (at id : ℤ) (ids : List ℤ) (rows : List Row) → all_done place at (id ∷ ids) rows ≡ all_done place at ids (modify_at id (done place id at) rows)
+done-first place at (pos k) ids rows =
+    sym (by_number-modify (λ j r. cond (int_eq (pos j) (pos k) || is_listed ids (pos j)) (done place (pos j) at r) r) (λ j r. cond (is_listed ids (pos j)) (done place (pos j) at r) r) (done place (pos k) at) 0 k k rows (zero-add k)
+    (λ r. here-first place k at r (is_listed ids (pos k)) ∙ sym (ap (λ b. cond (b || is_listed ids (pos k)) (done place (pos k) at r) r) (int_eq-refl (pos k))))
+    (λ j r h. sym (ap (λ b. cond (b || is_listed ids (pos j)) (done place (pos j) at r) r) (apart j k h))))
+done-first place at (negsuc k) ids rows =
+    by_number-same _ _ 0 rows (λ j r l. ap (λ b. cond (b || is_listed ids (pos j)) (done place (pos j) at r) r) (apart_neg j k))
+
+pub done-none : (place : ℕ) (at : ℤ) (rows : List Row) → all_done place at [] rows ≡ rows
+done-none place at rows = by 0 rows
+  where
+    by : (n : ℕ) (rs : List Row) → by_number (λ k r. r) n rs ≡ rs
+    by n [] = refl
+    by n (r ∷ rs) = ap (λ l. r ∷ l) (by (suc n) rs)
+
+due-done : (place later : ℕ) (id at : ℤ) (c : Channel) (o : Option What) → IsDue place (done_by later id at c o)
+due-done place later id at c None = tt
+due-done place later id at c (Some w) = tt
+
+due-modify : (place k : ℕ) (id at : ℤ) (rows : List Row) → AllDue place rows → AllDue place (modify k (done place id at) rows)
+due-modify place k id at [] h = tt
+due-modify place zero id at (r ∷ rs) h = (due-done place place id at r.shown r.staged, h.1)
+due-modify place (suc k) id at (r ∷ rs) h = (h.0, due-modify place k id at rs h.1)
+
+pub due-after : (place : ℕ) (at id : ℤ) (rows : List Row) → AllDue place rows → AllDue place (modify_at id (done place id at) rows)
+due-after place at (pos k) rows h = due-modify place k (pos k) at rows h
+due-after place at (negsuc k) rows h = h
+
+pub due-there : (place : ℕ) (rows : List Row) (id : ℤ) (k : ℕ) (r : Row) → place_in (length rows) id ≡ Some k → r ≡ get_or rows k r → AllDue place rows → IsDue place r
+due-there place rows id k r h at all = subst (IsDue place) (sym at) (all-at (IsDue place) rows k r all (place-some (length rows) id k h).1)
+
+-- ---- rows cleared so far
+
+abbrev pub cleared_first : ℕ → List Row → List Row
+cleared_first zero rows = rows
+cleared_first (suc n) [] = []
+cleared_first (suc n) (r ∷ rs) = cleared r ∷ cleared_first n rs
+
+pub cleared-next : (n : ℕ) (rows : List Row) (r : Row) → n < length rows → r ≡ get_or (cleared_first n rows) n r → slice_set (cleared_first n rows) n (cleared r) ≡ cleared_first (suc n) rows
+cleared-next n [] r within at = absurd (omega arith)
+cleared-next zero (x ∷ xs) r within at = ap (λ q. cleared q ∷ xs) at
+cleared-next (suc n) (x ∷ xs) r within at = ap (λ l. cleared x ∷ l) (cleared-next n xs r (omega arith) at)
+
+pub cleared-all : (rows : List Row) → cleared_first (length rows) rows ≡ map plain (shown_of rows)
+cleared-all [] = refl
+cleared-all (r ∷ rs) = ap (λ l. plain r.shown ∷ l) (cleared-all rs)
+
+pub length-cleared : (n : ℕ) (rows : List Row) → length (cleared_first n rows) ≡ length rows
+length-cleared zero rows = refl
+length-cleared (suc n) [] = refl
+length-cleared (suc n) (r ∷ rs) = ap suc (length-cleared n rs)
+
+-- ---- one step after the other
+
+drop-at : {X : Type 0} (xs : List X) (k : ℕ) (x : X) → k < length xs → x ≡ get_or xs k x → drop k xs ≡ x ∷ drop (suc k) xs
+drop-at [] k x h e = absurd (omega arith)
+drop-at (y ∷ ys) zero x h e = ap (λ q. q ∷ ys) (sym e)
+drop-at (y ∷ ys) (suc k) x h e = drop-at ys k x (omega arith) e
+
+pub drop-here : {X : Type 0} (xs : List X) (k : ℕ) (x : X) → k < length xs → x ≡ get_or xs k x → drop k xs ≡ x ∷ drop (k + 1) xs
+drop-here xs k x h e = drop-at xs k x h e ∙ ap (λ n. x ∷ drop n xs) (sym (add-one k))
+
+pub steps-next : {X : Type 0} (f : List Row → X → Result (List Row) ChannelError) (rows new : List Row) (xs : List X) (k : ℕ) (x : X) → k < length xs → x ≡ get_or xs k x → f rows x ≡ Ok new → steps f new (drop (k + 1) xs) ≡ steps f rows (drop k xs)
+steps-next f rows new xs k x h e ok = sym (ap (steps f rows) (drop-here xs k x h e) ∙ ap (λ r. next_rows r (λ rs. steps f rs (drop (k + 1) xs))) ok)
+
+pub steps-stop : {X : Type 0} (f : List Row → X → Result (List Row) ChannelError) (rows : List Row) (xs : List X) (k : ℕ) (x : X) (why : ChannelError) → k < length xs → x ≡ get_or xs k x → f rows x ≡ Err why → steps f rows (drop k xs) ≡ Err why
+steps-stop f rows xs k x why h e err = ap (steps f rows) (drop-here xs k x h e) ∙ ap (λ r. next_rows r (λ rs. steps f rs (drop (k + 1) xs))) err
+
+pub zip-here : (xs ys : List ℤ) (k : ℕ) (x y : ℤ) → length xs ≡ length ys → k < length xs → get_or xs k x ≡ x → get_or ys k y ≡ y → drop k (zip xs ys) ≡ (x, y) ∷ drop (suc k) (zip xs ys)
+zip-here [] ys k x y same h ex ey = absurd (omega arith)
+zip-here (a ∷ rest) [] k x y same h ex ey = absurd (omega arith)
+zip-here (a ∷ rest) (b ∷ bs) zero x y same h ex ey = (λ j. (ex j, ey j) ∷ zip rest bs)
+zip-here (a ∷ rest) (b ∷ bs) (suc k) x y same h ex ey = zip-here rest bs k x y (omega arith) (omega arith) ex ey
+
+-- ---- the end of a step
+
+pub becomes-there : (end : Result (Unit {0}) ChannelError) (rows : List Row) (id : ℤ) (k : ℕ) (f : Row → Result Row ChannelError) (r new : Row) → place_in (length rows) id ≡ Some k → r ≡ get_or rows k r → Becomes end new (f r) → Becomes end (slice_set rows k new) (step_at id f rows)
+becomes-there (Ok u) rows id k f r new h at e = step-there rows id k f r new h at e
+becomes-there (Err why) rows id k f r new h at e = λ m. step-fails rows id k f r why h at (e m)
+
+drop-all : {X : Type 0} (xs : List X) (k : ℕ) → length xs ≤ k → drop k xs ≡ []
+drop-all [] zero h = refl
+drop-all [] (suc k) h = refl
+drop-all (x ∷ xs) zero h = absurd (omega arith)
+drop-all (x ∷ xs) (suc k) h = drop-all xs k (omega arith)
+
+pub drop-end : {X : Type 0} (xs : List X) (k : ℕ) → length xs ≤ k → drop k xs ≡ []
+drop-end xs k h = drop-all xs k h
+
+pub steps-end : {X : Type 0} (f : List Row → X → Result (List Row) ChannelError) (rows : List Row) (xs : List X) (k : ℕ) → length xs ≤ k → steps f rows (drop k xs) ≡ Ok rows
+steps-end f rows xs k h = ap (steps f rows) (drop-all xs k h)
+
+-- ---- the cast of an id
+
+pub place-neg : (len : ℕ) (z : ℤ) → int_lt z (pos 0) ≡ true → None ≡ place_in len z
+place-neg len (pos k) h = absurd (false≢true (sym (not_neg k) ∙ h))
+  where
+    not_neg : (k : ℕ) → int_lt (pos k) (pos 0) ≡ false
+    not_neg k = grind (arith, ints)
+place-neg len (negsuc k) h = refl
+
+pub place-below : (len : ℕ) (z : ℤ) → int_lt z (pos 0) ≡ false → nat_abs z < len → Some (nat_abs z) ≡ place_in len z
+place-below len (pos k) h below =
+    let e : nat_lt k len ≡ true = grind (arith, nat_tests) in
+    sym (ap (λ b. cond b (Some k) None) e)
+place-below len (negsuc k) h below = absurd (false≢true (sym h ∙ neg k))
+  where
+    neg : (k : ℕ) → int_lt (negsuc k) (pos 0) ≡ true
+    neg k = grind (arith, ints)
+
+pub place-past : (len : ℕ) (z : ℤ) → int_lt z (pos 0) ≡ false → len ≤ nat_abs z → None ≡ place_in len z
+place-past len (pos k) h past =
+    let e : nat_lt k len ≡ false = grind (arith, nat_tests) in
+    sym (ap (λ b. cond b (Some k) None) e)
+place-past len (negsuc k) h past = refl
+
+row-fails : (f : Row → Result Row ChannelError) (absent why : ChannelError) (k : ℕ) (rows : List Row) → k < length rows → ((r : Row) → f r ≡ Err why) → step_row k f absent rows ≡ Err why
+row-fails f absent why k [] within h = absurd (omega arith)
+row-fails f absent why zero (x ∷ xs) within h = ap (λ q. before_rows q xs) (h x)
+row-fails f absent why (suc k) (x ∷ xs) within h = ap (with_row x) (row-fails f absent why k xs (omega arith) h)
+
+pub step-fails-some : (rows : List Row) (id : ℤ) (k : ℕ) (f : Row → Result Row ChannelError) (why : ChannelError) → place_in (length rows) id ≡ Some k → ((r : Row) → f r ≡ Err why) → step_at id f rows ≡ Err why
+step-fails-some rows id k f why h e =
+    let found = place-some (length rows) id k h in
+    ap (λ i. step_at i f rows) found.0 ∙ row-fails f (NoChannel (pos k)) why k rows found.1 e
+
+pub cleared-end : (n : ℕ) (rows : List Row) → length rows ≤ n → cleared_first n rows ≡ map plain (shown_of rows)
+cleared-end zero [] h = refl
+cleared-end zero (r ∷ rs) h = absurd (omega arith)
+cleared-end (suc n) [] h = refl
+cleared-end (suc n) (r ∷ rs) h = ap (λ l. plain r.shown ∷ l) (cleared-end n rs (omega arith))
+
+-- ---- the first refusal
+
+pub refusal-next : {X : Type 0} (f : X → Option ChannelError) (xs : List X) (k : ℕ) (x : X) (u : Unit {0}) → k < length xs → x ≡ get_or xs k x → Ok u ≡ verdict (f x) → first_refusal f (drop (k + 1) xs) ≡ first_refusal f (drop k xs)
+refusal-next f xs k x u h e ok = sym (ap (first_refusal f) (drop-here xs k x h e) ∙ ap (λ o. or_else o (first_refusal f (drop (k + 1) xs))) (verdict-ok (f x) u ok))
+
+pub refusal-stop : {X : Type 0} (f : X → Option ChannelError) (xs : List X) (k : ℕ) (x : X) (why : ChannelError) → k < length xs → x ≡ get_or xs k x → Err why ≡ verdict (f x) → Some why ≡ first_refusal f (drop k xs)
+refusal-stop f xs k x why h e err = sym (ap (first_refusal f) (drop-here xs k x h e) ∙ ap (λ o. or_else o (first_refusal f (drop (k + 1) xs))) (verdict-err (f x) why err))
+
+pub refusal-end : {X : Type 0} (f : X → Option ChannelError) (xs : List X) (k : ℕ) → length xs ≤ k → None ≡ first_refusal f (drop k xs)
+refusal-end f xs k h = sym (ap (first_refusal f) (drop-all xs k h))
+
+-- ---- lists of numbers, and a slice that is a whole list
+
+pub get_or-any : (xs : List ℤ) (k : ℕ) (d e : ℤ) → k < length xs → get_or xs k d ≡ get_or xs k e
+get_or-any [] k d e h = absurd (omega arith)
+get_or-any (x ∷ xs) zero d e h = refl
+get_or-any (x ∷ xs) (suc k) d e h = get_or-any xs k d e (omega arith)
+
+pub zip-at : (xs ys : List ℤ) (k : ℕ) (d : ℤ) → length xs ≡ length ys → k < length xs → drop k (zip xs ys) ≡ (get_or xs k d, get_or ys k d) ∷ drop (k + 1) (zip xs ys)
+zip-at xs ys k d same h =
+    zip-here xs ys k (get_or xs k d) (get_or ys k d) same h (get_or-any xs k (get_or xs k d) d h) (get_or-any ys k (get_or ys k d) d (omega arith))
+    ∙ ap (λ n. (get_or xs k d, get_or ys k d) ∷ drop n (zip xs ys)) (sym (add-one k))
+
+pub zip-end : (xs ys : List ℤ) (k : ℕ) → length xs ≤ k → drop k (zip xs ys) ≡ []
+zip-end [] ys k h = drop-all [] k (omega arith)
+zip-end (x ∷ xs) ys zero h = absurd (omega arith)
+zip-end (x ∷ xs) [] (suc k) h = refl
+zip-end (x ∷ xs) (y ∷ ys) (suc k) h = zip-end xs ys k (omega arith)
+
+pub steps-next-at : {X : Type 0} (f : List Row → X → Result (List Row) ChannelError) (rows new : List Row) (left rest : List X) (x : X) → left ≡ x ∷ rest → f rows x ≡ Ok new → steps f new rest ≡ steps f rows left
+steps-next-at f rows new left rest x e ok = sym (ap (steps f rows) e ∙ ap (λ r. next_rows r (λ rs. steps f rs rest)) ok)
+
+pub steps-stop-at : {X : Type 0} (f : List Row → X → Result (List Row) ChannelError) (rows : List Row) (left rest : List X) (x : X) (why : ChannelError) → left ≡ x ∷ rest → f rows x ≡ Err why → steps f rows left ≡ Err why
+steps-stop-at f rows left rest x why e err = ap (steps f rows) e ∙ ap (λ r. next_rows r (λ rs. steps f rs rest)) err
+
+length-plain : (rows : List Row) → length (map plain (shown_of rows)) ≡ length rows
+length-plain [] = refl
+length-plain (r ∷ rs) = ap suc (length-plain rs)
+
+pub whole-part : (n : ℕ) (new items : List Row) → new ≡ map plain (shown_of items) → n ≡ length items → take n (new ++ drop (length new) items) ≡ new
+whole-part n new items e size =
+    let same : length new ≡ length items = ap length e ∙ length-plain items in
+    (λ j. take n (new ++ drop-all items (length new) (omega arith) j)) ∙ ap (take n) (append-nil new) ∙ take_all n new (omega arith)

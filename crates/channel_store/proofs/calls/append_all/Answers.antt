@@ -1,0 +1,36 @@
+use Rattle.std.proofs.Common.{◌≡◌, ◌<◌, ◌≤◌, ◌+◌, ℕ, sym, ap, subst, ◌∙◌, arith, length, drop, get_or, slice_set, Some, None, Ok, Err, vec_len, w64, to_z, of_z}
+use Rattle.std.proofs.lemmas.Grind.{common_steps}
+use Rattle.std.proofs.lemmas.Int.{to_z-of_z}
+use Rattle.channel_store.specs.Refusals.{append_refusal, replace_refusal, truncate_refusal}
+use Rattle.channel_store.specs.Rows.{Becomes, plain}
+use Rattle.channel_store.specs.Store.{appended, replaced, truncated, changed}
+use Rattle.channel_store.specs.Sweeps.{shown_of, outcome, staged_by, all_done, ids_of}
+use Rattle.std.proofs.Common.{[], map}
+use Rattle.std.specs.Prelude.{zip, MatchResult}
+use Rattle.channel_store.proofs.Ended.{outcome-err, outcome-ok, all-due, done-all, cleared-is, appended-none, replaced-none, truncated-none, cut-outcome}
+use Rattle.channel_store.proofs.calls.append_all.Goals as goal
+
+pub returns-in-Err : goal.returns-in-Err
+returns-in-Err c =
+    let rows = c.args.tracks.now.items in
+    let cs = shown_of rows in (
+      (λ m. outcome-err (append_refusal cs c.args.items.now) (staged_by (appended c.args.items.now) cs) c.in-Err.error (c.in-Err.ensures.answer m)),
+      cleared-is rows c.prepare_append.new.tracks.items c.clear_all.new.tracks.items c.requires.idle c.prepare_append.ensures.kept c.clear_all.ensures,
+    )
+
+pub commit_items-requires : goal.commit_items-requires
+commit_items-requires c =
+    let rows = c.args.tracks.now.items in
+    let cs = shown_of rows in
+    let ended = outcome-ok (append_refusal cs c.args.items.now) (staged_by (appended c.args.items.now) cs) c.prepare_append.new.tracks.items (c.in_default.ensures.answer) in
+    all-due c.args.place (appended c.args.items.now) cs c.prepare_append.new.tracks.items ended.1 c.requires.new
+
+pub returns : goal.returns
+returns c =
+    let rows = c.args.tracks.now.items in
+    let cs = shown_of rows in
+    let moment : to_z w64 (of_z w64 c.args.at) ≡ c.args.at = to_z-of_z w64 c.args.at c.ranges.at in
+    let ended = outcome-ok (append_refusal cs c.args.items.now) (staged_by (appended c.args.items.now) cs) c.prepare_append.new.tracks.items (c.in_default.ensures.answer) in (
+      ended.0,
+      c.commit_items.ensures ∙ (λ j. all_done c.args.place (moment j) (ids_of c.args.items.now) c.prepare_append.new.tracks.items) ∙ done-all c.args.place c.args.at (ids_of c.args.items.now) (appended c.args.items.now) cs c.prepare_append.new.tracks.items ended.1 (appended-none c.args.items.now),
+    )

@@ -1,0 +1,42 @@
+use Rattle.std.proofs.Common.{◌≡◌, ◌<◌, ◌≤◌, ◌+◌, ℕ, sym, ap, subst, ◌∙◌, arith, length, drop, get_or, slice_set, Some, None, Ok, Err, vec_len, w64, to_z, of_z}
+use Rattle.std.proofs.lemmas.Grind.{common_steps}
+use Rattle.std.proofs.lemmas.Int.{to_z-of_z}
+use Rattle.channel_store.specs.Refusals.{append_refusal, replace_refusal, truncate_refusal}
+use Rattle.channel_store.specs.Rows.{Becomes, plain}
+use Rattle.channel_store.specs.Store.{appended, replaced, truncated, changed}
+use Rattle.channel_store.specs.Sweeps.{shown_of, outcome, staged_by, all_done, ids_of}
+use Rattle.std.proofs.Common.{[], map}
+use Rattle.std.specs.Prelude.{zip, MatchResult}
+use Rattle.channel_store.proofs.Ended.{outcome-err, outcome-ok, all-due, done-all, cleared-is, appended-none, replaced-none, truncated-none, cut-outcome}
+use Rattle.channel_store.proofs.calls.replace_all.Goals as goal
+
+pub returns-in-Err : goal.returns-in-Err
+returns-in-Err c =
+    let rows = c.args.tracks.now.items in
+    let cs = shown_of rows in
+    let from : to_z w64 (of_z w64 c.args.from) ≡ c.args.from = to_z-of_z w64 c.args.from c.ranges.from in
+    let to : to_z w64 (of_z w64 c.args.to) ≡ c.args.to = to_z-of_z w64 c.args.to c.ranges.to in (
+      (λ m. outcome-err (replace_refusal cs c.args.channels.now c.args.from c.args.to c.args.items.now) (staged_by (replaced c.args.channels.now c.args.from c.args.to c.args.items.now) cs) c.in-Err.error ((λ j. outcome (replace_refusal cs c.args.channels.now (sym from j) (sym to j) c.args.items.now) (staged_by (replaced c.args.channels.now (sym from j) (sym to j) c.args.items.now) cs)) ∙ c.in-Err.ensures.answer m)),
+      cleared-is rows c.prepare_replace.new.tracks.items c.clear_all.new.tracks.items c.requires.idle c.prepare_replace.ensures.kept c.clear_all.ensures,
+    )
+
+pub commit_channels-requires : goal.commit_channels-requires
+commit_channels-requires c =
+    let rows = c.args.tracks.now.items in
+    let cs = shown_of rows in
+    let from : to_z w64 (of_z w64 c.args.from) ≡ c.args.from = to_z-of_z w64 c.args.from c.ranges.from in
+    let to : to_z w64 (of_z w64 c.args.to) ≡ c.args.to = to_z-of_z w64 c.args.to c.ranges.to in
+    let ended = outcome-ok (replace_refusal cs c.args.channels.now c.args.from c.args.to c.args.items.now) (staged_by (replaced c.args.channels.now c.args.from c.args.to c.args.items.now) cs) c.prepare_replace.new.tracks.items ((λ j. outcome (replace_refusal cs c.args.channels.now (sym from j) (sym to j) c.args.items.now) (staged_by (replaced c.args.channels.now (sym from j) (sym to j) c.args.items.now) cs)) ∙ c.in_default.ensures.answer) in
+    all-due c.args.place (replaced c.args.channels.now c.args.from c.args.to c.args.items.now) cs c.prepare_replace.new.tracks.items ended.1 c.requires.new
+
+pub returns : goal.returns
+returns c =
+    let rows = c.args.tracks.now.items in
+    let cs = shown_of rows in
+    let from : to_z w64 (of_z w64 c.args.from) ≡ c.args.from = to_z-of_z w64 c.args.from c.ranges.from in
+    let to : to_z w64 (of_z w64 c.args.to) ≡ c.args.to = to_z-of_z w64 c.args.to c.ranges.to in
+    let moment : to_z w64 (of_z w64 c.args.at) ≡ c.args.at = to_z-of_z w64 c.args.at c.ranges.at in
+    let ended = outcome-ok (replace_refusal cs c.args.channels.now c.args.from c.args.to c.args.items.now) (staged_by (replaced c.args.channels.now c.args.from c.args.to c.args.items.now) cs) c.prepare_replace.new.tracks.items ((λ j. outcome (replace_refusal cs c.args.channels.now (sym from j) (sym to j) c.args.items.now) (staged_by (replaced c.args.channels.now (sym from j) (sym to j) c.args.items.now) cs)) ∙ c.in_default.ensures.answer) in (
+      ended.0,
+      c.commit_channels.ensures ∙ (λ j. all_done c.args.place (moment j) (c.args.channels.now) c.prepare_replace.new.tracks.items) ∙ done-all c.args.place c.args.at (c.args.channels.now) (replaced c.args.channels.now c.args.from c.args.to c.args.items.now) cs c.prepare_replace.new.tracks.items ended.1 (replaced-none c.args.channels.now c.args.from c.args.to c.args.items.now),
+    )

@@ -1,0 +1,36 @@
+use Rattle.std.proofs.Common.{◌≡◌, ◌<◌, ◌≤◌, ◌+◌, ℕ, sym, ap, subst, ◌∙◌, arith, length, drop, get_or, slice_set, Some, None, Ok, Err, vec_len, w64, to_z, of_z}
+use Rattle.std.proofs.lemmas.Grind.{common_steps}
+use Rattle.std.proofs.lemmas.Int.{to_z-of_z}
+use Rattle.channel_store.specs.Refusals.{append_refusal, replace_refusal, truncate_refusal}
+use Rattle.channel_store.specs.Rows.{Becomes, plain}
+use Rattle.channel_store.specs.Store.{appended, replaced, truncated, changed}
+use Rattle.channel_store.specs.Sweeps.{shown_of, outcome, staged_by, all_done, ids_of}
+use Rattle.std.proofs.Common.{[], map}
+use Rattle.std.specs.Prelude.{zip, MatchResult}
+use Rattle.channel_store.proofs.Ended.{outcome-err, outcome-ok, all-due, done-all, cleared-is, appended-none, replaced-none, truncated-none, cut-outcome}
+use Rattle.channel_store.proofs.calls.truncate_all.Goals as goal
+
+pub returns-in-Err : goal.returns-in-Err
+returns-in-Err c =
+    let rows = c.args.tracks.now.items in
+    let cs = shown_of rows in (
+      (λ m. outcome-err (truncate_refusal cs [] (zip c.args.channels.now c.args.ends.now)) (staged_by (truncated (zip c.args.channels.now c.args.ends.now)) cs) c.in-Err.error (sym (cut-outcome cs rows (zip c.args.channels.now c.args.ends.now) c.requires.idle) ∙ c.in-Err.ensures.answer m)),
+      cleared-is rows c.open_cuts.new.tracks.items c.clear_all.new.tracks.items c.requires.idle c.open_cuts.ensures.kept c.clear_all.ensures,
+    )
+
+pub commit_channels-requires : goal.commit_channels-requires
+commit_channels-requires c =
+    let rows = c.args.tracks.now.items in
+    let cs = shown_of rows in
+    let ended = outcome-ok (truncate_refusal cs [] (zip c.args.channels.now c.args.ends.now)) (staged_by (truncated (zip c.args.channels.now c.args.ends.now)) cs) c.open_cuts.new.tracks.items (sym (cut-outcome cs rows (zip c.args.channels.now c.args.ends.now) c.requires.idle) ∙ c.in_default.ensures.answer) in
+    all-due c.args.place (truncated (zip c.args.channels.now c.args.ends.now)) cs c.open_cuts.new.tracks.items ended.1 c.requires.new
+
+pub returns : goal.returns
+returns c =
+    let rows = c.args.tracks.now.items in
+    let cs = shown_of rows in
+    let moment : to_z w64 (of_z w64 c.args.at) ≡ c.args.at = to_z-of_z w64 c.args.at c.ranges.at in
+    let ended = outcome-ok (truncate_refusal cs [] (zip c.args.channels.now c.args.ends.now)) (staged_by (truncated (zip c.args.channels.now c.args.ends.now)) cs) c.open_cuts.new.tracks.items (sym (cut-outcome cs rows (zip c.args.channels.now c.args.ends.now) c.requires.idle) ∙ c.in_default.ensures.answer) in (
+      ended.0,
+      c.commit_channels.ensures ∙ (λ j. all_done c.args.place (moment j) (c.args.channels.now) c.open_cuts.new.tracks.items) ∙ done-all c.args.place c.args.at (c.args.channels.now) (truncated (zip c.args.channels.now c.args.ends.now)) cs c.open_cuts.new.tracks.items ended.1 (truncated-none c.args.channels.now c.args.ends.now c.requires.ends),
+    )

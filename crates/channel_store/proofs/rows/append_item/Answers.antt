@@ -1,0 +1,38 @@
+use Rattle.std.proofs.Common.{◌≡◌, ◌<◌, ◌≤◌, ◌+◌, ℕ, sym, ap, subst, ◌∙◌, arith, length, drop, get_or, slice_set, Some, None, Ok, Err, vec_len, w64, to_z, of_z}
+use Rattle.std.proofs.lemmas.Grind.{common_steps}
+use Rattle.std.proofs.lemmas.Int.{to_z-of_z}
+use Rattle.channel_store.specs.declared.error.ChannelError.TheVariants.{NoChannel, Index}
+use Rattle.channel_store.specs.Rows.{Row, Becomes, added, begun}
+use Rattle.channel_store.specs.Sweeps.{place_in, opened}
+use Rattle.channel_store.proofs.RowLemmas.{place-some, step-absent, becomes-there, shown-there}
+use Rattle.channel_store.proofs.rows.append_item.Goals as goal
+
+pub returns-in_default-clause-answer : goal.returns-in_default-clause-answer
+returns-in_default-clause-answer c =
+    let rows = c.args.tracks.now.items in
+    let same : to_z w64 (of_z w64 c.args.item.now.channel) ≡ c.args.item.now.channel = grind (arith, common_steps, to_z-of_z) in
+    let size : c.len.result ≡ length rows = grind (arith, common_steps) in
+    let none : place_in (length rows) c.args.item.now.channel ≡ None = (λ j. place_in (sym size j) (sym same j)) ∙ sym c.place_of.ensures ∙ c.in_default.is in
+    λ m. step-absent rows c.args.item.now.channel (λ r. added c.args.item.now.channel c.args.item.now.point (record r { staged = Some (begun r.staged) })) none ∙ ap (λ i. Err (NoChannel i)) (sym same)
+
+pub index_mut-requires : goal.index_mut-requires
+index_mut-requires c =
+    let within = (place-some c.len.result (to_z w64 (of_z w64 c.args.item.now.channel)) c.in-Some.place (sym c.place_of.ensures ∙ c.in-Some.is)).1 in
+    omega (arith, within)
+
+pub returns-clause-answer : goal.returns-clause-answer
+returns-clause-answer c =
+    let rows = c.args.tracks.now.items in
+    let same : to_z w64 (of_z w64 c.args.item.now.channel) ≡ c.args.item.now.channel = grind (arith, common_steps, to_z-of_z) in
+    let size : c.len.result ≡ length rows = grind (arith, common_steps) in
+    let some : place_in (length rows) c.args.item.now.channel ≡ Some c.in-Some.place = (λ j. place_in (sym size j) (sym same j)) ∙ sym c.place_of.ensures ∙ c.in-Some.is in
+    becomes-there c.append_to.result rows c.args.item.now.channel c.in-Some.place (λ r. added c.args.item.now.channel c.args.item.now.point (record r { staged = Some (begun r.staged) })) c.index_mut.result.now c.append_to.new.track some c.index_mut.ensures.value
+    (c.append_to.ensures.answer)
+
+pub returns-clause-kept : goal.returns-clause-kept
+returns-clause-kept c =
+    let rows = c.args.tracks.now.items in
+    let same : to_z w64 (of_z w64 c.args.item.now.channel) ≡ c.args.item.now.channel = grind (arith, common_steps, to_z-of_z) in
+    let size : c.len.result ≡ length rows = grind (arith, common_steps) in
+    let some : place_in (length rows) c.args.item.now.channel ≡ Some c.in-Some.place = (λ j. place_in (sym size j) (sym same j)) ∙ sym c.place_of.ensures ∙ c.in-Some.is in
+    shown-there rows c.args.item.now.channel c.in-Some.place c.index_mut.result.now c.append_to.new.track some c.index_mut.ensures.value c.append_to.ensures.kept

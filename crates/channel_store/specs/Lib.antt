@@ -1,0 +1,9 @@
+pub mod Channels
+pub mod Drafts
+pub mod Points
+pub mod Refusals
+pub mod Rows
+pub mod Splits
+pub mod Store
+pub mod Sweeps
+pub mod Tracks

@@ -1,0 +1,94 @@
+-- A channel during a call: what is about to happen to it is made first, and done once nothing can be refused any more.
+use Rattle.std.specs.Prelude.{ℕ, ℤ, ◌≡◌, ◌≢◌, Bool, true, false, List, [], ◌∷◌, ◌++◌, Option, Some, None, option_map, Result, Ok, Err, if◌then◌else◌}
+use Rattle.std.specs.List.{AllByRecursion}
+use Rattle.etp_values.specs.declared.point.Point.{Point}
+use Rattle.channel_store.specs.declared.change.What.{What}
+use Rattle.channel_store.specs.declared.change.What.TheVariants.{Append, Replace, Truncate}
+use Rattle.channel_store.specs.declared.error.ChannelError.{ChannelError}
+use Rattle.channel_store.specs.declared.error.ChannelError.TheVariants.{Order, Outside, NoMemory}
+use Rattle.channel_store.specs.declared.draft.Way.{Way}
+use Rattle.channel_store.specs.declared.draft.Way.TheVariants.{Behind, Between, UpTo}
+use Rattle.channel_store.specs.Points.{is_within, follows, Rises}
+use Rattle.channel_store.specs.Channels.{Channel, happened, IsPastAll}
+
+-- a channel, and what is about to happen to it
+pub record Row : Type 0 where
+  pub shown : Channel
+  pub staged : Option What
+
+abbrev pub plain : Channel → Row
+plain c = record { shown = c; staged = None }
+
+-- nothing is about to happen any more
+abbrev pub cleared : Row → Row
+cleared r = record r { staged = None }
+
+-- a change of its kind with these points
+abbrev pub what_by : Way → List Point → What
+what_by Behind points = Append points
+what_by (Between from to) points = Replace from to points
+what_by (UpTo end) points = Truncate end
+
+abbrev pub with_point : Point → What → What
+with_point p (Append points) = Append (points ++ p ∷ [])
+with_point p (Replace from to points) = Replace from to (points ++ p ∷ [])
+with_point p (Truncate end) = Truncate end
+
+-- an append begins, where nothing has begun
+abbrev pub begun : Option What → What
+begun None = Append []
+begun (Some w) = w
+
+-- the points that the next one has to follow, in a channel that has these
+abbrev pub before_next : List Point → What → List Point
+before_next points (Append more) = points ++ more
+before_next points (Replace from to more) = more
+before_next points (Truncate end) = []
+
+-- a change may have such a point
+abbrev pub takes : What → Point → Bool
+takes (Append points) p = true
+takes (Replace from to points) p = is_within from to p.index
+takes (Truncate end) p = false
+
+-- a point joins what is about to happen to the channel `id`, which may have it, and where it follows
+abbrev pub joins : ℤ → List Point → What → Point → Result What ChannelError
+joins id points w p = if takes w p then (if follows (before_next points w) p.index then Ok (with_point p w) else Err (Order id)) else Err (Outside id)
+
+abbrev pub staged_as : Row → Result What ChannelError → Result Row ChannelError
+staged_as r (Ok w) = Ok (record r { staged = Some w })
+staged_as r (Err e) = Err e
+
+abbrev pub added_by : ℤ → Point → Row → Option What → Result Row ChannelError
+added_by id p r None = Err (Outside id)
+added_by id p r (Some w) = staged_as r (joins id r.shown.points w p)
+
+abbrev pub added : ℤ → Point → Row → Result Row ChannelError
+added id p r = added_by id p r r.staged
+
+-- what is about to happen is done
+abbrev pub done_by : ℕ → ℤ → ℤ → Channel → Option What → Row
+done_by place id at c None = record { shown = c; staged = None }
+done_by place id at c (Some w) = record { shown = happened place id at c w; staged = None }
+
+abbrev pub done : ℕ → ℤ → ℤ → Row → Row
+done place id at r = done_by place id at r.shown r.staged
+
+-- a change that is about to happen will be the channel's last
+abbrev pub Due : ℕ → Channel → Option What → Type 0
+Due place c None = Unit {0}
+Due place c (Some w) = IsPastAll place c.changes
+
+abbrev pub IsDue : ℕ → Row → Type 0
+IsDue place r = Due place r.shown r.staged
+
+-- what is about to happen keeps the points in order
+abbrev pub Fits : List Point → What → Type 0
+Fits xs (Append points) = Rises (xs ++ points)
+Fits xs (Replace from to points) = Rises points × AllByRecursion (λ x. is_within from to x.index ≡ true) points
+Fits xs (Truncate end) = Unit {0}
+
+-- a call that makes a value out of an old one ends as expected, unless memory ran out
+abbrev pub Becomes : {A : Type 0} → Result (Unit {0}) ChannelError → A → Result A ChannelError → Type 0
+Becomes (Ok _) new expected = expected ≡ Ok new
+Becomes (Err e) new expected = e ≢ NoMemory → expected ≡ Err e

@@ -1,0 +1,74 @@
+-- What a call does to the channels of a store.
+use Rattle.std.specs.Prelude.{ℕ, suc, ℤ, pos, ◌≡◌, ◌<◌, Bool, List, [], ◌∷◌, Option, Some, None, Result, Ok, Err, if◌then◌else◌}
+use Rattle.std.specs.List.{AllByRecursion}
+use Rattle.etp_values.specs.declared.point.Point.{Point}
+use Rattle.etp_values.specs.declared.point.ChannelPoint.{ChannelPoint}
+use Rattle.etp_values.specs.declared.uri.StoreUri.{StoreUri}
+use Rattle.etp_values.specs.SameUri.{same_uri}
+use Rattle.channel_store.specs.declared.change.What.{What}
+use Rattle.channel_store.specs.declared.change.What.TheVariants.{Append, Replace, Truncate}
+use Rattle.channel_store.specs.declared.change.ChannelChange.{ChannelChange}
+use Rattle.channel_store.specs.declared.error.ChannelError.{ChannelError}
+use Rattle.channel_store.specs.Points.{inside}
+use Rattle.channel_store.specs.Channels.{Channel, happened, IsPastAll}
+use Rattle.channel_store.specs.Refusals.{int_eq, is_listed, points_of, points_at, channel_at, range_refusal}
+
+-- each item of a list with its number
+abbrev pub by_number : {X Y : Type 0} → (ℕ → X → Y) → ℕ → List X → List Y
+by_number f n [] = []
+by_number f n (x ∷ xs) = f n x ∷ by_number f (suc n) xs
+
+-- a channel after what happens to it, or nothing
+abbrev pub happens : ℕ → ℤ → ℤ → Channel → Option What → Channel
+happens place id at c None = c
+happens place id at c (Some w) = happened place id at c w
+
+-- the channels after a call whose entry stands at `place` with the moment `at`, by what happens to each id
+abbrev pub changed : ℕ → ℤ → (ℤ → Option What) → List Channel → List Channel
+changed place at what cs = by_number (λ k c. happens place (pos k) at c (what (pos k))) 0 cs
+
+-- an append to each channel of an item
+abbrev pub append_some : List Point → Option What
+append_some [] = None
+append_some (x ∷ xs) = Some (Append (x ∷ xs))
+
+abbrev pub appended : List ChannelPoint → ℤ → Option What
+appended items id = append_some (points_of id items)
+
+-- a replacement in each channel that is listed
+abbrev pub replaced : List ℤ → ℤ → ℤ → List ChannelPoint → ℤ → Option What
+replaced ids from to items id = if is_listed ids id then Some (Replace from to (points_of id items)) else None
+
+-- each channel that is listed gets its end
+abbrev pub truncated : List (ℤ × ℤ) → ℤ → Option What
+truncated [] id = None
+truncated (cut ∷ cuts) id = if int_eq id cut.0 then Some (Truncate cut.1) else truncated cuts id
+
+-- a place is past those of all changes so far
+abbrev pub IsNewPlace : ℕ → List Channel → Type 0
+IsNewPlace place cs = AllByRecursion (λ c. IsPastAll place c.changes) cs
+
+-- the first place that passes, where the list begins at `place`
+abbrev pub first_place : {X : Type 0} → (X → Bool) → ℕ → List X → Option ℤ
+first_place p place [] = None
+first_place p place (x ∷ xs) = if p x then Some (pos place) else first_place p (suc place) xs
+
+-- the id of the channel that is this object
+abbrev pub id_of : StoreUri → List Channel → Option ℤ
+id_of uri cs = first_place (λ c. same_uri uri c.uri) 0 cs
+
+-- the points of a channel from `from` to `to`, or the refusal
+abbrev pub range_in : Option ChannelError → List Point → Result (List Point) ChannelError
+range_in None points = Ok points
+range_in (Some e) points = Err e
+
+abbrev pub range_of : List Channel → ℤ → ℤ → ℤ → Result (List Point) ChannelError
+range_of cs id from to = range_in (range_refusal (channel_at cs id) id from to) (inside from to (points_at cs id))
+
+abbrev pub changes_in : Option Channel → List ChannelChange
+changes_in None = []
+changes_in (Some c) = c.changes
+
+-- the changes of the channel of an id
+abbrev pub changes_at : List Channel → ℤ → List ChannelChange
+changes_at cs id = changes_in (channel_at cs id)

@@ -1,0 +1,143 @@
+-- Steps over the rows of a store during a call.
+use Rattle.std.specs.Prelude.{ℕ, zero, suc, ℤ, pos, negsuc, ◌≡◌, ◌≢◌, Bool, true, false, List, [], ◌∷◌, ◌++◌, map, Option, Some, None, is_some, Result, Ok, Err, if◌then◌else◌, slice_get, nat_lt}
+use Rattle.std.specs.List.{AllByRecursion}
+use Rattle.etp_values.specs.declared.point.ChannelPoint.{ChannelPoint}
+use Rattle.channel_store.specs.declared.change.What.{What}
+use Rattle.channel_store.specs.declared.draft.Way.{Way}
+use Rattle.channel_store.specs.declared.draft.Way.TheVariants.{UpTo}
+use Rattle.channel_store.specs.declared.error.ChannelError.{ChannelError}
+use Rattle.channel_store.specs.declared.error.ChannelError.TheVariants.{NoChannel, Index, Doubled, NoMemory}
+use Rattle.channel_store.specs.Channels.{Channel}
+use Rattle.channel_store.specs.Rows.{Row, plain, what_by, begun, added, done, IsDue}
+use Rattle.channel_store.specs.Refusals.{in_range, is_listed, item_refusal, inside_refusal}
+use Rattle.channel_store.specs.Store.{by_number}
+
+-- the channels that rows show
+abbrev pub shown_of : List Row → List Channel
+shown_of rows = map (λ r. r.shown) rows
+
+-- nothing is about to happen to any channel
+abbrev pub IsIdle : List Row → Type 0
+IsIdle rows = rows ≡ map plain (shown_of rows)
+
+-- the row of an id
+abbrev pub row_at : List Row → ℤ → Option Row
+row_at rows (pos k) = slice_get rows k
+row_at rows (negsuc k) = None
+
+-- ---- one row
+
+-- the place of an id in a list of this length
+abbrev pub place_in : ℕ → ℤ → Option ℕ
+place_in len (pos k) = if nat_lt k len then Some k else None
+place_in len (negsuc k) = None
+
+abbrev pub with_row : Row → Result (List Row) ChannelError → Result (List Row) ChannelError
+with_row r (Ok rs) = Ok (r ∷ rs)
+with_row r (Err e) = Err e
+
+abbrev pub before_rows : Result Row ChannelError → List Row → Result (List Row) ChannelError
+before_rows (Ok r) rs = Ok (r ∷ rs)
+before_rows (Err e) rs = Err e
+
+-- a step of the row at a place
+abbrev pub step_row : ℕ → (Row → Result Row ChannelError) → ChannelError → List Row → Result (List Row) ChannelError
+step_row k f absent [] = Err absent
+step_row zero f absent (r ∷ rs) = before_rows (f r) rs
+step_row (suc k) f absent (r ∷ rs) = with_row r (step_row k f absent rs)
+
+-- a step of the row of an id
+abbrev pub step_at : ℤ → (Row → Result Row ChannelError) → List Row → Result (List Row) ChannelError
+step_at (pos k) f rows = step_row k f (NoChannel (pos k)) rows
+step_at (negsuc k) f rows = Err (NoChannel (negsuc k))
+
+abbrev pub next_rows : {X : Type 0} → Result X ChannelError → (X → Result (List Row) ChannelError) → Result (List Row) ChannelError
+next_rows (Ok x) f = f x
+next_rows (Err e) f = Err e
+
+-- one step after the other, up to the first that is refused
+abbrev pub steps : {X : Type 0} → (List Row → X → Result (List Row) ChannelError) → List Row → List X → Result (List Row) ChannelError
+steps f rows [] = Ok rows
+steps f rows (x ∷ xs) = next_rows (f rows x) (λ rs. steps f rs xs)
+
+-- ---- what a call is about to do
+
+-- an item joins an append
+abbrev pub append_item : List Row → ChannelPoint → Result (List Row) ChannelError
+append_item rows i = step_at i.channel (λ r. added i.channel i.point (record r { staged = Some (begun r.staged) })) rows
+
+-- an item joins what is about to happen
+abbrev pub add_item : List Row → ChannelPoint → Result (List Row) ChannelError
+add_item rows i = step_at i.channel (λ r. added i.channel i.point r) rows
+
+-- a change without points begins, where nothing is about to happen yet
+abbrev pub opened_by : ℤ → Way → Row → Option What → Result Row ChannelError
+opened_by id way r None = Ok (record r { staged = Some (what_by way []) })
+opened_by id way r (Some w) = Err (Doubled id)
+
+abbrev pub opened : ℤ → Way → Row → Result Row ChannelError
+opened id way r = opened_by id way r r.staged
+
+abbrev pub open_channel : Way → List Row → ℤ → Result (List Row) ChannelError
+open_channel way rows id = step_at id (opened id way) rows
+
+abbrev pub open_cut : List Row → ℤ × ℤ → Result (List Row) ChannelError
+open_cut rows cut = step_at cut.0 (λ r. if in_range cut.1 then opened cut.0 (UpTo cut.1) r else Err (Index cut.0)) rows
+
+-- ---- refusals of items
+
+abbrev pub shown_in : Option Row → Option Channel
+shown_in None = None
+shown_in (Some r) = Some r.shown
+
+abbrev pub is_staged : Option Row → Bool
+is_staged None = false
+is_staged (Some r) = is_some r.staged
+
+abbrev pub item_fault : List Row → ChannelPoint → Option ChannelError
+item_fault rows i = item_refusal (shown_in (row_at rows i.channel)) i
+
+abbrev pub inside_fault : List Row → ℤ → ℤ → ChannelPoint → Option ChannelError
+inside_fault rows from to i = inside_refusal (is_staged (row_at rows i.channel)) (shown_in (row_at rows i.channel)) from to i
+
+-- ---- all rows of a list of ids
+
+abbrev pub modify : ℕ → (Row → Row) → List Row → List Row
+modify k f [] = []
+modify zero f (r ∷ rs) = f r ∷ rs
+modify (suc k) f (r ∷ rs) = r ∷ modify k f rs
+
+abbrev pub modify_at : ℤ → (Row → Row) → List Row → List Row
+modify_at (pos k) f rows = modify k f rows
+modify_at (negsuc k) f rows = rows
+
+-- the rows before a call is done: what is about to happen to each id
+abbrev pub staged_by : (ℤ → Option What) → List Channel → List Row
+staged_by what cs = by_number (λ k c. record { shown = c; staged = what (pos k) }) 0 cs
+
+abbrev pub outcome : {A : Type 0} → Option ChannelError → A → Result A ChannelError
+outcome None x = Ok x
+outcome (Some e) x = Err e
+
+-- what follows, unless there is a fault
+abbrev pub unless_fault : Option ChannelError → Result (List Row) ChannelError → Result (List Row) ChannelError
+unless_fault None later = later
+unless_fault (Some e) later = Err e
+
+-- each row whose id is listed
+abbrev pub swept : (ℤ → Row → Row) → List ℤ → List Row → List Row
+swept f ids rows = by_number (λ k r. if is_listed ids (pos k) then f (pos k) r else r) 0 rows
+
+abbrev pub all_done : ℕ → ℤ → List ℤ → List Row → List Row
+all_done place at ids rows = swept (λ id r. done place id at r) ids rows
+
+abbrev pub ids_of : List ChannelPoint → List ℤ
+ids_of items = map (λ i. i.channel) items
+
+abbrev pub AllDue : ℕ → List Row → Type 0
+AllDue place rows = AllByRecursion (IsDue place) rows
+
+-- a call is accepted exactly without a refusal, and leaves these channels; else it leaves those that were there
+abbrev pub EndsAs : Result (Unit {0}) ChannelError → List Row → List Row → Option ChannelError → List Channel → Type 0
+EndsAs (Ok _) old new refusal expected = (refusal ≡ None) × (new ≡ map plain expected)
+EndsAs (Err e) old new refusal expected = (e ≢ NoMemory → refusal ≡ Some e) × (new ≡ old)

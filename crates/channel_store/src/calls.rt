@@ -1,0 +1,150 @@
+//! The calls that change the channels: tests first, then all memory, and then the change, which nothing can stop.
+ghost use Rattle.std.specs.Prelude.{◌≡◌, [], length, zip};
+ghost use Rattle.channel_store.specs.Refusals.{append_refusal, first_refusal, interval_refusal, replace_refusal, truncate_refusal};
+ghost use Rattle.channel_store.specs.Rows.{Becomes};
+ghost use Rattle.channel_store.specs.Store.{IsNewPlace, appended, changed, replaced, truncated};
+ghost use Rattle.channel_store.specs.Sweeps.{EndsAs, IsIdle, add_item, inside_fault, outcome, shown_of, staged_by, steps, unless_fault};
+
+use crate::checks::{check_all_inside, check_interval, check_items};
+use crate::draft::Way;
+use crate::error::ChannelError;
+use crate::rows::{
+    add_items, append_items, clear_all, commit_channels, commit_items, open_channels, open_cuts,
+};
+use crate::track::Track;
+use etp_values::ChannelPoint;
+use std::alloc::Global;
+
+/// Begins an append of all items or of none.
+fn prepare_append(
+    alloc: Global,
+    tracks: &mut Vec<Track>,
+    items: &[ChannelPoint],
+) -> Result<(), ChannelError>
+    requires { IsIdle tracks.old.items }
+    ensures answer { Becomes result tracks.new.items (outcome (append_refusal (shown_of tracks.old.items) items.now) (staged_by (appended items.now) (shown_of tracks.old.items))) }
+    ensures kept { shown_of tracks.new.items ≡ shown_of tracks.old.items }
+{
+    match check_items(tracks.as_slice(), items) {
+        Err(error) => Err(error),
+        Ok(()) => append_items(alloc, tracks, items),
+    }
+}
+
+/// Appends all items or none.
+pub fn append_all(
+    alloc: Global,
+    tracks: &mut Vec<Track>,
+    place: u64,
+    at: i64,
+    items: &[ChannelPoint],
+) -> Result<(), ChannelError>
+    requires idle { IsIdle tracks.old.items }
+    requires new { IsNewPlace place (shown_of tracks.old.items) }
+    ensures { EndsAs result tracks.old.items tracks.new.items (append_refusal (shown_of tracks.old.items) items.now) (changed place at (appended items.now) (shown_of tracks.old.items)) }
+{
+    if let Err(error) = prepare_append(alloc, tracks, items) {
+        clear_all(tracks);
+        return Err(error);
+    }
+    commit_items(tracks, place, at, items);
+    Ok(())
+}
+
+/// The items join a replacement that has begun, where all lie inside.
+fn fill_inside(
+    alloc: Global,
+    tracks: &mut Vec<Track>,
+    from: i64,
+    to: i64,
+    items: &[ChannelPoint],
+) -> Result<(), ChannelError>
+    ensures answer { Becomes result tracks.new.items (unless_fault (first_refusal (inside_fault tracks.old.items from to) items.now) (steps add_item tracks.old.items items.now)) }
+    ensures kept { shown_of tracks.new.items ≡ shown_of tracks.old.items }
+{
+    match check_all_inside(tracks.as_slice(), from, to, items) {
+        Err(error) => Err(error),
+        Ok(()) => add_items(alloc, tracks, items),
+    }
+}
+
+/// The items join a replacement that has begun, where its interval is one.
+fn fill(
+    alloc: Global,
+    tracks: &mut Vec<Track>,
+    from: i64,
+    to: i64,
+    items: &[ChannelPoint],
+) -> Result<(), ChannelError>
+    ensures answer { Becomes result tracks.new.items (unless_fault (interval_refusal from to) (unless_fault (first_refusal (inside_fault tracks.old.items from to) items.now) (steps add_item tracks.old.items items.now))) }
+    ensures kept { shown_of tracks.new.items ≡ shown_of tracks.old.items }
+{
+    match check_interval(from, to) {
+        Err(error) => Err(error),
+        Ok(()) => fill_inside(alloc, tracks, from, to, items),
+    }
+}
+
+/// Begins a replacement in all channels or in none, with the points that it is to have.
+fn prepare_replace(
+    alloc: Global,
+    tracks: &mut Vec<Track>,
+    channels: &[i64],
+    from: i64,
+    to: i64,
+    items: &[ChannelPoint],
+) -> Result<(), ChannelError>
+    requires { IsIdle tracks.old.items }
+    ensures answer { Becomes result tracks.new.items (outcome (replace_refusal (shown_of tracks.old.items) channels.now from to items.now) (staged_by (replaced channels.now from to items.now) (shown_of tracks.old.items))) }
+    ensures kept { shown_of tracks.new.items ≡ shown_of tracks.old.items }
+{
+    match open_channels(alloc, tracks, Way::Between { from, to }, channels) {
+        Err(error) => Err(error),
+        Ok(()) => fill(alloc, tracks, from, to, items),
+    }
+}
+
+/// Replaces in all channels or in none.
+pub fn replace_all(
+    alloc: Global,
+    tracks: &mut Vec<Track>,
+    place: u64,
+    at: i64,
+    channels: &[i64],
+    from: i64,
+    to: i64,
+    items: &[ChannelPoint],
+) -> Result<(), ChannelError>
+    requires idle { IsIdle tracks.old.items }
+    requires new { IsNewPlace place (shown_of tracks.old.items) }
+    ensures { EndsAs result tracks.old.items tracks.new.items (replace_refusal (shown_of tracks.old.items) channels.now from to items.now) (changed place at (replaced channels.now from to items.now) (shown_of tracks.old.items)) }
+{
+    if let Err(error) = prepare_replace(alloc, tracks, channels, from, to, items) {
+        clear_all(tracks);
+        return Err(error);
+    }
+    commit_channels(tracks, place, at, channels);
+    Ok(())
+}
+
+/// Truncates all channels or none.
+pub fn truncate_all(
+    alloc: Global,
+    tracks: &mut Vec<Track>,
+    place: u64,
+    at: i64,
+    channels: &[i64],
+    ends: &[i64],
+) -> Result<(), ChannelError>
+    requires idle { IsIdle tracks.old.items }
+    requires new { IsNewPlace place (shown_of tracks.old.items) }
+    requires ends { length channels.now ≡ length ends.now }
+    ensures { EndsAs result tracks.old.items tracks.new.items (truncate_refusal (shown_of tracks.old.items) [] (zip channels.now ends.now)) (changed place at (truncated (zip channels.now ends.now)) (shown_of tracks.old.items)) }
+{
+    if let Err(error) = open_cuts(alloc, tracks, channels, ends) {
+        clear_all(tracks);
+        return Err(error);
+    }
+    commit_channels(tracks, place, at, channels);
+    Ok(())
+}

@@ -1,0 +1,56 @@
+//! Why a call on channels is refused.
+ghost use Rattle.std.specs.Prelude.{◌≡◌};
+
+use etp_values::NoMemory;
+use std::alloc::{AllocError, AllocFailed};
+
+/// The first reason. A number is the channel of the first item that is refused.
+#[derive(Clone, Copy, Debug, PartialEq, Eq)]
+pub enum ChannelError {
+    /// There is no channel of this id.
+    NoChannel(i64),
+    /// An index lies below -2^62 or above 2^62.
+    Index(i64),
+    /// A value is not null, and not of the channel's kind.
+    Kind(i64),
+    /// A channel is listed twice.
+    Doubled(i64),
+    /// An interval ends before it begins, or is to be replaced and lies out of range.
+    Interval,
+    /// An index does not lie past the one before it.
+    Order(i64),
+    /// An item is not of a channel that is replaced, or lies outside the interval.
+    Outside(i64),
+    /// Memory was refused.
+    NoMemory,
+}
+
+impl From<NoMemory> for ChannelError {
+    ghost use Rattle.channel_store.specs.declared.error.ChannelError.{ChannelError};
+
+    ghost from_gives = { λ _ e. e ≡ ChannelError.NoMemory };
+
+    fn from(_error: NoMemory) -> ChannelError {
+        ChannelError::NoMemory
+    }
+}
+
+impl From<AllocError> for ChannelError {
+    ghost use Rattle.channel_store.specs.declared.error.ChannelError.{ChannelError};
+
+    ghost from_gives = { λ _ e. e ≡ ChannelError.NoMemory };
+
+    fn from(_error: AllocError) -> ChannelError {
+        ChannelError::NoMemory
+    }
+}
+
+impl<T: Drop> From<AllocFailed<T>> for ChannelError {
+    ghost use Rattle.channel_store.specs.declared.error.ChannelError.{ChannelError};
+
+    ghost from_gives = { λ _ e. e ≡ ChannelError.NoMemory };
+
+    fn from(_error: AllocFailed<T>) -> ChannelError {
+        ChannelError::NoMemory
+    }
+}

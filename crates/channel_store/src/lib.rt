@@ -1,0 +1,29 @@
+//! The points and the changes of the configured channels.
+//!
+//! A [`ChannelStore`] has the channels of a configuration; a channel's id is its place there. Each has its points in the order of
+//! their indexes, and its changes in order, each with the place of its entry in the journal. [`What`] says what a change did: it
+//! added points behind the last one, replaced those of an interval, or dropped those above an end.
+//!
+//! A call is tested first, then made ready in memory, and then done, which nothing can stop: so it changes all channels or none.
+//! [`copy_is_points`] is the law for those who are told of the changes one by one.
+#![tactic(auto)]
+
+mod calls;
+mod change;
+mod checks;
+mod draft;
+mod error;
+mod law;
+mod points;
+mod rows;
+mod store;
+#[cfg(test)]
+mod tests;
+mod track;
+mod tracks;
+
+pub use change::{ChannelChange, What};
+pub use checks::{MAX_INDEX, MIN_INDEX};
+pub use error::ChannelError;
+pub use law::copy_is_points;
+pub use store::ChannelStore;

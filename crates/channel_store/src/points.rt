@@ -1,0 +1,173 @@
+//! A channel's points, kept in the order of their indexes.
+ghost use Rattle.std.specs.Prelude.{◌≡◌, ◌≤◌, ◌+◌, ◌++◌, length, take, drop, int_lt, IfOk};
+ghost use Rattle.std.specs.Vec.{vec_len, vec_capacity};
+ghost use Rattle.channel_store.specs.Points.{Rises, after, at_most, inside, last_of, outside, put_below, up_to};
+ghost use Rattle.channel_store.specs.Rows.{what_by};
+ghost use Rattle.channel_store.specs.Splits.{IsSplit};
+
+use crate::draft::Way;
+use etp_values::{Copied, List, NoMemory, Point};
+use std::alloc::Global;
+
+/// How many points lie below an index.
+fn count_below(points: &[Point], index: i64) -> usize
+    requires { Rises points.now }
+    ensures { IsSplit (λ x. int_lt x.index index) points.now result }
+{
+    points.partition_point(
+        |x: &Point| -> bool
+            ensures { result ≡ int_lt x.now.index index }
+        { x.index < index },
+    )
+}
+
+/// How many points lie at or below an index.
+fn count_to(points: &[Point], index: i64) -> usize
+    requires { Rises points.now }
+    ensures { IsSplit (λ x. at_most x.index index) points.now result }
+{
+    points.partition_point(
+        |x: &Point| -> bool
+            ensures { result ≡ at_most x.now.index index }
+        { x.index <= index },
+    )
+}
+
+/// The index of the last point.
+pub fn last_index(points: &[Point]) -> Option<i64>
+    ensures { result ≡ last_of points.now }
+{
+    match points.last() {
+        Some(point) => Some(point.index),
+        None => None,
+    }
+}
+
+/// How many points lie below an interval, and how many in it.
+fn place_inside(points: &[Point], from: i64, to: i64) -> (usize, usize)
+    requires { Rises points.now }
+    ensures below { IsSplit (λ x. int_lt x.index from) points.now result.0 }
+    ensures inside { IsSplit (λ x. at_most x.index to) (drop result.0 points.now) result.1 }
+{
+    let start = count_below(points, from);
+    let count = count_to(&points[start..], to);
+    (start, count)
+}
+
+/// Copies of the points from `from` to `to`.
+pub fn copy_inside(
+    alloc: Global,
+    points: &[Point],
+    from: i64,
+    to: i64,
+) -> Result<List<Point>, NoMemory>
+    requires { Rises points.now }
+    ensures { IfOk result (λ r. r ≡ inside from to points.now) }
+{
+    let (start, count) = place_inside(points, from, to);
+    copy_behind(alloc, points, start, count)
+}
+
+/// Copies of `count` points behind the first `place`.
+fn copy_behind(
+    alloc: Global,
+    points: &[Point],
+    place: usize,
+    count: usize,
+) -> Result<List<Point>, NoMemory>
+    requires { place + count ≤ length points.now }
+    ensures { IfOk result (λ r. r ≡ take count (drop place points.now)) }
+{
+    copy_all(alloc, &points[place..place + count])
+}
+
+fn copy_all(alloc: Global, points: &[Point]) -> Result<List<Point>, NoMemory>
+    ensures { IfOk result (λ r. r ≡ points.now) }
+{
+    let mut copies = Vec::new(alloc);
+    copies.reserve(points.len())?;
+    for point in points {
+        copies.push(point.copy(alloc)?)?;
+    }
+    Ok(List::from_vec(copies))
+}
+
+/// Drops the points above an end.
+fn cut(points: &mut Vec<Point>, end: i64)
+    requires { Rises points.old.items }
+    ensures { points.new.items ≡ up_to end points.old.items }
+{
+    let count = count_to(points.as_slice(), end);
+    points.truncate(count);
+}
+
+/// Turns the points behind the first `place` by `count`.
+fn turn_behind(points: &mut Vec<Point>, place: usize, count: usize)
+    requires { place + count ≤ vec_len points.old }
+    ensures items { points.new.items ≡ take place points.old.items ++ (drop count (drop place points.old.items) ++ take count (drop place points.old.items)) }
+    ensures len { vec_len points.new ≡ vec_len points.old }
+    ensures room { vec_capacity points.new ≡ vec_capacity points.old }
+{
+    let (_, back) = points.as_mut_slice().split_at_mut(place);
+    back.rotate_left(count);
+}
+
+/// Drops the points from `from` to `to`.
+fn drop_inside(points: &mut Vec<Point>, from: i64, to: i64)
+    requires { Rises points.old.items }
+    ensures items { points.new.items ≡ outside from to points.old.items }
+    ensures len { vec_len points.new ≤ vec_len points.old }
+    ensures room { vec_capacity points.new ≡ vec_capacity points.old }
+{
+    let (start, count) = place_inside(points.as_slice(), from, to);
+    drop_behind(points, start, count);
+}
+
+/// Drops `count` points behind the first `place`.
+fn drop_behind(points: &mut Vec<Point>, place: usize, count: usize)
+    requires { place + count ≤ vec_len points.old }
+    ensures items { points.new.items ≡ take place points.old.items ++ drop count (drop place points.old.items) }
+    ensures len { vec_len points.new ≤ vec_len points.old }
+    ensures room { vec_capacity points.new ≡ vec_capacity points.old }
+{
+    turn_behind(points, place, count);
+    let left = points.len() - count;
+    points.truncate(left);
+}
+
+/// Puts points behind the first `place`.
+fn put_at(points: &mut Vec<Point>, place: usize, mut more: Vec<Point>)
+    requires within { place ≤ vec_len points.old }
+    requires room { vec_len points.old + vec_len more ≤ vec_capacity points.old }
+    ensures { points.new.items ≡ take place points.old.items ++ (more.items ++ drop place points.old.items) }
+{
+    let behind = points.len() - place;
+    let _ = points.append(&mut more);
+    turn_behind(points, place, behind);
+}
+
+/// Puts points in the place of those from `from` to `to`.
+fn put_between(points: &mut Vec<Point>, from: i64, to: i64, more: Vec<Point>)
+    requires rising { Rises points.old.items }
+    requires room { vec_len points.old + vec_len more ≤ vec_capacity points.old }
+    ensures { points.new.items ≡ put_below to more.items (outside from to points.old.items) }
+{
+    drop_inside(points, from, to);
+    let place = count_to(points.as_slice(), to);
+    put_at(points, place, more);
+}
+
+/// Does to the points what is to happen.
+pub fn apply(points: &mut Vec<Point>, way: Way, mut more: Vec<Point>)
+    requires rising { Rises points.old.items }
+    requires room { vec_len points.old + vec_len more ≤ vec_capacity points.old }
+    ensures { points.new.items ≡ after points.old.items (what_by way more.items) }
+{
+    match way {
+        Way::Behind => {
+            let _ = points.append(&mut more);
+        }
+        Way::Between { from, to } => put_between(points, from, to, more),
+        Way::UpTo { end } => cut(points, end),
+    }
+}

@@ -1,0 +1,162 @@
+//! The store of the channels.
+ghost use Rattle.std.specs.Prelude.{◌≡◌, ◌<◌, ◌==◌, [], ℕ, IfOk, MatchResult, find, length, map, zip};
+ghost use Rattle.std.specs.Option.{option_copied};
+ghost use Rattle.etp_values.specs.Gives.{Gives};
+ghost use Rattle.channel_store.specs.Channels.{fresh};
+ghost use Rattle.channel_store.specs.Refusals.{append_refusal, points_at, replace_refusal, truncate_refusal, verdict};
+ghost use Rattle.channel_store.specs.Points.{last_of};
+ghost use Rattle.channel_store.specs.Store.{IsNewPlace, appended, changed, changes_at, id_of, range_of, replaced, truncated};
+
+use crate::calls::{append_all, replace_all, truncate_all};
+use crate::change::ChannelChange;
+use crate::checks::track_at;
+use crate::error::ChannelError;
+use crate::track::Track;
+use crate::tracks::{channel_of, fresh_tracks};
+use chan_defs::Config;
+use etp_values::{ChannelPoint, List, NoMemory, Point, StoreUri};
+use std::alloc::Global;
+use std::marker::Model;
+
+/// The channels of a configuration with their points and changes. A channel's id is its place in the configuration.
+///
+/// A contract sees the list of the channels. A call that changes does so whole or not at all: after any error the store is
+/// as before.
+#[derive(Drop)]
+pub struct ChannelStore {
+    alloc: Global,
+    tracks: Vec<Track>,
+}
+
+impl Model for ChannelStore {
+    ghost use Rattle.std.specs.Prelude.{List as Items};
+    ghost use Rattle.channel_store.specs.Channels.{Channel};
+
+    ghost Value = { Items Channel };
+
+    ghost use Rattle.channel_store.specs.Sweeps.{shown_of, IsIdle};
+
+    ghost view = { λ s. shown_of s.tracks.items };
+
+    ghost invariant = { λ s. IsIdle s.tracks.items };
+}
+
+impl ChannelStore {
+    /// The channels of a configuration, without points.
+    pub fn new(alloc: Global, config: &Config) -> Result<ChannelStore, NoMemory>
+        ensures channels { IfOk result (λ s. s ≡ map fresh config.now.channels) }
+        ensures places { IfOk result (λ s. (place : ℕ) → IsNewPlace place s) }
+    {
+        let tracks = fresh_tracks(alloc, config.channels.as_slice())?;
+        Ok(ChannelStore { alloc, tracks })
+    }
+
+    /// The id of the channel that is this object.
+    pub fn channel_of(&self, uri: &StoreUri) -> Option<i64>
+        ensures { result ≡ id_of uri.now self.now }
+    {
+        channel_of(self.tracks.as_slice(), uri)
+    }
+
+    /// Adds points behind the last ones of their channels, as the changes of the entry at `place`.
+    ///
+    /// `Index` and `Kind` are an item's own faults; `Order` comes where no item has such a fault, and an index does not
+    /// lie past the last one of its channel, in the store or among the earlier items.
+    pub fn append(
+        &mut self,
+        place: u64,
+        at: i64,
+        items: &List<ChannelPoint>,
+    ) -> Result<(), ChannelError>
+        requires { IsNewPlace place self.old }
+        ensures answer { Gives ChannelError.NoMemory result (verdict (append_refusal self.old items.now)) }
+        ensures store { MatchResult result (λ _. self.new ≡ changed place at (appended items.now) self.old) (λ _. self.new ≡ self.old) }
+        ensures places { (later : ℕ) → place < later → IsNewPlace later self.new }
+    {
+        append_all(self.alloc, &mut self.tracks, place, at, items.as_slice())
+    }
+
+    /// Puts points in the place of those from `from` to `to`, in each of the channels, as the changes of the entry at `place`.
+    pub fn replace(
+        &mut self,
+        place: u64,
+        at: i64,
+        channels: &List<i64>,
+        from: i64,
+        to: i64,
+        items: &List<ChannelPoint>,
+    ) -> Result<(), ChannelError>
+        requires { IsNewPlace place self.old }
+        ensures answer { Gives ChannelError.NoMemory result (verdict (replace_refusal self.old channels.now from to items.now)) }
+        ensures store { MatchResult result (λ _. self.new ≡ changed place at (replaced channels.now from to items.now) self.old) (λ _. self.new ≡ self.old) }
+        ensures places { (later : ℕ) → place < later → IsNewPlace later self.new }
+    {
+        replace_all(
+            self.alloc,
+            &mut self.tracks,
+            place,
+            at,
+            channels.as_slice(),
+            from,
+            to,
+            items.as_slice(),
+        )
+    }
+
+    /// Drops the points above an end, in each of the channels by the end at its place, as the changes of the entry at `place`.
+    pub fn truncate(
+        &mut self,
+        place: u64,
+        at: i64,
+        channels: &List<i64>,
+        ends: &List<i64>,
+    ) -> Result<(), ChannelError>
+        requires new { IsNewPlace place self.old }
+        requires ends { length channels.now ≡ length ends.now }
+        ensures answer { Gives ChannelError.NoMemory result (verdict (truncate_refusal self.old [] (zip channels.now ends.now))) }
+        ensures store { MatchResult result (λ _. self.new ≡ changed place at (truncated (zip channels.now ends.now)) self.old) (λ _. self.new ≡ self.old) }
+        ensures places { (later : ℕ) → place < later → IsNewPlace later self.new }
+    {
+        truncate_all(
+            self.alloc,
+            &mut self.tracks,
+            place,
+            at,
+            channels.as_slice(),
+            ends.as_slice(),
+        )
+    }
+
+    /// Copies of a channel's points from `from` to `to`.
+    pub fn range(&self, channel: i64, from: i64, to: i64) -> Result<List<Point>, ChannelError>
+        ensures { Gives ChannelError.NoMemory result (range_of self.now channel from to) }
+    {
+        let Some(track) = track_at(self.tracks.as_slice(), channel) else {
+            return Err(ChannelError::NoChannel(channel));
+        };
+        if from > to {
+            return Err(ChannelError::Interval);
+        }
+        Ok(track.range(self.alloc, from, to)?)
+    }
+
+    /// The index of a channel's last point.
+    pub fn last_index(&self, channel: i64) -> Option<i64>
+        ensures { result ≡ last_of (points_at self.now channel) }
+    {
+        let Some(track) = track_at(self.tracks.as_slice(), channel) else {
+            return None;
+        };
+        track.last_index()
+    }
+
+    /// The change of a channel whose entry stands at a place of the journal.
+    pub fn change_at(&self, channel: i64, place: u64) -> Option<&ChannelChange>
+        ensures { option_copied result ≡ find (λ x. x.place == place) (changes_at self.now channel) }
+    {
+        let Some(track) = track_at(self.tracks.as_slice(), channel) else {
+            return None;
+        };
+        track.change_at(place)
+    }
+}

@@ -1,0 +1,149 @@
+//! One channel: its points, its changes, and what is about to happen to it.
+ghost use Rattle.std.specs.Prelude.{◌≡◌, ◌==◌, [], IfOk, OnOk, Some, find, is_some};
+ghost use Rattle.std.specs.Option.{option_copied};
+ghost use Rattle.channel_store.specs.Channels.{fresh, IsKept};
+ghost use Rattle.channel_store.specs.Points.{inside, last_of};
+ghost use Rattle.channel_store.specs.Rows.{Becomes, IsDue, added, begun, cleared, done, plain, what_by};
+
+use crate::change::{ChannelChange, change_at};
+use crate::draft::{Draft, Way};
+use crate::error::ChannelError;
+use crate::points::{apply, copy_inside, last_index};
+use chan_defs::{ChannelDef, ValueKind};
+use etp_values::{Copied, List, NoMemory, Point, StoreUri};
+use std::alloc::Global;
+use std::marker::Model;
+
+#[derive(Drop)]
+pub struct Track {
+    uri: StoreUri,
+    kind: ValueKind,
+    points: Vec<Point>,
+    changes: Vec<ChannelChange>,
+    draft: Option<Draft>,
+}
+
+impl Model for Track {
+    ghost use Rattle.channel_store.specs.Rows.{Row};
+
+    ghost Value = { Row };
+
+    ghost use Rattle.channel_store.specs.Tracks.{row_of, IsTrack};
+
+    ghost view = { row_of };
+
+    ghost invariant = { IsTrack };
+}
+
+impl Track {
+    pub fn new(alloc: Global, def: &ChannelDef) -> Result<Track, NoMemory>
+        ensures { IfOk result (λ r. r ≡ plain (fresh def.now)) }
+    {
+        Ok(Track {
+            uri: def.uri.copy(alloc)?,
+            kind: def.kind,
+            points: Vec::new(alloc),
+            changes: Vec::new(alloc),
+            draft: None,
+        })
+    }
+
+    pub fn uri(&self) -> &StoreUri
+        ensures { result.now ≡ self.now.shown.uri }
+    {
+        &self.uri
+    }
+
+    pub fn kind(&self) -> ValueKind
+        ensures value { result ≡ self.now.shown.kind }
+        ensures kept { IsKept self.now.shown }
+    {
+        self.kind
+    }
+
+    /// The index of the last point.
+    pub fn last_index(&self) -> Option<i64>
+        ensures { result ≡ last_of self.now.shown.points }
+    {
+        last_index(self.points.as_slice())
+    }
+
+    /// Copies of the points from `from` to `to`.
+    pub fn range(&self, alloc: Global, from: i64, to: i64) -> Result<List<Point>, NoMemory>
+        ensures { IfOk result (λ r. r ≡ inside from to self.now.shown.points) }
+    {
+        copy_inside(alloc, self.points.as_slice(), from, to)
+    }
+
+    /// The change whose entry stands at a place of the journal.
+    pub fn change_at(&self, place: u64) -> Option<&ChannelChange>
+        ensures { option_copied result ≡ find (λ x. x.place == place) self.now.shown.changes }
+    {
+        change_at(self.changes.as_slice(), place)
+    }
+
+    /// Whether something is about to happen.
+    pub fn is_staged(&self) -> bool
+        ensures { result ≡ is_some self.now.staged }
+    {
+        self.draft.is_some()
+    }
+
+    /// Begins a change without points.
+    pub fn begin(&mut self, alloc: Global, way: Way) -> Result<(), NoMemory>
+        ensures ok { OnOk result (self.new ≡ record self.old { staged = Some (what_by way []) }) }
+        ensures kept { self.new.shown ≡ self.old.shown }
+    {
+        self.changes.reserve(1)?;
+        self.draft = Some(Draft::new(alloc, way));
+        Ok(())
+    }
+
+    /// Begins an append, where nothing is about to happen yet.
+    pub fn begin_append(&mut self, alloc: Global) -> Result<(), NoMemory>
+        ensures ok { OnOk result (self.new ≡ record self.old { staged = Some (begun self.old.staged) }) }
+        ensures kept { self.new.shown ≡ self.old.shown }
+    {
+        if self.is_staged() {
+            return Ok(());
+        }
+        self.begin(alloc, Way::Behind)
+    }
+
+    /// Adds a copy of a point to what is about to happen to this channel, whose id is `channel`.
+    pub fn add(&mut self, alloc: Global, channel: i64, point: &Point) -> Result<(), ChannelError>
+        ensures answer { Becomes result self.new (added channel point.now self.old) }
+        ensures kept { self.new.shown ≡ self.old.shown }
+    {
+        let Some(draft) = &mut self.draft else {
+            return Err(ChannelError::Outside(channel));
+        };
+        draft.add(alloc, &mut self.points, channel, point)
+    }
+
+    /// Nothing is about to happen any more.
+    pub fn clear(&mut self)
+        ensures { self.new ≡ cleared self.old }
+    {
+        self.draft = None;
+    }
+
+    /// Does what is about to happen, and notes it as the change of the entry at `place`. Takes no memory.
+    pub fn commit(&mut self, place: u64, channel: i64, at: i64)
+        requires { IsDue place self.old }
+        ensures { self.new ≡ done place channel at self.old }
+    {
+        let Some(draft) = self.draft.take() else {
+            return;
+        };
+        let Draft { way, points, told } = draft;
+        let what = way.what(told);
+        apply(&mut self.points, way, points);
+        self.changes.push_reserved(ChannelChange {
+            place,
+            channel,
+            at,
+            what,
+        });
+    }
+}
