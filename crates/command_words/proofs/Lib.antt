@@ -1,0 +1,4 @@
+mod Finding
+mod Passes
+mod Settings
+mod Walks

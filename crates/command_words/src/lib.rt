@@ -1,0 +1,13 @@
+//! The positional words of a command line, read by `clap`.
+//!
+//! No program of this workspace has options: all its words are positional, and a word that begins with `-` is in no form of
+//! any of them. [`words_of`] refuses such words before `clap` sees them. The others are the values of the one argument of the
+//! command in [`parsing`], so `clap` gives back every one of them as it is, the empty word and `help` too.
+#![tactic(auto)]
+
+mod parsing;
+#[cfg(test)]
+mod tests;
+mod words;
+
+pub use words::words_of;
