@@ -1,0 +1,4 @@
+pub mod Store
+pub mod ArrayTypes
+pub mod ArrayRecords
+pub mod DataArray

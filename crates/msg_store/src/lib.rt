@@ -1,0 +1,34 @@
+//! The messages of the protocols Store and DataArray, with their records.
+//!
+//! Each message and record is a struct with the schema's fields in order, and is [`InTree`](etp_schema::InTree): its tree
+//! gives it back, and a tree of its schema is the tree of what is read of it. The schema's fields `data` and `final` are
+//! called `payload` and `last` here. The messages of a protocol are an enum, as [`StoreMessage`], which knows each
+//! message's number and reads a body by it. The forms and the tables of numbers stand in `specs/Store`,
+//! `specs/ArrayTypes`, `specs/ArrayRecords` and `specs/DataArray`.
+//!
+//! All moments are in microseconds since 1970-01-01 UTC.
+#![tactic(auto)]
+
+mod array_records;
+mod array_types;
+mod data_array_messages;
+mod store_messages;
+#[cfg(test)]
+mod tests;
+
+pub use array_records::{
+    DataArray, DataArrayIdentifier, DataArrayMetadata, GetDataSubarraysType, PutDataArraysType,
+    PutDataSubarraysType, PutUninitializedDataArrayType,
+};
+pub use array_types::{AnyArrayType, AnyLogicalArrayType};
+pub use data_array_messages::{
+    DataArrayMessage, GetDataArrayMetadata, GetDataArrayMetadataResponse, GetDataArrays,
+    GetDataArraysResponse, GetDataSubarrays, GetDataSubarraysResponse, PutDataArrays,
+    PutDataArraysResponse, PutDataSubarrays, PutDataSubarraysResponse, PutUninitializedDataArrays,
+    PutUninitializedDataArraysResponse, data_array_laws,
+};
+pub use store_messages::{
+    ArrayOfString, Chunk, DataObject, DeleteDataObjects, DeleteDataObjectsResponse, GetDataObjects,
+    GetDataObjectsResponse, PutDataObjects, PutDataObjectsResponse, PutResponse, Resource,
+    StoreMessage, store_laws,
+};
