@@ -1,0 +1,3 @@
+pub mod ChannelRecords
+pub mod ChannelSubscribe
+pub mod ChannelDataLoad

@@ -1,0 +1,505 @@
+//! The messages of the ChannelSubscribe protocol (21), with the records that only they have.
+ghost use Rattle.std.specs.Prelude.{◌≡◌, IfOk, OnOk, pos};
+ghost use Rattle.avro_bin.specs.Shape.{HasSchema};
+ghost use Rattle.avro_bin.specs.View.{value_of};
+ghost use Rattle.std.specs.List.{AllByRecursion};
+ghost use Rattle.etp_schema.specs.Family.{read_kind, IsFound, IsAgain};
+ghost use Rattle.msg_channel.specs.ChannelSubscribe.{channel_subscribe_body, channel_subscribe_kinds};
+
+use crate::channel_records::{
+    ChannelMetadataRecord, DataItem, IndexInterval, IndexValue, TruncateInfo,
+};
+use avro_bin::Tree;
+use etp_schema::{Fields, InTree, record_of};
+use etp_values::{Id16, List, Named, NoMemory, Text};
+use std::alloc::Global;
+
+/// What a client wants of one channel.
+#[derive(Debug, Drop, PartialEq, Eq)]
+pub struct ChannelSubscribeInfo {
+    /// The channel's number.
+    pub channel_id: i64,
+    /// The index from which on points are sent; null for only those that come later.
+    pub start_index: IndexValue,
+    /// Whether replaced ranges and truncations are sent too.
+    pub data_changes: bool,
+    /// How many of the last points are sent at first; where it is given, `start_index` does not count.
+    pub request_latest_index_count: Option<i32>,
+}
+
+impl InTree for ChannelSubscribeInfo {
+    ghost use Rattle.msg_channel.specs.ChannelSubscribe.{channel_subscribe_info_form};
+
+    ghost form = { channel_subscribe_info_form };
+
+    #[tactic(auto, using(crate::specs::ChannelSubscribe::channel_subscribe_info_holds))]
+    fn to_tree(&self, alloc: Global) -> Result<Tree, NoMemory> {
+        Ok(record_of(vec![in alloc;
+            self.channel_id.to_tree(alloc)?,
+            self.start_index.to_tree(alloc)?,
+            self.data_changes.to_tree(alloc)?,
+            self.request_latest_index_count.to_tree(alloc)?,
+        ]?))
+    }
+
+    fn from_tree(alloc: Global, tree: Tree) -> Result<ChannelSubscribeInfo, NoMemory> {
+        let mut fields = Fields::of(alloc, tree);
+        Ok(ChannelSubscribeInfo {
+            channel_id: fields.take()?,
+            start_index: fields.take()?,
+            data_changes: fields.take()?,
+            request_latest_index_count: fields.take()?,
+        })
+    }
+}
+
+/// An interval of some channels.
+#[derive(Debug, Drop, PartialEq, Eq)]
+pub struct ChannelRangeInfo {
+    /// The channels' numbers.
+    pub channel_ids: List<i64>,
+    /// The interval of their primary index.
+    pub interval: IndexInterval,
+    /// Intervals of their further indexes, in the order of these; empty for no limit.
+    pub secondary_intervals: List<IndexInterval>,
+}
+
+impl InTree for ChannelRangeInfo {
+    ghost use Rattle.msg_channel.specs.ChannelSubscribe.{channel_range_info_form};
+
+    ghost form = { channel_range_info_form };
+
+    #[tactic(auto, using(crate::specs::ChannelSubscribe::channel_range_info_holds))]
+    fn to_tree(&self, alloc: Global) -> Result<Tree, NoMemory> {
+        Ok(record_of(vec![in alloc;
+            self.channel_ids.to_tree(alloc)?,
+            self.interval.to_tree(alloc)?,
+            self.secondary_intervals.to_tree(alloc)?,
+        ]?))
+    }
+
+    fn from_tree(alloc: Global, tree: Tree) -> Result<ChannelRangeInfo, NoMemory> {
+        let mut fields = Fields::of(alloc, tree);
+        Ok(ChannelRangeInfo {
+            channel_ids: fields.take()?,
+            interval: fields.take()?,
+            secondary_intervals: fields.take()?,
+        })
+    }
+}
+
+/// Asks what channels are.
+#[derive(Debug, Drop, PartialEq, Eq)]
+pub struct GetChannelMetadata {
+    /// The channels' URIs, under keys of the sender's choice.
+    pub uris: Named<Text>,
+}
+
+impl InTree for GetChannelMetadata {
+    ghost use Rattle.msg_channel.specs.ChannelSubscribe.{get_channel_metadata_form};
+
+    ghost form = { get_channel_metadata_form };
+
+    #[tactic(auto, using(crate::specs::ChannelSubscribe::get_channel_metadata_holds))]
+    fn to_tree(&self, alloc: Global) -> Result<Tree, NoMemory> {
+        Ok(record_of(vec![in alloc; self.uris.to_tree(alloc)?]?))
+    }
+
+    fn from_tree(alloc: Global, tree: Tree) -> Result<GetChannelMetadata, NoMemory> {
+        let mut fields = Fields::of(alloc, tree);
+        Ok(GetChannelMetadata {
+            uris: fields.take()?,
+        })
+    }
+}
+
+/// What the channels are.
+#[derive(Debug, Drop, PartialEq, Eq)]
+pub struct GetChannelMetadataResponse {
+    /// The records, under the keys of the request.
+    pub metadata: Named<ChannelMetadataRecord>,
+}
+
+impl InTree for GetChannelMetadataResponse {
+    ghost use Rattle.msg_channel.specs.ChannelSubscribe.{get_channel_metadata_response_form};
+
+    ghost form = { get_channel_metadata_response_form };
+
+    #[tactic(auto, using(crate::specs::ChannelSubscribe::get_channel_metadata_response_holds))]
+    fn to_tree(&self, alloc: Global) -> Result<Tree, NoMemory> {
+        Ok(record_of(vec![in alloc; self.metadata.to_tree(alloc)?]?))
+    }
+
+    fn from_tree(alloc: Global, tree: Tree) -> Result<GetChannelMetadataResponse, NoMemory> {
+        let mut fields = Fields::of(alloc, tree);
+        Ok(GetChannelMetadataResponse {
+            metadata: fields.take()?,
+        })
+    }
+}
+
+/// Asks for the points of channels, those that stand and those to come.
+#[derive(Debug, Drop, PartialEq, Eq)]
+pub struct SubscribeChannels {
+    /// What is wanted of each channel, under keys of the sender's choice.
+    pub channels: Named<ChannelSubscribeInfo>,
+}
+
+impl InTree for SubscribeChannels {
+    ghost use Rattle.msg_channel.specs.ChannelSubscribe.{subscribe_channels_form};
+
+    ghost form = { subscribe_channels_form };
+
+    #[tactic(auto, using(crate::specs::ChannelSubscribe::subscribe_channels_holds))]
+    fn to_tree(&self, alloc: Global) -> Result<Tree, NoMemory> {
+        Ok(record_of(vec![in alloc; self.channels.to_tree(alloc)?]?))
+    }
+
+    fn from_tree(alloc: Global, tree: Tree) -> Result<SubscribeChannels, NoMemory> {
+        let mut fields = Fields::of(alloc, tree);
+        Ok(SubscribeChannels {
+            channels: fields.take()?,
+        })
+    }
+}
+
+/// New points of subscribed channels.
+#[derive(Debug, Drop, PartialEq, Eq)]
+pub struct ChannelData {
+    /// The points, those of one channel in the order of their indexes.
+    pub payload: List<DataItem>,
+}
+
+impl InTree for ChannelData {
+    ghost use Rattle.msg_channel.specs.ChannelSubscribe.{channel_data_form};
+
+    ghost form = { channel_data_form };
+
+    #[tactic(auto, using(crate::specs::ChannelSubscribe::channel_data_holds))]
+    fn to_tree(&self, alloc: Global) -> Result<Tree, NoMemory> {
+        Ok(record_of(vec![in alloc; self.payload.to_tree(alloc)?]?))
+    }
+
+    fn from_tree(alloc: Global, tree: Tree) -> Result<ChannelData, NoMemory> {
+        let mut fields = Fields::of(alloc, tree);
+        Ok(ChannelData {
+            payload: fields.take()?,
+        })
+    }
+}
+
+/// Points of subscribed channels were replaced.
+#[derive(Debug, Drop, PartialEq, Eq)]
+pub struct RangeReplaced {
+    /// When that was done, in microseconds since 1970-01-01 UTC.
+    pub change_time: i64,
+    /// The channels' numbers.
+    pub channel_ids: List<i64>,
+    /// The interval whose points were dropped.
+    pub changed_interval: IndexInterval,
+    /// The points that stand in the interval since then.
+    pub payload: List<DataItem>,
+}
+
+impl InTree for RangeReplaced {
+    ghost use Rattle.msg_channel.specs.ChannelSubscribe.{range_replaced_form};
+
+    ghost form = { range_replaced_form };
+
+    #[tactic(auto, using(crate::specs::ChannelSubscribe::range_replaced_holds))]
+    fn to_tree(&self, alloc: Global) -> Result<Tree, NoMemory> {
+        Ok(record_of(vec![in alloc;
+            self.change_time.to_tree(alloc)?,
+            self.channel_ids.to_tree(alloc)?,
+            self.changed_interval.to_tree(alloc)?,
+            self.payload.to_tree(alloc)?,
+        ]?))
+    }
+
+    fn from_tree(alloc: Global, tree: Tree) -> Result<RangeReplaced, NoMemory> {
+        let mut fields = Fields::of(alloc, tree);
+        Ok(RangeReplaced {
+            change_time: fields.take()?,
+            channel_ids: fields.take()?,
+            changed_interval: fields.take()?,
+            payload: fields.take()?,
+        })
+    }
+}
+
+/// Ends subscriptions.
+#[derive(Debug, Drop, PartialEq, Eq)]
+pub struct UnsubscribeChannels {
+    /// The channels' numbers, under keys of the sender's choice.
+    pub channel_ids: Named<i64>,
+}
+
+impl InTree for UnsubscribeChannels {
+    ghost use Rattle.msg_channel.specs.ChannelSubscribe.{unsubscribe_channels_form};
+
+    ghost form = { unsubscribe_channels_form };
+
+    #[tactic(auto, using(crate::specs::ChannelSubscribe::unsubscribe_channels_holds))]
+    fn to_tree(&self, alloc: Global) -> Result<Tree, NoMemory> {
+        Ok(record_of(vec![in alloc; self.channel_ids.to_tree(alloc)?]?))
+    }
+
+    fn from_tree(alloc: Global, tree: Tree) -> Result<UnsubscribeChannels, NoMemory> {
+        let mut fields = Fields::of(alloc, tree);
+        Ok(UnsubscribeChannels {
+            channel_ids: fields.take()?,
+        })
+    }
+}
+
+/// Says that subscriptions have ended: the answer to UnsubscribeChannels, or a notice.
+#[derive(Debug, Drop, PartialEq, Eq)]
+pub struct SubscriptionsStopped {
+    /// Why, in words.
+    pub reason: Text,
+    /// The channels' numbers, under the keys of the request.
+    pub channel_ids: Named<i64>,
+}
+
+impl InTree for SubscriptionsStopped {
+    ghost use Rattle.msg_channel.specs.ChannelSubscribe.{subscriptions_stopped_form};
+
+    ghost form = { subscriptions_stopped_form };
+
+    #[tactic(auto, using(crate::specs::ChannelSubscribe::subscriptions_stopped_holds))]
+    fn to_tree(&self, alloc: Global) -> Result<Tree, NoMemory> {
+        Ok(record_of(vec![in alloc;
+            self.reason.to_tree(alloc)?,
+            self.channel_ids.to_tree(alloc)?,
+        ]?))
+    }
+
+    fn from_tree(alloc: Global, tree: Tree) -> Result<SubscriptionsStopped, NoMemory> {
+        let mut fields = Fields::of(alloc, tree);
+        Ok(SubscriptionsStopped {
+            reason: fields.take()?,
+            channel_ids: fields.take()?,
+        })
+    }
+}
+
+/// Asks for the points of intervals.
+#[derive(Debug, Drop, PartialEq, Eq)]
+pub struct GetRanges {
+    /// The sender's own name for the request.
+    pub request_uuid: Id16,
+    /// The intervals, each with its channels.
+    pub channel_ranges: List<ChannelRangeInfo>,
+}
+
+impl InTree for GetRanges {
+    ghost use Rattle.msg_channel.specs.ChannelSubscribe.{get_ranges_form};
+
+    ghost form = { get_ranges_form };
+
+    #[tactic(auto, using(crate::specs::ChannelSubscribe::get_ranges_holds))]
+    fn to_tree(&self, alloc: Global) -> Result<Tree, NoMemory> {
+        Ok(record_of(vec![in alloc;
+            self.request_uuid.to_tree(alloc)?,
+            self.channel_ranges.to_tree(alloc)?,
+        ]?))
+    }
+
+    fn from_tree(alloc: Global, tree: Tree) -> Result<GetRanges, NoMemory> {
+        let mut fields = Fields::of(alloc, tree);
+        Ok(GetRanges {
+            request_uuid: fields.take()?,
+            channel_ranges: fields.take()?,
+        })
+    }
+}
+
+/// The points of the intervals.
+#[derive(Debug, Drop, PartialEq, Eq)]
+pub struct GetRangesResponse {
+    /// The points, range by range as they were asked for.
+    pub payload: List<DataItem>,
+}
+
+impl InTree for GetRangesResponse {
+    ghost use Rattle.msg_channel.specs.ChannelSubscribe.{get_ranges_response_form};
+
+    ghost form = { get_ranges_response_form };
+
+    #[tactic(auto, using(crate::specs::ChannelSubscribe::get_ranges_response_holds))]
+    fn to_tree(&self, alloc: Global) -> Result<Tree, NoMemory> {
+        Ok(record_of(vec![in alloc; self.payload.to_tree(alloc)?]?))
+    }
+
+    fn from_tree(alloc: Global, tree: Tree) -> Result<GetRangesResponse, NoMemory> {
+        let mut fields = Fields::of(alloc, tree);
+        Ok(GetRangesResponse {
+            payload: fields.take()?,
+        })
+    }
+}
+
+/// The channels that were subscribed.
+#[derive(Debug, Drop, PartialEq, Eq)]
+pub struct SubscribeChannelsResponse {
+    /// A text for each key of the request that was granted; it may be empty.
+    pub success: Named<Text>,
+}
+
+impl InTree for SubscribeChannelsResponse {
+    ghost use Rattle.msg_channel.specs.ChannelSubscribe.{subscribe_channels_response_form};
+
+    ghost form = { subscribe_channels_response_form };
+
+    #[tactic(auto, using(crate::specs::ChannelSubscribe::subscribe_channels_response_holds))]
+    fn to_tree(&self, alloc: Global) -> Result<Tree, NoMemory> {
+        Ok(record_of(vec![in alloc; self.success.to_tree(alloc)?]?))
+    }
+
+    fn from_tree(alloc: Global, tree: Tree) -> Result<SubscribeChannelsResponse, NoMemory> {
+        let mut fields = Fields::of(alloc, tree);
+        Ok(SubscribeChannelsResponse {
+            success: fields.take()?,
+        })
+    }
+}
+
+/// Subscribed channels were cut off.
+#[derive(Debug, Drop, PartialEq, Eq)]
+pub struct ChannelsTruncated {
+    /// When that was done, in microseconds since 1970-01-01 UTC.
+    pub change_time: i64,
+    /// Where each channel ends since then.
+    pub channels: List<TruncateInfo>,
+}
+
+impl InTree for ChannelsTruncated {
+    ghost use Rattle.msg_channel.specs.ChannelSubscribe.{channels_truncated_form};
+
+    ghost form = { channels_truncated_form };
+
+    #[tactic(auto, using(crate::specs::ChannelSubscribe::channels_truncated_holds))]
+    fn to_tree(&self, alloc: Global) -> Result<Tree, NoMemory> {
+        Ok(record_of(vec![in alloc;
+            self.change_time.to_tree(alloc)?,
+            self.channels.to_tree(alloc)?,
+        ]?))
+    }
+
+    fn from_tree(alloc: Global, tree: Tree) -> Result<ChannelsTruncated, NoMemory> {
+        let mut fields = Fields::of(alloc, tree);
+        Ok(ChannelsTruncated {
+            change_time: fields.take()?,
+            channels: fields.take()?,
+        })
+    }
+}
+
+/// A message of the ChannelSubscribe protocol.
+#[derive(Debug, Drop, PartialEq, Eq)]
+pub enum ChannelSubscribeMessage {
+    GetChannelMetadata(GetChannelMetadata),
+    GetChannelMetadataResponse(GetChannelMetadataResponse),
+    SubscribeChannels(SubscribeChannels),
+    ChannelData(ChannelData),
+    RangeReplaced(RangeReplaced),
+    UnsubscribeChannels(UnsubscribeChannels),
+    SubscriptionsStopped(SubscriptionsStopped),
+    GetRanges(GetRanges),
+    GetRangesResponse(GetRangesResponse),
+    SubscribeChannelsResponse(SubscribeChannelsResponse),
+    ChannelsTruncated(ChannelsTruncated),
+}
+
+impl ChannelSubscribeMessage {
+    /// The message's number.
+    pub fn kind(&self) -> i32
+        ensures { result ≡ pos (channel_subscribe_body self.now).number }
+    {
+        match self {
+            ChannelSubscribeMessage::GetChannelMetadata(_) => 1,
+            ChannelSubscribeMessage::GetChannelMetadataResponse(_) => 2,
+            ChannelSubscribeMessage::SubscribeChannels(_) => 3,
+            ChannelSubscribeMessage::ChannelData(_) => 4,
+            ChannelSubscribeMessage::RangeReplaced(_) => 6,
+            ChannelSubscribeMessage::UnsubscribeChannels(_) => 7,
+            ChannelSubscribeMessage::SubscriptionsStopped(_) => 8,
+            ChannelSubscribeMessage::GetRanges(_) => 9,
+            ChannelSubscribeMessage::GetRangesResponse(_) => 10,
+            ChannelSubscribeMessage::SubscribeChannelsResponse(_) => 12,
+            ChannelSubscribeMessage::ChannelsTruncated(_) => 13,
+        }
+    }
+
+    /// The tree of the message's body.
+    #[tactic(auto, unfolding(etp_schema::specs::Form::Holds))]
+    pub fn to_tree(&self, alloc: Global) -> Result<Tree, NoMemory>
+        ensures value { IfOk result (λ t. value_of t ≡ (channel_subscribe_body self.now).value) }
+        ensures typed { OnOk result (HasSchema (channel_subscribe_body self.now).schema (channel_subscribe_body self.now).value) }
+    {
+        match self {
+            ChannelSubscribeMessage::GetChannelMetadata(message) => message.to_tree(alloc),
+            ChannelSubscribeMessage::GetChannelMetadataResponse(message) => message.to_tree(alloc),
+            ChannelSubscribeMessage::SubscribeChannels(message) => message.to_tree(alloc),
+            ChannelSubscribeMessage::ChannelData(message) => message.to_tree(alloc),
+            ChannelSubscribeMessage::RangeReplaced(message) => message.to_tree(alloc),
+            ChannelSubscribeMessage::UnsubscribeChannels(message) => message.to_tree(alloc),
+            ChannelSubscribeMessage::SubscriptionsStopped(message) => message.to_tree(alloc),
+            ChannelSubscribeMessage::GetRanges(message) => message.to_tree(alloc),
+            ChannelSubscribeMessage::GetRangesResponse(message) => message.to_tree(alloc),
+            ChannelSubscribeMessage::SubscribeChannelsResponse(message) => message.to_tree(alloc),
+            ChannelSubscribeMessage::ChannelsTruncated(message) => message.to_tree(alloc),
+        }
+    }
+
+    /// The message of this number with this body, where the protocol has one.
+    pub fn from_tree(
+        alloc: Global,
+        kind: i32,
+        tree: Tree,
+    ) -> Result<Option<ChannelSubscribeMessage>, NoMemory>
+        ensures { IfOk result (λ m. m ≡ read_kind channel_subscribe_kinds kind (value_of tree)) }
+    {
+        match kind {
+            1 => Ok(Some(ChannelSubscribeMessage::GetChannelMetadata(GetChannelMetadata::from_tree(
+                alloc, tree,
+            )?))),
+            2 => Ok(Some(ChannelSubscribeMessage::GetChannelMetadataResponse(
+                GetChannelMetadataResponse::from_tree(alloc, tree)?,
+            ))),
+            3 => Ok(Some(ChannelSubscribeMessage::SubscribeChannels(SubscribeChannels::from_tree(
+                alloc, tree,
+            )?))),
+            4 => Ok(Some(ChannelSubscribeMessage::ChannelData(ChannelData::from_tree(
+                alloc, tree,
+            )?))),
+            6 => Ok(Some(ChannelSubscribeMessage::RangeReplaced(RangeReplaced::from_tree(
+                alloc, tree,
+            )?))),
+            7 => Ok(Some(ChannelSubscribeMessage::UnsubscribeChannels(
+                UnsubscribeChannels::from_tree(alloc, tree)?,
+            ))),
+            8 => Ok(Some(ChannelSubscribeMessage::SubscriptionsStopped(
+                SubscriptionsStopped::from_tree(alloc, tree)?,
+            ))),
+            9 => Ok(Some(ChannelSubscribeMessage::GetRanges(GetRanges::from_tree(alloc, tree)?))),
+            10 => Ok(Some(ChannelSubscribeMessage::GetRangesResponse(GetRangesResponse::from_tree(
+                alloc, tree,
+            )?))),
+            12 => Ok(Some(ChannelSubscribeMessage::SubscribeChannelsResponse(
+                SubscribeChannelsResponse::from_tree(alloc, tree)?,
+            ))),
+            13 => Ok(Some(ChannelSubscribeMessage::ChannelsTruncated(ChannelsTruncated::from_tree(
+                alloc, tree,
+            )?))),
+            _ => Ok(None),
+        }
+    }
+}
+
+/// What ChannelSubscribeMessage and the trees of its bodies have to do with one another: each message is found by its number
+/// and its body is read as that message, and what is read of a body is written as that body.
+pub fn channel_subscribe_laws()
+    ensures found { (x : ChannelSubscribeMessage) → IsFound channel_subscribe_kinds channel_subscribe_body x }
+    ensures again { AllByRecursion (IsAgain channel_subscribe_body) channel_subscribe_kinds }
+{}

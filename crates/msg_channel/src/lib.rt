@@ -1,0 +1,33 @@
+//! The messages of the protocols ChannelSubscribe and ChannelDataLoad, with their records.
+//!
+//! Each message and record is a struct with the schema's fields in order, and is [`InTree`](etp_schema::InTree): its tree
+//! gives it back, and a tree of its schema is the tree of what is read of it. The messages of a protocol are an enum, as
+//! [`ChannelSubscribeMessage`], which knows each message's number and reads a body by it. A point is a [`DataItem`], its
+//! place in a channel an [`IndexValue`]. The forms and the tables of numbers stand in `specs/ChannelRecords`,
+//! `specs/ChannelSubscribe` and `specs/ChannelDataLoad`. The schema's field `data` is called `payload`.
+//!
+//! All moments are in microseconds since 1970-01-01 UTC.
+#![tactic(auto)]
+
+mod channel_data_load_messages;
+mod channel_records;
+mod channel_subscribe_messages;
+#[cfg(test)]
+mod tests;
+
+pub use channel_data_load_messages::{
+    ChannelDataLoadMessage, ChannelsClosed, CloseChannels, LoadChannelData, OpenChannelInfo,
+    OpenChannels, OpenChannelsResponse, ReplaceRange, ReplaceRangeResponse, TruncateChannels,
+    TruncateChannelsResponse, channel_data_load_laws,
+};
+pub use channel_records::{
+    AttributeMetadataRecord, ChannelDataKind, ChannelIndexKind, ChannelMetadataRecord,
+    DataAttribute, DataItem, IndexDirection, IndexInterval, IndexMetadataRecord, IndexValue,
+    PassDirection, PassIndexedDepth, TruncateInfo,
+};
+pub use channel_subscribe_messages::{
+    ChannelData, ChannelRangeInfo, ChannelSubscribeInfo, ChannelSubscribeMessage,
+    ChannelsTruncated, GetChannelMetadata, GetChannelMetadataResponse, GetRanges,
+    GetRangesResponse, RangeReplaced, SubscribeChannels, SubscribeChannelsResponse,
+    SubscriptionsStopped, UnsubscribeChannels, channel_subscribe_laws,
+};
