@@ -9,6 +9,10 @@ use Rattle.etp_schema.specs.Family.{Kind, Body, message, body, kind_in, IsFound,
 use Rattle.msg_core.specs.Core.{core_kinds, core_body, core_found, core_again, protocol_exception_form, acknowledge_form}
 use Rattle.msg_core.specs.Dataspace.{dataspace_kinds, dataspace_body, dataspace_found, dataspace_again}
 use Rattle.msg_core.specs.Transaction.{transaction_kinds, transaction_body, transaction_found, transaction_again}
+use Rattle.msg_store.specs.Store.{store_kinds, store_body, store_found, store_again}
+use Rattle.msg_store.specs.DataArray.{data_array_kinds, data_array_body, data_array_found, data_array_again}
+use Rattle.msg_channel.specs.ChannelSubscribe.{channel_subscribe_kinds, channel_subscribe_body, channel_subscribe_found, channel_subscribe_again}
+use Rattle.msg_channel.specs.ChannelDataLoad.{channel_data_load_kinds, channel_data_load_body, channel_data_load_found, channel_data_load_again}
 use Rattle.msg_core.specs.declared.core_messages.ProtocolException.{ProtocolException}
 use Rattle.msg_core.specs.declared.core_messages.Acknowledge.{Acknowledge}
 use Rattle.msg_core.specs.declared.core_messages.CoreMessage.{CoreMessage}
@@ -17,6 +21,14 @@ use Rattle.msg_core.specs.declared.dataspace_messages.DataspaceMessage.{Dataspac
 use Rattle.msg_core.specs.declared.dataspace_messages.DataspaceMessage.TheVariants as d
 use Rattle.msg_core.specs.declared.transaction_messages.TransactionMessage.{TransactionMessage}
 use Rattle.msg_core.specs.declared.transaction_messages.TransactionMessage.TheVariants as t
+use Rattle.msg_store.specs.declared.store_messages.StoreMessage.{StoreMessage}
+use Rattle.msg_store.specs.declared.store_messages.StoreMessage.TheVariants as store
+use Rattle.msg_store.specs.declared.data_array_messages.DataArrayMessage.{DataArrayMessage}
+use Rattle.msg_store.specs.declared.data_array_messages.DataArrayMessage.TheVariants as array
+use Rattle.msg_channel.specs.declared.channel_subscribe_messages.ChannelSubscribeMessage.{ChannelSubscribeMessage}
+use Rattle.msg_channel.specs.declared.channel_subscribe_messages.ChannelSubscribeMessage.TheVariants as subscribe
+use Rattle.msg_channel.specs.declared.channel_data_load_messages.ChannelDataLoadMessage.{ChannelDataLoadMessage}
+use Rattle.msg_channel.specs.declared.channel_data_load_messages.ChannelDataLoadMessage.TheVariants as load
 use Rattle.etp_frame.specs.Message.{message_body, IsOf, IsOfCore, under, common_kinds, protocols, typed_kind}
 use Rattle.etp_frame.specs.declared.message.Message.{Message}
 use Rattle.etp_frame.specs.declared.message.Message.TheVariants as m
@@ -50,15 +62,75 @@ own_transaction (t.RollbackTransaction x) = refl
 own_transaction (t.CommitTransactionResponse x) = refl
 own_transaction (t.RollbackTransactionResponse x) = refl
 
-dataspace_at : (x : DataspaceMessage) → Reads (dataspace_body x) (m.Dataspace x) (typed_kind (pos 24) (pos (dataspace_body x).number))
-dataspace_at x =
-    subst (Reads (dataspace_body x) (m.Dataspace x)) (sym (kind_behind common_kinds (under m.Dataspace dataspace_kinds) (pos (dataspace_body x).number) (own_dataspace x)))
-    (reads_under m.Dataspace dataspace_kinds dataspace_body x (dataspace_found x))
+own_store : (x : StoreMessage) → is_some (kind_in common_kinds (pos (store_body x).number)) ≡ false
+own_store (store.GetDataObjects x) = refl
+own_store (store.PutDataObjects x) = refl
+own_store (store.DeleteDataObjects x) = refl
+own_store (store.GetDataObjectsResponse x) = refl
+own_store (store.Chunk x) = refl
+own_store (store.PutDataObjectsResponse x) = refl
+own_store (store.DeleteDataObjectsResponse x) = refl
+
+own_data_array : (x : DataArrayMessage) → is_some (kind_in common_kinds (pos (data_array_body x).number)) ≡ false
+own_data_array (array.GetDataArraysResponse x) = refl
+own_data_array (array.GetDataArrays x) = refl
+own_data_array (array.GetDataSubarrays x) = refl
+own_data_array (array.PutDataArrays x) = refl
+own_data_array (array.PutDataSubarrays x) = refl
+own_data_array (array.GetDataArrayMetadata x) = refl
+own_data_array (array.GetDataArrayMetadataResponse x) = refl
+own_data_array (array.GetDataSubarraysResponse x) = refl
+own_data_array (array.PutUninitializedDataArrays x) = refl
+own_data_array (array.PutDataArraysResponse x) = refl
+own_data_array (array.PutDataSubarraysResponse x) = refl
+own_data_array (array.PutUninitializedDataArraysResponse x) = refl
+
+own_channel_subscribe : (x : ChannelSubscribeMessage) → is_some (kind_in common_kinds (pos (channel_subscribe_body x).number)) ≡ false
+own_channel_subscribe (subscribe.GetChannelMetadata x) = refl
+own_channel_subscribe (subscribe.GetChannelMetadataResponse x) = refl
+own_channel_subscribe (subscribe.SubscribeChannels x) = refl
+own_channel_subscribe (subscribe.ChannelData x) = refl
+own_channel_subscribe (subscribe.RangeReplaced x) = refl
+own_channel_subscribe (subscribe.UnsubscribeChannels x) = refl
+own_channel_subscribe (subscribe.SubscriptionsStopped x) = refl
+own_channel_subscribe (subscribe.GetRanges x) = refl
+own_channel_subscribe (subscribe.GetRangesResponse x) = refl
+own_channel_subscribe (subscribe.SubscribeChannelsResponse x) = refl
+own_channel_subscribe (subscribe.ChannelsTruncated x) = refl
+
+own_channel_data_load : (x : ChannelDataLoadMessage) → is_some (kind_in common_kinds (pos (channel_data_load_body x).number)) ≡ false
+own_channel_data_load (load.OpenChannels x) = refl
+own_channel_data_load (load.OpenChannelsResponse x) = refl
+own_channel_data_load (load.CloseChannels x) = refl
+own_channel_data_load (load.LoadChannelData x) = refl
+own_channel_data_load (load.ReplaceRange x) = refl
+own_channel_data_load (load.ChannelsClosed x) = refl
+own_channel_data_load (load.ReplaceRangeResponse x) = refl
+own_channel_data_load (load.TruncateChannels x) = refl
+own_channel_data_load (load.TruncateChannelsResponse x) = refl
+
+-- what is found behind the messages of every protocol
+reads_behind : {M : Type 0} (whole : M → Message) (ks : List (Kind M)) (written : M → Body) (x : M) → is_some (kind_in common_kinds (pos (written x).number)) ≡ false → IsFound ks written x → Reads (written x) (whole x) (kind_in (common_kinds ++ under whole ks) (pos (written x).number))
+reads_behind whole ks written x own f =
+    subst (Reads (written x) (whole x)) (sym (kind_behind common_kinds (under whole ks) (pos (written x).number) own)) (reads_under whole ks written x f)
 
 transaction_at : (x : TransactionMessage) → Reads (transaction_body x) (m.Transaction x) (typed_kind (pos 18) (pos (transaction_body x).number))
-transaction_at x =
-    subst (Reads (transaction_body x) (m.Transaction x)) (sym (kind_behind common_kinds (under m.Transaction transaction_kinds) (pos (transaction_body x).number) (own_transaction x)))
-    (reads_under m.Transaction transaction_kinds transaction_body x (transaction_found x))
+transaction_at x = reads_behind m.Transaction transaction_kinds transaction_body x (own_transaction x) (transaction_found x)
+
+dataspace_at : (x : DataspaceMessage) → Reads (dataspace_body x) (m.Dataspace x) (typed_kind (pos 24) (pos (dataspace_body x).number))
+dataspace_at x = reads_behind m.Dataspace dataspace_kinds dataspace_body x (own_dataspace x) (dataspace_found x)
+
+store_at : (x : StoreMessage) → Reads (store_body x) (m.Store x) (typed_kind (pos 4) (pos (store_body x).number))
+store_at x = reads_behind m.Store store_kinds store_body x (own_store x) (store_found x)
+
+data_array_at : (x : DataArrayMessage) → Reads (data_array_body x) (m.DataArray x) (typed_kind (pos 9) (pos (data_array_body x).number))
+data_array_at x = reads_behind m.DataArray data_array_kinds data_array_body x (own_data_array x) (data_array_found x)
+
+channel_subscribe_at : (x : ChannelSubscribeMessage) → Reads (channel_subscribe_body x) (m.ChannelSubscribe x) (typed_kind (pos 21) (pos (channel_subscribe_body x).number))
+channel_subscribe_at x = reads_behind m.ChannelSubscribe channel_subscribe_kinds channel_subscribe_body x (own_channel_subscribe x) (channel_subscribe_found x)
+
+channel_data_load_at : (x : ChannelDataLoadMessage) → Reads (channel_data_load_body x) (m.ChannelDataLoad x) (typed_kind (pos 22) (pos (channel_data_load_body x).number))
+channel_data_load_at x = reads_behind m.ChannelDataLoad channel_data_load_kinds channel_data_load_body x (own_channel_data_load x) (channel_data_load_found x)
 
 exception_read : (x : ProtocolException) → Reads (body 1000 protocol_exception_form x) (m.Core (c.ProtocolException x)) (Some (message 1000 protocol_exception_form (λ y. m.Core (c.ProtocolException y))))
 exception_read x = (refl, λ h. ap (λ (y : ProtocolException). m.Core (c.ProtocolException y)) (protocol_exception_form.back x h))
@@ -90,6 +162,10 @@ pub found_of : (x : Message) (p : ℤ) → IsOf x p → Reads (message_body x) x
 found_of (m.Core x) p h = core_of x p h
 found_of (m.Transaction x) p h = subst (λ (q : ℤ). Reads (transaction_body x) (m.Transaction x) (typed_kind q (pos (transaction_body x).number))) (sym h) (transaction_at x)
 found_of (m.Dataspace x) p h = subst (λ (q : ℤ). Reads (dataspace_body x) (m.Dataspace x) (typed_kind q (pos (dataspace_body x).number))) (sym h) (dataspace_at x)
+found_of (m.Store x) p h = subst (λ (q : ℤ). Reads (store_body x) (m.Store x) (typed_kind q (pos (store_body x).number))) (sym h) (store_at x)
+found_of (m.DataArray x) p h = subst (λ (q : ℤ). Reads (data_array_body x) (m.DataArray x) (typed_kind q (pos (data_array_body x).number))) (sym h) (data_array_at x)
+found_of (m.ChannelSubscribe x) p h = subst (λ (q : ℤ). Reads (channel_subscribe_body x) (m.ChannelSubscribe x) (typed_kind q (pos (channel_subscribe_body x).number))) (sym h) (channel_subscribe_at x)
+found_of (m.ChannelDataLoad x) p h = subst (λ (q : ℤ). Reads (channel_data_load_body x) (m.ChannelDataLoad x) (typed_kind q (pos (channel_data_load_body x).number))) (sym h) (channel_data_load_at x)
 
 again_under : {M : Type 0} (whole : M → Message) (written : M → Body) → ((x : M) → message_body (whole x) ≡ written x) → (ks : List (Kind M)) → AllByRecursion (IsAgain written) ks → AllByRecursion (IsAgain message_body) (under whole ks)
 again_under whole written same [] h = tt
@@ -104,21 +180,11 @@ acknowledge_again v h = again 1001 acknowledge_form v h
 common_again : (ks : List (Kind Message)) → AllByRecursion (IsAgain message_body) ks → AllByRecursion (IsAgain message_body) (common_kinds ++ ks)
 common_again ks h = (exception_again, (acknowledge_again, h))
 
+behind_again : {M : Type 0} (whole : M → Message) (written : M → Body) → ((x : M) → message_body (whole x) ≡ written x) → (ks : List (Kind M)) → AllByRecursion (IsAgain written) ks → AllByRecursion (IsAgain message_body) (common_kinds ++ under whole ks)
+behind_again whole written same ks h = common_again (under whole ks) (again_under whole written same ks h)
+
 all_again : AllByRecursion (λ q. AllByRecursion (IsAgain message_body) q.kinds) protocols
-all_again =
-    let common = common_again [] tt in (
-      again_under m.Core core_body (λ x. refl) core_kinds core_again,
-      (
-        common_again (under m.Dataspace dataspace_kinds) (again_under m.Dataspace dataspace_body (λ x. refl) dataspace_kinds dataspace_again),
-        (
-          common,
-          (
-            common_again (under m.Transaction transaction_kinds) (again_under m.Transaction transaction_body (λ x. refl) transaction_kinds transaction_again),
-            (common, (common, (common, tt))),
-          ),
-        ),
-      ),
-    )
+all_again = (again_under m.Core core_body (λ x. refl) core_kinds core_again, (behind_again m.Dataspace dataspace_body (λ x. refl) dataspace_kinds dataspace_again, (behind_again m.Store store_body (λ x. refl) store_kinds store_again, (behind_again m.Transaction transaction_body (λ x. refl) transaction_kinds transaction_again, (behind_again m.DataArray data_array_body (λ x. refl) data_array_kinds data_array_again, (behind_again m.ChannelSubscribe channel_subscribe_body (λ x. refl) channel_subscribe_kinds channel_subscribe_again, (behind_again m.ChannelDataLoad channel_data_load_body (λ x. refl) channel_data_load_kinds channel_data_load_again, tt)))))))
 
 -- what is read by a kind is a message of the protocol
 abbrev pub IsOwn : ℤ → Kind Message → Type 0
@@ -140,20 +206,11 @@ core_own (c.Pong x) = refl
 core_own (c.ProtocolException x) = refl
 core_own (c.Acknowledge x) = refl
 
+behind_own : {M : Type 0} (whole : M → Message) (p : ℤ) → known_protocol p ≡ true → ((x : M) → IsOf (whole x) p) → (ks : List (Kind M)) → AllByRecursion (IsOwn p) (common_kinds ++ under whole ks)
+behind_own whole p h all ks = common_own p h (under whole ks) (own_under whole p all ks)
+
 all_own : AllByRecursion (λ q. AllByRecursion (IsOwn (pos q.number)) q.kinds) protocols
-all_own = (
-  own_under m.Core (pos 0) core_own core_kinds,
-  (
-    common_own (pos 24) refl (under m.Dataspace dataspace_kinds) (own_under m.Dataspace (pos 24) (λ x. refl) dataspace_kinds),
-    (
-      common_own (pos 4) refl [] tt,
-      (
-        common_own (pos 18) refl (under m.Transaction transaction_kinds) (own_under m.Transaction (pos 18) (λ x. refl) transaction_kinds),
-        (common_own (pos 9) refl [] tt, (common_own (pos 21) refl [] tt, (common_own (pos 22) refl [] tt, tt))),
-      ),
-    ),
-  ),
-)
+all_own = (own_under m.Core (pos 0) core_own core_kinds, (behind_own m.Dataspace (pos 24) refl (λ x. refl) dataspace_kinds, (behind_own m.Store (pos 4) refl (λ x. refl) store_kinds, (behind_own m.Transaction (pos 18) refl (λ x. refl) transaction_kinds, (behind_own m.DataArray (pos 9) refl (λ x. refl) data_array_kinds, (behind_own m.ChannelSubscribe (pos 21) refl (λ x. refl) channel_subscribe_kinds, (behind_own m.ChannelDataLoad (pos 22) refl (λ x. refl) channel_data_load_kinds, tt)))))))
 
 -- what is found is written again as it was read, and is a message of the protocol, with the number that was searched
 pub typed_of : (p kind : ℤ) (k : Kind Message) → typed_kind p kind ≡ Some k → IsAgain message_body k × IsOwn p k × (kind ≡ pos k.number)

@@ -1,5 +1,5 @@
 pub mod KindLemmas
 pub mod FoundLemmas
 pub mod RowLemmas
-pub mod WireLemmas
 pub mod ReadingLemmas
+pub mod WireLemmas

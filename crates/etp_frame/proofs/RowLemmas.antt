@@ -1,13 +1,13 @@
 -- The rows of the profile and the messages that have a type.
-use Rattle.std.specs.Prelude.{◌&&◌, ◌||◌, is_some}
-use Rattle.std.proofs.Common.{◌≡◌, ℕ, ℤ, pos, true, false, List, [], ◌∷◌, Option, Some, None, refl, sym, subst, if◌then◌else◌}
+use Rattle.std.specs.Prelude.{◌&&◌, ◌||◌}
+use Rattle.std.proofs.Common.{◌≡◌, ℕ, ℤ, pos, true, false, List, [], ◌∷◌, Option, Some, None, refl, sym, ap, subst, ◌∙◌, if◌then◌else◌}
 use Rattle.std.specs.List.{AllByRecursion}
 use Rattle.avro_bin.specs.Schema.{Schema}
-use Rattle.etp_schema.specs.Bodies.{BodyRow, ProtocolRow, is_number, row_in, messages_in, has_number, schema_of, row_of, known_protocol, core_rows, dataspace_rows, transaction_rows}
+use Rattle.etp_schema.specs.Bodies.{BodyRow, ProtocolRow, is_number, row_in, messages_in, has_number, schema_of, row_of, known_protocol, core_rows, dataspace_rows, store_rows, transaction_rows, data_array_rows, channel_subscribe_rows, channel_data_load_rows}
 use Rattle.etp_schema.specs.Bodies as bodies
 use Rattle.etp_schema.specs.Family.{Kind, kind_in}
 use Rattle.etp_schema.specs.declared.body.Side.{Side}
-use Rattle.etp_frame.specs.Message.{Protocol, protocols, kinds_in, typed_kind, is_typed}
+use Rattle.etp_frame.specs.Message.{Protocol, protocols, kinds_in, typed_kind}
 use Rattle.etp_frame.specs.declared.message.Message.{Message}
 use Rattle.etp_frame.proofs.KindLemmas.{number_is}
 
@@ -47,54 +47,51 @@ module _ (F : BodyRow → Option (Kind Message) → Type 0) where
         | false ↦ λ h. agree_at rs qs p kind side row a.2 h
       ] (subst (λ (n : ℕ). row_in (if is_number n p then r.messages else messages_in rs p) kind side ≡ Some row) a.0 e)
 
--- what is found under a row's number, if it has a type, has the row's schema
+-- what is found under a row's number has the row's schema
 abbrev pub RowFits : BodyRow → Option (Kind Message) → Type 0
-RowFits r None = Unit {0}
+RowFits r None = ⊥
 RowFits r (Some k) = k.schema ≡ r.schema
 
+core_fit : RowsHave RowFits (kinds_in protocols (pos 0)) core_rows
+core_fit = (refl, (refl, (refl, (refl, (refl, (refl, (refl, tt)))))))
+
+dataspace_fit : RowsHave RowFits (kinds_in protocols (pos 24)) dataspace_rows
+dataspace_fit = (refl, (refl, (refl, (refl, (refl, (refl, (refl, (refl, tt))))))))
+
+store_fit : RowsHave RowFits (kinds_in protocols (pos 4)) store_rows
+store_fit = (refl, (refl, (refl, (refl, (refl, (refl, (refl, (refl, (refl, tt)))))))))
+
+transaction_fit : RowsHave RowFits (kinds_in protocols (pos 18)) transaction_rows
+transaction_fit = (refl, (refl, (refl, (refl, (refl, (refl, (refl, (refl, tt))))))))
+
+data_array_fit : RowsHave RowFits (kinds_in protocols (pos 9)) data_array_rows
+data_array_fit = (refl, (refl, (refl, (refl, (refl, (refl, (refl, (refl, (refl, (refl, (refl, (refl, (refl, (refl, tt))))))))))))))
+
+channel_subscribe_fit : RowsHave RowFits (kinds_in protocols (pos 21)) channel_subscribe_rows
+channel_subscribe_fit = (refl, (refl, (refl, (refl, (refl, (refl, (refl, (refl, (refl, (refl, (refl, (refl, (refl, tt)))))))))))))
+
+channel_data_load_fit : RowsHave RowFits (kinds_in protocols (pos 22)) channel_data_load_rows
+channel_data_load_fit = (refl, (refl, (refl, (refl, (refl, (refl, (refl, (refl, (refl, (refl, (refl, tt)))))))))))
+
 rows_fit : Agree RowFits bodies.protocols protocols
-rows_fit = (
-  refl,
-  (refl, (refl, (refl, (refl, (refl, (refl, (refl, tt))))))),
-  (
-    refl,
-    (refl, (refl, (refl, (refl, (refl, (refl, (refl, (refl, tt)))))))),
-    (
-      refl,
-      (tt, (tt, (tt, (tt, (tt, (tt, (tt, (refl, (refl, tt))))))))),
-      (
-        refl,
-        (refl, (refl, (refl, (refl, (refl, (refl, (refl, (refl, tt)))))))),
-        (
-          refl,
-          (tt, (tt, (tt, (tt, (tt, (tt, (tt, (tt, (tt, (tt, (tt, (tt, (refl, (refl, tt)))))))))))))),
-          (
-            refl,
-            (tt, (tt, (tt, (tt, (tt, (tt, (tt, (tt, (tt, (tt, (tt, (refl, (refl, tt))))))))))))),
-            (refl, (tt, (tt, (tt, (tt, (tt, (tt, (tt, (tt, (tt, (refl, (refl, tt))))))))))), tt),
-          ),
-        ),
-      ),
-    ),
-  ),
-)
+rows_fit = (refl, core_fit, (refl, dataspace_fit, (refl, store_fit, (refl, transaction_fit, (refl, data_array_fit, (refl, channel_subscribe_fit, (refl, channel_data_load_fit, tt)))))))
+
+fitting : (r : BodyRow) (o : Option (Kind Message)) → RowFits r o → (k : Kind Message) × (o ≡ Some k) × (k.schema ≡ r.schema)
+fitting r None h = absurd h
+fitting r (Some k) h = (k, refl, h)
+
+-- each row has a type, with the row's schema
+pub row_kind : (p kind : ℤ) (side : Side) (row : BodyRow) → row_of p kind side ≡ Some row → (k : Kind Message) × (typed_kind p kind ≡ Some k) × (k.schema ≡ row.schema)
+row_kind p kind side row e = fitting row (typed_kind p kind) (agree_at RowFits bodies.protocols protocols p kind side row rows_fit e)
+
+some_kind : (j k : Kind Message) → Some j ≡ Some k → j ≡ k
+some_kind j k h = cc
 
 -- a row's schema is that of what is found under its number
 pub row_schema : (p kind : ℤ) (side : Side) (row : BodyRow) (k : Kind Message) → row_of p kind side ≡ Some row → typed_kind p kind ≡ Some k → k.schema ≡ row.schema
-row_schema p kind side row k e f = subst (RowFits row) f (agree_at RowFits bodies.protocols protocols p kind side row rows_fit e)
-
-abbrev pub RowTyped : BodyRow → Option (Kind Message) → Type 0
-RowTyped r o = is_some o ≡ true
-
--- each row of these protocols has a type
-pub core_typed : (kind : ℤ) (side : Side) (row : BodyRow) → row_in core_rows kind side ≡ Some row → is_typed (pos 0) kind ≡ true
-core_typed kind side row e = row_has RowTyped (kinds_in protocols (pos 0)) core_rows kind side row (refl, (refl, (refl, (refl, (refl, (refl, (refl, tt))))))) e
-
-pub dataspace_typed : (kind : ℤ) (side : Side) (row : BodyRow) → row_in dataspace_rows kind side ≡ Some row → is_typed (pos 24) kind ≡ true
-dataspace_typed kind side row e = row_has RowTyped (kinds_in protocols (pos 24)) dataspace_rows kind side row (refl, (refl, (refl, (refl, (refl, (refl, (refl, (refl, tt)))))))) e
-
-pub transaction_typed : (kind : ℤ) (side : Side) (row : BodyRow) → row_in transaction_rows kind side ≡ Some row → is_typed (pos 18) kind ≡ true
-transaction_typed kind side row e = row_has RowTyped (kinds_in protocols (pos 18)) transaction_rows kind side row (refl, (refl, (refl, (refl, (refl, (refl, (refl, (refl, tt)))))))) e
+row_schema p kind side row k e f =
+    let j = row_kind p kind side row e in
+    ap (λ (i : Kind Message). i.schema) (sym (some_kind j.0 k (sym j.1 ∙ f))) ∙ j.2
 
 known_in : (rs : List ProtocolRow) (p kind : ℤ) (side : Side) (row : BodyRow) → row_in (messages_in rs p) kind side ≡ Some row → has_number rs p ≡ true
 known_in [] p kind side row e = absurd (let no : None ≡ Some row = e in cc)

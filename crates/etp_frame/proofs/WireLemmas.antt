@@ -13,14 +13,15 @@ use Rattle.avro_bin.specs.declared.refusal.Refusal.{Refusal}
 use Rattle.avro_bin.proofs.Whole.{reads, reads_exactly}
 use Rattle.avro_bin.proofs.Typed.{has_schema}
 use Rattle.avro_bin.proofs.Written.{plain_spells}
-use Rattle.etp_schema.specs.Bodies.{known_protocol, body_schema, row_of}
-use Rattle.etp_schema.specs.Family.{Kind, Body}
+use Rattle.etp_schema.specs.Bodies.{known_protocol, body_place, body_schema, place_of, row_of}
+use Rattle.etp_schema.specs.Family.{Kind, Body, read_as}
+use Rattle.etp_schema.specs.Shapes.{shape_at}
 use Rattle.etp_schema.specs.declared.body.Side.{Side}
 use Rattle.etp_frame.specs.Header.{header_form, has_flag}
 use Rattle.etp_frame.specs.Message.{message_body, Names, typed_kind}
-use Rattle.etp_frame.specs.Reading.{◌>>=◌, node_limit, as_header, header_in, admitted, with_schema, sent_kind, known_kind, as_body, body_in, read_of}
+use Rattle.etp_frame.specs.Reading.{node_limit, as_header, header_in, admitted, as_body, body_in, tree_of, read_of}
 use Rattle.etp_frame.specs.Wire.{IsPlain, Sends, IsMessage, message_bytes}
-use Rattle.etp_frame.specs.Laws.{ReadsExactly, OneReading, Fits, WrittenIsRead}
+use Rattle.etp_frame.specs.Laws.{ReadsExactly, OneReading, TreeIsBody, Fits, WrittenIsRead}
 use Rattle.etp_frame.specs.declared.flags.TheConstants.{EXTENSION, COMPRESSED}
 use Rattle.etp_frame.specs.declared.header.Header.{Header}
 use Rattle.etp_frame.specs.declared.message.Message.{Message}
@@ -28,6 +29,7 @@ use Rattle.etp_frame.specs.declared.error.FrameError.{FrameError}
 use Rattle.etp_frame.specs.declared.error.FrameError.TheVariants as f
 use Rattle.etp_frame.proofs.FoundLemmas.{Reads, found_of, typed_of}
 use Rattle.etp_frame.proofs.RowLemmas.{row_schema, known_of, schema_row}
+use Rattle.etp_frame.proofs.ReadingLemmas.{Read, ok, with_tree, whole_tree, message_of_tree, bound, ok_pair, tree_parts, shape_sent, read_typed}
 
 read_is : (s : Schema) (limit : ℕ) (bytes : List ℕ) (v : Value) (len : ℕ) → IsRead s limit bytes v len → read_value s limit bytes ≡ Ok (v, len)
 unfolding read_value
@@ -63,50 +65,33 @@ found_some : (b : Body) (x : Message) (o : Option (Kind Message)) → Reads b x 
 found_some b x None r = absurd r
 found_some b x (Some k) r = (k, refl, r.1)
 
--- the steps of reading behind the header
-abbrev pub with_value : Header → Kind Message → Value → Result (Header × Message) FrameError
-with_value h k value = Ok (h, k.read value)
-
-abbrev pub with_kind : List ℕ → Header × ℕ → Kind Message → Result (Header × Message) FrameError
-with_kind bytes front k = body_in front.0 k.schema front.1 bytes >>= with_value front.0 k
-
-abbrev pub with_leave : Side → List ℕ → Header × ℕ → Unit {0} → Result (Header × Message) FrameError
-with_leave side bytes front u = known_kind front.0 (sent_kind side front.0) >>= with_kind bytes front
-
-abbrev pub with_header : Side → List ℕ → Header × ℕ → Result (Header × Message) FrameError
-with_header side bytes front = admitted front.0 >>= with_leave side bytes front
-
-abbrev pub with_own_schema : Schema → Kind Message → Kind Message
-with_own_schema s k = record { number = k.number; schema = s; read = k.read }
-
-pub message_read : (side : Side) (h : Header) (x : Message) (bytes : List ℕ) → IsMessage side h x bytes → read_of side bytes ≡ Ok (h, x)
-unfolding read_of
-message_read side h x bytes w =
+-- the tree of a message's wire form
+pub body_tree : TreeIsBody
+body_tree side h x bytes w =
     let b = message_body x in
     let row = schema_row (row_of h.protocol h.kind side) b.schema w.sent in
     let known = known_of h.protocol h.kind side row.0 row.1 in
+    let place = row.0.place in
+    let placed : body_place h.protocol h.kind side ≡ Some place = ap place_of row.1 in
+    let own : b.schema ≡ shape_at place = same b.schema (shape_at place) (sym w.sent ∙ shape_sent side h place placed) in
+    let rest = ap (drop (length w.front)) w.parts ∙ drop_at w.front w.back (length w.front) refl in
+    let read = body_read h b.schema b.value (length w.front) bytes w.back rest w.body w.few_in_body in (
+      place,
+      whole_tree side bytes (h, length w.front) place b.value (header_read h bytes w.front w.back w.parts w.header w.few_in_header) (admitted_is h w.plain known) placed
+          (subst (λ (s : Schema). body_in h s (length w.front) bytes ≡ Ok b.value) own read),
+    )
+  where
+    same : (s t : Schema) → Some s ≡ Some t → s ≡ t
+    same s t h = cc
+
+pub message_read : (side : Side) (h : Header) (x : Message) (bytes : List ℕ) → IsMessage side h x bytes → read_of side bytes ≡ Ok (h, x)
+message_read side h x bytes w =
+    let b = message_body x in
+    let tree = body_tree side h x bytes w in
     let k = found_some b x (typed_kind h.protocol (pos b.number)) (found_of x h.protocol w.named.1) in
     let typed : typed_kind h.protocol h.kind ≡ Some k.0 = ap (typed_kind h.protocol) w.named.0 ∙ k.1 in
-    let sent : sent_kind side h ≡ Some (with_own_schema b.schema k.0) = λ i. with_schema (w.sent i) (typed i) in
-    let rest = ap (drop (length w.front)) w.parts ∙ drop_at w.front w.back (length w.front) refl in
-    ap (λ (r : Result (Header × ℕ) FrameError). r >>= with_header side bytes) (header_read h bytes w.front w.back w.parts w.header w.few_in_header)
-    ∙ ap (λ (r : Result (Unit {0}) FrameError). r >>= with_leave side bytes (h, length w.front)) (admitted_is h w.plain known)
-    ∙ ap (λ (o : Option (Kind Message)). known_kind h o >>= with_kind bytes (h, length w.front)) sent
-    ∙ ap (λ (r : Result Value FrameError). r >>= with_value h (with_own_schema b.schema k.0)) (body_read h b.schema b.value (length w.front) bytes w.back rest w.body w.few_in_body)
+    message_of_tree side bytes h tree.0 b.value (Some (k.0.read b.value)) tree.1 (ap (read_as b.value) (sym typed))
     ∙ ap (λ (y : Message). Ok (h, y)) (k.2 (has_schema b.schema b.value w.back w.body))
-
-bound : {A B : Type 0} (r : Result A FrameError) (next : A → Result B FrameError) (y : B) → (r >>= next) ≡ Ok y → (a : A) × (r ≡ Ok a) × (next a ≡ Ok y)
-bound (Ok a) next y e = (a, refl, e)
-bound (Err d) next y e = absurd cc
-
-abbrev ok : {A E : Type 0} → A → Result A E
-ok x = Ok x
-
-abbrev pair : {A B : Type 0} → A → B → A × B
-pair a b = (a, b)
-
-ok_pair : {A B : Type 0} (a c : A) (b d : B) → ok {A = A × B} {E = FrameError} (a, b) ≡ ok (c, d) → (a ≡ c) × (b ≡ d)
-ok_pair {A} {B} a c b d e = let p : pair a b ≡ pair c d = cc in (ap (λ (q : A × B). q.0) p, ap (λ (q : A × B). q.1) p)
 
 header_read_as : (r : Result (Value × ℕ) Refusal) (front : Header × ℕ) → as_header r ≡ Ok front → (v : Value) × (r ≡ Ok (v, front.1)) × (header_form.from_value v ≡ front.0)
 header_read_as (Ok x) front e =
@@ -119,14 +104,6 @@ admitted_by h true compressed known e = absurd cc
 admitted_by h false true known e = absurd cc
 admitted_by h false false false e = absurd cc
 admitted_by h false false true e = (refl, refl, refl)
-
-known_by : (h : Header) (o : Option Schema) (t : Option (Kind Message)) (j : Kind Message) → known_kind h (with_schema o t) ≡ Ok j → (s : Schema) × (k : Kind Message) × (o ≡ Some s) × (t ≡ Some k) × (with_own_schema s k ≡ j)
-known_by h None t j e = absurd cc
-known_by h (Some s) None j e = absurd cc
-known_by h (Some s) (Some k) j e = (s, k, refl, refl, same (with_own_schema s k) j e)
-  where
-    same : (a b : Kind Message) → ok {E = FrameError} a ≡ ok b → a ≡ b
-    same a b h = cc
 
 body_read_as : (h : Header) (front size : ℕ) (r : Result (Value × ℕ) Refusal) (v : Value) → as_body h front size r ≡ Ok v → r ≡ Ok (v, size)
 body_read_as h front size (Err d) v e = absurd cc
@@ -170,26 +147,27 @@ whole_form side front v w s k bytes head same plain sent typed tail =
       few_in_body = subst (λ (z : Body). nodes z.value ≤ node_limit) (sym b) tail.few;
     }
 
-pub read_is_message : (side : Side) (h : Header) (x : Message) (bytes : List ℕ) → IsBytes bytes → read_of side bytes ≡ Ok (h, x) → IsMessage side h x bytes
+-- what was read as a message was read as a tree, and by its kind
+read_parts : (side : Side) (h : Header) (x : Message) (bytes : List ℕ) → read_of side bytes ≡ Ok (h, x) → (t : Read) × (tree_of side bytes ≡ Ok t) × (with_tree t ≡ Ok (h, x))
 unfolding read_of
+read_parts side h x bytes e = bound (tree_of side bytes) with_tree (h, x) e
+
+pub read_is_message : (side : Side) (h : Header) (x : Message) (bytes : List ℕ) → IsBytes bytes → read_of side bytes ≡ Ok (h, x) → IsMessage side h x bytes
 read_is_message side h x bytes fits e =
-    let b1 = bound (header_in bytes) (with_header side bytes) (h, x) e in
-    let front = b1.0 in
-    let b2 = bound (admitted front.0) (with_leave side bytes front) (h, x) b1.2 in
-    let b3 = bound (known_kind front.0 (sent_kind side front.0)) (with_kind bytes front) (h, x) b2.2 in
-    let b4 = bound (body_in front.0 b3.0.schema front.1 bytes) (with_value front.0 b3.0) (h, x) b3.2 in
-    let head = header_read_as (read_value header_form.schema node_limit bytes) front b1.1 in
-    let leave = admitted_by front.0 (has_flag front.0.flags EXTENSION) (has_flag front.0.flags COMPRESSED) (known_protocol front.0.protocol) b2.1 in
-    let kind = known_by front.0 (body_schema front.0.protocol front.0.kind side) (typed_kind front.0.protocol front.0.kind) b3.0 b3.1 in
-    let tail = body_read_as front.0 front.1 (length (drop front.1 bytes)) (read_value b3.0.schema node_limit (drop front.1 bytes)) b4.0 b4.1 in
-    let here = (reads_exactly header_form.schema node_limit bytes head.0 front.1 fits).0 head.1 in
-    let there = (reads_exactly b3.0.schema node_limit (drop front.1 bytes) b4.0 (length (drop front.1 bytes)) (rest_fits front.1 bytes fits)).0 tail in
-    let same : kind.0 ≡ b3.0.schema = ap (λ (z : Kind Message). z.schema) kind.4 in
-    let form = whole_form side front head.0 b4.0 kind.0 kind.1 bytes here head.2 (leave.0, leave.1) kind.2 kind.3
-    (subst (λ (z : Schema). IsRead z node_limit (drop front.1 bytes) b4.0 (length (drop front.1 bytes))) (sym same) there) in
-    let p = ok_pair front.0 h (b3.0.read b4.0) x b4.2 in
-    let read : kind.1.read b4.0 ≡ x = ap (λ (z : Kind Message). z.read b4.0) kind.4 ∙ p.1 in
-    subst (λ (z : Header). IsMessage side z x bytes) p.0 (subst (λ (z : Message). IsMessage side front.0 z bytes) read form)
+    let b = read_parts side h x bytes e in
+    let t = b.0 in
+    let g = t.0 in
+    let parts = tree_parts side bytes t b.1 in
+    let k = read_typed side bytes t b.1 in
+    let s = shape_at t.1.0 in
+    let head = header_read_as (read_value header_form.schema node_limit bytes) (g, parts.size) parts.front in
+    let leave = admitted_by g (has_flag g.flags EXTENSION) (has_flag g.flags COMPRESSED) (known_protocol g.protocol) parts.plain in
+    let tail = body_read_as g parts.size (length (drop parts.size bytes)) (read_value s node_limit (drop parts.size bytes)) t.1.1 parts.body in
+    let here = (reads_exactly header_form.schema node_limit bytes head.0 parts.size fits).0 head.1 in
+    let there = (reads_exactly s node_limit (drop parts.size bytes) t.1.1 (length (drop parts.size bytes)) (rest_fits parts.size bytes fits)).0 tail in
+    let form = whole_form side (g, parts.size) head.0 t.1.1 s k.0 bytes here head.2 (leave.0, leave.1) (shape_sent side g t.1.0 parts.sent) k.1 there in
+    let p = ok_pair g h (k.0.read t.1.1) x (sym k.2 ∙ e) in
+    subst (λ (z : Header). IsMessage side z x bytes) p.0 (subst (λ (z : Message). IsMessage side g z bytes) p.1 form)
 
 pub reads_whole : ReadsExactly
 reads_whole side h x bytes fits = (read_is_message side h x bytes fits, message_read side h x bytes)

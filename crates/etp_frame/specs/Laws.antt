@@ -1,15 +1,18 @@
 -- The laws of messages.
-use Rattle.std.specs.Prelude.{◌≡◌, ◌↔◌, ◌≤◌, List, ℕ, Ok}
+use Rattle.std.specs.Prelude.{◌≡◌, ◌↔◌, ◌≤◌, List, ℕ, ℤ, Some, Ok, Err}
 use Rattle.avro_bin.specs.Value.{nodes}
 use Rattle.avro_bin.specs.Shape.{HasSchema, FitsTree}
 use Rattle.avro_bin.specs.Laws.{IsBytes}
+use Rattle.etp_schema.specs.Bodies.{BodyRow, row_of}
+use Rattle.etp_schema.specs.Family.{Kind}
 use Rattle.etp_schema.specs.declared.body.Side.{Side}
 use Rattle.etp_frame.specs.Header.{header_form}
-use Rattle.etp_frame.specs.Message.{message_body, Names}
-use Rattle.etp_frame.specs.Reading.{node_limit, read_of}
+use Rattle.etp_frame.specs.Message.{message_body, Names, typed_kind}
+use Rattle.etp_frame.specs.Reading.{node_limit, tree_of, read_of}
 use Rattle.etp_frame.specs.Wire.{IsPlain, Sends, IsMessage, message_bytes}
 use Rattle.etp_frame.specs.declared.header.Header.{Header}
 use Rattle.etp_frame.specs.declared.message.Message.{Message}
+use Rattle.etp_frame.specs.declared.error.FrameError.{FrameError}
 
 -- bytes are read as a header and message exactly where they are of the wire form
 abbrev pub ReadsExactly : Type 0
@@ -18,6 +21,18 @@ ReadsExactly = (side : Side) (h : Header) (x : Message) (bytes : List ℕ) → I
 -- bytes are the wire form of one header and message at most
 abbrev pub OneReading : Type 0
 OneReading = (side : Side) (h k : Header) (x y : Message) (bytes : List ℕ) → IsMessage side h x bytes → IsMessage side k y bytes → (h ≡ k) × (x ≡ y)
+
+-- bytes are refused as a header and message exactly where they are refused as a header and tree, by the same cause
+abbrev pub SameRefusals : Type 0
+SameRefusals = (side : Side) (bytes : List ℕ) (e : FrameError) → (read_of side bytes ≡ Err e) ↔ (tree_of side bytes ≡ Err e)
+
+-- the tree of a message's wire form is that of its body
+abbrev pub TreeIsBody : Type 0
+TreeIsBody = (side : Side) (h : Header) (x : Message) (bytes : List ℕ) → IsMessage side h x bytes → (place : ℕ) × (tree_of side bytes ≡ Ok (h, (place, (message_body x).value)))
+
+-- each row of the table has a type, with the row's schema: an unknown kind is one without a row
+abbrev pub RowsAreTyped : Type 0
+RowsAreTyped = (protocol kind : ℤ) (side : Side) (row : BodyRow) → row_of protocol kind side ≡ Some row → (k : Kind Message) × (typed_kind protocol kind ≡ Some k) × (k.schema ≡ row.schema)
 
 -- such as the types of a message hold: numbers in their ranges, texts of UTF-8, identifiers of sixteen bytes, few enough nodes
 pub record Fits (h : Header) (x : Message) : Type 0 where

@@ -1,10 +1,14 @@
 -- The messages of all protocols: what each is written as, and which protocol has it.
-use Rattle.std.specs.Prelude.{◌≡◌, ◌++◌, ℕ, ℤ, pos, Bool, true, List, [], ◌∷◌, map, Option, is_some, if◌then◌else◌}
+use Rattle.std.specs.Prelude.{◌≡◌, ◌++◌, ℕ, ℤ, pos, true, List, [], ◌∷◌, map, Option, if◌then◌else◌}
 use Rattle.etp_schema.specs.Bodies.{is_number, known_protocol}
 use Rattle.etp_schema.specs.Family.{Kind, Body, message, kind_in}
 use Rattle.msg_core.specs.Core.{core_kinds, core_body, protocol_exception_form, acknowledge_form}
 use Rattle.msg_core.specs.Dataspace.{dataspace_kinds, dataspace_body}
 use Rattle.msg_core.specs.Transaction.{transaction_kinds, transaction_body}
+use Rattle.msg_store.specs.Store.{store_kinds, store_body}
+use Rattle.msg_store.specs.DataArray.{data_array_kinds, data_array_body}
+use Rattle.msg_channel.specs.ChannelSubscribe.{channel_subscribe_kinds, channel_subscribe_body}
+use Rattle.msg_channel.specs.ChannelDataLoad.{channel_data_load_kinds, channel_data_load_body}
 use Rattle.msg_core.specs.declared.core_messages.CoreMessage.{CoreMessage}
 use Rattle.msg_core.specs.declared.core_messages.CoreMessage.TheVariants as c
 use Rattle.etp_frame.specs.declared.header.Header.{Header}
@@ -16,12 +20,20 @@ abbrev pub message_body : Message → Body
 message_body (m.Core x) = core_body x
 message_body (m.Transaction x) = transaction_body x
 message_body (m.Dataspace x) = dataspace_body x
+message_body (m.Store x) = store_body x
+message_body (m.DataArray x) = data_array_body x
+message_body (m.ChannelSubscribe x) = channel_subscribe_body x
+message_body (m.ChannelDataLoad x) = channel_data_load_body x
 
 -- the protocol in whose enum a message stands
 abbrev pub protocol_of : Message → ℕ
 protocol_of (m.Core x) = 0
 protocol_of (m.Transaction x) = 18
 protocol_of (m.Dataspace x) = 24
+protocol_of (m.Store x) = 4
+protocol_of (m.DataArray x) = 9
+protocol_of (m.ChannelSubscribe x) = 21
+protocol_of (m.ChannelDataLoad x) = 22
 
 -- the protocol has the message of Core's enum: each protocol has ProtocolException and Acknowledge
 abbrev pub IsOfCore : CoreMessage → ℤ → Type 0
@@ -38,6 +50,10 @@ abbrev pub IsOf : Message → ℤ → Type 0
 IsOf (m.Core x) protocol = IsOfCore x protocol
 IsOf (m.Transaction x) protocol = protocol ≡ pos 18
 IsOf (m.Dataspace x) protocol = protocol ≡ pos 24
+IsOf (m.Store x) protocol = protocol ≡ pos 4
+IsOf (m.DataArray x) protocol = protocol ≡ pos 9
+IsOf (m.ChannelSubscribe x) protocol = protocol ≡ pos 21
+IsOf (m.ChannelDataLoad x) protocol = protocol ≡ pos 22
 
 -- the header names the message: its number, and a protocol that has it
 abbrev pub Names : Header → Message → Type 0
@@ -53,7 +69,7 @@ common_kinds =
     message 1000 protocol_exception_form (λ x. m.Core (c.ProtocolException x)) ∷
     message 1001 acknowledge_form (λ x. m.Core (c.Acknowledge x)) ∷ []
 
--- a protocol, and its messages that have a type
+-- a protocol, and its messages
 pub record Protocol : Type 0 where
   pub number : ℕ
   pub kinds : List (Kind Message)
@@ -61,26 +77,21 @@ pub record Protocol : Type 0 where
 abbrev pub protocol : ℕ → List (Kind Message) → Protocol
 protocol number kinds = record { number = number; kinds = kinds }
 
--- those of Store, DataArray, ChannelSubscribe and ChannelDataLoad have no types yet
 abbrev pub protocols : List Protocol
 protocols =
     protocol 0 (under m.Core core_kinds) ∷
     protocol 24 (common_kinds ++ under m.Dataspace dataspace_kinds) ∷
-    protocol 4 common_kinds ∷
+    protocol 4 (common_kinds ++ under m.Store store_kinds) ∷
     protocol 18 (common_kinds ++ under m.Transaction transaction_kinds) ∷
-    protocol 9 common_kinds ∷
-    protocol 21 common_kinds ∷
-    protocol 22 common_kinds ∷ []
+    protocol 9 (common_kinds ++ under m.DataArray data_array_kinds) ∷
+    protocol 21 (common_kinds ++ under m.ChannelSubscribe channel_subscribe_kinds) ∷
+    protocol 22 (common_kinds ++ under m.ChannelDataLoad channel_data_load_kinds) ∷ []
 
 -- the messages of a protocol; none of a number that no protocol has
 abbrev pub kinds_in : List Protocol → ℤ → List (Kind Message)
 kinds_in [] number = []
 kinds_in (p ∷ ps) number = if is_number p.number number then p.kinds else kinds_in ps number
 
--- the message of a protocol's number and its own, where it has a type
+-- the message of a protocol's number and its own
 abbrev pub typed_kind : ℤ → ℤ → Option (Kind Message)
 typed_kind number kind = kind_in (kinds_in protocols number) kind
-
--- whether there is a type for it
-abbrev pub is_typed : ℤ → ℤ → Bool
-is_typed number kind = is_some (typed_kind number kind)

@@ -1,15 +1,12 @@
 -- What the parts of reading a message answer.
-use Rattle.std.specs.Prelude.{◌≡◌, ◌≢◌, ◌<◌, ℕ, Option, Some, None, Result, Ok, Err}
+use Rattle.std.specs.Prelude.{◌≡◌, ◌≢◌, ℕ, Result, Ok, Err}
 use Rattle.avro_bin.specs.Value.{Value}
 use Rattle.avro_bin.specs.View.{value_of}
 use Rattle.avro_bin.specs.declared.refusal.Refusal.{Refusal}
 use Rattle.avro_bin.specs.declared.refusal.Refusal.TheVariants as r
 use Rattle.avro_bin.specs.declared.tree.Tree.{Tree}
-use Rattle.etp_schema.specs.Family.{Kind}
-use Rattle.etp_schema.specs.Shapes.{shape_at}
 use Rattle.etp_frame.specs.Reading.{shifted}
 use Rattle.etp_frame.specs.declared.header.Header.{Header}
-use Rattle.etp_frame.specs.declared.message.Message.{Message}
 use Rattle.etp_frame.specs.declared.error.FrameError.{FrameError}
 use Rattle.etp_frame.specs.declared.error.FrameError.TheVariants as f
 
@@ -37,14 +34,12 @@ abbrev pub as_body_error : Header → ℕ → Refusal → FrameError
 as_body_error h front r.NoMemory = f.NoMemory
 as_body_error h front e = f.Body h (shifted front e)
 
--- the place of the schema of the message that is expected, and none where none is
-abbrev pub IsPlace : Option ℕ → Option (Kind Message) → Type 0
-IsPlace None None = Unit {0}
-IsPlace None (Some k) = ⊥
-IsPlace (Some place) None = ⊥
-IsPlace (Some place) (Some k) = (place < 165) × (k.schema ≡ shape_at place)
-
 -- the tree of the value that is expected, or its error, unless memory ran out
 abbrev pub GivesValue : Result Tree FrameError → Result Value FrameError → Type 0
 GivesValue (Ok t) expected = expected ≡ Ok (value_of t)
 GivesValue (Err e) expected = e ≢ f.NoMemory → expected ≡ Err e
+
+-- the header, place and tree of the value that are expected, or their error, unless memory ran out
+abbrev pub GivesTree : Result (Header × ℕ × Tree) FrameError → Result (Header × (ℕ × Value)) FrameError → Type 0
+GivesTree (Ok r) expected = expected ≡ Ok (r.0, (r.1, value_of r.2))
+GivesTree (Err e) expected = e ≢ f.NoMemory → expected ≡ Err e

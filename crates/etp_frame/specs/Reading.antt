@@ -5,8 +5,9 @@ use Rattle.avro_bin.specs.Schema.{Schema}
 use Rattle.avro_bin.specs.Laws.{read_value}
 use Rattle.avro_bin.specs.declared.refusal.Refusal.{Refusal}
 use Rattle.avro_bin.specs.declared.refusal.Refusal.TheVariants as r
-use Rattle.etp_schema.specs.Bodies.{known_protocol, body_schema}
-use Rattle.etp_schema.specs.Family.{Kind}
+use Rattle.etp_schema.specs.Bodies.{known_protocol, body_place}
+use Rattle.etp_schema.specs.Family.{read_as}
+use Rattle.etp_schema.specs.Shapes.{shape_at}
 use Rattle.etp_schema.specs.declared.body.Side.{Side}
 use Rattle.etp_frame.specs.Header.{header_form, has_flag}
 use Rattle.etp_frame.specs.Message.{typed_kind}
@@ -66,19 +67,10 @@ admitted h =
     else if known_protocol h.protocol then Ok tt
     else Err (f.UnknownProtocol h)
 
--- the body's schema, and what is read by it, where both are known
-abbrev pub with_schema : Option Schema → Option (Kind Message) → Option (Kind Message)
-with_schema (Some s) (Some k) = Some (record { number = k.number; schema = s; read = k.read })
-with_schema (Some s) None = None
-with_schema None k = None
-
--- the message that a header names among those that a side sends, where it has a type
-abbrev pub sent_kind : Side → Header → Option (Kind Message)
-sent_kind side h = with_schema (body_schema h.protocol h.kind side) (typed_kind h.protocol h.kind)
-
-abbrev pub known_kind : Header → Option (Kind Message) → Result (Kind Message) FrameError
-known_kind h (Some k) = Ok k
-known_kind h None = Err (f.UnknownKind h)
+-- the place of the schema of a body, where there is such a message
+abbrev pub known_place : Header → Option ℕ → Result ℕ FrameError
+known_place h (Some place) = Ok place
+known_place h None = Err (f.UnknownKind h)
 
 -- the value of a body of so many bytes that stands behind so many bytes, if it ends with them
 abbrev pub as_body : Header → ℕ → ℕ → Result (Value × ℕ) Refusal → Result Value FrameError
@@ -89,11 +81,23 @@ as_body h front size (Err e) = Err (f.Body h (shifted front e))
 abbrev pub body_in : Header → Schema → ℕ → List ℕ → Result Value FrameError
 body_in h s front bytes = as_body h front (length (drop front bytes)) (read_value s node_limit (drop front bytes))
 
+-- the header, the place of the body's schema and the body's value that the side's bytes are read as, or the first cause that
+-- refuses them
+unfoldable pub tree_of : Side → List ℕ → Result (Header × (ℕ × Value)) FrameError
+tree_of side bytes = do
+  front ← header_in bytes
+  plain ← admitted front.0
+  place ← known_place front.0 (body_place front.0.protocol front.0.kind side)
+  value ← body_in front.0 (shape_at place) front.1 bytes
+  Ok (front.0, (place, value))
+
+-- the message that a body was read as; no row is without one
+abbrev pub known_message : Header → Option Message → Result (Header × Message) FrameError
+known_message h (Some x) = Ok (h, x)
+known_message h None = Err (f.UnknownKind h)
+
 -- the header and message that the side's bytes are read as, or the first cause that refuses them
 unfoldable pub read_of : Side → List ℕ → Result (Header × Message) FrameError
 read_of side bytes = do
-  front ← header_in bytes
-  plain ← admitted front.0
-  kind ← known_kind front.0 (sent_kind side front.0)
-  value ← body_in front.0 kind.schema front.1 bytes
-  Ok (front.0, kind.read value)
+  tree ← tree_of side bytes
+  known_message tree.0 (read_as tree.1.1 (typed_kind tree.0.protocol tree.0.kind))

@@ -1,5 +1,5 @@
 //! The laws of messages. Each function does nothing: its contract is the law.
-ghost use Rattle.etp_frame.specs.Laws.{ReadsExactly, OneReading, WrittenIsRead};
+ghost use Rattle.etp_frame.specs.Laws.{ReadsExactly, OneReading, SameRefusals, TreeIsBody, RowsAreTyped, WrittenIsRead};
 
 /// Bytes are read as a header and message exactly where they are their wire form.
 pub fn wire_form_is_read()
@@ -9,6 +9,21 @@ pub fn wire_form_is_read()
 /// Bytes are the wire form of at most one header and message.
 pub fn one_reading()
     ensures { OneReading }
+{}
+
+/// Bytes are refused as a header and message exactly where they are refused as a header and tree, by the same cause.
+pub fn same_refusals()
+    ensures { SameRefusals }
+{}
+
+/// The tree that the wire form of a message is read as is that of its body.
+pub fn tree_is_body()
+    ensures { TreeIsBody }
+{}
+
+/// Each message of the profile has a type, whose bodies have the schema of the message's row.
+pub fn rows_are_typed()
+    ensures { RowsAreTyped }
 {}
 
 /// What is written of a header and the message that it names is their wire form, for each side that sends such messages, and

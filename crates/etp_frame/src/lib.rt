@@ -3,8 +3,10 @@
 //! [`read_message`] reads the bytes of one message: a [`Header`], and then the body that the header's protocol and number
 //! name for the side that sends it, as a [`Message`] of the protocol's own enum. It accepts exactly the wire form,
 //! `IsMessage` of `specs/Wire`, and else answers the one [`FrameError`] that `read_of` of `specs/Reading` names.
+//! [`read_tree`] stops before the message and answers the body's tree, for whoever shows or checks a body of any kind; it
+//! refuses the same bytes by the same causes ([`same_refusals`]).
 //! [`write_message`] writes the one spelling that is written, `message_bytes`. The laws between them stand on
-//! [`wire_form_is_read`], [`one_reading`] and [`written_is_read`].
+//! [`wire_form_is_read`], [`one_reading`], [`tree_is_body`], [`rows_are_typed`] and [`written_is_read`].
 //!
 //! ProtocolException and Acknowledge are messages of every protocol and stand in Core's enum for all of them, so that the
 //! header says under which protocol such a message goes.
@@ -22,7 +24,9 @@ mod writing;
 
 pub use error::FrameError;
 pub use header::Header;
-pub use laws::{one_reading, wire_form_is_read, written_is_read};
+pub use laws::{
+    one_reading, rows_are_typed, same_refusals, tree_is_body, wire_form_is_read, written_is_read,
+};
 pub use message::Message;
-pub use reading::read_message;
+pub use reading::{read_message, read_tree};
 pub use writing::write_message;

@@ -2,19 +2,23 @@
 ghost use Rattle.std.specs.Prelude.{◌≡◌, ◌↔◌, ◌++◌, IfOk, OnOk, IsTrue, pos, is_some};
 ghost use Rattle.avro_bin.specs.Shape.{HasSchema};
 ghost use Rattle.avro_bin.specs.View.{value_of};
-ghost use Rattle.etp_schema.specs.Bodies.{BodyRow, row_of};
 ghost use Rattle.etp_schema.specs.Family.{kind_in, read_as, read_kind};
-ghost use Rattle.etp_schema.specs.declared.body.Side.{Side};
 ghost use Rattle.msg_core.specs.Core.{core_kinds};
 ghost use Rattle.msg_core.specs.Dataspace.{dataspace_kinds};
 ghost use Rattle.msg_core.specs.Transaction.{transaction_kinds};
-ghost use Rattle.etp_frame.specs.Message.{message_body, IsOf, protocol_of, typed_kind, is_typed, under, common_kinds};
+ghost use Rattle.msg_store.specs.Store.{store_kinds};
+ghost use Rattle.msg_store.specs.DataArray.{data_array_kinds};
+ghost use Rattle.msg_channel.specs.ChannelSubscribe.{channel_subscribe_kinds};
+ghost use Rattle.msg_channel.specs.ChannelDataLoad.{channel_data_load_kinds};
+ghost use Rattle.etp_frame.specs.Message.{message_body, IsOf, protocol_of, typed_kind, under, common_kinds};
 ghost use Rattle.etp_frame.specs.declared.message.Message.TheVariants as m;
 
 use avro_bin::Tree;
 use etp_schema::{is_protocol, protocols};
 use etp_values::NoMemory;
+use msg_channel::{ChannelDataLoadMessage, ChannelSubscribeMessage};
 use msg_core::{CoreMessage, DataspaceMessage, TransactionMessage};
+use msg_store::{DataArrayMessage, StoreMessage};
 use std::alloc::Global;
 
 /// A message of any protocol. ProtocolException and Acknowledge stand in Core's enum under every protocol.
@@ -23,6 +27,10 @@ pub enum Message {
     Core(CoreMessage),
     Transaction(TransactionMessage),
     Dataspace(DataspaceMessage),
+    Store(StoreMessage),
+    DataArray(DataArrayMessage),
+    ChannelSubscribe(ChannelSubscribeMessage),
+    ChannelDataLoad(ChannelDataLoadMessage),
 }
 
 impl Message {
@@ -34,6 +42,10 @@ impl Message {
             Message::Core(message) => message.kind(),
             Message::Transaction(message) => message.kind(),
             Message::Dataspace(message) => message.kind(),
+            Message::Store(message) => message.kind(),
+            Message::DataArray(message) => message.kind(),
+            Message::ChannelSubscribe(message) => message.kind(),
+            Message::ChannelDataLoad(message) => message.kind(),
         }
     }
 
@@ -45,6 +57,10 @@ impl Message {
             Message::Core(_) => protocols::CORE,
             Message::Transaction(_) => protocols::TRANSACTION,
             Message::Dataspace(_) => protocols::DATASPACE,
+            Message::Store(_) => protocols::STORE,
+            Message::DataArray(_) => protocols::DATA_ARRAY,
+            Message::ChannelSubscribe(_) => protocols::CHANNEL_SUBSCRIBE,
+            Message::ChannelDataLoad(_) => protocols::CHANNEL_DATA_LOAD,
         }
     }
 
@@ -58,6 +74,10 @@ impl Message {
             Message::Core(_) => protocol == protocols::CORE,
             Message::Transaction(_) => protocol == protocols::TRANSACTION,
             Message::Dataspace(_) => protocol == protocols::DATASPACE,
+            Message::Store(_) => protocol == protocols::STORE,
+            Message::DataArray(_) => protocol == protocols::DATA_ARRAY,
+            Message::ChannelSubscribe(_) => protocol == protocols::CHANNEL_SUBSCRIBE,
+            Message::ChannelDataLoad(_) => protocol == protocols::CHANNEL_DATA_LOAD,
         }
     }
 
@@ -70,10 +90,14 @@ impl Message {
             Message::Core(message) => message.to_tree(alloc),
             Message::Transaction(message) => message.to_tree(alloc),
             Message::Dataspace(message) => message.to_tree(alloc),
+            Message::Store(message) => message.to_tree(alloc),
+            Message::DataArray(message) => message.to_tree(alloc),
+            Message::ChannelSubscribe(message) => message.to_tree(alloc),
+            Message::ChannelDataLoad(message) => message.to_tree(alloc),
         }
     }
 
-    /// The message of this protocol and number with this body, where there is a type for it.
+    /// The message of this protocol and number with this body, where the protocol has one.
     pub(crate) fn from_tree(
         alloc: Global,
         protocol: i32,
@@ -84,30 +108,14 @@ impl Message {
     {
         match protocol {
             protocols::CORE => core_message(alloc, kind, tree),
-            protocols::DATASPACE => dataspace_message(alloc, kind, tree),
-            protocols::STORE => common_message(alloc, kind, tree),
             protocols::TRANSACTION => transaction_message(alloc, kind, tree),
-            protocols::DATA_ARRAY => common_message(alloc, kind, tree),
-            protocols::CHANNEL_SUBSCRIBE => common_message(alloc, kind, tree),
-            protocols::CHANNEL_DATA_LOAD => common_message(alloc, kind, tree),
+            protocols::DATASPACE => dataspace_message(alloc, kind, tree),
+            protocols::STORE => store_message(alloc, kind, tree),
+            protocols::DATA_ARRAY => data_array_message(alloc, kind, tree),
+            protocols::CHANNEL_SUBSCRIBE => channel_subscribe_message(alloc, kind, tree),
+            protocols::CHANNEL_DATA_LOAD => channel_data_load_message(alloc, kind, tree),
             _ => Ok(None),
         }
-    }
-}
-
-/// Whether the message of this protocol and number, which is one of the profile, has a type here.
-pub(crate) fn is_typed(protocol: i32, kind: i32) -> bool
-    ensures { (side : Side) (row : BodyRow) → row_of protocol kind side ≡ Some row → result ≡ is_typed protocol kind }
-{
-    match protocol {
-        protocols::CORE => true,
-        protocols::DATASPACE => true,
-        protocols::TRANSACTION => true,
-        protocols::STORE => is_common(kind),
-        protocols::DATA_ARRAY => is_common(kind),
-        protocols::CHANNEL_SUBSCRIBE => is_common(kind),
-        protocols::CHANNEL_DATA_LOAD => is_common(kind),
-        _ => false,
     }
 }
 
@@ -163,6 +171,66 @@ fn dataspace_message(alloc: Global, kind: i32, tree: Tree) -> Result<Option<Mess
     }
     match DataspaceMessage::from_tree(alloc, kind, tree) {
         Ok(Some(message)) => Ok(Some(Message::Dataspace(message))),
+        Ok(None) => Ok(None),
+        Err(error) => Err(error),
+    }
+}
+
+fn store_message(alloc: Global, kind: i32, tree: Tree) -> Result<Option<Message>, NoMemory>
+    ensures { IfOk result (λ x. x ≡ read_kind (common_kinds ++ under m.Store store_kinds) kind (value_of tree)) }
+{
+    if is_common(kind) {
+        return common_message(alloc, kind, tree);
+    }
+    match StoreMessage::from_tree(alloc, kind, tree) {
+        Ok(Some(message)) => Ok(Some(Message::Store(message))),
+        Ok(None) => Ok(None),
+        Err(error) => Err(error),
+    }
+}
+
+fn data_array_message(alloc: Global, kind: i32, tree: Tree) -> Result<Option<Message>, NoMemory>
+    ensures { IfOk result (λ x. x ≡ read_kind (common_kinds ++ under m.DataArray data_array_kinds) kind (value_of tree)) }
+{
+    if is_common(kind) {
+        return common_message(alloc, kind, tree);
+    }
+    match DataArrayMessage::from_tree(alloc, kind, tree) {
+        Ok(Some(message)) => Ok(Some(Message::DataArray(message))),
+        Ok(None) => Ok(None),
+        Err(error) => Err(error),
+    }
+}
+
+fn channel_subscribe_message(
+    alloc: Global,
+    kind: i32,
+    tree: Tree,
+) -> Result<Option<Message>, NoMemory>
+    ensures { IfOk result (λ x. x ≡ read_kind (common_kinds ++ under m.ChannelSubscribe channel_subscribe_kinds) kind (value_of tree)) }
+{
+    if is_common(kind) {
+        return common_message(alloc, kind, tree);
+    }
+    match ChannelSubscribeMessage::from_tree(alloc, kind, tree) {
+        Ok(Some(message)) => Ok(Some(Message::ChannelSubscribe(message))),
+        Ok(None) => Ok(None),
+        Err(error) => Err(error),
+    }
+}
+
+fn channel_data_load_message(
+    alloc: Global,
+    kind: i32,
+    tree: Tree,
+) -> Result<Option<Message>, NoMemory>
+    ensures { IfOk result (λ x. x ≡ read_kind (common_kinds ++ under m.ChannelDataLoad channel_data_load_kinds) kind (value_of tree)) }
+{
+    if is_common(kind) {
+        return common_message(alloc, kind, tree);
+    }
+    match ChannelDataLoadMessage::from_tree(alloc, kind, tree) {
+        Ok(Some(message)) => Ok(Some(Message::ChannelDataLoad(message))),
         Ok(None) => Ok(None),
         Err(error) => Err(error),
     }

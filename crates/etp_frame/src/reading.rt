@@ -1,16 +1,20 @@
 //! Reading whole messages.
 ghost use Rattle.std.specs.Prelude.{◌≡◌, ◌<◌, ◌≤◌, ◌+◌, ◌^◌, length, IfOk};
 ghost use Rattle.etp_values.specs.Gives.{Gives};
+ghost use Rattle.avro_bin.specs.Value.{nodes};
+ghost use Rattle.avro_bin.specs.Shape.{HasSchema};
+ghost use Rattle.avro_bin.specs.View.{value_of};
+ghost use Rattle.etp_schema.specs.Bodies.{body_place};
 ghost use Rattle.etp_schema.specs.Shapes.{shape_at};
-ghost use Rattle.etp_frame.specs.Reading.{read_of, header_in, admitted, sent_kind, body_in};
-ghost use Rattle.etp_frame.specs.Parts.{place_in, as_header_error, as_body_error, IsPlace, GivesValue};
+ghost use Rattle.etp_frame.specs.Reading.{node_limit, tree_of, read_of, header_in, admitted, body_in};
+ghost use Rattle.etp_frame.specs.Parts.{place_in, as_header_error, as_body_error, GivesValue, GivesTree};
 ghost use Rattle.etp_frame.specs.Wire.{IsMessage};
 ghost use Rattle.etp_frame.specs.declared.error.FrameError.TheVariants as f;
 
 use crate::error::FrameError;
 use crate::flags;
 use crate::header::Header;
-use crate::message::{Message, is_typed};
+use crate::message::Message;
 use avro_bin::{Refusal, Tree, decode};
 use etp_schema::{InTree, Side, body_of, is_protocol, places, schema_table};
 use std::alloc::Global;
@@ -25,6 +29,29 @@ pub fn read_message(
     ensures gives { Gives f.NoMemory result (read_of sender bytes.now) }
     ensures form { IfOk result (λ r. IsMessage sender r.0 r.1 bytes.now) }
 {
+    let (header, _, tree) = match read_tree(alloc, bytes, sender) {
+        Ok(read) => read,
+        Err(error) => return Err(error),
+    };
+    match Message::from_tree(alloc, header.protocol, header.kind, tree) {
+        Ok(Some(message)) => Ok((header, message)),
+        Ok(None) => Err(FrameError::UnknownKind(header)),
+        Err(_) => Err(FrameError::NoMemory),
+    }
+}
+
+/// The header of these bytes, which `sender` sent, the place of their body's schema in [`TABLE`](etp_schema::TABLE), and the
+/// body's tree. They are refused where [`read_message`] refuses them, by the same cause.
+pub fn read_tree(
+    alloc: Global,
+    bytes: &[u8],
+    sender: Side,
+) -> Result<(Header, u32, Tree), FrameError>
+    ensures gives { GivesTree result (tree_of sender bytes.now) }
+    ensures place { IfOk result (λ r. r.1 < 165) }
+    ensures typed { IfOk result (λ r. HasSchema (shape_at r.1) (value_of r.2)) }
+    ensures few { IfOk result (λ r. nodes (value_of r.2) ≤ node_limit) }
+{
     let (header, length) = match read_header(alloc, bytes) {
         Ok(front) => front,
         Err(error) => return Err(error),
@@ -35,14 +62,9 @@ pub fn read_message(
     let Some(place) = body_place(&header, sender) else {
         return Err(FrameError::UnknownKind(header));
     };
-    let tree = match read_body(alloc, header, place, length, bytes) {
-        Ok(tree) => tree,
-        Err(error) => return Err(error),
-    };
-    match Message::from_tree(alloc, header.protocol, header.kind, tree) {
-        Ok(Some(message)) => Ok((header, message)),
-        Ok(None) => Err(FrameError::UnknownKind(header)),
-        Err(_) => Err(FrameError::NoMemory),
+    match read_body(alloc, header, place, length, bytes) {
+        Ok(tree) => Ok((header, place, tree)),
+        Err(error) => Err(error),
     }
 }
 
@@ -85,15 +107,11 @@ fn admit(header: &Header) -> Result<(), FrameError>
     Ok(())
 }
 
-/// The place of the body's schema, where the sender sends such messages and they have a type.
+/// The place of the body's schema, where the sender sends such messages.
 fn body_place(header: &Header, sender: Side) -> Option<u32>
-    ensures { IsPlace result (sent_kind sender header.now) }
+    ensures { result ≡ body_place header.now.protocol header.now.kind sender }
 {
-    let place = body_of(header.protocol, header.kind, sender)?;
-    if !is_typed(header.protocol, header.kind) {
-        return None;
-    }
-    Some(place)
+    body_of(header.protocol, header.kind, sender)
 }
 
 /// The body's tree behind so many bytes, where it ends with them.
@@ -106,7 +124,9 @@ fn read_body(
 ) -> Result<Tree, FrameError>
     requires place { place < 165 }
     requires front { front ≤ length bytes.now }
-    ensures { GivesValue result (body_in header (shape_at place) front bytes.now) }
+    ensures gives { GivesValue result (body_in header (shape_at place) front bytes.now) }
+    ensures typed { IfOk result (λ tree. HasSchema (shape_at place) (value_of tree)) }
+    ensures few { IfOk result (λ tree. nodes (value_of tree) ≤ node_limit) }
 {
     let rest = &bytes[front..];
     match decode(alloc, schema_table(), place, rest) {

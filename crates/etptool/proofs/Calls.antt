@@ -77,8 +77,8 @@ spaces_taken_free r (Asks x p) s free = free
 
 on_row_free : (r : Request) (moment : ℤ) (m : Message) (s : State) → IfSome (on_row r moment m s).call NoEnter
 on_row_free r moment (message.Core m) s = tt
-on_row_free r moment (message.Transaction m) s = tt
 on_row_free r moment (message.Dataspace m) s = spaces_taken_free r (spaces_asked m (is_some s.desk.staging)) s (spaces_free m (is_some s.desk.staging))
+on_row_free r moment _ s = tt
 
 on_accepted_free : (b : Bool) (r : Request) (moment : ℤ) (m : Message) (s : State) → IfSome (on_accepted b r moment m s).call NoEnter
 on_accepted_free true r moment m s = on_row_free r moment m s
@@ -91,8 +91,7 @@ on_protocol_free (phase.Ended e) r moment m s = tt
 
 on_message_free : (r : Request) (moment : ℤ) (m : Message) (s : State) → IfSome (on_message r moment m s).call NoEnter
 on_message_free r moment (message.Core m) s = tt
-on_message_free r moment (message.Transaction m) s = on_protocol_free s.phase r moment (message.Transaction m) s
-on_message_free r moment (message.Dataspace m) s = on_protocol_free s.phase r moment (message.Dataspace m) s
+on_message_free r moment m s = on_protocol_free s.phase r moment m s
 
 taken_as_free : (a : Arrived) (s : State) → IfSome (taken_as a s).call NoEnter
 taken_as_free (arrives.Unreadable c) s = tt

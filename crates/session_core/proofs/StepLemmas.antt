@@ -55,8 +55,8 @@ by_spaces r (Asks c p) s h = h
 
 by_row : (r : Request) (moment : ℤ) (m : Message) (s : State) → IfSome (on_row r moment m s).call IsAsk
 by_row r moment (message.Core m) s = tt
-by_row r moment (message.Transaction m) s = tt
 by_row r moment (message.Dataspace m) s = by_spaces r (spaces_asked m (is_some s.desk.staging)) s (spaces m (is_some s.desk.staging))
+by_row r moment _ s = tt
 
 by_accepted : (b : Bool) (r : Request) (moment : ℤ) (m : Message) (s : State) → IfSome (on_accepted b r moment m s).call IsAsk
 by_accepted true r moment m s = by_row r moment m s
@@ -69,8 +69,7 @@ by_protocol (phase.Ended e) r moment m s = tt
 
 by_message : (r : Request) (moment : ℤ) (m : Message) (s : State) → IfSome (on_message r moment m s).call IsAsk
 by_message r moment (message.Core m) s = tt
-by_message r moment (message.Transaction m) s = by_protocol s.phase r moment (message.Transaction m) s
-by_message r moment (message.Dataspace m) s = by_protocol s.phase r moment (message.Dataspace m) s
+by_message r moment m s = by_protocol s.phase r moment m s
 
 by_arrived : (a : Arrived) (s : State) → IfSome (taken_as a s).call IsAsk
 by_arrived (arrives.Unreadable c) s = tt

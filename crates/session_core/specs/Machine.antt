@@ -84,11 +84,11 @@ abbrev pub spaces_taken : Request → Asked SpacePending → State → Taken
 spaces_taken r (Says sayings) s = no_call (said r sayings s)
 spaces_taken r (Asks c p) s = record { state = record s { pending = Some (pending.Spaces r p) }; call = Some c }
 
--- a message of an accepted protocol; none of Transaction is taken yet
+-- a message of an accepted protocol; beside Core's, those of Dataspace alone are taken yet
 abbrev pub on_row : Request → ℤ → Message → State → Taken
 on_row r moment (message.Core m) s = no_call (on_core r moment m s)
-on_row r moment (message.Transaction m) s = no_call (refuses r code.InvalidMessageType s)
 on_row r moment (message.Dataspace m) s = spaces_taken r (spaces_asked m (is_some s.desk.staging)) s
+on_row r moment _ s = no_call (refuses r code.InvalidMessageType s)
 
 abbrev pub on_accepted : Bool → Request → ℤ → Message → State → Taken
 on_accepted true r moment m s = on_row r moment m s
@@ -104,8 +104,7 @@ on_protocol (phase.Ended e) r moment m s = no_call s
 
 abbrev pub on_message : Request → ℤ → Message → State → Taken
 on_message r moment (message.Core m) s = no_call (on_core r moment m s)
-on_message r moment (message.Transaction m) s = on_protocol s.phase r moment (message.Transaction m) s
-on_message r moment (message.Dataspace m) s = on_protocol s.phase r moment (message.Dataspace m) s
+on_message r moment m s = on_protocol s.phase r moment m s
 
 -- ---- the first half: an event
 -- an id that follows the last one is the last one from then on, whatever becomes of its message

@@ -6,7 +6,7 @@ use Rattle.msg_core.specs.declared.core_messages.CoreMessage.TheVariants as core
 use Rattle.etp_frame.specs.declared.header.Header.{Header}
 use Rattle.etp_frame.specs.declared.message.Message.{Message}
 use Rattle.etp_frame.specs.declared.message.Message.TheVariants as message
-use Rattle.etp_frame.specs.Message.{message_body, Names}
+use Rattle.etp_frame.specs.Message.{message_body, protocol_of, Names}
 use Rattle.etp_frame.specs.Wire.{IsPlain}
 use Rattle.session_core.specs.declared.saying.Addressee.{Addressee}
 use Rattle.session_core.specs.declared.saying.Addressee.TheVariants as to
@@ -38,8 +38,7 @@ core_protocol protocol (core.Acknowledge m) = common_protocol protocol
 -- any other message goes under its own protocol
 abbrev pub sent_under : ℤ → Message → ℤ
 sent_under protocol (message.Core m) = core_protocol protocol m
-sent_under protocol (message.Transaction m) = pos 18
-sent_under protocol (message.Dataspace m) = pos 24
+sent_under protocol m = pos (protocol_of m)
 
 -- a part of a reply has the request's id; a notice answers nothing
 abbrev pub correlation_of : Addressee → ℤ → ℤ

@@ -162,8 +162,7 @@ fn sent_under(request: &Request, message: &Message) -> i32
 {
     match message {
         Message::Core(message) => core_protocol(request, message),
-        Message::Transaction(_) => protocols::TRANSACTION,
-        Message::Dataspace(_) => protocols::DATASPACE,
+        other => other.protocol(),
     }
 }
 

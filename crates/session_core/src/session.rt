@@ -209,12 +209,12 @@ impl Session {
         ensures state { OnOk result (self.new ≡ (on_protocol self.old.phase request moment message self.old).state) }
     {
         match self.phase {
-            Phase::Waiting => {
-                self.refuse(alloc, &request, ErrorCode::InvalidState)?;
+            Phase::Waiting => self.turn_away(alloc, &request, message, ErrorCode::InvalidState),
+            Phase::Open => self.on_accepted(alloc, request, moment, message),
+            Phase::Ended(_) => {
+                drop(message);
                 Ok(None)
             }
-            Phase::Open => self.on_accepted(alloc, request, moment, message),
-            Phase::Ended(_) => Ok(None),
         }
     }
 
@@ -229,19 +229,15 @@ impl Session {
         ensures state { OnOk result (self.new ≡ (on_accepted (is_accepted self.old request.protocol) request moment message self.old).state) }
     {
         if !is_accepted(self.accepted.as_slice(), &request) {
-            self.refuse(alloc, &request, ErrorCode::UnsupportedProtocol)?;
-            return Ok(None);
+            return self.turn_away(alloc, &request, message, ErrorCode::UnsupportedProtocol);
         }
         match message {
             Message::Core(message) => {
                 self.on_core(alloc, &request, moment, message)?;
                 Ok(None)
             }
-            Message::Transaction(_) => {
-                self.refuse(alloc, &request, ErrorCode::InvalidMessageType)?;
-                Ok(None)
-            }
             Message::Dataspace(message) => self.on_spaces(alloc, request, message),
+            other => self.turn_away(alloc, &request, other, ErrorCode::InvalidMessageType),
         }
     }
 
@@ -350,6 +346,22 @@ impl Session {
                 )
             }
         }
+    }
+
+    /// Refuses a message whole, at whose content nobody looks.
+    fn turn_away(
+        &mut self,
+        alloc: Global,
+        request: &Request,
+        message: Message,
+        code: ErrorCode,
+    ) -> Result<Option<StoreCall>, NoMemory>
+        ensures call { IfOk result (λ call. call ≡ None) }
+        ensures state { OnOk result (self.new ≡ refuses request.now code self.old) }
+    {
+        drop(message);
+        self.refuse(alloc, request, code)?;
+        Ok(None)
     }
 
     /// Refuses a message whole.
