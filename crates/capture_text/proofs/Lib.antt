@@ -1,0 +1,5 @@
+pub mod NameLemmas
+pub mod PieceLemmas
+pub mod TableLemmas
+pub mod ValueLemmas
+pub mod Writing

@@ -1,0 +1,7 @@
+pub mod Names
+pub mod Pieces
+pub mod Values
+pub mod Faults
+pub mod Lines
+pub mod Parts
+pub mod Laws

@@ -1,0 +1,24 @@
+//! Laws of the names and of the texts. Each function does nothing: its contract is the law.
+ghost use Rattle.capture_text.specs.Laws.{FieldsAreNamed, PartsAreTheSchemas, MessagesAreNamed, NamesDiffer, OneNumber, OneRunOfBytes, OneQuotedText, OneText};
+
+/// Each record has as many names as fields, and its fields' schemas stand where its names look for them; each message that a
+/// side sends has a name of its own.
+pub fn names_fit()
+    ensures fields { FieldsAreNamed }
+    ensures parts { PartsAreTheSchemas }
+    ensures messages { MessagesAreNamed }
+    ensures differ { NamesDiffer }
+{}
+
+/// A number, bytes and a text can be read off their own texts, whatever follows them that no digit begins.
+pub fn one_piece()
+    ensures number { OneNumber }
+    ensures bytes { OneRunOfBytes }
+    ensures quoted { OneQuotedText }
+{}
+
+/// A value can be read off its text, whatever follows it that no digit begins: two values of one schema that differ have
+/// different texts.
+pub fn one_text()
+    ensures { OneText }
+{}
