@@ -1,10 +1,14 @@
 pub mod Fronts
 pub mod Runs
+pub mod Listings
 pub mod Seats
 pub mod Growth
 pub mod Calls
 pub mod Soundness
 pub mod Once
+pub mod OnceListed
 pub mod Entering
 pub mod Begun
+pub mod Errors
+pub mod ListErrors
 pub mod TooLong

@@ -11,6 +11,7 @@ use Rattle.etptool.specs.Play.{World, Played, first, first_world, next_played, h
 use Rattle.etptool.specs.Reading.{Front}
 use Rattle.etptool.specs.Replay.{verdict, Gives}
 use Rattle.etptool.specs.Laws.{GivesOnce}
+use Rattle.etptool.proofs.Fronts.{whole_parts, behind_magic}
 
 -- a run so far in which no frame was refused
 abbrev going : World → ℕ → List ℕ → Played
@@ -40,9 +41,6 @@ first_accepted : (w : World) (at : ℕ) (bs : List ℕ) (f : Frame) (fs : List F
 first_accepted w at bs f fs accepted = by_test (is_refused w f)
     (λ yes. absurd (some_none at (sym (ap (λ b. (play_from (next_played (going w at bs) b f) fs).refused) yes ∙ refused_stays (next_played (going w at bs) true f) fs at refl) ∙ accepted)))
     (λ e. e)
-
-whole_parts : (f g : Frame) (m n : List ℕ) → Whole f m ≡ Whole g n → (f ≡ g) × (m ≡ n)
-whole_parts f g m n e = (cc, cc)
 
 -- behind it the others are played
 tail : (w : World) (at : ℕ) (bs bytes : List ℕ) (f : Frame) (mid : List ℕ) (fs : List Frame) (s : Status) → found at bytes ≡ Whole f mid → Reads w at bs bytes (f ∷ fs) s
@@ -83,9 +81,6 @@ one (f ∷ fs) (g ∷ gs) w at bs bytes s t a b =
     let b' : Reads w at bs bytes (f ∷ gs) t = subst (λ (x : Frame). Reads w at bs bytes (x ∷ gs) t) (sym same) b in
     let more = one fs gs (world_after w f) (at + (17 + length f.bytes)) (bs ++ bytes_after w f) a.front.0 s t (tail w at bs bytes f a.front.0 fs s a.front.1 a) (tail w at bs bytes f a.front.0 gs t a.front.1 b') in
     (ap₂ (λ (x : Frame) (xs : List Frame). x ∷ xs) same more.0, more.1)
-
-behind_magic : (xs ys : List ℕ) → magic ++ xs ≡ magic ++ ys → xs ≡ ys
-behind_magic xs ys e = ap (drop 8) e
 
 reads_of : (c : Settings) (s : Status) (fs : List Frame) (xs behind : List ℕ) → xs ≡ magic ++ behind → (play c fs).refused ≡ None → Gives c s fs xs → Reads (first_world c) 8 magic behind fs s
 reads_of c s fs xs behind is accepted gives = record {

@@ -17,8 +17,9 @@ use Rattle.etp_capture.specs.declared.frame.Frame.{Frame}
 use Rattle.chan_defs.specs.declared.config.Config.{Config as Settings}
 use Rattle.etptool.specs.Play.{World, Played, first, first_world, next_played, happens, play_from, play, world_after, bytes_after, is_refused}
 use Rattle.etptool.specs.Reading.{IsRead}
-use Rattle.etptool.specs.Replay.{verdict, Moves, Steps, Breaks, Rests, Stops, Finishes, Run, Gives, Ends, Halts, Cuts, Replays}
-use Rattle.etptool.proofs.Fronts.{Front-more, end_at-more}
+use Rattle.etptool.specs.Output.{Moves, Rests, Finishes}
+use Rattle.etptool.specs.Replay.{verdict, Steps, Breaks, Stops, Run, Gives, Ends, Halts, Cuts, Replays}
+use Rattle.etptool.proofs.Fronts.{end_at-more, read_more, moved, more_front}
 
 -- ---- play
 
@@ -46,14 +47,6 @@ run_start c w at p a b h k new place none read written = record {
   written = written;
 }
 
-read_more : (a b c : Option (List ℕ)) (fs : List Frame) (f : Frame) (at : ℕ) → end_at 8 fs ≡ at → Told a b (λ xs ys. IsRead xs fs ys) → Told b c (λ xs ys. found at xs ≡ Whole f ys) → Told a c (λ xs ys. IsRead xs (fs ++ f ∷ []) ys)
-read_more a b c fs f at place read next =
-    told_trans a b c _ _ _ (λ xs ys zs p q. (p.0, p.1, Front-more 8 p.0 fs ys f zs p.2 (ap (λ n. found n ys) place ∙ q))) read next
-
--- what was still to be written, and more, is what is written now and what is still to be
-moved : (sent p more now p' : List ℕ) → p ++ more ≡ now ++ p' → (sent ++ p) ++ more ≡ (sent ++ now) ++ p'
-moved sent p more now p' e = append_assoc sent p more ∙ ap (λ l. sent ++ l) e ∙ sym (append_assoc sent now p')
-
 pub run_step : (c : Settings) (a b d h k m : Option (List ℕ)) (w w' : World) (r r' : Reader) (p p' : List ℕ) → Run c w r.at p a b h k → Steps w r p b d k m w' r' p' → Run c w' r'.at p' a d h m
 run_step c a b d h k m w w' r r' p p' run s =
     let place : r.at + (17 + length s.frame.bytes) ≡ r'.at = sym (ap (λ (q : Reader). q.at) s.place) in
@@ -71,13 +64,6 @@ run_step c a b d h k m w w' r r' p p' run s =
     }
 
 -- ---- a run stops
-
--- a front of what comes after
-more_front : (h k m : Option (List ℕ)) (bytes more : List ℕ) → Appends h k bytes → AppendsFront k m more → AppendsFront h m (bytes ++ more)
-more_front h k m bytes more written front =
-    let n = front.0 in
-    let fits : length bytes + n < length (bytes ++ more) = omega (arith, length-append bytes more, front.1) in
-    (length bytes + n, fits, subst (Appends h m) (sym (take-append-add bytes more n)) (Appends-trans h k m bytes (take n more) written front.2))
 
 -- all that was gathered is written at last
 all_written : (c : Settings) (a b h k m n : Option (List ℕ)) (w : World) (at : ℕ) (p p' : List ℕ) (run : Run c w at p a b h k) → Keeps k m → p' ≡ p → Appends m n p' → Appends h n (play c run.frames).bytes

@@ -1,10 +1,13 @@
 pub mod Words
+pub mod Commands
 pub mod Settings
 pub mod Turns
 pub mod Play
 pub mod Plays
 pub mod Sound
 pub mod Reading
+pub mod Output
 pub mod Replay
+pub mod Listing
 pub mod Top
 pub mod Laws

@@ -1,12 +1,10 @@
 -- What a replay writes and answers.
-use Rattle.std.specs.Prelude.{◌≡◌, ℕ, ◌+◌, ◌⊎◌, Bool, true, false, List, [], ◌++◌, nat_eq, length, if◌then◌else◌, Option, None, Some}
+use Rattle.std.specs.Prelude.{◌≡◌, ℕ, ◌+◌, ◌⊎◌, Bool, true, false, List, [], ◌++◌, length, if◌then◌else◌, Option, None, Some}
 use Rattle.std.specs.Io.KnownBytes.{Keeps, Appends}
-use Rattle.std.specs.List.{starts_with}
 use Rattle.etp_outside.specs.Told.{Told}
 use Rattle.etp_outside.specs.Whole.{AppendsFront}
 use Rattle.etp_outside.specs.declared.status.Status.{Status}
 use Rattle.etp_outside.specs.declared.status.Status.TheVariants.{Done, Usage, Config, Capture, ReadFault, WriteFault, NoMemory, ListenFault, Limit, Refused, LinkFault, Peer, Input, Stopped}
-use Rattle.etp_capture.specs.Frames.{magic}
 use Rattle.etp_capture.specs.Found.{Found, Whole, NoMore, Bad, found}
 use Rattle.etp_capture.specs.Capture.{end_at}
 use Rattle.etp_capture.specs.Reader.{Reader}
@@ -15,17 +13,8 @@ use Rattle.etp_capture.specs.declared.reader.CaptureError.{CaptureError}
 use Rattle.etp_capture.specs.declared.reader.CaptureError.TheVariants as error
 use Rattle.chan_defs.specs.declared.config.Config.{Config as Settings}
 use Rattle.etptool.specs.Play.{World, Played, play, world_after, bytes_after, is_refused}
-use Rattle.etptool.specs.Reading.{IsRead}
-
--- the status of an error of a capture
-abbrev pub status_of : CaptureError → Status
-status_of error.Magic = Capture 0
-status_of (error.Kind offset) = Capture offset
-status_of (error.Length offset) = Capture offset
-status_of (error.Cut offset) = Capture offset
-status_of error.Limit = Limit
-status_of error.ReadFault = ReadFault
-status_of error.NoMemory = NoMemory
+use Rattle.etptool.specs.Reading.{IsRead, HasNoMagic}
+use Rattle.etptool.specs.Output.{status_of, Moves, Rests}
 
 -- the status that what stands at an offset gives, and none where it is a frame that is played
 abbrev pub verdict : World → ℕ → Found → Option Status
@@ -34,15 +23,6 @@ verdict w at (Bad why) = Some (status_of why)
 verdict w at (Whole f rest) = if is_refused w f then Some (Capture at) else None
 
 -- ---- one step
-
--- more bytes came behind those that were still to be written, and a front of both was written
-abbrev pub Moves : Option (List ℕ) → Option (List ℕ) → List ℕ → List ℕ → List ℕ → Type 0
-Moves held kept old more new = (sent : List ℕ) × Appends held kept sent × (old ++ more ≡ sent ++ new)
-
--- what was gathered was written or stays to be; or a write failed
-abbrev pub WritesGathered : Option Status → List ℕ → List ℕ → Option (List ℕ) → Option (List ℕ) → Type 0
-WritesGathered None old new held kept = Moves held kept old [] new
-WritesGathered (Some status) old new held kept = (status ≡ WriteFault) × AppendsFront held kept old
 
 -- a frame was read and played, and its bytes were written or are still to be
 pub record Steps (w : World) (r : Reader) (p : List ℕ) (a b h k : Option (List ℕ)) (w' : World) (r' : Reader) (p' : List ℕ) : Type 0 where
@@ -60,10 +40,6 @@ pub record Breaks (w : World) (r : Reader) (p : List ℕ) (a b h k : Option (Lis
   pub accepted : is_refused w frame ≡ false
   pub bytes : AppendsFront h k (p ++ bytes_after w frame)
 
--- nothing was written, and as much is still to be
-abbrev pub Rests : Option (List ℕ) → Option (List ℕ) → List ℕ → List ℕ → Type 0
-Rests held kept old new = Keeps held kept × (new ≡ old)
-
 -- the run stops with this status
 abbrev pub Stops : Status → World → Reader → List ℕ → Option (List ℕ) → Option (List ℕ) → Option (List ℕ) → Option (List ℕ) → List ℕ → Type 0
 Stops Done w r p a b h k p' = Told a b (λ xs ys. verdict w r.at (found r.at xs) ≡ Some Done) × Rests h k p p'
@@ -80,16 +56,6 @@ Stops LinkFault w r p a b h k p' = ⊥
 Stops Peer w r p a b h k p' = ⊥
 Stops (Input line) w r p a b h k p' = ⊥
 Stops Stopped w r p a b h k p' = ⊥
-
--- what was still to be written is written before the status is answered, unless a write has failed already
-abbrev pub Finishes : Status → Status → List ℕ → Option (List ℕ) → Option (List ℕ) → Type 0
-Finishes WriteFault answer rest held kept = (answer ≡ WriteFault) × Keeps held kept
-Finishes Done answer rest held kept = ((answer ≡ Done) × Appends held kept rest) ⊎ ((answer ≡ WriteFault) × AppendsFront held kept rest)
-Finishes (Capture o) answer rest held kept = ((answer ≡ Capture o) × Appends held kept rest) ⊎ ((answer ≡ WriteFault) × AppendsFront held kept rest)
-Finishes Limit answer rest held kept = ((answer ≡ Limit) × Appends held kept rest) ⊎ ((answer ≡ WriteFault) × AppendsFront held kept rest)
-Finishes ReadFault answer rest held kept = ((answer ≡ ReadFault) × Appends held kept rest) ⊎ ((answer ≡ WriteFault) × AppendsFront held kept rest)
-Finishes NoMemory answer rest held kept = ((answer ≡ NoMemory) × Appends held kept rest) ⊎ ((answer ≡ WriteFault) × AppendsFront held kept rest)
-Finishes status answer rest held kept = Unit {0}
 
 -- ---- a run
 
@@ -125,10 +91,6 @@ pub record Cuts (c : Settings) (a b h k : Option (List ℕ)) : Type 0 where
   pub input : Told a b (λ xs ys. (rest : List ℕ) × IsRead xs frames rest)
   pub accepted : (play c frames).refused ≡ None
   pub written : AppendsFront h k (play c frames).bytes
-
--- what is no capture: it does not begin with the magic
-abbrev pub HasNoMagic : List ℕ → Type 0
-HasNoMagic xs = starts_with nat_eq xs magic ≡ false
 
 -- what a status says of the input and of what was written
 abbrev pub Replays : Settings → Status → Option (List ℕ) → Option (List ℕ) → Option (List ℕ) → Option (List ℕ) → Type 0

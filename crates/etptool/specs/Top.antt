@@ -5,36 +5,46 @@ use Rattle.etp_outside.specs.declared.status.Status.{Status}
 use Rattle.etp_outside.specs.declared.status.Status.TheVariants.{Done, Usage, Config, Capture, ReadFault, WriteFault, NoMemory, ListenFault, Limit, Refused, LinkFault, Peer, Input, Stopped}
 use Rattle.chan_defs.specs.Config.{defs}
 use Rattle.chan_defs.specs.declared.config.Config.{Config as Settings}
+use Rattle.etptool.specs.Words.{Command, Replay, Show, Check}
 use Rattle.etptool.specs.Settings.{Refuses}
 use Rattle.etptool.specs.Replay.{Replays}
-
--- the content of the file that the words name, where the host tells it
-abbrev pub InFile : Option (List ℕ) → (List ℕ → Option (List ℕ)) → (List ℕ → Type 0) → Type 0
-InFile name content P = IfSome name (λ n. IfSome (content n) P)
+use Rattle.etptool.specs.Listing.{Lists}
+use Rattle.etptool.specs.declared.listing.Listing.TheVariants as listing
 
 -- the input was not touched, and nothing was written
 abbrev pub Untouched : Option (List ℕ) → Option (List ℕ) → Option (List ℕ) → Option (List ℕ) → Type 0
 Untouched a b h k = Keeps a b × Keeps h k
 
 -- the configuration was read, and the input was replayed with it
-pub record Started (s : Status) (name : Option (List ℕ)) (content : List ℕ → Option (List ℕ)) (a b h k : Option (List ℕ)) : Type 0 where
+pub record Started (s : Status) (content a b h k : Option (List ℕ)) : Type 0 where
   pub config : Settings
-  pub is_read : InFile name content (λ bytes. defs bytes ≡ Ok config)
+  pub is_read : IfSome content (λ bytes. defs bytes ≡ Ok config)
   pub replayed : Replays config s a b h k
 
--- what a status says of the words, the configuration, the input and what was written
-abbrev pub Answers : Status → Option (List ℕ) → (List ℕ → Option (List ℕ)) → Option (List ℕ) → Option (List ℕ) → Option (List ℕ) → Option (List ℕ) → Type 0
-Answers Usage name content a b h k = (name ≡ None) × Untouched a b h k
-Answers (Config cause channel key) name content a b h k = InFile name content (Refuses (Config cause channel key)) × Untouched a b h k
-Answers ReadFault name content a b h k = Untouched a b h k ⊎ Started ReadFault name content a b h k
-Answers NoMemory name content a b h k = Untouched a b h k ⊎ Started NoMemory name content a b h k
-Answers Done name content a b h k = Started Done name content a b h k
-Answers (Capture o) name content a b h k = Started (Capture o) name content a b h k
-Answers Limit name content a b h k = Started Limit name content a b h k
-Answers WriteFault name content a b h k = Started WriteFault name content a b h k
-Answers ListenFault name content a b h k = ⊥
-Answers (Refused code) name content a b h k = ⊥
-Answers LinkFault name content a b h k = ⊥
-Answers Peer name content a b h k = ⊥
-Answers (Input line) name content a b h k = ⊥
-Answers Stopped name content a b h k = ⊥
+-- what a status says of a replay: of the configuration's file, where the host tells it, of the input and of what was written
+abbrev pub ReplaysWith : Status → Option (List ℕ) → Option (List ℕ) → Option (List ℕ) → Option (List ℕ) → Option (List ℕ) → Type 0
+ReplaysWith (Config cause channel key) content a b h k = IfSome content (Refuses (Config cause channel key)) × Untouched a b h k
+ReplaysWith ReadFault content a b h k = Untouched a b h k ⊎ Started ReadFault content a b h k
+ReplaysWith NoMemory content a b h k = Untouched a b h k ⊎ Started NoMemory content a b h k
+ReplaysWith Done content a b h k = Started Done content a b h k
+ReplaysWith (Capture o) content a b h k = Started (Capture o) content a b h k
+ReplaysWith Limit content a b h k = Started Limit content a b h k
+ReplaysWith WriteFault content a b h k = Started WriteFault content a b h k
+ReplaysWith Usage content a b h k = ⊥
+ReplaysWith ListenFault content a b h k = ⊥
+ReplaysWith (Refused code) content a b h k = ⊥
+ReplaysWith LinkFault content a b h k = ⊥
+ReplaysWith Peer content a b h k = ⊥
+ReplaysWith (Input line) content a b h k = ⊥
+ReplaysWith Stopped content a b h k = ⊥
+
+-- what a status says of a command, of the files of the host, the input and what was written
+abbrev pub Fulfils : Status → Command → (List ℕ → Option (List ℕ)) → Option (List ℕ) → Option (List ℕ) → Option (List ℕ) → Option (List ℕ) → Type 0
+Fulfils s (Replay name) files a b h k = ReplaysWith s (files name) a b h k
+Fulfils s Show files a b h k = Lists listing.Show s a b h k
+Fulfils s Check files a b h k = Lists listing.Check s a b h k
+
+-- the same of words, which may be in no form
+abbrev pub Answers : Status → Option Command → (List ℕ → Option (List ℕ)) → Option (List ℕ) → Option (List ℕ) → Option (List ℕ) → Option (List ℕ) → Type 0
+Answers s None files a b h k = ((s ≡ Usage) ⊎ (s ≡ NoMemory)) × Untouched a b h k
+Answers s (Some command) files a b h k = Fulfils s command files a b h k ⊎ ((s ≡ NoMemory) × Untouched a b h k)

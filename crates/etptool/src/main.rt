@@ -1,14 +1,23 @@
-//! Replays a capture: each tag of it is a session over one store, and what the sessions answer is written as a capture.
+//! Captures by the command line: replayed, shown and checked.
 //!
-//! `etptool replay CONFIG` reads a server's configuration from the file CONFIG and a capture from its input, and writes the
-//! answering capture to its output. [`run_tool`](run::run_tool) does that over any host, source and sink; what it promises is
-//! in `specs/Top`, and what is written for the frames, one after another, is `play` of `specs/Play`.
+//! - `etptool replay CONFIG` reads a server's configuration from the file CONFIG and a capture from its input: each tag of the
+//!   capture is a session over one store, and what the sessions answer is written to the output as a capture.
+//! - `etptool show` writes a line for each frame of the capture in its input.
+//! - `etptool check` writes a line for each of its messages that is refused, and then how many frames, messages and refused
+//!   messages there were.
 //!
-//! A run goes through these: [`run`] has the words and the configuration, [`replay`] the loop over the capture's frames,
-//! [`player`] the sessions by their tags, and [`turns`] one frame on its session and the store.
+//! [`run_tool`](run::run_tool) does that over any host, source and sink; what it promises is in `specs/Top`. What is written
+//! for the frames, one after another, is `play` of `specs/Play` in a replay, and `listed` of `specs/Listing` else.
+//!
+//! A run goes through these: [`command`] has the words, [`run`] the configuration, [`replay`] and [`listing`] the loop over the
+//! capture's frames, [`player`] the sessions by their tags, [`turns`] one frame on its session and the store, and [`output`]
+//! what is gathered and written.
 #![tactic(auto)]
 
+mod command;
 mod laws;
+mod listing;
+mod output;
 mod player;
 mod replay;
 mod run;
@@ -19,19 +28,26 @@ mod turns;
 
 use etp_outside::{DirHost, Sink, Status, StdSink, StdSource, Written, write_all};
 use run::run_tool;
-use std::alloc::Global;
+use std::alloc::{AllocError, Global};
 use std::env;
 use std::io::{self, BufReader};
 use std::process::ExitCode;
 
 /// What is printed where the words are in no form.
-const USAGE: &str = "etptool replay CONFIG < CAPTURE > ANSWERS\n";
+const USAGE: &str =
+    "etptool replay CONFIG < CAPTURE > ANSWERS\netptool show < CAPTURE\netptool check < CAPTURE\n";
 
 /// How much of the input is read at a time.
 const READ_AHEAD: usize = 65_536;
 
+/// So much memory is taken once and given back before the run. The C library then keeps what is freed, where it would else
+/// give the tree of each large message back to the system, and take it again page by page for the next.
+const KEPT_MEMORY: usize = 16_777_216;
+
 fn main(rt: HostRuntime) -> io::Result<ExitCode> {
     let alloc = rt.alloc();
+    let kept: Result<Vec<u8>, AllocError> = Vec::with_capacity(alloc, KEPT_MEMORY);
+    drop(kept);
     let status = match words(&rt) {
         Ok(words) => {
             let mut host = DirHost::new(&rt);

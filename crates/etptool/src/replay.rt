@@ -2,18 +2,16 @@
 ghost use Rattle.std.specs.Prelude.{◌≡◌, ◌≤◌, ◌⊎◌, None, Some, IfSome, IfNone};
 ghost use Rattle.etp_outside.specs.Faults.{Rose};
 ghost use Rattle.etp_capture.specs.Frames.{capture_limit};
-ghost use Rattle.etptool.specs.Replay.{status_of, Steps, Stops, WritesGathered, Finishes, Replays};
+ghost use Rattle.etptool.specs.Replay.{Steps, Stops, Replays};
 ghost use Rattle.etptool.specs.Sound.{IsSound};
 ghost use Rattle.etp_outside.specs.declared.status.Status.TheVariants.{ReadFault, WriteFault};
 
+use crate::output::{finish, status_of, write_gathered};
 use crate::player::Player;
 use chan_defs::Config;
-use etp_capture::{CaptureError, CaptureReader, CaptureWriter, PutError};
-use etp_outside::{Sink, Source, Status, Written, write_all};
+use etp_capture::{CaptureReader, CaptureWriter, PutError};
+use etp_outside::{Sink, Source, Status};
 use std::alloc::Global;
-
-/// So many bytes are gathered before they are written.
-const GATHERED: usize = 65_536;
 
 /// Replays the input to its end with this configuration.
 pub fn replay<R: Source, W: Sink>(
@@ -95,53 +93,4 @@ fn step<R: Source, W: Sink>(
         return Some(Status::NoMemory);
     }
     write_gathered(gathered, out)
-}
-
-/// Writes what was gathered, where that is enough for a write.
-fn write_gathered<W: Sink>(gathered: &mut Vec<u8>, out: &mut W) -> Option<Status>
-    ensures bytes { WritesGathered result gathered.old.items gathered.new.items (W.held out.old) (W.held out.new) }
-    ensures kept { W.faults out.old ≤ W.faults out.new }
-    ensures cause { result ≡ Some WriteFault → Rose (W.faults out.old) (W.faults out.new) }
-{
-    if gathered.len() < GATHERED {
-        return None;
-    }
-    match write_all(out, gathered.as_slice()) {
-        Written::Done => {
-            gathered.clear();
-            None
-        }
-        Written::Failed => Some(Status::WriteFault),
-    }
-}
-
-/// Writes what is still to be written before a status is answered.
-fn finish<W: Sink>(status: Status, rest: &[u8], out: &mut W) -> Status
-    ensures bytes { Finishes status result rest.now (W.held out.old) (W.held out.new) }
-    ensures kept { W.faults out.old ≤ W.faults out.new }
-    ensures read_cause { result ≡ ReadFault → status ≡ ReadFault }
-    ensures write_cause { result ≡ WriteFault → (status ≡ WriteFault) ⊎ Rose (W.faults out.old) (W.faults out.new) }
-{
-    if status == Status::WriteFault {
-        return status;
-    }
-    match write_all(out, rest) {
-        Written::Done => status,
-        Written::Failed => Status::WriteFault,
-    }
-}
-
-/// The status of an error of the capture.
-fn status_of(error: CaptureError) -> Status
-    ensures { result ≡ status_of error }
-{
-    match error {
-        CaptureError::Magic => Status::Capture(0),
-        CaptureError::Kind(at) | CaptureError::Length(at) | CaptureError::Cut(at) => {
-            Status::Capture(at)
-        }
-        CaptureError::Limit => Status::Limit,
-        CaptureError::ReadFault => Status::ReadFault,
-        CaptureError::NoMemory => Status::NoMemory,
-    }
 }

@@ -1,19 +1,26 @@
 //! The top call.
-ghost use Rattle.std.specs.Prelude.{◌≡◌, ◌≢◌, ◌⊎◌, ◌↔◌, None, Some, Err};
-ghost use Rattle.std.specs.Option.{option_copied};
+ghost use Rattle.std.specs.Prelude.{◌≡◌, ◌≢◌, ◌⊎◌, None, Some, Err, map, string_bytes};
 ghost use Rattle.etp_outside.specs.Faults.{Rose};
-ghost use Rattle.etp_outside.specs.declared.status.Status.TheVariants.{Usage, ReadFault, WriteFault};
-ghost use Rattle.etptool.specs.Words.{is_option, config_named};
+ghost use Rattle.etp_outside.specs.declared.status.Status.TheVariants.{Usage, ReadFault, WriteFault, NoMemory};
+ghost use Rattle.etptool.specs.Words.{command_in};
+ghost use Rattle.etptool.specs.Commands.{as_command};
 ghost use Rattle.etptool.specs.Settings.{refusal_status, unread_status, IsConfig};
-ghost use Rattle.etptool.specs.Top.{Answers};
+ghost use Rattle.etptool.specs.Top.{Answers, Fulfils, ReplaysWith};
 
+use crate::command::{Command, command_of};
+use crate::listing::{Listing, list_frames};
 use crate::replay::replay;
 use chan_defs::{Config, DefsError, MAX_DEFS_LEN, read_defs};
+use command_words::words_of;
 use etp_outside::{Host, Opened, Sink, Source, Status, Unread, read_all};
 use std::alloc::Global;
 
-/// Does what the words say, and answers how that ended. The only form is `replay CONFIG`: the configuration of that name is
-/// read, and then the capture that the input is; what answers it goes to the output.
+/// Does what the words say, and answers how that ended. The forms are:
+///
+/// - `replay CONFIG`: the configuration of that name is read, and then the capture that the input is; what answers it goes to
+///   the output;
+/// - `show`: a line for each frame of the input goes to the output;
+/// - `check`: a line for each message of the input that is refused goes to the output, and at the end one with the counts.
 pub fn run_tool<H: Host, R: Source, W: Sink>(
     alloc: Global,
     words: &[String],
@@ -21,38 +28,57 @@ pub fn run_tool<H: Host, R: Source, W: Sink>(
     input: &mut R,
     out: &mut W,
 ) -> Status
-    ensures usage { result ≡ Usage ↔ (config_named words.now ≡ None) }
-    ensures answers { Answers result (config_named words.now) (H.content host.old) (R.left input.old) (R.left input.new) (W.held out.old) (W.held out.new) }
+    ensures usage { result ≡ Usage → command_in (map string_bytes words.now) ≡ None }
+    ensures no_form { command_in (map string_bytes words.now) ≡ None → result ≢ NoMemory → result ≡ Usage }
+    ensures answers { Answers result (command_in (map string_bytes words.now)) (H.content host.old) (R.left input.old) (R.left input.new) (W.held out.old) (W.held out.new) }
     ensures read_cause { result ≡ ReadFault → Rose (H.faults host.old) (H.faults host.new) ⊎ Rose (R.faults input.old) (R.faults input.new) }
     ensures write_cause { result ≡ WriteFault → Rose (W.faults out.old) (W.faults out.new) }
 {
-    let Some(name) = config_named(words) else {
-        return Status::Usage;
+    let plain = match words_of(alloc, words) {
+        Ok(Some(plain)) => plain,
+        Ok(None) => return Status::Usage,
+        Err(_) => return Status::NoMemory,
     };
+    match command_of(plain.as_slice()) {
+        Some(command) => run(alloc, command, host, input, out),
+        None => Status::Usage,
+    }
+}
+
+/// Does what a command says.
+fn run<H: Host, R: Source, W: Sink>(
+    alloc: Global,
+    command: Command,
+    host: &mut H,
+    input: &mut R,
+    out: &mut W,
+) -> Status
+    ensures fulfils { Fulfils result (as_command command.entry) (H.content host.old) (R.left input.old) (R.left input.new) (W.held out.old) (W.held out.new) }
+    ensures read_cause { result ≡ ReadFault → Rose (H.faults host.old) (H.faults host.new) ⊎ Rose (R.faults input.old) (R.faults input.new) }
+    ensures write_cause { result ≡ WriteFault → Rose (W.faults out.old) (W.faults out.new) }
+{
+    match command {
+        Command::Replay(name) => replay_with(alloc, name, host, input, out),
+        Command::Show => list_frames(alloc, Listing::Show, input, out),
+        Command::Check => list_frames(alloc, Listing::Check, input, out),
+    }
+}
+
+/// Replays the input with the configuration of a name.
+fn replay_with<H: Host, R: Source, W: Sink>(
+    alloc: Global,
+    name: &str,
+    host: &mut H,
+    input: &mut R,
+    out: &mut W,
+) -> Status
+    ensures replays { ReplaysWith result (H.content host.old name.now) (R.left input.old) (R.left input.new) (W.held out.old) (W.held out.new) }
+    ensures read_cause { result ≡ ReadFault → Rose (H.faults host.old) (H.faults host.new) ⊎ Rose (R.faults input.old) (R.faults input.new) }
+    ensures write_cause { result ≡ WriteFault → Rose (W.faults out.old) (W.faults out.new) }
+{
     match read_config(alloc, host, name) {
         Ok(config) => replay(alloc, config, input, out),
         Err(status) => status,
-    }
-}
-
-/// The name of the configuration, where the words are in the form.
-fn config_named(words: &[String]) -> Option<&str>
-    ensures { option_copied result ≡ config_named words.now }
-{
-    match words {
-        [command, name] if command.as_str() == "replay" && !is_option(name.as_bytes()) => {
-            Some(name.as_str())
-        }
-        _ => None,
-    }
-}
-
-fn is_option(word: &[u8]) -> bool
-    ensures { result ≡ is_option word.now }
-{
-    match word {
-        [] => false,
-        [first, ..] => *first == b'-',
     }
 }
 

@@ -1,6 +1,7 @@
 //! Tables with values from outside: captures whose payloads were spelled by hand after the schema, over objects in memory.
 ghost use Rattle.std.specs.Prelude.{◌<◌};
 
+mod listing;
 mod many;
 mod refusals;
 

@@ -4,7 +4,7 @@ use Rattle.etp_capture.specs.Reader.{Reader}
 use Rattle.etp_capture.specs.Writer.{Puts}
 use Rattle.etp_capture.specs.declared.writer.PutError.{PutError}
 use Rattle.etp_capture.specs.declared.writer.PutError.TheVariants.{WriteFault}
-use Rattle.etptool.specs.Replay.{Finishes}
+use Rattle.etptool.specs.Output.{Finishes}
 use Rattle.etptool.proofs.Begun.{magic_told, begun_reader}
 use Rattle.etptool.proofs.Runs.{run_start, run_step, run_stop, magic_cut, magic_halt}
 use Rattle.etptool.proofs.replay.replay.Goals as goal

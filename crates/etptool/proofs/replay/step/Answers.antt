@@ -1,7 +1,7 @@
 use Rattle.std.proofs.Common.{sym, subst}
 use Rattle.etp_outside.specs.declared.status.Status.{Status}
 use Rattle.etptool.specs.Replay.{Stops}
-use Rattle.etptool.proofs.Begun.{stops_error}
+use Rattle.etptool.proofs.Errors.{stops_error}
 use Rattle.etptool.proofs.replay.step.Goals as goal
 
 pub returns-in-Err-clause-stop : goal.returns-in-Err-clause-stop
