@@ -1,17 +1,27 @@
-//! Reads each message that has a type once, with every field filled, prints it field by field, and writes it again.
+//! Reads a capture, and prints of each frame the line that shows it, and of each message that is read its header, the message
+//! field by field, and a line where it is not written as the bytes that it came in.
 //!
-//! The samples' bytes were spelled outside of this product, by the schema. A message that is not read, or not written as the
-//! same bytes, is told in a line of its own.
+//! The capture that it is run on has every message of the profile with every field filled, once for each side that sends it. It
+//! and the expected output were made outside of this product, by the schema alone (`bench/message_samples.py`).
 #![tactic(auto)]
 
-mod samples;
-
+use capture_text::show_frame;
+use etp_capture::{CaptureReader, Frame};
 use etp_frame::{FrameError, Header, Message, flags, read_message, write_message};
+use etp_outside::StdSource;
 use etp_schema::Side;
 use etp_values::Blob;
-use samples::{CLIENT_SAMPLES, SERVER_SAMPLES};
 use std::alloc::Global;
-use std::io;
+use std::io::{self, BufReader, Write};
+
+/// The side that sent the frame's message, where it has one.
+fn sender_of(frame: &Frame) -> Option<Side> {
+    match frame.kind {
+        1 => Some(Side::Client),
+        17 => Some(Side::Server),
+        _ => None,
+    }
+}
 
 /// The bytes of the message; none where the header does not name it, or there is no memory.
 fn rewritten(alloc: Global, header: &Header, message: &Message) -> Option<Blob> {
@@ -61,19 +71,38 @@ fn print_read(
     }
 }
 
-fn show(rt: &HostRuntime, sender: Side, bytes: &[u8]) -> io::Result<()> {
+/// Reads the frame's message, where it has one.
+fn print_typed(rt: &HostRuntime, frame: &Frame) -> io::Result<()> {
+    let Some(sender) = sender_of(frame) else {
+        return Ok(());
+    };
+    let bytes = frame.bytes.as_bytes();
     let read = read_message(rt.alloc(), bytes, sender);
     print_read(rt, &read, bytes)
 }
 
-fn show_all(rt: &HostRuntime, sender: Side, samples: &[&[u8]]) -> io::Result<()> {
-    for bytes in samples {
-        show(rt, sender, *bytes)?;
+/// Prints the line that shows the frame.
+fn print_line(rt: &HostRuntime, offset: u64, frame: &Frame) -> io::Result<()> {
+    let mut line = Vec::new(rt.alloc());
+    match show_frame(rt.alloc(), offset, frame, &mut line) {
+        Ok(()) => io::writer(rt).write_all(line.as_slice()),
+        Err(_) => println!(rt; "no memory to show the frame at {offset}"),
     }
-    Ok(())
 }
 
 fn main(rt: HostRuntime) -> io::Result<()> {
-    show_all(&rt, Side::Client, CLIENT_SAMPLES)?;
-    show_all(&rt, Side::Server, SERVER_SAMPLES)
+    let mut input = StdSource::new(BufReader::new(rt.alloc(), rt.reader())?);
+    let mut reader = CaptureReader::new();
+    for _ in 0..u64::MAX {
+        let offset = reader.at().max(8);
+        match reader.next(rt.alloc(), &mut input) {
+            Ok(Some(frame)) => {
+                print_line(&rt, offset, &frame)?;
+                print_typed(&rt, &frame)?;
+            }
+            Ok(None) => return Ok(()),
+            Err(error) => return println!(rt; "{error:?}"),
+        }
+    }
+    Ok(())
 }
