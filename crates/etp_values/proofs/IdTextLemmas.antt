@@ -1,5 +1,5 @@
 -- Reading and writing the hyphenated text of an identifier.
-use Rattle.std.proofs.Common.{◌≡◌, ◌≢◌, ◌≤◌, ◌<◌, ◌+◌, ◌*◌, ℕ, List, [], length, get_or, All, Bool, true, false, ◌&&◌, nat_eq, nat_lt, nat_le, Option, Some, None, IsOk, IfOk, Result, Ok, Err, ◌↔◌, option_map, unwrap_or, if◌then◌else◌, refl, sym, ap, ◌∙◌, inl, inr, arith, true≢false, slice_index, ◌==◌, ◌||◌, ◌⊎◌}
+use Rattle.std.proofs.Common.{◌≡◌, ◌≢◌, ◌<◌, ◌+◌, ◌*◌, ℕ, List, length, get_or, Bool, true, false, ◌&&◌, nat_eq, Option, Some, None, unwrap_or, if◌then◌else◌, refl, sym, ap, ◌∙◌, inl, inr, arith, true≢false, slice_index, ◌==◌, ◌||◌, ◌⊎◌}
 use Rattle.std.proofs.lemmas.Bool.{cases_Bool, eqb-true}
 use Rattle.std.proofs.lemmas.Bool.Decides.{nat_tests}
 use Rattle.std.specs.List.{list_all}
@@ -8,6 +8,7 @@ use Rattle.uuid.proofs.TextLemmas.{by_index_length, by_index_at}
 use Rattle.std.proofs.lemmas.List.Folds.{list_all_at}
 use Rattle.uuid.proofs.RoundTrips.{parses_hyphenated_text}
 use Rattle.etp_values.specs.IdText.{IsId, id_of, id_text}
+use Rattle.etp_values.proofs.Bools.{both_true}
 
 at_36 : (s : List ℕ) → length s ≡ 36 → parsed s ≡ parsed_hyphenated s
 at_36 s len = rw len refl
@@ -45,10 +46,6 @@ id_of-id_text id h = sym (parses_hyphenated_text lower id (inl refl) h.long h.sm
 pub if_some : {A : Type 0} (b : Bool) (o : Option A) (u : A) → (if b then o else None) ≡ Some u → (b ≡ true) × (o ≡ Some u)
 if_some true o u e = (refl, e)
 if_some false o u e = cc
-
-pub both_true : (a b : Bool) → (a && b) ≡ true → (a ≡ true) × (b ≡ true)
-both_true true b e = (refl, e)
-both_true false b e = absurd (true≢false (sym e))
 
 -- what the text of an identifier is like
 record IsHyphenated (s u : List ℕ) : Type 0 where

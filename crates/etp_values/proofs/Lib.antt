@@ -1,3 +1,5 @@
+pub mod Bools
+pub mod Each
 pub mod IdTextLemmas
 pub mod Lookups
 pub mod Names

@@ -1,18 +1,19 @@
 -- A text says a URI exactly where it is one of the URI's texts.
-use Rattle.std.proofs.Common.{◌≡◌, ◌≢◌, ◌≤◌, ◌<◌, ◌+◌, ◌-◌, ℕ, List, [], ◌∷◌, ◌++◌, length, get_or, take, drop, append_assoc, append-nil, length-append, codes, Bool, true, false, ◌&&◌, ◌||◌, nat_eq, nat_lt, nat_le, Option, Some, None, IfSome, IfOk, not, lit≤, option_map, option_and_then, unwrap_or, Result, Ok, Err, IsTrue, if◌then◌else◌, refl, sym, ap, subst, ◌∙◌, inl, inr, arith, true≢false, eq-eqb, ◌⊎◌, ◌==◌}
+use Rattle.std.proofs.Common.{◌≡◌, ◌≢◌, ◌≤◌, ◌<◌, ◌-◌, ℕ, List, [], ◌∷◌, ◌++◌, length, get_or, take, drop, append_assoc, append-nil, length-append, codes, Bool, true, false, ◌&&◌, nat_eq, nat_lt, nat_le, Option, Some, None, IfSome, IfOk, not, lit≤, option_map, option_and_then, unwrap_or, Result, Ok, Err, if◌then◌else◌, refl, sym, ap, subst, ◌∙◌, inl, inr, arith, true≢false, ◌⊎◌}
 use Rattle.std.proofs.lemmas.Bool.{cases_Bool, eqb-true}
 use Rattle.std.proofs.lemmas.Bool.Decides.{nat_tests}
 use Rattle.std.proofs.lemmas.List.{take-append-drop}
 use Rattle.std.specs.List.{list_all, list_any, common_prefix_len}
 use Rattle.std.specs.Result.{result_unwrap_or}
 use Rattle.etp_values.specs.Gives.{Gives}
-use Rattle.etp_values.specs.IdText.{IsId, id_of, id_text}
-use Rattle.etp_values.specs.Uri.{after, parted, up_to, unquoted, doubled, closed, is_path, path_of, space_part, space_text, object_part, object_text, behind, text_in, plain_uri, IsTextIn, IsTextOf, IsObjectName, IsUri, is_lower, is_digit, is_letter, is_word, is_domain, is_type_name, id_at, whole_object, with_id, type_at, with_type, object_of, in_space, with_slash, with_rest, with_path, in_default, with_space, with_body, uri_of}
+use Rattle.etp_values.specs.IdText.{id_of, id_text}
+use Rattle.etp_values.specs.Uri.{after, parted, up_to, unquoted, doubled, closed, is_path, path_of, space_part, object_part, object_text, behind, text_in, plain_uri, IsTextIn, IsTextOf, IsObjectName, IsUri, is_lower, is_digit, is_letter, is_word, is_domain, is_type_name, id_at, whole_object, with_id, type_at, with_type, object_of, in_space, with_slash, with_rest, with_path, in_default, with_space, with_body, uri_of}
 use Rattle.etp_values.specs.declared.uri.ObjectName.{ObjectName}
 use Rattle.etp_values.specs.declared.uri.StoreUri.{StoreUri}
 use Rattle.etp_values.specs.declared.uri.UriError.{UriError}
 use Rattle.etp_values.specs.declared.uri.UriError.TheVariants.{TooLong, Prefix, NoMemory}
-use Rattle.etp_values.proofs.IdTextLemmas.{both_true, if_some, IsIdText, id_of_says, id_of-id_text, length-id_text}
+use Rattle.etp_values.proofs.Bools.{both_true}
+use Rattle.etp_values.proofs.IdTextLemmas.{if_some, id_of_says, id_of-id_text, length-id_text}
 use Rattle.etp_values.proofs.UriParts.{Lacks, Lacks-from_places, after_found, after_says, parted_at, parted_says, unquoted_doubled, unquoted_says}
 
 -- the value of an answer

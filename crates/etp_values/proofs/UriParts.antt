@@ -1,10 +1,9 @@
 -- Prefixes, marks and quotes in a text.
-use Rattle.std.proofs.Common.{◌≡◌, ◌≢◌, ℕ, ◌+◌, ◌<◌, zero, suc, List, [], ◌∷◌, ◌++◌, length, get_or, drop, append_assoc, append-nil, Bool, true, false, nat_eq, cond, Option, Some, None, option_map, unwrap_or, MatchOption, refl, sym, ap, ◌∙◌, inl, inr, eq-eqb, codes, true≢false, arith}
-use Rattle.std.proofs.lemmas.Bool.{cases_Bool, false≢true}
+use Rattle.std.proofs.Common.{◌≡◌, ◌≢◌, ℕ, ◌<◌, suc, List, [], ◌∷◌, ◌++◌, length, get_or, drop, append_assoc, append-nil, Bool, true, false, nat_eq, Option, Some, None, option_map, unwrap_or, MatchOption, refl, sym, ap, ◌∙◌, inl, inr, eq-eqb, codes, true≢false, arith}
+use Rattle.std.proofs.lemmas.Bool.{cases_Bool}
 use Rattle.std.proofs.lemmas.Bool.Decides.{nat_tests}
-use Rattle.std.specs.Str.Pattern.{FindsTextPrefix, FindsChar, FindsCharPrefix, StripsPrefix, SplitsAroundMatch}
-use Rattle.std.proofs.lemmas.Str.Pattern.{split_parts, strip_prefix_char}
-use Rattle.std.specs.List.{list_all}
+use Rattle.std.specs.Str.Pattern.{FindsTextPrefix, FindsChar, StripsPrefix, SplitsAroundMatch}
+use Rattle.std.proofs.lemmas.Str.Pattern.{split_parts}
 use denote.Ref.{Bor}
 use Rattle.etp_values.specs.Uri.{after, put_before, parted, unquoted, doubled, space_text}
 

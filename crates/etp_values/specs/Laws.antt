@@ -1,5 +1,5 @@
 -- Laws on lists that the crates above rest on.
-use Rattle.std.specs.Prelude.{ℕ, ◌≡◌, ◌≤◌, Bool, true, not, cond, List, [], ◌∷◌, ◌++◌, length, Option, Some, None, filter, slice_get}
+use Rattle.std.specs.Prelude.{ℕ, ◌≡◌, ◌≤◌, Bool, not, cond, List, [], ◌∷◌, ◌++◌, length, Some, None, filter, slice_get}
 use Rattle.std.specs.Ordering.{nat_cmp}
 use Rattle.std.specs.Cmp.Lexicographic.{slice_cmp}
 use Rattle.std.specs.List.Sorted.{IsStrictlySortedBy}

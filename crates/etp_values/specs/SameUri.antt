@@ -1,5 +1,5 @@
--- Which URIs a derived comparison finds the same, for tables whose keys are URIs.
-use Rattle.std.specs.Prelude.{ℕ, Bool, true, false, List, ◌≡◌, ◌&&◌, nat_eq, Option, Some, None, refl}
+-- Which URIs are the same. The derived comparisons compute to these tests, so a table with URIs for keys finds by them.
+use Rattle.std.specs.Prelude.{ℕ, Bool, true, false, List, ◌≡◌, ◌&&◌, Option, Some, None, refl}
 use Rattle.std.proofs.Common.{ap}
 use Rattle.std.proofs.lemmas.Bool.{false≢true}
 use Rattle.std.proofs.lemmas.Slice.Eq.{bytes_eq-Decides}
@@ -11,7 +11,7 @@ use Rattle.etp_values.specs.declared.uri.ObjectName.{ObjectName}
 use Rattle.etp_values.specs.declared.uri.StoreUri.{StoreUri}
 
 abbrev pub same_name : ObjectName → ObjectName → Bool
-same_name a b = bytes_eq a.domain b.domain && bytes_eq a.name b.name && bytes_eq a.id b.id
+same_name a b = bytes_eq a.domain b.domain && (bytes_eq a.name b.name && bytes_eq a.id b.id)
 
 abbrev pub same_uri : StoreUri → StoreUri → Bool
 same_uri u v = bytes_eq u.space v.space && option_eq same_name u.object v.object
@@ -19,7 +19,7 @@ same_uri u v = bytes_eq u.space v.space && option_eq same_name u.object v.object
 -- ---- they are equivalences
 
 pub same_name-equiv : IsEquivalence same_name
-same_name-equiv = and_equiv (and_equiv (on_equiv (λ n. n.domain) nat_list_eq_equiv) (on_equiv (λ n. n.name) nat_list_eq_equiv)) (on_equiv (λ n. n.id) nat_list_eq_equiv)
+same_name-equiv = and_equiv (on_equiv (λ n. n.domain) nat_list_eq_equiv) (and_equiv (on_equiv (λ n. n.name) nat_list_eq_equiv) (on_equiv (λ n. n.id) nat_list_eq_equiv))
 
 pub same_uri-equiv : IsEquivalence same_uri
 same_uri-equiv = and_equiv (on_equiv (λ u. u.space) nat_list_eq_equiv) (on_equiv (λ u. u.object) (options_equiv same_name-equiv))
@@ -35,11 +35,11 @@ both false b h = absurd (false≢true h)
 
 pub same_name-is : (a b : ObjectName) → same_name a b ≡ true → a ≡ b
 same_name-is a b h =
-    let names = both (bytes_eq a.domain b.domain && bytes_eq a.name b.name) (bytes_eq a.id b.id) h in
-    let front = both (bytes_eq a.domain b.domain) (bytes_eq a.name b.name) names.0 in
-    let domain = text_is a.domain b.domain front.0 in
-    let name = text_is a.name b.name front.1 in
-    let id = text_is a.id b.id names.1 in
+    let outer = both (bytes_eq a.domain b.domain) (bytes_eq a.name b.name && bytes_eq a.id b.id) h in
+    let inner = both (bytes_eq a.name b.name) (bytes_eq a.id b.id) outer.1 in
+    let domain = text_is a.domain b.domain outer.0 in
+    let name = text_is a.name b.name inner.0 in
+    let id = text_is a.id b.id inner.1 in
     (λ j. record { domain = domain j; name = name j; id = id j })
 
 object_is : (a b : Option ObjectName) → option_eq same_name a b ≡ true → a ≡ b

@@ -51,6 +51,21 @@ impl Blob {
         })
     }
 
+    /// These bytes, with the owners that they have.
+    pub fn from_bytes(bytes: Bytes) -> Blob
+        ensures { result ≡ bytes }
+    {
+        Blob { bytes }
+    }
+
+    /// The bytes, with the owners that they have.
+    pub fn into_bytes(self) -> Bytes
+        ensures { result ≡ self }
+    {
+        let Blob { bytes } = self;
+        bytes
+    }
+
     /// One more owner of the same bytes, which are not copied.
     pub fn share(&self) -> Result<Blob, NoMemory>
         ensures { IfOk result (λ b. b ≡ self.now) }

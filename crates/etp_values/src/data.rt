@@ -1,6 +1,7 @@
 //! Values of any of the schema's kinds, as custom data, array elements and channel data have them.
 use crate::bits::{Bits32, Bits64};
 use crate::blob::Blob;
+use crate::boxed::Boxed;
 use crate::copied::Copied;
 use crate::list::List;
 use crate::memory::NoMemory;
@@ -26,7 +27,8 @@ pub struct AnySubarray {
     pub slice: AnyArray,
 }
 
-/// A value of one of nineteen kinds. The variants stand in the order of the schema's union.
+/// A value of one of nineteen kinds. The variants stand in the order of the schema's union. What has
+/// memory of its own stands behind a box, so that a number takes 16 bytes.
 #[derive(Debug, Drop, PartialEq, Eq)]
 pub enum DataValue {
     Null,
@@ -35,19 +37,19 @@ pub enum DataValue {
     Long(i64),
     Float(Bits32),
     Double(Bits64),
-    String(Text),
-    ArrayOfBoolean(List<bool>),
-    ArrayOfNullableBoolean(List<Option<bool>>),
-    ArrayOfInt(List<i32>),
-    ArrayOfNullableInt(List<Option<i32>>),
-    ArrayOfLong(List<i64>),
-    ArrayOfNullableLong(List<Option<i64>>),
-    ArrayOfFloat(List<Bits32>),
-    ArrayOfDouble(List<Bits64>),
-    ArrayOfString(List<Text>),
-    ArrayOfBytes(List<Blob>),
-    Bytes(Blob),
-    AnySparseArray(List<AnySubarray>),
+    String(Boxed<Text>),
+    ArrayOfBoolean(Boxed<List<bool>>),
+    ArrayOfNullableBoolean(Boxed<List<Option<bool>>>),
+    ArrayOfInt(Boxed<List<i32>>),
+    ArrayOfNullableInt(Boxed<List<Option<i32>>>),
+    ArrayOfLong(Boxed<List<i64>>),
+    ArrayOfNullableLong(Boxed<List<Option<i64>>>),
+    ArrayOfFloat(Boxed<List<Bits32>>),
+    ArrayOfDouble(Boxed<List<Bits64>>),
+    ArrayOfString(Boxed<List<Text>>),
+    ArrayOfBytes(Boxed<List<Blob>>),
+    Bytes(Boxed<Blob>),
+    AnySparseArray(Boxed<List<AnySubarray>>),
 }
 
 impl Copied for AnyArray {

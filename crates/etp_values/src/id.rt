@@ -22,14 +22,14 @@ impl Model for Id16 {
 }
 
 impl Id16 {
-    /// The identifier of these bytes.
+    /// An identifier of any version and variant.
     pub fn from_bytes(bytes: [u8; 16]) -> Id16
         ensures { result ≡ bytes }
     {
         Id16 { bytes }
     }
 
-    /// Its bytes.
+    /// The bytes in the order in which they are sent.
     pub fn as_bytes(&self) -> &[u8; 16]
         ensures value { result.now ≡ self.now }
         ensures len { length self.now ≡ 16 }

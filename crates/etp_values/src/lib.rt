@@ -1,8 +1,8 @@
 //! The values that messages and the store are made of.
 //!
-//! [`Text`], [`Blob`], [`List`] and [`Named`] are `String`, `Bytes`, `Vec` and a sorted `Vec` of pairs that contracts see
-//! as what they hold: the bytes, the items, the names with their values. So a contract compares two records of any
-//! depth by `≡`, and no record needs a second type for specifications.
+//! [`Text`], [`Blob`], [`List`], [`Named`], [`Boxed`] and [`Shared`] are `String`, `Bytes`, `Vec`, a sorted `Vec` of pairs,
+//! `Box` and `Arc` that contracts see as what they hold: the bytes, the items, the names with their values, the value. So a
+//! contract compares two records of any depth by `≡`, and no record needs a second type for specifications.
 //!
 //! [`StoreUri`] names a dataspace or an object in one, and is read from exactly the texts of its grammar. [`Id16`] is an
 //! identifier, [`DataValue`] a value of any kind, [`Point`] one at an index, and [`ErrorCode`] why a request is refused.
@@ -10,6 +10,7 @@
 
 mod bits;
 mod blob;
+mod boxed;
 mod code;
 mod copied;
 mod data;
@@ -21,6 +22,7 @@ mod memory;
 mod named;
 mod point;
 mod same;
+mod shared;
 #[cfg(test)]
 mod tests;
 mod text;
@@ -29,6 +31,7 @@ mod weight;
 
 pub use bits::{Bits32, Bits64};
 pub use blob::Blob;
+pub use boxed::Boxed;
 pub use code::ErrorCode;
 pub use copied::Copied;
 pub use data::{AnyArray, AnySubarray, DataValue};
@@ -39,6 +42,7 @@ pub use list::List;
 pub use memory::NoMemory;
 pub use named::Named;
 pub use point::{ChannelPoint, Point};
+pub use shared::Shared;
 pub use text::Text;
 pub use uri::{
     MAX_PATH_LEN, MAX_URI_LEN, ObjectName, StoreUri, UriError, id_texts, is_type_filter,

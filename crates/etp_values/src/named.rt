@@ -91,14 +91,6 @@ impl<T> Named<T> {
         (&pair.0, &pair.1)
     }
 
-    /// The value at a place.
-    pub fn value_at(&self, i: usize) -> &T
-        requires { i < length self.now }
-        ensures value { result.now ≡ get_or (values_of self.now) i result.now }
-    {
-        &self.items[i].1
-    }
-
     /// The value of this name, if it has one.
     pub fn get(&self, name: &str) -> Option<&T>
         ensures { option_copied result ≡ lookup (bytes_eq name.now) self.now }

@@ -15,8 +15,7 @@ fn texts_and_blobs_hold_their_bytes(rt: HostRuntime) -> Result<(), Fail> {
     assert_eq!(rt; name.as_bytes(), b"w1".as_slice());
     assert_eq!(rt; name.len(), 2);
     assert!(rt; Text::new(alloc).is_empty());
-    let same = Text::from_string(text(alloc, "w1")?.into_string());
-    assert_eq!(rt; same, name);
+    assert_eq!(rt; Text::from_string(String::from_str(alloc, "w1")?), name);
     assert!(rt; text(alloc, "w")? < name);
     assert!(rt; text(alloc, "x")? > name);
 
@@ -25,6 +24,7 @@ fn texts_and_blobs_hold_their_bytes(rt: HostRuntime) -> Result<(), Fail> {
     assert_eq!(rt; shared.as_bytes(), b"payload".as_slice());
     assert_eq!(rt; blob.part(3, 5)?.as_bytes(), b"lo".as_slice());
     assert_eq!(rt; Blob::from_vec(b"payload".to_vec(alloc)?)?, blob);
+    assert_eq!(rt; Blob::from_bytes(shared.into_bytes()), blob);
     assert_eq!(rt; blob.len(), 7);
     assert!(rt; Blob::new().is_empty());
     Ok(())
@@ -53,6 +53,26 @@ fn named_values_are_in_the_order_of_their_names(rt: HostRuntime) -> Result<(), F
     Ok(())
 }
 
+/// Takes what may be moved to another thread, and be seen there by several.
+fn crossing<T: Send + Sync>(value: T) -> T {
+    value
+}
+
+#[test]
+fn boxed_and_shared_values_are_their_values(rt: HostRuntime) -> Result<(), Fail> {
+    let alloc = rt.alloc();
+    let boxed = Boxed::new(alloc, text(alloc, "w1")?)?;
+    let copied = boxed.copy(alloc)?;
+    assert!(rt; copied == boxed);
+    assert_eq!(rt; crossing(copied).into_inner(), text(alloc, "w1")?);
+    let shared = crossing(Shared::new(alloc, text(alloc, "w1")?)?);
+    let other = shared.copy(alloc)?;
+    assert!(rt; other == shared);
+    drop(shared);
+    assert_eq!(rt; other.get(), boxed.get());
+    Ok(())
+}
+
 /// A value counts so much, and so does an equal copy of it.
 fn check(rt: &impl Abort, value: DataValue, weight: u64, alloc: Global) -> Result<(), Fail> {
     assert_eq!(rt; value.weight(), weight);
@@ -75,39 +95,37 @@ fn plain_values_are_weighed(rt: HostRuntime) -> Result<(), Fail> {
         8,
         alloc,
     )?;
-    check(&rt, DataValue::String(text(alloc, "abc")?), 11, alloc)?;
-    check(
-        &rt,
-        DataValue::Bytes(Blob::copy(alloc, &[1, 2, 3, 4])?),
-        12,
-        alloc,
-    )
+    let string = Boxed::new(alloc, text(alloc, "abc")?)?;
+    check(&rt, DataValue::String(string), 11, alloc)?;
+    let bytes = Boxed::new(alloc, Blob::copy(alloc, &[1, 2, 3, 4])?)?;
+    check(&rt, DataValue::Bytes(bytes), 12, alloc)
 }
 
 /// 8 for the list and 8 for each item.
 #[test]
 fn lists_of_numbers_are_weighed(rt: HostRuntime) -> Result<(), Fail> {
     let alloc = rt.alloc();
-    let flags = List::from_vec(vec![in alloc; true, false]?);
+    let flags = Boxed::new(alloc, List::from_vec(vec![in alloc; true, false]?))?;
     check(&rt, DataValue::ArrayOfBoolean(flags), 24, alloc)?;
-    let ints = List::from_vec(vec![in alloc; 1, 2, 3]?);
+    let ints = Boxed::new(alloc, List::from_vec(vec![in alloc; 1, 2, 3]?))?;
     check(&rt, DataValue::ArrayOfInt(ints), 32, alloc)?;
-    let longs = List::from_vec(vec![in alloc; 7]?);
+    let longs = Boxed::new(alloc, List::from_vec(vec![in alloc; 7]?))?;
     check(&rt, DataValue::ArrayOfLong(longs), 16, alloc)?;
-    let floats = List::from_vec(vec![in alloc; Bits32(0)]?);
+    let floats = Boxed::new(alloc, List::from_vec(vec![in alloc; Bits32(0)]?))?;
     check(&rt, DataValue::ArrayOfFloat(floats), 16, alloc)?;
-    check(&rt, DataValue::ArrayOfDouble(List::new(alloc)), 8, alloc)
+    let doubles = Boxed::new(alloc, List::new(alloc))?;
+    check(&rt, DataValue::ArrayOfDouble(doubles), 8, alloc)
 }
 
 /// A null in a list counts as a number.
 #[test]
 fn lists_with_nulls_are_weighed(rt: HostRuntime) -> Result<(), Fail> {
     let alloc = rt.alloc();
-    let flags = List::from_vec(vec![in alloc; Some(true), None]?);
+    let flags = Boxed::new(alloc, List::from_vec(vec![in alloc; Some(true), None]?))?;
     check(&rt, DataValue::ArrayOfNullableBoolean(flags), 24, alloc)?;
-    let ints = List::from_vec(vec![in alloc; None, Some(2)]?);
+    let ints = Boxed::new(alloc, List::from_vec(vec![in alloc; None, Some(2)]?))?;
     check(&rt, DataValue::ArrayOfNullableInt(ints), 24, alloc)?;
-    let longs = List::from_vec(vec![in alloc; Some(7), None, None]?);
+    let longs = Boxed::new(alloc, List::from_vec(vec![in alloc; Some(7), None, None]?))?;
     check(&rt, DataValue::ArrayOfNullableLong(longs), 32, alloc)
 }
 
@@ -117,38 +135,26 @@ fn texts_and_runs_are_weighed(rt: HostRuntime) -> Result<(), Fail> {
     let mut texts = Vec::new(alloc);
     texts.push(text(alloc, "ab")?)?;
     texts.push(text(alloc, "")?)?;
-    check(
-        &rt,
-        DataValue::ArrayOfString(List::from_vec(texts)),
-        26,
-        alloc,
-    )?;
+    let texts = Boxed::new(alloc, List::from_vec(texts))?;
+    check(&rt, DataValue::ArrayOfString(texts), 26, alloc)?;
     let mut blobs = Vec::new(alloc);
     blobs.push(Blob::copy(alloc, &[9])?)?;
-    check(
-        &rt,
-        DataValue::ArrayOfBytes(List::from_vec(blobs)),
-        17,
-        alloc,
-    )?;
+    let blobs = Boxed::new(alloc, List::from_vec(blobs))?;
+    check(&rt, DataValue::ArrayOfBytes(blobs), 17, alloc)?;
     let mut runs = Vec::new(alloc);
     let slice = AnyArray::ArrayOfInt(List::from_vec(vec![in alloc; 1, 2]?));
     runs.push(AnySubarray { start: 5, slice })?;
     let slice = AnyArray::Bytes(Blob::copy(alloc, &[1, 2, 3])?);
     runs.push(AnySubarray { start: 9, slice })?;
     let weight = 8 + (8 + 24) + (8 + 11);
-    check(
-        &rt,
-        DataValue::AnySparseArray(List::from_vec(runs)),
-        weight,
-        alloc,
-    )
+    let runs = Boxed::new(alloc, List::from_vec(runs))?;
+    check(&rt, DataValue::AnySparseArray(runs), weight, alloc)
 }
 
 #[test]
 fn points_are_copied(rt: HostRuntime) -> Result<(), Fail> {
     let alloc = rt.alloc();
-    let value = DataValue::String(text(alloc, "abc")?);
+    let value = DataValue::String(Boxed::new(alloc, text(alloc, "abc")?)?);
     let point = ChannelPoint {
         channel: 3,
         point: Point { index: -5, value },
@@ -162,7 +168,8 @@ fn points_are_copied(rt: HostRuntime) -> Result<(), Fail> {
 fn custom_data_is_weighed_with_its_keys(rt: HostRuntime) -> Result<(), Fail> {
     let alloc = rt.alloc();
     let mut pairs = Vec::new(alloc);
-    pairs.push((text(alloc, "unit")?, DataValue::String(text(alloc, "m")?)))?;
+    let metre = Boxed::new(alloc, text(alloc, "m")?)?;
+    pairs.push((text(alloc, "unit")?, DataValue::String(metre)))?;
     pairs.push((text(alloc, "depth")?, DataValue::Null))?;
     let custom = Named::from_pairs(pairs)?.ok_or("no name comes twice")?;
     assert_eq!(rt; custom_weight(&custom), 4 + 9 + 5 + 8);

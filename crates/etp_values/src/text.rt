@@ -56,14 +56,6 @@ impl Text {
         Text { inner }
     }
 
-    /// The string, which is moved and not copied.
-    pub fn into_string(self) -> String
-        ensures { string_bytes result ≡ self }
-    {
-        let Text { inner } = self;
-        inner
-    }
-
     /// The text, to be read.
     pub fn as_str(&self) -> &str
         ensures { result.now ≡ self.now }

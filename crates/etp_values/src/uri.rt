@@ -15,6 +15,7 @@ use crate::text::Text;
 use crate::uri::reading::{after, agreeing, read_body};
 use crate::uri::writing::{put_object, put_space};
 use std::alloc::Global;
+use thiserror::Error;
 
 mod laws;
 mod reading;
@@ -48,22 +49,29 @@ pub struct StoreUri {
 }
 
 /// Why a text is no URI, with the place of the first byte of what is refused.
-#[derive(Clone, Copy, Debug, PartialEq, Eq)]
+#[derive(Clone, Copy, Debug, PartialEq, Eq, Drop, Error)]
 pub enum UriError {
     /// The text has more than 2,048 bytes.
+    #[error("the URI has more than 2048 bytes")]
     TooLong,
     /// It does not begin with `eml:///`: the first byte that differs, or the end of a shorter text.
+    #[error("the URI does not begin with eml:/// (byte {0})")]
     Prefix(usize),
     /// What begins with `dataspace(` is no dataspace: quotes are missing or single, or the path has no byte or more than
     /// 256.
+    #[error("no dataspace at byte {0} of the URI")]
     Space(usize),
     /// An object was to follow, and no domain, dot, type name and parenthesis stand there.
+    #[error("no object type at byte {0} of the URI")]
     TypeName(usize),
     /// No hyphenated identifier and closing parenthesis follow the object's type.
+    #[error("no identifier at byte {0} of the URI")]
     Uuid(usize),
     /// More follows a form that had ended.
+    #[error("the URI ends at byte {0}, and more follows")]
     Rest(usize),
     /// Memory was refused.
+    #[error("out of memory")]
     NoMemory,
 }
 

@@ -1,4 +1,4 @@
-use Rattle.std.proofs.Common.{◌≡◌, length, ◌∙◌, ap, List, ℕ, Some}
+use Rattle.std.proofs.Common.{◌∙◌, ap, List, ℕ, Some}
 use Rattle.etp_values.proofs.IdTextLemmas.{id_of_other, id_of_read, id_of_refused}
 use Rattle.etp_values.proofs.id.Id16.read.Goals as goal
 

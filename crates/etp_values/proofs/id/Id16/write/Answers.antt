@@ -1,4 +1,4 @@
-use Rattle.std.proofs.Common.{◌≡◌, ◌∙◌, ap, List, ℕ}
+use Rattle.std.proofs.Common.{◌∙◌, ap}
 use Rattle.uuid.specs.Text.{hyphenated_text, lower}
 use Rattle.etp_values.proofs.IdTextLemmas.{id_text_is}
 use Rattle.etp_values.proofs.id.Id16.write.Goals as goal

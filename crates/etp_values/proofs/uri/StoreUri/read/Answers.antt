@@ -1,4 +1,3 @@
-use Rattle.std.proofs.Common.{◌≤◌, length}
 use Rattle.etp_values.proofs.UriGrammar.{uri_of-long, read_body_gives, read_prefix_gives, read_form}
 use Rattle.etp_values.proofs.uri.StoreUri.read.Goals as goal
 

@@ -1,4 +1,4 @@
-use Rattle.std.proofs.Common.{◌≡◌, true, ap, ◌∙◌, sym}
+use Rattle.std.proofs.Common.{ap, ◌∙◌, sym}
 use Rattle.etp_values.specs.SameUri.{same_uri, same_uri-equiv, same_uri-is}
 use Rattle.etp_values.proofs.uri.laws.uri_equality.Goals as goal
 

@@ -1,5 +1,4 @@
-use Rattle.std.proofs.Common.{rules, lit<, ◌≡◌, ◌++◌, ◌∷◌, [], ℕ, List, ap, ◌∙◌, sym, string_bytes}
-use Rattle.etp_values.specs.Uri.{doubled}
+use Rattle.std.proofs.Common.{rules, lit<, ◌++◌, ◌∷◌, [], ℕ, List, ap, ◌∙◌, sym, string_bytes}
 use Rattle.etp_values.proofs.UriParts.{IsParted, put_piece, doubled_plain, parts_round, no_parts}
 use Rattle.etp_values.proofs.uri.writing.put_doubled.Goals as goal
 
