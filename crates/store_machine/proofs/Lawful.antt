@@ -81,7 +81,7 @@ keeps-puts config journal total rs by nth at asked puts k next same some room =
     (record { same = ap (entered config journal by nth at) again ∙ ap (λ b. if b then record { by = by; nth = nth; at = at; act = PutSpaces puts } ∷ [] else []) room; may = next })
     room (stands-puts at rs (changes_of journal) puts k.stands)
   where
-    again : granted journal (PutSpaces puts) ≡ PutSpaces puts ∷ []
+    again : granted config journal (PutSpaces puts) ≡ PutSpaces puts ∷ []
     again = ap (act_of PutSpaces) (ap (accepted (set_space (pos 0)) (changes_of journal)) same ∙ accepted-again (set_space (pos 0)) (changes_of journal) asked ∙ sym same) ∙ some_act PutSpaces puts some
 
 -- dataspaces are dropped
@@ -93,7 +93,7 @@ keeps-drops config journal total rs by nth at asked paths k next same some room 
     (record { same = ap (entered config journal by nth at) again ∙ ap (λ b. if b then record { by = by; nth = nth; at = at; act = DropSpaces paths } ∷ [] else []) room; may = next })
     room (stands-drops rs (changes_of journal) paths k.stands)
   where
-    again : granted journal (DropSpaces paths) ≡ DropSpaces paths ∷ []
+    again : granted config journal (DropSpaces paths) ≡ DropSpaces paths ∷ []
     again = ap (act_of DropSpaces) (ap (accepted DropSpace (changes_of journal)) same ∙ accepted-again DropSpace (changes_of journal) asked ∙ sym same) ∙ some_act DropSpaces paths some
 
 -- the door alone

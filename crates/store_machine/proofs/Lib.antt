@@ -2,5 +2,6 @@ pub mod Judging
 pub mod Lawful
 pub mod Numbers
 pub mod Places
+pub mod Room
 pub mod Standing
 pub mod Values

@@ -1,7 +1,8 @@
--- No entry of a legal history stands under a number that is not a place of it.
+-- Numbers of sessions, the calls that they may make, and the entries that those add.
 use Rattle.std.specs.Prelude.{ℕ, ℤ, pos, Bool, true, false, cond, drop, List, [], ◌∷◌, ◌++◌, ◌≡◌, ◌+◌, ◌≤◌, ◌<◌, ◌==◌, Some, IsSomeAnd, slice_get, length, if◌then◌else◌}
 use Rattle.std.specs.List.{AllByRecursion}
 use Rattle.std.proofs.Common.{ap, sym, ◌∙◌, subst, refl, arith, suc, zero}
+use Rattle.std.proofs.lemmas.Bool.{false≢true}
 use Rattle.std.proofs.lemmas.Grind.{common_steps}
 use Rattle.chan_defs.specs.declared.config.Config.{Config}
 use Rattle.std.specs.Map.{values_of}
@@ -12,7 +13,7 @@ use Rattle.store_machine.specs.declared.journal.Act.{Act}
 use Rattle.store_machine.specs.declared.journal.Act.TheVariants.{Enter, PutSpaces, DropSpaces}
 use Rattle.store_machine.specs.declared.journal.Entry.{Entry}
 use Rattle.store_machine.specs.History.{DropSpace, set_space, changes_of}
-use Rattle.store_machine.specs.Laws.{IsOfSession}
+use Rattle.store_machine.specs.Laws.{IsCallAt, IsEntryOf, IsNumber, OneOrNone, is_enter}
 use Rattle.store_machine.specs.Answers.{accepted, act_of, granted, has_room_for, entry, entered, entries_of}
 use Rattle.store_machine.specs.Legal.{own, IsNext, MayAct, MayAsk, LegalFrom, Legal}
 
@@ -27,7 +28,7 @@ first_by [] = 0
 first_by (e ∷ es) = e.by
 
 -- an entry's number is no further than its place
-by_within : (config : Config) (earlier : List Entry) (by nth : ℕ) (at : ℤ) (a : Act) → entered config earlier by nth at (granted earlier a) ≡ record { by = by; nth = nth; at = at; act = a } ∷ [] → MayAct earlier by nth a → by ≤ length earlier
+by_within : (config : Config) (earlier : List Entry) (by nth : ℕ) (at : ℤ) (a : Act) → entered config earlier by nth at (granted config earlier a) ≡ record { by = by; nth = nth; at = at; act = a } ∷ [] → MayAct earlier by nth a → by ≤ length earlier
 unfolding first_by
 by_within config earlier by nth at Enter same may = from (has_room_for config earlier Enter) same
   where
@@ -59,36 +60,59 @@ fresh-number config (e ∷ es) h =
     let first : e.by < length (e ∷ es) = subst (λ (d : Entry). d.by < suc (length es)) (sym h.0) (omega arith) in
     own-none (length (e ∷ es)) (e ∷ es) (first, all_below config (length (e ∷ es)) (e ∷ []) es (omega arith) h.1)
 
-pub door-session : (config : Config) (history : List Entry) → Legal config history → IsSomeAnd (slice_get history 0) (λ (e : Entry). e.act ≡ Enter)
+pub door-session : (config : Config) (history : List Entry) → Legal config history → IsNumber history 0
 door-session config [] h = absurd h
 door-session config (e ∷ es) h = ap (λ (d : Entry). d.act) h.0
 
-pub number-stays : (history later : List Entry) (by : ℕ) → IsSomeAnd (slice_get history by) (λ (e : Entry). e.act ≡ Enter) → IsSomeAnd (slice_get (history ++ later) by) (λ (e : Entry). e.act ≡ Enter)
+pub number-stays : (history later : List Entry) (by : ℕ) → IsNumber history by → IsNumber (history ++ later) by
 number-stays [] later by h = absurd h
 number-stays (e ∷ es) later zero h = h
 number-stays (e ∷ es) later (suc by) h = number-stays es later by h
 
--- whose an entry is
-abbrev IsHers : ℕ → ℕ → ℤ → Entry → Type 0
-IsHers by nth at e = (e.by ≡ by) × ((e.nth ≡ nth) × (e.at ≡ at))
+-- ---- the entries of a call
 
-one_or_none : (b : Bool) (by nth : ℕ) (at : ℤ) (e : Entry) → IsHers by nth at e → AllByRecursion (IsHers by nth at) (if b then e ∷ [] else [])
-one_or_none true by nth at e h = (h, tt)
-one_or_none false by nth at e h = tt
+some_or_none : (b : Bool) (by nth : ℕ) (at : ℤ) (e : Entry) → IsEntryOf by nth at e → AllByRecursion (IsEntryOf by nth at) (if b then e ∷ [] else [])
+some_or_none true by nth at e h = (h, tt)
+some_or_none false by nth at e h = tt
 
-pub entries-of_session : (config : Config) (history : List Entry) (by nth : ℕ) (at : ℤ) (c : StoreCall) → IsOfSession c → AllByRecursion (IsHers by nth at) (entries_of config history by nth at c)
+pub entries-of_session : (config : Config) (history : List Entry) (by nth : ℕ) (at : ℤ) (c : StoreCall)
+    → IsCallAt history c → AllByRecursion (IsEntryOf by nth at) (entries_of config history by nth at c)
 entries-of_session config history by nth at call.Enter h = absurd h
 entries-of_session config history by nth at (call.Spaces newer) h = tt
 entries-of_session config history by nth at (call.PutSpaces items) h = from (accepted (set_space (pos 0)) (changes_of history) (values_of items))
   where
-    from : (puts : List SpacePut) → AllByRecursion (IsHers by nth at) (entered config history by nth at (act_of PutSpaces puts))
+    from : (puts : List SpacePut) → AllByRecursion (IsEntryOf by nth at) (entered config history by nth at (act_of PutSpaces puts))
     from [] = tt
-    from (p ∷ ps) = one_or_none (has_room_for config history (PutSpaces (p ∷ ps))) by nth at _ (refl, (refl, refl))
+    from (p ∷ ps) = some_or_none (has_room_for config history (PutSpaces (p ∷ ps))) by nth at _ (refl, (refl, refl))
 entries-of_session config history by nth at (call.DropSpaces items) h = from (accepted DropSpace (changes_of history) (values_of items))
   where
-    from : (paths : List (List ℕ)) → AllByRecursion (IsHers by nth at) (entered config history by nth at (act_of DropSpaces paths))
+    from : (paths : List (List ℕ)) → AllByRecursion (IsEntryOf by nth at) (entered config history by nth at (act_of DropSpaces paths))
     from [] = tt
-    from (p ∷ ps) = one_or_none (has_room_for config history (DropSpaces (p ∷ ps))) by nth at _ (refl, (refl, refl))
+    from (p ∷ ps) = some_or_none (has_room_for config history (DropSpaces (p ∷ ps))) by nth at _ (refl, (refl, refl))
+
+one_if : {X : Type 0} (b : Bool) (x : X) → OneOrNone (if b then x ∷ [] else [])
+one_if true x = tt
+one_if false x = tt
+
+-- at most one act makes at most one entry
+entered-one : {X : Type 0} (config : Config) (history : List Entry) (by nth : ℕ) (at : ℤ) (act : List X → Act) (xs : List X)
+    → OneOrNone (entered config history by nth at (act_of act xs))
+entered-one config history by nth at act [] = tt
+entered-one config history by nth at act (x ∷ xs) = one_if (has_room_for config history (act (x ∷ xs))) (entry history by nth at (act (x ∷ xs)))
+
+pub entries-one : (config : Config) (history : List Entry) (by nth : ℕ) (at : ℤ) (c : StoreCall) → OneOrNone (entries_of config history by nth at c)
+entries-one config history by nth at call.Enter = one_if (has_room_for config history Enter) (entry history by nth at Enter)
+entries-one config history by nth at (call.Spaces newer) = tt
+entries-one config history by nth at (call.PutSpaces items) = entered-one config history by nth at PutSpaces (accepted (set_space (pos 0)) (changes_of history) (values_of items))
+entries-one config history by nth at (call.DropSpaces items) = entered-one config history by nth at DropSpaces (accepted DropSpace (changes_of history) (values_of items))
+
+pub call-stays : (history later : List Entry) (c : StoreCall) → IsCallAt history c → IsCallAt (history ++ later) c
+call-stays history later call.Enter h = absurd h
+call-stays history later _ h = tt
+
+pub enter-is : (a : Act) → is_enter a ≡ true → a ≡ Enter
+enter-is Enter h = refl
+enter-is _ h = absurd (false≢true h)
 
 -- the entry that was read stands before the rest
 pub drop-entry : {X : Type 0} (xs : List X) (k : ℕ) (x : X) → slice_get xs k ≡ Some x → drop k xs ≡ x ∷ drop (suc k) xs
@@ -109,9 +133,7 @@ own-step by history k e h = ap (λ l. length (own by l)) (drop-entry history k e
     next_place : (k : ℕ) → suc k ≡ k + 1
     next_place k = omega arith
 
--- a session's next call may be made
+-- whoever is next may make each call
 pub may_ask : (history : List Entry) (by nth : ℕ) (c : StoreCall) → IsNext history by nth → MayAsk history by nth c
 may_ask history by nth call.Enter n = tt
-may_ask history by nth (call.Spaces newer) n = n
-may_ask history by nth (call.PutSpaces items) n = n
-may_ask history by nth (call.DropSpaces items) n = n
+may_ask history by nth _ n = n

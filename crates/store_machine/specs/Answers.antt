@@ -55,17 +55,17 @@ act_of act (x ∷ xs) = act (x ∷ xs) ∷ []
 
 -- what is done of an act that is asked for at the end of a history: its accepted items, and nothing where there are none.
 -- The moment decides no verdict, so what is put is judged as if put at 0
-abbrev pub granted : List Entry → Act → List Act
-granted history Enter = Enter ∷ []
-granted history (PutSpaces puts) = act_of PutSpaces (accepted (set_space (pos 0)) (changes_of history) puts)
-granted history (DropSpaces paths) = act_of DropSpaces (accepted DropSpace (changes_of history) paths)
+abbrev pub granted : Config → List Entry → Act → List Act
+granted config history Enter = Enter ∷ []
+granted config history (PutSpaces puts) = act_of PutSpaces (accepted (set_space (pos 0)) (changes_of history) puts)
+granted config history (DropSpaces paths) = act_of DropSpaces (accepted DropSpace (changes_of history) paths)
 
 -- what a call would do: one act or none
-abbrev pub wanted : List Entry → StoreCall → List Act
-wanted history call.Enter = granted history Enter
-wanted history (call.Spaces newer) = []
-wanted history (call.PutSpaces items) = granted history (PutSpaces (values_of items))
-wanted history (call.DropSpaces items) = granted history (DropSpaces (values_of items))
+abbrev pub wanted : Config → List Entry → StoreCall → List Act
+wanted config history call.Enter = granted config history Enter
+wanted config history (call.Spaces newer) = []
+wanted config history (call.PutSpaces items) = granted config history (PutSpaces (values_of items))
+wanted config history (call.DropSpaces items) = granted config history (DropSpaces (values_of items))
 
 -- whether the journal takes a further entry of this act: it has fewer entries than configured, and with that one at most
 -- 536,870,912 counted bytes
@@ -88,20 +88,33 @@ entered config history by nth at acts = if has_room config history acts then map
 
 -- the entries that a call adds: one or none
 abbrev pub entries_of : Config → List Entry → ℕ → ℕ → ℤ → StoreCall → List Entry
-entries_of config history by nth at c = entered config history by nth at (wanted history c)
+entries_of config history by nth at c = entered config history by nth at (wanted config history c)
 
 -- ---- answers
 
 -- the reply where the journal has room
-abbrev pub reply : List Entry → StoreCall → Reply
-reply history call.Enter = Entered (length history)
-reply history (call.Spaces newer) = Spaces (filter (is_newer newer) (spaces (changes_of history)))
-reply history (call.PutSpaces items) = Verdicts (verdicts (set_space (pos 0)) (changes_of history) items)
-reply history (call.DropSpaces items) = Verdicts (verdicts DropSpace (changes_of history) items)
+abbrev pub reply : Config → List Entry → StoreCall → Reply
+reply config history call.Enter = Entered (length history)
+reply config history (call.Spaces newer) = Spaces (filter (is_newer newer) (spaces (changes_of history)))
+reply config history (call.PutSpaces items) = Verdicts (verdicts (set_space (pos 0)) (changes_of history) items)
+reply config history (call.DropSpaces items) = Verdicts (verdicts DropSpace (changes_of history) items)
 
 -- the answer to a call
 abbrev pub answer : Config → List Entry → StoreCall → Answer
-answer config history c = record { mark = length history; reply = if has_room config history (wanted history c) then reply history c else JournalFull }
+answer config history c = record {
+  mark = length history;
+  reply = if has_room config history (wanted config history c) then reply config history c else JournalFull;
+}
+
+-- ---- the same for the crates above, whose searches have no need to look inside
+
+-- the answer to a call
+unfoldable pub answered : Config → List Entry → StoreCall → Answer
+answered config history c = answer config history c
+
+-- the entries that a call adds
+unfoldable pub added : Config → List Entry → ℕ → ℕ → ℤ → StoreCall → List Entry
+added config history by nth at c = entries_of config history by nth at c
 
 -- what a contract sees of a store
 pub record Kept : Type 0 where

@@ -1,42 +1,94 @@
 -- Laws on histories.
-use Rattle.std.specs.Prelude.{ℕ, ℤ, ◌≡◌, false, List, [], ◌∷◌, ◌++◌, IsSomeAnd, slice_get, length}
+use Rattle.std.specs.Prelude.{ℕ, ℤ, ◌≡◌, Bool, true, false, List, [], ◌∷◌, ◌++◌, IsSomeAnd, slice_get, length}
 use Rattle.std.specs.List.{list_any, AllByRecursion}
 use Rattle.chan_defs.specs.declared.config.Config.{Config}
 use Rattle.store_machine.specs.declared.call.StoreCall.{StoreCall}
 use Rattle.store_machine.specs.declared.call.StoreCall.TheVariants as call
+use Rattle.store_machine.specs.declared.journal.Act.{Act}
 use Rattle.store_machine.specs.declared.journal.Act.TheVariants.{Enter}
 use Rattle.store_machine.specs.declared.journal.Entry.{Entry}
 use Rattle.store_machine.specs.History.{Key, Change, alters, value, value_after, entry_alters}
-use Rattle.store_machine.specs.Answers.{entries_of}
-use Rattle.store_machine.specs.Legal.{own, Legal}
+use Rattle.store_machine.specs.Answers.{entries_of, has_room_for}
+use Rattle.store_machine.specs.Legal.{own, IsNext, MayAsk, Legal}
+
+-- ---- words
+
+-- a call that a session may make at a history: any but the one by which it is let in
+abbrev pub IsCallAt : List Entry → StoreCall → Type 0
+IsCallAt history call.Enter = ⊥
+IsCallAt history _ = Unit {0}
+
+-- whether an act lets a session in
+abbrev pub is_enter : Act → Bool
+is_enter Enter = true
+is_enter _ = false
+
+-- a list of at most one
+abbrev pub OneOrNone : {X : Type 0} → List X → Type 0
+OneOrNone [] = Unit {0}
+OneOrNone (x ∷ []) = Unit {0}
+OneOrNone (x ∷ y ∷ more) = ⊥
+
+-- an entry has this number, this count and this moment
+abbrev pub IsEntryOf : ℕ → ℕ → ℤ → Entry → Type 0
+IsEntryOf by nth at e = (e.by ≡ by) × ((e.nth ≡ nth) × (e.at ≡ at))
+
+-- the number is the place of an entry that lets a session in
+abbrev pub IsNumber : List Entry → ℕ → Type 0
+IsNumber history by = IsSomeAnd (slice_get history by) (λ (e : Entry). e.act ≡ Enter)
+
+-- ---- the state
 
 -- changes that don't alter a key leave its value
 abbrev pub ChangesLeaveOthers : Type 0
-ChangesLeaveOthers = (key : Key) (before later : List Change) → list_any (λ c. alters c key) later ≡ false → value key (before ++ later) ≡ value key before
+ChangesLeaveOthers = (key : Key) (before later : List Change)
+    → list_any (λ c. alters c key) later ≡ false → value key (before ++ later) ≡ value key before
 
 -- so does an entry that doesn't alter it
 abbrev pub EntriesLeaveOthers : Type 0
-EntriesLeaveOthers = (key : Key) (history : List Entry) (e : Entry) → entry_alters key e ≡ false → value_after key (history ++ e ∷ []) ≡ value_after key history
+EntriesLeaveOthers = (key : Key) (history : List Entry) (e : Entry)
+    → entry_alters key e ≡ false → value_after key (history ++ e ∷ []) ≡ value_after key history
+
+-- ---- the numbers of sessions
 
 -- number 0 is a session's: the door's
 abbrev pub DoorIsSession : Type 0
-DoorIsSession = (config : Config) (history : List Entry) → Legal config history → IsSomeAnd (slice_get history 0) (λ (e : Entry). e.act ≡ Enter)
+DoorIsSession = (config : Config) (history : List Entry) → Legal config history → IsNumber history 0
 
 -- a session's number stays one, whatever is added
 abbrev pub NumbersStay : Type 0
-NumbersStay = (history later : List Entry) (by : ℕ) → IsSomeAnd (slice_get history by) (λ (e : Entry). e.act ≡ Enter) → IsSomeAnd (slice_get (history ++ later) by) (λ (e : Entry). e.act ≡ Enter)
+NumbersStay = (history later : List Entry) (by : ℕ) → IsNumber history by → IsNumber (history ++ later) by
 
--- a call of a session, any but Enter
-abbrev pub IsOfSession : StoreCall → Type 0
-IsOfSession call.Enter = ⊥
-IsOfSession (call.Spaces newer) = Unit {0}
-IsOfSession (call.PutSpaces items) = Unit {0}
-IsOfSession (call.DropSpaces items) = Unit {0}
-
--- what such a call adds stands under the session's number, as its next, at the moment of the call
+-- what a session's call adds stands under its number, as its next, at the moment of the call
 abbrev pub EntriesAreTheSessions : Type 0
-EntriesAreTheSessions = (config : Config) (history : List Entry) (by nth : ℕ) (at : ℤ) (c : StoreCall) → IsOfSession c → AllByRecursion (λ (e : Entry). (e.by ≡ by) × ((e.nth ≡ nth) × (e.at ≡ at))) (entries_of config history by nth at c)
+EntriesAreTheSessions = (config : Config) (history : List Entry) (by nth : ℕ) (at : ℤ) (c : StoreCall)
+    → IsCallAt history c → AllByRecursion (IsEntryOf by nth at) (entries_of config history by nth at c)
 
 -- no entry stands under the number that the next session will have
 abbrev pub NextNumberIsFresh : Type 0
 NextNumberIsFresh = (config : Config) (history : List Entry) → Legal config history → own (length history) history ≡ []
+
+-- whoever is next may make each of its calls
+abbrev pub NextMayAsk : Type 0
+NextMayAsk = (history : List Entry) (by nth : ℕ) (c : StoreCall)
+    → IsNext history by nth → IsCallAt history c → MayAsk history by nth c
+
+-- a session's call stays one, whatever is added
+abbrev pub CallsStay : Type 0
+CallsStay = (history later : List Entry) (c : StoreCall) → IsCallAt history c → IsCallAt (history ++ later) c
+
+-- a call adds one entry or none
+abbrev pub CallsAddOne : Type 0
+CallsAddOne = (config : Config) (history : List Entry) (by nth : ℕ) (at : ℤ) (c : StoreCall)
+    → OneOrNone (entries_of config history by nth at c)
+
+-- the test for Enter
+abbrev pub EntersAreEnter : Type 0
+EntersAreEnter = (a : Act) → is_enter a ≡ true → a ≡ Enter
+
+-- ---- room
+
+-- a journal that is too full to let a session in stays so
+abbrev pub FullStaysFull : Type 0
+FullStaysFull = (config : Config) (history later : List Entry)
+    → has_room_for config history Enter ≡ false → has_room_for config (history ++ later) Enter ≡ false

@@ -32,7 +32,7 @@ MayAsk history by nth (call.DropSpaces items) = IsNext history by nth
 
 -- an entry is the one that the call with exactly its items adds to the history before it, by someone who may
 pub record Follows (config : Config) (history : List Entry) (e : Entry) : Type 0 where
-  pub same : entered config history e.by e.nth e.at (granted history e.act) ≡ e ∷ []
+  pub same : entered config history e.by e.nth e.at (granted config history e.act) ≡ e ∷ []
   pub may : MayAct history e.by e.nth e.act
 
 -- each further entry follows those before it

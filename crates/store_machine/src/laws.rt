@@ -1,5 +1,8 @@
 //! Laws on the definitions, as contracts of functions that do nothing.
-ghost use Rattle.store_machine.specs.Laws.{ChangesLeaveOthers, EntriesLeaveOthers, DoorIsSession, NumbersStay, EntriesAreTheSessions, NextNumberIsFresh};
+ghost use Rattle.store_machine.specs.Laws.{ChangesLeaveOthers, EntriesLeaveOthers};
+ghost use Rattle.store_machine.specs.Laws.{DoorIsSession, NumbersStay, NextNumberIsFresh, EntersAreEnter};
+ghost use Rattle.store_machine.specs.Laws.{EntriesAreTheSessions, NextMayAsk, CallsStay, CallsAddOne};
+ghost use Rattle.store_machine.specs.Laws.{FullStaysFull};
 
 /// The value of a key depends on the changes that alter it alone.
 pub fn state_laws()
@@ -7,11 +10,20 @@ pub fn state_laws()
     ensures entries { EntriesLeaveOthers }
 {}
 
-/// Numbers of sessions: the door's is one, each stays one, its calls write under it alone, and the number that the next
-/// Enter gives has no entry yet.
+/// Numbers of sessions: the door's is one, each stays one, and the number that the next Enter gives has no entry yet.
+/// Whoever is next may make each of a session's calls, and the one entry that it adds is the session's own.
 pub fn number_laws()
     ensures door { DoorIsSession }
     ensures stay { NumbersStay }
     ensures own { EntriesAreTheSessions }
     ensures fresh { NextNumberIsFresh }
+    ensures may { NextMayAsk }
+    ensures calls { CallsStay }
+    ensures one { CallsAddOne }
+    ensures enters { EntersAreEnter }
+{}
+
+/// A full journal stays full.
+pub fn room_laws()
+    ensures full { FullStaysFull }
 {}

@@ -1,0 +1,5 @@
+use Rattle.store_machine.proofs.Room.{full-stays}
+use Rattle.store_machine.proofs.laws.room_laws.Goals as goal
+
+pub returns : goal.returns
+returns c = record { full = full-stays }
