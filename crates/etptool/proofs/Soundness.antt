@@ -8,6 +8,7 @@ use Rattle.std.proofs.lemmas.Bool.{false≢true}
 use Rattle.std.proofs.lemmas.Bool.Decides.{nat_tests}
 use Rattle.etp_capture.specs.declared.frame.Frame.{Frame}
 use Rattle.chan_defs.specs.declared.config.Config.{Config}
+use Rattle.store_machine.specs.Laws.{IsCallAt}
 use Rattle.store_machine.specs.Answers.{answer, entries_of, entered as entered_acts, has_room, wanted, entry}
 use Rattle.store_machine.specs.Legal.{own, IsNext}
 use Rattle.store_machine.specs.declared.journal.Entry.{Entry}
@@ -28,7 +29,7 @@ use Rattle.etptool.specs.declared.seat.Seat.{Seat}
 use Rattle.etptool.specs.declared.seat.Seat.TheVariants.{Over, Sits}
 use Rattle.etptool.specs.declared.seat.Sitting.{Sitting}
 use Rattle.etptool.proofs.Growth.{By, Grows, grows_none, grows_trans, entry_last, entry_within, own_more, own_all, next_kept, next_more}
-use Rattle.etptool.proofs.Calls.{takes_no_enter, NoEnter, by_entries}
+use Rattle.etptool.proofs.Calls.{takes_a_call, by_entries}
 use Rattle.etptool.proofs.Seats.{put_twice, at_same, at_self}
 
 -- ---- one frame
@@ -48,7 +49,7 @@ record TurnFits (n : ℕ) (h : List Entry) (t : Turn) : Type 0 where
   number : t.sitting.number ≡ n
   next : IsNext t.journal t.sitting.number t.sitting.nth
 
-answered_fits : (c : Config) (h : List Entry) (at : ℤ) (s : Sitting) (st : State) (o : Option StoreCall) → IfSome o NoEnter → IsNext h s.number s.nth → TurnFits s.number h (answered c h at s st o)
+answered_fits : (c : Config) (h : List Entry) (at : ℤ) (s : Sitting) (st : State) (o : Option StoreCall) → IfSome o (IsCallAt h) → IsNext h s.number s.nth → TurnFits s.number h (answered c h at s st o)
 answered_fits c h at s st None free next = record { grows = grows_none s.number h; number = refl; next = next }
 answered_fits c h at s st (Some x) free next =
     let by = by_entries c h s.number s.nth at x free in
@@ -63,7 +64,7 @@ settled_fits n h f t None fits = record { grows = fits.grows; seat = (fits.numbe
 settled_fits n h f t (Some e) fits = record { grows = fits.grows; seat = tt }
 
 turn_fits : (c : Config) (h : List Entry) (s : Sitting) (f : Frame) → IsNext h s.number s.nth → TurnFits s.number h (turn c h s f)
-turn_fits c h s f next = answered_fits c h f.moment s (takes h s.session f).state (takes h s.session f).call (takes_no_enter h s.session f) next
+turn_fits c h s f next = answered_fits c h f.moment s (takes h s.session f).state (takes h s.session f).call (takes_a_call h s.session f) next
 
 by_kind : (n : ℕ) (h : List Entry) (b : Bool) (x y : Effect) → EffectFits n h x → EffectFits n h y → EffectFits n h (if b then x else y)
 by_kind n h true x y a b = a
@@ -103,7 +104,7 @@ entered_fits c h f true fresh =
 entered_fits c h f false fresh = record { grows = record { more = []; is = refl; by = tt }; seat = tt }
 
 enters_fits : (c : Config) (h : List Entry) (f : Frame) → own (length h) h ≡ [] → EffectFits (length h) h (enters c h f)
-enters_fits c h f fresh = entered_fits c h f (has_room c h (wanted h call.Enter)) fresh
+enters_fits c h f fresh = entered_fits c h f (has_room c h (wanted c h call.Enter)) fresh
 
 entered_next : (h : List Entry) (at : ℤ) (n : ℕ) (b : Bool) → own (length h) h ≡ [] → place_in (let_in h b) ≡ Some n → IsNext (h ++ entering h at b) n 1
 entered_next h at n true fresh is =
@@ -114,7 +115,7 @@ entered_next h at n false fresh is = absurd cc
 
 -- a session that was let in has one entry, that of entering
 pub enter_next : (c : Config) (h : List Entry) (at : ℤ) (n : ℕ) → own (length h) h ≡ [] → place_in (answer c h call.Enter).reply ≡ Some n → IsNext (h ++ entries_of c h 0 0 at call.Enter) n 1
-enter_next c h at n fresh is = entered_next h at n (has_room c h (wanted h call.Enter)) fresh is
+enter_next c h at n fresh is = entered_next h at n (has_room c h (wanted c h call.Enter)) fresh is
 
 -- ---- all seats
 

@@ -8,6 +8,8 @@ use Rattle.msg_core.specs.declared.dataspace_messages.DataspaceMessage.TheVarian
 use Rattle.store_machine.specs.declared.call.Answer.{Answer}
 use Rattle.store_machine.specs.declared.call.StoreCall.{StoreCall}
 use Rattle.store_machine.specs.declared.call.SpacePut.{SpacePut}
+use Rattle.store_machine.specs.declared.journal.Entry.{Entry}
+use Rattle.store_machine.specs.Laws.{IsCallAt}
 use Rattle.session_core.specs.declared.scheme.Judged.{Judged}
 use Rattle.session_core.specs.declared.saying.Asked.{Asked}
 use Rattle.session_core.specs.declared.saying.Asked.TheVariants.{Says, Asks}
@@ -23,68 +25,69 @@ use Rattle.session_core.specs.Spaces.{spaces_asked, unless_refused, put_called, 
 use Rattle.session_core.specs.Scheme.{judged, kept, sent}
 use Rattle.session_core.specs.State.{State}
 use Rattle.session_core.specs.Arriving.{Event, arrived}
-use Rattle.session_core.specs.Machine.{Taken, taken, taken_in, taken_as, on_message, on_protocol, on_accepted, on_row, spaces_taken, is_accepted, accepting, given, given_to, IsAsk, CallsAreAsks, AnswersAreLast}
+use Rattle.session_core.specs.Machine.{Taken, taken, taken_in, taken_as, on_message, on_protocol, on_accepted, on_row, spaces_taken, is_accepted, accepting, given, given_to, CallsAreAsks, AnswersAreLast}
 
-abbrev IsAsked : Asked SpacePending → Type 0
-IsAsked (Says sayings) = Unit {0}
-IsAsked (Asks c p) = IsAsk c
+abbrev IsAsked : List Entry → Asked SpacePending → Type 0
+IsAsked h (Says sayings) = Unit {0}
+IsAsked h (Asks c p) = IsCallAt h c
 
-unless : (why : Option ErrorCode) (a : Asked SpacePending) → IsAsked a → IsAsked (unless_refused why a)
-unless (Some code) a h = tt
-unless None a h = h
+module _ (h : List Entry) where
+  unless : (why : Option ErrorCode) (a : Asked SpacePending) → IsAsked h a → IsAsked h (unless_refused why a)
+  unless (Some code) a is = tt
+  unless None a is = is
 
-put : (items : List (List ℕ × Judged (Unit {0}))) (puts : List (List ℕ × SpacePut)) → IsAsked (put_called items puts)
-put items [] = tt
-put items (x ∷ xs) = tt
+  put : (items : List (List ℕ × Judged (Unit {0}))) (puts : List (List ℕ × SpacePut)) → IsAsked h (put_called items puts)
+  put items [] = tt
+  put items (x ∷ xs) = tt
 
-delete : (items : List (List ℕ × Judged (Unit {0}))) (paths : List (List ℕ × List ℕ)) → IsAsked (delete_called items paths)
-delete items [] = tt
-delete items (x ∷ xs) = tt
+  delete : (items : List (List ℕ × Judged (Unit {0}))) (paths : List (List ℕ × List ℕ)) → IsAsked h (delete_called items paths)
+  delete items [] = tt
+  delete items (x ∷ xs) = tt
 
-spaces : (m : DataspaceMessage) (in_transaction : Bool) → IsAsked (spaces_asked m in_transaction)
-spaces (space.GetDataspaces x) b = tt
-spaces (space.PutDataspaces x) b = let items = judged (λ s d. (s, put_judged d)) tt x.dataspaces in unless (change_fault b x.dataspaces) (put_parted items) (put (kept (λ put. tt) items) (sent (λ put. put) items))
-spaces (space.DeleteDataspaces x) b = let items = judged (λ s uri. (s, path_judged uri)) tt x.uris in unless (change_fault b x.uris) (delete_parted items) (delete (kept (λ path. tt) items) (sent (λ path. path) items))
-spaces (space.GetDataspacesResponse x) b = tt
-spaces (space.PutDataspacesResponse x) b = tt
-spaces (space.DeleteDataspacesResponse x) b = tt
+  spaces : (m : DataspaceMessage) (in_transaction : Bool) → IsAsked h (spaces_asked m in_transaction)
+  spaces (space.GetDataspaces x) b = tt
+  spaces (space.PutDataspaces x) b = let items = judged (λ s d. (s, put_judged d)) tt x.dataspaces in unless (change_fault b x.dataspaces) (put_parted items) (put (kept (λ put. tt) items) (sent (λ put. put) items))
+  spaces (space.DeleteDataspaces x) b = let items = judged (λ s uri. (s, path_judged uri)) tt x.uris in unless (change_fault b x.uris) (delete_parted items) (delete (kept (λ path. tt) items) (sent (λ path. path) items))
+  spaces (space.GetDataspacesResponse x) b = tt
+  spaces (space.PutDataspacesResponse x) b = tt
+  spaces (space.DeleteDataspacesResponse x) b = tt
 
-by_spaces : (r : Request) (a : Asked SpacePending) (s : State) → IsAsked a → IfSome (spaces_taken r a s).call IsAsk
-by_spaces r (Says sayings) s h = tt
-by_spaces r (Asks c p) s h = h
+  by_spaces : (r : Request) (a : Asked SpacePending) (s : State) → IsAsked h a → IfSome (spaces_taken r a s).call (IsCallAt h)
+  by_spaces r (Says sayings) s is = tt
+  by_spaces r (Asks c p) s is = is
 
-by_row : (r : Request) (moment : ℤ) (m : Message) (s : State) → IfSome (on_row r moment m s).call IsAsk
-by_row r moment (message.Core m) s = tt
-by_row r moment (message.Dataspace m) s = by_spaces r (spaces_asked m (is_some s.desk.staging)) s (spaces m (is_some s.desk.staging))
-by_row r moment _ s = tt
+  by_row : (r : Request) (moment : ℤ) (m : Message) (s : State) → IfSome (on_row r moment m s).call (IsCallAt h)
+  by_row r moment (message.Core m) s = tt
+  by_row r moment (message.Dataspace m) s = by_spaces r (spaces_asked m (is_some s.desk.staging)) s (spaces m (is_some s.desk.staging))
+  by_row r moment _ s = tt
 
-by_accepted : (b : Bool) (r : Request) (moment : ℤ) (m : Message) (s : State) → IfSome (on_accepted b r moment m s).call IsAsk
-by_accepted true r moment m s = by_row r moment m s
-by_accepted false r moment m s = tt
+  by_accepted : (b : Bool) (r : Request) (moment : ℤ) (m : Message) (s : State) → IfSome (on_accepted b r moment m s).call (IsCallAt h)
+  by_accepted true r moment m s = by_row r moment m s
+  by_accepted false r moment m s = tt
 
-by_protocol : (p : Phase) (r : Request) (moment : ℤ) (m : Message) (s : State) → IfSome (on_protocol p r moment m s).call IsAsk
-by_protocol phase.Waiting r moment m s = tt
-by_protocol phase.Open r moment m s = by_accepted (is_accepted s r.protocol) r moment m s
-by_protocol (phase.Ended e) r moment m s = tt
+  by_protocol : (p : Phase) (r : Request) (moment : ℤ) (m : Message) (s : State) → IfSome (on_protocol p r moment m s).call (IsCallAt h)
+  by_protocol phase.Waiting r moment m s = tt
+  by_protocol phase.Open r moment m s = by_accepted (is_accepted s r.protocol) r moment m s
+  by_protocol (phase.Ended e) r moment m s = tt
 
-by_message : (r : Request) (moment : ℤ) (m : Message) (s : State) → IfSome (on_message r moment m s).call IsAsk
-by_message r moment (message.Core m) s = tt
-by_message r moment m s = by_protocol s.phase r moment m s
+  by_message : (r : Request) (moment : ℤ) (m : Message) (s : State) → IfSome (on_message r moment m s).call (IsCallAt h)
+  by_message r moment (message.Core m) s = tt
+  by_message r moment m s = by_protocol s.phase r moment m s
 
-by_arrived : (a : Arrived) (s : State) → IfSome (taken_as a s).call IsAsk
-by_arrived (arrives.Unreadable c) s = tt
-by_arrived (arrives.Stale r) s = tt
-by_arrived (arrives.Refused r c) s = tt
-by_arrived (arrives.Fresh r moment m) s = by_message r moment m (accepting r s)
-by_arrived (arrives.Polled front) s = tt
+  by_arrived : (a : Arrived) (s : State) → IfSome (taken_as a s).call (IsCallAt h)
+  by_arrived (arrives.Unreadable c) s = tt
+  by_arrived (arrives.Stale r) s = tt
+  by_arrived (arrives.Refused r c) s = tt
+  by_arrived (arrives.Fresh r moment m) s = by_message r moment m (accepting r s)
+  by_arrived (arrives.Polled front) s = tt
 
-by_phase : (p : Phase) (a : Arrived) (s : State) → IfSome (taken_in p a s).call IsAsk
-by_phase phase.Waiting a s = by_arrived a s
-by_phase phase.Open a s = by_arrived a s
-by_phase (phase.Ended e) a s = tt
+  by_phase : (p : Phase) (a : Arrived) (s : State) → IfSome (taken_in p a s).call (IsCallAt h)
+  by_phase phase.Waiting a s = by_arrived a s
+  by_phase phase.Open a s = by_arrived a s
+  by_phase (phase.Ended e) a s = tt
 
 pub calls_are_asks : CallsAreAsks
-calls_are_asks s e = by_phase s.phase (arrived s.last_id e) s
+calls_are_asks h s e = by_phase h s.phase (arrived s.last_id e) s
 
 by_pending : (p : Option Pending) (a : Answer) (s : State) → s.pending ≡ None → (given_to p a s).pending ≡ None
 by_pending None a s h = h

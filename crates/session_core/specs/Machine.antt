@@ -11,7 +11,8 @@ use Rattle.etp_frame.specs.declared.message.Message.{Message}
 use Rattle.etp_frame.specs.declared.message.Message.TheVariants as message
 use Rattle.store_machine.specs.declared.call.Answer.{Answer}
 use Rattle.store_machine.specs.declared.call.StoreCall.{StoreCall}
-use Rattle.store_machine.specs.declared.call.StoreCall.TheVariants as call
+use Rattle.store_machine.specs.declared.journal.Entry.{Entry}
+use Rattle.store_machine.specs.Laws.{IsCallAt}
 use Rattle.session_core.specs.declared.saying.Saying.{Saying}
 use Rattle.session_core.specs.declared.saying.Asked.{Asked}
 use Rattle.session_core.specs.declared.saying.Asked.TheVariants.{Says, Asks}
@@ -137,15 +138,9 @@ abbrev pub given : State → Answer → State
 given s a = given_to s.pending a (record s { pending = None })
 
 -- ---- what holds of every half step
--- a call that a session makes: any but the one by which it is entered
-abbrev pub IsAsk : StoreCall → Type 0
-IsAsk call.Enter = ⊥
-IsAsk (call.Spaces newer) = Unit {0}
-IsAsk (call.PutSpaces items) = Unit {0}
-IsAsk (call.DropSpaces items) = Unit {0}
-
+-- what a session asks is one of its calls, at each history
 abbrev pub CallsAreAsks : Type 0
-CallsAreAsks = (s : State) (e : Event) → IfSome (taken s e).call IsAsk
+CallsAreAsks = (history : List Entry) (s : State) (e : Event) → IfSome (taken s e).call (IsCallAt history)
 
 -- once the answer is given, no request awaits one
 abbrev pub AnswersAreLast : Type 0

@@ -1,7 +1,7 @@
 use Rattle.std.proofs.Common.{arith, ap, ◌∙◌, ◌≡◌, ◌≤◌, ◌+◌, length, length-append}
 use Rattle.store_machine.specs.Answers.{entries_of}
 use Rattle.store_machine.specs.Legal.{own}
-use Rattle.etptool.proofs.Calls.{may_ask}
+use Rattle.store_machine.proofs.Numbers.{may_ask}
 use Rattle.etptool.proofs.Growth.{own_few}
 use Rattle.etptool.proofs.turns.make_turn.Goals as goal
 
