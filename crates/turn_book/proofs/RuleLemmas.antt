@@ -8,9 +8,9 @@ use Rattle.std.proofs.lemmas.Bool.Decides.{nat_tests}
 use Rattle.atomic_table.proofs.Lists.{at_longer, at_map}
 use Rattle.turn_book.specs.declared.view.View.{View}
 use Rattle.turn_book.specs.declared.view.Met.{Met}
-use Rattle.turn_book.specs.Lists.{Each, occurrences, Rises, own, without_each, own_places}
-use Rattle.turn_book.specs.Rules.{IsSettled, numbers_of, numbers, IsDated, Fits, IsApart, Sound}
-use Rattle.turn_book.specs.Steps.{first_view, fresh_view, marked, hearing, number_or, grown, IsOwn, longer, met_of, joined, IsOwnSeen}
+use Rattle.turn_book.specs.Lists.{Each, occurrences, Rises, longer, own, without_each, own_places}
+use Rattle.turn_book.specs.Rules.{IsSettled, IsMine, numbers_of, numbers, IsDated, Fits, IsApart, Sound}
+use Rattle.turn_book.specs.Steps.{first_view, fresh_view, marked, hearing, number_or, grown, IsOwn, met_of, joined, IsOwnSeen}
 use Rattle.etp_values.proofs.Prefixes.{prefix_self, prefix_trans, prefix_shorter, prefix_length, prefix_get, prefix_snoc, prefix_grown}
 use Rattle.turn_book.proofs.ListLemmas.{occurrences_append, each_append, each_snoc, each_right, each_none, each_two, rises_snoc, rises_wider, rises_each}
 use Rattle.turn_book.proofs.OwnLemmas.{own_other, own_between}
@@ -96,10 +96,23 @@ module _ {E : Type 0} (by : E → ℕ) (enters : E → Bool) where
   number_below log (Some q) seen pre t zero n at = subst (λ (x : ℕ). x < length log) (some-injective q n at) (settled_below log q seen pre t)
   number_below log (Some q) seen pre t (suc i) n at = absurd (some-ne-none n (sym at))
 
+module _ {E : Type 0} (by : E → ℕ) where
+  -- an entry that gives the seat its number n stands behind all that was joined, so n is no place there
+  mine_grown : (seen : List E) (k : Option ℕ) (olds : List (List E)) → Each (λ o. IsPrefix o seen) olds → IfSome k (λ n. IsMine by n olds) → IfSome (number_or k (length seen)) (λ n. IsMine by n olds)
+  mine_grown seen None [] pre t = tt
+  mine_grown seen None (o ∷ []) pre t = tt
+  mine_grown seen None (o ∷ p ∷ []) pre t = λ below. let short = prefix_length o seen (pre 0 o refl) in absurd (omega (arith, below, short))
+  mine_grown seen None (o ∷ p ∷ q ∷ more) pre t = tt
+  mine_grown seen (Some n) olds pre t = t
+
+  mine_joined : (k : Option ℕ) (seen other : List E) → IfSome k (λ n. own by n (longer seen other) ≡ own by n seen) → IfSome k (λ n. IsMine by n (seen ∷ other ∷ []))
+  mine_joined None seen other t = tt
+  mine_joined (Some n) seen other t = λ below. t
+
 module _ {E F : Type 0} (by : E → ℕ) (enters : E → Bool) where
   -- who has the turn, and how often it was missed, is no part of what fits
   pub refit : (log : List E) (v : View E F) (h : Option (List E)) (k : ℕ) → Fits by enters log v → Fits by enters log (record v { held = h; missed = k })
-  refit log v h k f = record { seen = f.seen; marks = f.marks; heard = f.heard; number = f.number; met = f.met; olds = f.olds; dated = f.dated; rises = f.rises; places = f.places }
+  refit log v h k f = record { seen = f.seen; marks = f.marks; heard = f.heard; number = f.number; met = f.met; olds = f.olds; mine = f.mine; dated = f.dated; rises = f.rises; places = f.places }
 
   pub fit_first : (log : List E) (fixed : F) (e : E) → slice_get log 0 ≡ Some e → enters e ≡ true → by e ≡ 0 → Fits by enters log (first_view log fixed)
   fit_first log fixed e at enter writer = record {
@@ -109,6 +122,7 @@ module _ {E F : Type 0} (by : E → ℕ) (enters : E → Bool) where
     number = record { entry = e; place = at; entering = enter; writer = writer; own = refl };
     met = each_none (λ m. IsPrefix m.seen log × IsSettled by enters log m.number m.seen);
     olds = each_none (λ o. IsPrefix o log);
+    mine = tt;
     dated = each_none (λ m. IfSome (slice_get log m) (λ e. by e ≤ m));
     rises = omega arith;
     places = sym (without_nil (own_places by (Some 0) log));
@@ -122,6 +136,7 @@ module _ {E F : Type 0} (by : E → ℕ) (enters : E → Bool) where
     number = tt;
     met = each_none (λ m. IsPrefix m.seen seen × IsSettled by enters log m.number m.seen);
     olds = each_none (λ o. IsPrefix o seen);
+    mine = tt;
     dated = each_none (λ m. IfSome (slice_get log m) (λ e. by e ≤ m));
     rises = omega arith;
     places = refl;
@@ -135,6 +150,7 @@ module _ {E F : Type 0} (by : E → ℕ) (enters : E → Bool) where
     number = number_whole by enters log v.number v.seen f.seen f.number;
     met = λ i m at. (prefix_trans m.seen v.seen log (f.met i m at).0 f.seen, (f.met i m at).1);
     olds = λ i o at. prefix_trans o v.seen log (f.olds i o at) f.seen;
+    mine = f.mine;
     dated = dated_marked by log v.marks n found f.dated;
     rises = rises_snoc 0 v.places (length v.seen) n (length log) f.rises (omega arith) (omega arith);
     places = places_marked by v.number v.seen log v.marks v.places n found (own_seen by enters log v.number v.seen f.number) f.places;
@@ -148,6 +164,7 @@ module _ {E F : Type 0} (by : E → ℕ) (enters : E → Bool) where
     number = f.number;
     met = f.met;
     olds = f.olds;
+    mine = f.mine;
     dated = f.dated;
     rises = f.rises;
     places = f.places;
@@ -164,6 +181,7 @@ module _ {E F : Type 0} (by : E → ℕ) (enters : E → Bool) where
       met = λ i m at. let t = (f.met i m at).1 in let p = (f.met i m at).0 in
           (p, record { entry = t.entry; place = t.place; entering = t.entering; writer = t.writer; own = sym (own_between by m.number m.seen v.seen log p f.seen t.own) ∙ t.own });
       olds = f.olds;
+      mine = f.mine;
       dated = dated_seen by v.seen log v.marks f.seen f.dated;
       rises = f.rises;
       places = f.places;
@@ -181,6 +199,7 @@ module _ {E F : Type 0} (by : E → ℕ) (enters : E → Bool) where
         number = number_other by enters log e v.number v.seen (λ i n at. ne i n (at_longer (numbers_of v.number) (mets v) i n at)) f.number;
         met = λ i m at. ((f.met i m at).0, settle_other by enters log m.number m.seen e (each_right (λ n. by e ≢ n) (numbers_of v.number) (mets v) ne i m.number (at_map (λ m. m.number) v.met i m at)) (f.met i m at).1);
         olds = f.olds;
+        mine = f.mine;
         dated = dated_grown by log e v.marks (rises_each 0 v.marks (length log) (rises_wider 0 v.marks (length v.seen) (length log) f.marks short)) early f.dated;
         rises = f.rises;
         places = f.places;
@@ -197,6 +216,7 @@ module _ {E F : Type 0} (by : E → ℕ) (enters : E → Bool) where
         number = number_grown by enters v.seen e v.number v.seen mine f.number;
         met = λ i m at. (prefix_snoc m.seen v.seen e (f.met i m at).0, settle_other by enters v.seen m.number m.seen e (ne i m.number (at_map (λ m. m.number) v.met i m at)) (f.met i m at).1);
         olds = λ i o at. prefix_snoc o v.seen e (f.olds i o at);
+        mine = mine_grown by v.seen v.number v.olds f.olds f.mine;
         dated = dated_own by v.seen e v.marks (rises_each 0 v.marks (length v.seen) f.marks) early f.dated;
         rises = rises_wider 0 v.places (length v.seen) (length (v.seen ++ e ∷ [])) f.rises (omega arith);
         places = places_grown by enters v.seen e v.number v.marks v.places mine f.rises f.dated f.places;
@@ -206,6 +226,7 @@ module _ {E F : Type 0} (by : E → ℕ) (enters : E → Bool) where
   fit_joined log v w f g =
       let l = longer_of v.seen w.seen log f.seen g.seen in
       let all : List E = longer v.seen w.seen in
+      let still = own_further by enters log v.number v.seen all l.0 l.2 f.number in
       let more = prefix_length v.seen all l.0 in record {
         seen = l.2;
         marks = rises_wider 0 v.marks (length v.seen) (length all) f.marks more;
@@ -217,9 +238,10 @@ module _ {E F : Type 0} (by : E → ℕ) (enters : E → Bool) where
             (each_append P (met_of w.number w.seen w.places w.heard) w.met (met_settled by enters log w.number w.seen all w.places w.heard l.1 g.number)
             (λ i m at. (prefix_trans m.seen w.seen all (g.met i m at).0 l.1, (g.met i m at).1)));
         olds = each_two (λ o. IsPrefix o all) v.seen w.seen l.0 l.1;
+        mine = mine_joined by v.number v.seen w.seen still;
         dated = f.dated;
         rises = rises_wider 0 v.places (length v.seen) (length all) f.rises more;
-        places = f.places ∙ ap (λ ps. without_each ps v.marks) (sym (own_places_same by v.number v.seen all (own_further by enters log v.number v.seen all l.0 l.2 f.number)));
+        places = f.places ∙ ap (λ ps. without_each ps v.marks) (sym (own_places_same by v.number v.seen all still));
       }
 
   -- the numbers of both

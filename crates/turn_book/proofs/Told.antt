@@ -31,7 +31,7 @@ pub knows_missed : {E F : Type 0} (by : E → ℕ) (enters : E → Bool) (log : 
 knows_missed {E} {F} by enters log v u k is knows =
     let t : Knows by enters log (record v { missed = k }) = subst (λ (w : View E F). Knows by enters log w) is knows in
     let f = t.fits in record {
-      fits = record { seen = f.seen; marks = f.marks; heard = f.heard; number = f.number; met = f.met; olds = f.olds; dated = f.dated; rises = f.rises; places = f.places };
+      fits = record { seen = f.seen; marks = f.marks; heard = f.heard; number = f.number; met = f.met; olds = f.olds; mine = f.mine; dated = f.dated; rises = f.rises; places = f.places };
       apart = t.apart;
     }
 

@@ -1,5 +1,5 @@
 -- Lists of numbers, and of entries with their writers.
-use Rattle.std.specs.Prelude.{◌≡◌, ◌==◌, ℕ, ◌+◌, ◌≤◌, List, [], ◌∷◌, map, Option, Some, None, if◌then◌else◌}
+use Rattle.std.specs.Prelude.{◌≡◌, ◌==◌, ℕ, ◌+◌, ◌≤◌, leb, cond, List, [], ◌∷◌, map, length, Option, Some, None, if◌then◌else◌}
 use mathlib.Core.Option.{some}
 use lib.ListN.{get_elem?}
 
@@ -34,6 +34,10 @@ without n (x ∷ xs) = if x == n then xs else x ∷ without n xs
 abbrev pub without_each : List ℕ → List ℕ → List ℕ
 without_each [] xs = xs
 without_each (n ∷ ns) xs = without_each ns (without n xs)
+
+-- the longer of two lists
+abbrev pub longer : {X : Type 0} → List X → List X → List X
+longer xs ys = cond (leb (length ys) (length xs)) xs ys
 
 -- the last element, if there is one
 abbrev pub last : {X : Type 0} → List X → Option X

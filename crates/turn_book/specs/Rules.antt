@@ -1,12 +1,12 @@
 -- The rule over the two words, the slot of the book and the views of all seats.
-use Rattle.std.specs.Prelude.{◌≡◌, ◌==◌, ℕ, ◌≤◌, Bool, true, List, [], ◌∷◌, ◌++◌, map, length, Option, Some, None, IfSome, if◌then◌else◌, slice_get}
+use Rattle.std.specs.Prelude.{◌≡◌, ◌==◌, ℕ, ◌≤◌, ◌<◌, Bool, true, List, [], ◌∷◌, ◌++◌, map, length, Option, Some, None, IfSome, if◌then◌else◌, slice_get}
 use mathlib.Core.Option.{some, none}
 use mathlib.Core.Option as maybe
 use mathlib.Core.List.{IsPrefix}
 use lib.ListN.{get_elem?}
 use Rattle.atomic_table.specs.Table.{State}
 use Rattle.turn_book.specs.declared.view.View.{View}
-use Rattle.turn_book.specs.Lists.{Each, sum_over, occurrences, Rises, without_each, own, own_places}
+use Rattle.turn_book.specs.Lists.{Each, sum_over, occurrences, Rises, without_each, longer, own, own_places}
 
 -- the turn is free and the book is at home, or the seat of this place has the turn and the book
 pub data Turn (B : Type 0) : Type 0 where
@@ -41,6 +41,13 @@ pub record IsSettled {E : Type 0} (by : E → ℕ) (enters : E → Bool) (log : 
   pub writer : by entry ≡ n
   pub own : own by n log ≡ own by n seen
 
+-- with one list joined into another, the entries by n are those of the first, which has a place n
+abbrev pub IsMine : {E : Type 0} → (E → ℕ) → ℕ → List (List E) → Type 0
+IsMine by n [] = Unit {0}
+IsMine by n (o ∷ []) = Unit {0}
+IsMine by n (o ∷ p ∷ []) = n < length o → own by n (longer o p) ≡ own by n o
+IsMine by n (o ∷ p ∷ q ∷ more) = Unit {0}
+
 -- a number or none, as a list
 abbrev pub numbers_of : Option ℕ → List ℕ
 numbers_of None = []
@@ -56,8 +63,9 @@ IsDated by log marks = Each (λ m. IfSome (slice_get log m) (λ e. by e ≤ m)) 
 
 -- the view is one of a journal: what was seen is a beginning of it; marks never fall and are at most the length seen;
 -- no length that was heard is above the journal's; the number, and each that was met, is settled by what its seat had
--- seen; what was met and what was seen before a join is a beginning of what is seen now; no entry at a mark has a later
--- writer; and places, which never fall either, are the marks with one left out for each own entry
+-- seen; what was met and what was seen before a join is a beginning of what is seen now, and the join brought no entry
+-- under the seat's own number; no entry at a mark has a later writer; and places, which never fall either, are the marks
+-- with one left out for each own entry
 pub record Fits {E F : Type 0} (by : E → ℕ) (enters : E → Bool) (log : List E) (v : View E F) : Type 0 where
   pub seen : IsPrefix v.seen log
   pub marks : Rises 0 v.marks (length v.seen)
@@ -65,6 +73,7 @@ pub record Fits {E F : Type 0} (by : E → ℕ) (enters : E → Bool) (log : Lis
   pub number : IfSome v.number (λ n. IsSettled by enters log n v.seen)
   pub met : Each (λ m. IsPrefix m.seen v.seen × IsSettled by enters log m.number m.seen) v.met
   pub olds : Each (λ o. IsPrefix o v.seen) v.olds
+  pub mine : IfSome v.number (λ n. IsMine by n v.olds)
   pub dated : IsDated by log v.marks
   pub rises : Rises 0 v.places (length v.seen)
   pub places : v.places ≡ without_each (own_places by v.number v.seen) v.marks

@@ -1,10 +1,10 @@
 -- The view after each kind of step, and what the step tells.
-use Rattle.std.specs.Prelude.{◌≡◌, ◌≢◌, ℕ, ◌+◌, ◌≤◌, Bool, true, leb, cond, List, [], ◌∷◌, ◌++◌, length, Option, Some, None, IfSome}
+use Rattle.std.specs.Prelude.{◌≡◌, ◌≢◌, ℕ, ◌+◌, ◌≤◌, Bool, true, List, [], ◌∷◌, ◌++◌, length, Option, Some, None, IfSome}
 use mathlib.Core.List.{IsPrefix}
 use Rattle.atomic_table.specs.Table.{Step, Me}
 use Rattle.turn_book.specs.declared.view.View.{View}
 use Rattle.turn_book.specs.declared.view.Met.{Met}
-use Rattle.turn_book.specs.Lists.{own}
+use Rattle.turn_book.specs.Lists.{longer, own}
 use Rattle.turn_book.specs.Rules.{Knows, Sound}
 
 -- the first seat has the number 0, and has seen the whole journal
@@ -52,10 +52,6 @@ wrote e v = released (grown e (length v.seen) v)
 abbrev pub IsOwn : {E : Type 0} → (E → ℕ) → (E → Bool) → Option ℕ → ℕ → E → Type 0
 IsOwn by enters None n e = (by e ≡ n) × (enters e ≡ true)
 IsOwn by enters (Some k) n e = by e ≡ k
-
--- the longer of two lists
-abbrev pub longer : {E : Type 0} → List E → List E → List E
-longer xs ys = cond (leb (length ys) (length xs)) xs ys
 
 -- a seat with a number is met
 abbrev pub met_of : {E : Type 0} → Option ℕ → List E → List ℕ → List ℕ → List (Met E)

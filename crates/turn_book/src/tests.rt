@@ -66,15 +66,21 @@ impl Numbers {
     }
 }
 
+/// A book of two lines, both by the number 0.
 fn open(alloc: Global) -> Result<(TurnBook<Numbers>, Seat<Numbers>), NoMemory>
     ensures own { IfOk result (λ t. IsSeatOf (λ b. b.title) t.0 t.1) }
     ensures idle { IfOk result (λ t. (view t.1).held ≡ None) }
 {
-    let mut lines = Vec::with_capacity(alloc, 1)?;
+    let mut lines = Vec::with_capacity(alloc, 2)?;
     lines.push_reserved(Line {
         by: 0,
         enters: true,
         value: 0,
+    });
+    lines.push_reserved(Line {
+        by: 0,
+        enters: false,
+        value: 1,
     });
     TurnBook::new(alloc, Numbers { title: 7, lines })
 }
@@ -203,9 +209,9 @@ fn two_threads_read_each_other(rt: HostRuntime) -> Result<(), Fail> {
     );
     book.join(&mut door, one);
     book.join(&mut door, two);
-    assert_eq!(rt; book.look(&mut door), 7);
+    assert_eq!(rt; book.look(&mut door), 8);
     let numbers = book.close(&rt, door);
-    assert_eq!(rt; (numbers.title, numbers.len()), (7, 7));
+    assert_eq!(rt; (numbers.title, numbers.len()), (7, 8));
     Ok(())
 }
 
@@ -245,7 +251,7 @@ fn tries_only_while_the_turn_is_free(rt: HostRuntime) -> Result<(), Fail> {
     let mut other = book.split(&mut door);
     let numbers = book.take(&rt, &mut door);
     assert!(rt; book.try_take(&mut other).is_none());
-    assert_eq!(rt; book.look(&mut other), 1);
+    assert_eq!(rt; book.look(&mut other), 2);
     book.give(&mut door, numbers);
     let Some(numbers) = book.try_take(&mut other) else {
         return Err(Fail::new("the turn was free"));
@@ -253,7 +259,7 @@ fn tries_only_while_the_turn_is_free(rt: HostRuntime) -> Result<(), Fail> {
     assert!(rt; book.try_take(&mut door).is_none());
     book.give(&mut other, numbers);
     book.join(&mut door, other);
-    assert_eq!(rt; book.close(&rt, door).len(), 1);
+    assert_eq!(rt; book.close(&rt, door).len(), 2);
     Ok(())
 }
 

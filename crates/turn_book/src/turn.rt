@@ -106,8 +106,10 @@ impl<B: Book> TurnBook<B> {
     pub fn look(&self, seat: &mut Seat<B>) -> u64
         requires own { IsSeatOf B.fixed self.now seat.old }
         ensures own { IsSeatOf B.fixed self.now seat.new }
-        ensures held { IfSome (view seat.old).held (λ log. Sees B.by B.enters log (view seat.old) result (view seat.new)) }
-        ensures idle { IfNone (view seat.old).held (Hears B.by B.enters (view seat.old) result (view seat.new)) }
+        ensures held { IfSome (view seat.old).held (λ log.
+            Sees B.by B.enters log (view seat.old) result (view seat.new)) }
+        ensures idle { IfNone (view seat.old).held (
+            Hears B.by B.enters (view seat.old) result (view seat.new)) }
     {
         self.table.shared.load::<Look<B>>(&mut seat.seat, 1)
     }
@@ -119,8 +121,10 @@ impl<B: Book> TurnBook<B> {
         requires fixed { B.fixed book ≡ fixed_of B.fixed self.now }
         requires journal { MayGive B.by B.enters (view seat.old) (B.journal book) }
         ensures own { IsSeatOf B.fixed self.now seat.new }
-        ensures same { (view seat.old).held ≡ Some (B.journal book) → view seat.new ≡ released (view seat.old) }
-        ensures entry { (e : B.Entry) → IsOneMore (view seat.old) e (B.journal book) → view seat.new ≡ wrote e (view seat.old) }
+        ensures same { (view seat.old).held ≡ Some (B.journal book)
+            → view seat.new ≡ released (view seat.old) }
+        ensures entry { (e : B.Entry) → IsOneMore (view seat.old) e (B.journal book)
+            → view seat.new ≡ wrote e (view seat.old) }
         ensures knows { Knows B.by B.enters (B.journal book) (view seat.new) }
     {
         if book.len() != seat.taken {
@@ -136,7 +140,8 @@ impl<B: Book> TurnBook<B> {
         requires entry { MayAdd B.by B.enters (view seat.old) (B.journal book.now) }
         ensures own { IsSeatOf B.fixed self.now seat.new }
         ensures held { (view seat.new).held ≡ Some (B.journal book.now) }
-        ensures view { (e : B.Entry) → IsOneMore (view seat.old) e (B.journal book.now) → view seat.new ≡ grown e (length (view seat.old).seen) (view seat.old) }
+        ensures view { (e : B.Entry) → IsOneMore (view seat.old) e (B.journal book.now)
+            → view seat.new ≡ grown e (length (view seat.old).seen) (view seat.old) }
     {
         let len = book.len();
         self.table

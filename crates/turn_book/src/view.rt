@@ -21,7 +21,7 @@ pub struct View<E, F> {
     pub marks: LinkedList<u64>,
     /// The lengths alone that it found with the turn.
     pub places: LinkedList<u64>,
-    /// The journal that it took, while it has the turn.
+    /// The whole journal, while the seat has the turn.
     pub held: Option<LinkedList<E>>,
     /// The lengths that it found without the turn.
     pub heard: LinkedList<u64>,
