@@ -1,5 +1,6 @@
 -- What operations leave at each key.
 use Rattle.std.specs.Prelude.{ℕ, ℤ, List, ◌≡◌, if◌then◌else◌, fold, Option, Some, None}
+use Rattle.std.specs.Map.{lookup}
 use Rattle.std.specs.Str.{bytes_eq}
 use Rattle.etp_values.specs.declared.uri.StoreUri.{StoreUri}
 use Rattle.etp_values.specs.SameUri.{same_uri}
@@ -10,18 +11,18 @@ use Rattle.object_store.specs.declared.op.ObjectOp.TheVariants.{SetSpace, DropSp
 use Rattle.object_store.specs.Tables.{Tables, space_in, object_in}
 
 -- the dataspace that a put leaves: it was made when the one before was, or now where there was none
-abbrev pub put_space : Option SpaceRecord → SpaceRecord → SpaceRecord
-put_space None r = record r { created = r.written }
-put_space (Some before) r = record r { created = before.created }
+abbrev pub space_made : Option SpaceRecord → SpaceRecord → SpaceRecord
+space_made None r = record r { created = r.written }
+space_made (Some before) r = record r { created = before.created }
 
 -- the object that a put leaves: it was made when the one before was, or now where there was none
-abbrev pub put_object : Option ObjectRecord → ObjectRecord → ObjectRecord
-put_object None r = record r { created = r.written }
-put_object (Some before) r = record r { created = before.created }
+abbrev pub object_made : Option ObjectRecord → ObjectRecord → ObjectRecord
+object_made None r = record r { created = r.written }
+object_made (Some before) r = record r { created = before.created }
 
 -- what an operation leaves of the dataspace of a path
 abbrev pub space_after : List ℕ → Option SpaceRecord → ObjectOp → Option SpaceRecord
-space_after path before (SetSpace r) = if bytes_eq path r.path then Some (put_space before r) else before
+space_after path before (SetSpace r) = if bytes_eq path r.path then Some (space_made before r) else before
 space_after path before (DropSpace p) = if bytes_eq path p then None else before
 space_after path before (SetObject r) = before
 space_after path before (DropObject u) = before
@@ -30,8 +31,37 @@ space_after path before (DropObject u) = before
 abbrev pub object_after : StoreUri → Option ObjectRecord → ObjectOp → Option ObjectRecord
 object_after uri before (SetSpace r) = before
 object_after uri before (DropSpace p) = if bytes_eq uri.space p then None else before
-object_after uri before (SetObject r) = if same_uri uri r.uri then Some (put_object before r) else before
+object_after uri before (SetObject r) = if same_uri uri r.uri then Some (object_made before r) else before
 object_after uri before (DropObject u) = if same_uri uri u then None else before
+
+-- ---- one table
+
+-- the table of dataspaces after a put: at the path the record as it is made, elsewhere what was there
+abbrev pub PutsSpace : List ℕ → SpaceRecord → List (List ℕ × SpaceRecord) → List (List ℕ × SpaceRecord) → Type 0
+PutsSpace path r old new = (q : List ℕ)
+    → lookup (bytes_eq q) new
+    ≡ (if bytes_eq q path then Some (space_made (lookup (bytes_eq q) old) r) else lookup (bytes_eq q) old)
+
+-- and after a drop
+abbrev pub DropsSpace : List ℕ → List (List ℕ × SpaceRecord) → List (List ℕ × SpaceRecord) → Type 0
+DropsSpace path old new = (q : List ℕ)
+    → lookup (bytes_eq q) new ≡ (if bytes_eq q path then None else lookup (bytes_eq q) old)
+
+-- the table of objects after a put, after one object is dropped, and after those of a dataspace are
+abbrev pub PutsObject : StoreUri → ObjectRecord → List (StoreUri × ObjectRecord) → List (StoreUri × ObjectRecord) → Type 0
+PutsObject uri r old new = (q : StoreUri)
+    → lookup (same_uri q) new
+    ≡ (if same_uri q uri then Some (object_made (lookup (same_uri q) old) r) else lookup (same_uri q) old)
+
+abbrev pub DropsObject : StoreUri → List (StoreUri × ObjectRecord) → List (StoreUri × ObjectRecord) → Type 0
+DropsObject uri old new = (q : StoreUri)
+    → lookup (same_uri q) new ≡ (if same_uri q uri then None else lookup (same_uri q) old)
+
+abbrev pub DropsObjectsIn : List ℕ → List (StoreUri × ObjectRecord) → List (StoreUri × ObjectRecord) → Type 0
+DropsObjectsIn path old new = (q : StoreUri)
+    → lookup (same_uri q) new ≡ (if bytes_eq q.space path then None else lookup (same_uri q) old)
+
+-- ---- both
 
 -- each key has what these operations left, one after the other
 pub record Applies (ops : List ObjectOp) (old new : Tables) : Type 0 where

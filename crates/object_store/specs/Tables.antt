@@ -28,12 +28,12 @@ pub record ListsSpaces (t : Tables) (records : List SpaceRecord) : Type 0 where
   pub once : IsDistinct bytes_eq (map (λ r. r.path) records)
 
 -- the default dataspace as it is from the first
-abbrev pub default_space : SpaceRecord
-default_space = record { path = []; written = pos 0; created = pos 0; custom = [] }
+abbrev pub default_dataspace : SpaceRecord
+default_dataspace = record { path = []; written = pos 0; created = pos 0; custom = [] }
 
 -- no dataspace but the default one, and no object
 pub record IsFirst (t : Tables) : Type 0 where
-  pub spaces : (path : List ℕ) → space_in t path ≡ (if bytes_eq path [] then Some default_space else None)
+  pub spaces : (path : List ℕ) → space_in t path ≡ (if bytes_eq path [] then Some default_dataspace else None)
   pub objects : (uri : StoreUri) → object_in t uri ≡ None
 
 -- all but the room is as it was

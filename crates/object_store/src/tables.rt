@@ -1,12 +1,11 @@
 //! The tables' own steps, one map at a time.
-ghost use Rattle.std.specs.Prelude.{◌≡◌, ◌≤◌, ◌<◌, ◌+◌, ℕ, List, Some, None, if◌then◌else◌, not};
+ghost use Rattle.std.specs.Prelude.{◌≡◌, ◌≤◌, ◌<◌, ◌+◌, not};
 ghost use Rattle.std.specs.Map.{lookup};
 ghost use Rattle.std.specs.Option.{option_copied};
 ghost use Rattle.std.specs.Str.{bytes_eq};
 ghost use Rattle.indexmap.specs.IndexMap.{spare};
-ghost use Rattle.etp_values.specs.declared.uri.StoreUri.{StoreUri};
 ghost use Rattle.etp_values.specs.SameUri.{same_uri};
-ghost use Rattle.object_store.specs.Changes as change;
+ghost use Rattle.object_store.specs.Changes.{space_made, object_made, PutsSpace, DropsSpace, PutsObject, DropsObject, DropsObjectsIn};
 
 use crate::records::{ObjectRecord, SpaceRecord};
 use etp_values::{StoreUri, Text};
@@ -18,7 +17,7 @@ fn space_made(
     path: &Text,
     mut space: SpaceRecord,
 ) -> SpaceRecord
-    ensures { result ≡ change.put_space (lookup (bytes_eq path.now) spaces.now.entries) space }
+    ensures { result ≡ space_made (lookup (bytes_eq path.now) spaces.now.entries) space }
 {
     match spaces.get(path) {
         Some(before) => space.created = before.created,
@@ -30,7 +29,7 @@ fn space_made(
 /// Puts a dataspace in place of the one of its path.
 pub(crate) fn put_space(spaces: &mut IndexMap<Text, SpaceRecord>, path: Text, space: SpaceRecord)
     requires { 0 < spare spaces.old }
-    ensures each { (q : List ℕ) → lookup (bytes_eq q) spaces.new.entries ≡ (if bytes_eq q path then Some (change.put_space (lookup (bytes_eq q) spaces.old.entries) space) else lookup (bytes_eq q) spaces.old.entries) }
+    ensures each { PutsSpace path space spaces.old.entries spaces.new.entries }
     ensures room { spare spaces.old ≤ spare spaces.new + 1 }
 {
     let space = space_made(spaces, &path, space);
@@ -39,7 +38,7 @@ pub(crate) fn put_space(spaces: &mut IndexMap<Text, SpaceRecord>, path: Text, sp
 
 /// Takes out the dataspace of a path.
 pub(crate) fn drop_space(spaces: &mut IndexMap<Text, SpaceRecord>, path: &Text)
-    ensures each { (q : List ℕ) → lookup (bytes_eq q) spaces.new.entries ≡ (if bytes_eq q path.now then None else lookup (bytes_eq q) spaces.old.entries) }
+    ensures each { DropsSpace path.now spaces.old.entries spaces.new.entries }
     ensures room { spare spaces.old ≤ spare spaces.new }
 {
     let _ = spaces.swap_remove(path);
@@ -51,7 +50,7 @@ fn object_made(
     uri: &StoreUri,
     mut object: ObjectRecord,
 ) -> ObjectRecord
-    ensures { result ≡ change.put_object (lookup (same_uri uri.now) objects.now.entries) object }
+    ensures { result ≡ object_made (lookup (same_uri uri.now) objects.now.entries) object }
 {
     match objects.get(uri) {
         Some(before) => object.created = before.created,
@@ -77,7 +76,7 @@ pub(crate) fn put_object(
     object: ObjectRecord,
 )
     requires { 0 < spare objects.old }
-    ensures each { (q : StoreUri) → lookup (same_uri q) objects.new.entries ≡ (if same_uri q uri then Some (change.put_object (lookup (same_uri q) objects.old.entries) object) else lookup (same_uri q) objects.old.entries) }
+    ensures each { PutsObject uri object objects.old.entries objects.new.entries }
     ensures room { spare objects.old ≤ spare objects.new + 1 }
 {
     let object = object_made(objects, &uri, object);
@@ -86,7 +85,7 @@ pub(crate) fn put_object(
 
 /// Takes out the object of a URI.
 pub(crate) fn drop_object(objects: &mut IndexMap<StoreUri, ObjectRecord>, uri: &StoreUri)
-    ensures each { (q : StoreUri) → lookup (same_uri q) objects.new.entries ≡ (if same_uri q uri.now then None else lookup (same_uri q) objects.old.entries) }
+    ensures each { DropsObject uri.now objects.old.entries objects.new.entries }
     ensures room { spare objects.old ≤ spare objects.new }
 {
     let _ = objects.swap_remove(uri);
@@ -94,7 +93,7 @@ pub(crate) fn drop_object(objects: &mut IndexMap<StoreUri, ObjectRecord>, uri: &
 
 /// Takes out the objects of a dataspace.
 pub(crate) fn drop_objects_in(objects: &mut IndexMap<StoreUri, ObjectRecord>, path: &Text)
-    ensures each { (q : StoreUri) → lookup (same_uri q) objects.new.entries ≡ (if bytes_eq q.space path.now then None else lookup (same_uri q) objects.old.entries) }
+    ensures each { DropsObjectsIn path.now objects.old.entries objects.new.entries }
     ensures room { spare objects.old ≤ spare objects.new }
 {
     objects.retain(

@@ -58,6 +58,19 @@ fn change(alloc: Global, store: &mut ObjectStore, op: ObjectOp) -> Result<(), No
     Ok(())
 }
 
+/// Does two operations at once.
+fn change_both(
+    alloc: Global,
+    store: &mut ObjectStore,
+    first: ObjectOp,
+    second: ObjectOp,
+) -> Result<(), NoMemory> {
+    let ops = List::from_vec(vec![in alloc; first, second]?);
+    store.reserve(&ops)?;
+    store.apply(ops);
+    Ok(())
+}
+
 /// Puts the object of a number in a dataspace.
 fn put(
     alloc: Global,
@@ -157,6 +170,20 @@ fn a_dropped_space_takes_its_objects_along(rt: HostRuntime) -> Result<(), Fail> 
     drop_space(rt.alloc(), &mut store, "w")?;
     assert_eq!(rt; looked(rt.alloc(), &store, "w", 1)?, None);
     assert_eq!(rt; looked(rt.alloc(), &store, "x", 1)?, Some((6, 6, 0)));
+    Ok(())
+}
+
+#[test]
+fn operations_are_done_in_order(rt: HostRuntime) -> Result<(), Fail> {
+    let alloc = rt.alloc();
+    let mut store = ObjectStore::new(alloc)?;
+    put(alloc, &mut store, "w", 1, 5)?;
+    let first = ObjectOp::DropSpace(Text::copy(alloc, "w")?);
+    let record = object(alloc, uri(alloc, "w", 2)?, 6, b"2")?;
+    let second = ObjectOp::SetObject(KeyedObject::new(alloc, record)?);
+    change_both(alloc, &mut store, first, second)?;
+    assert_eq!(rt; looked(alloc, &store, "w", 1)?, None);
+    assert_eq!(rt; looked(alloc, &store, "w", 2)?, Some((6, 6, 1)));
     Ok(())
 }
 
