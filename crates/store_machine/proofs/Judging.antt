@@ -12,7 +12,7 @@ use Rattle.store_machine.specs.declared.call.Verdict.{Verdict}
 use Rattle.store_machine.specs.declared.call.Verdict.TheVariants.{Accepted, Refused}
 use Rattle.store_machine.specs.History.{Space, Value, SpaceValue, Change, DropSpace, is_default, value, set_space}
 use Rattle.store_machine.specs.Answers.{verdict, verdicts, accepted, is_accepted, sofar_with}
-use Rattle.store_machine.specs.Kept.{space_at, Stands, put_verdict, put_verdicts, puttable, drop_verdict, Judged}
+use Rattle.store_machine.specs.Kept.{dataspace_at, Stands, put_verdict, put_verdicts, puttable, drop_verdict, Judged}
 use Rattle.store_machine.proofs.Values.{value-dropped}
 
 -- ---- puts: no verdict looks at what was before
@@ -45,7 +45,7 @@ still_there false (Some v) = refl
 drop_verdict-is : (rs : List SpaceRecord) (changes : List Change) → Stands rs changes → (gone : List (List ℕ)) (path : List ℕ) → drop_verdict rs gone path ≡ verdict (changes ++ map DropSpace gone) (DropSpace path)
 drop_verdict-is rs changes s gone path =
     ap (λ b. if is_default path then Refused RequestDenied else (if b then Accepted else Refused NotFound))
-    (ap (λ b. b && not (list_any (bytes_eq path) gone)) (there_is (space_at path rs) (value (Space path) changes) (s.finds path))
+    (ap (λ b. b && not (list_any (bytes_eq path) gone)) (there_is (dataspace_at path rs) (value (Space path) changes) (s.finds path))
     ∙ sym (still_there (list_any (bytes_eq path) gone) (value (Space path) changes))
     ∙ ap is_some (sym (value-dropped path changes gone)))
 
@@ -95,19 +95,6 @@ judged-step rs changes s name path rest all given given' gone gone' d g k =
               ∙ ap (λ b. gone ++ (if b then path ∷ accepted DropSpace (sofar ++ DropSpace path ∷ []) (values_of rest) else accepted DropSpace sofar (values_of rest))) (sym e)
               ∙ d.accepted;
         }
-
--- nothing judged yet, and all judged
-pub judged-first : (changes : List Change) (all : List (List ℕ × List ℕ)) → Judged changes all all [] []
-judged-first changes all = record {
-  verdicts = ap (λ l. verdicts DropSpace l all) (append-nil changes);
-  accepted = ap (λ l. accepted DropSpace l (values_of all)) (append-nil changes);
-}
-
-pub judged-verdicts : (changes : List Change) (all : List (List ℕ × List ℕ)) (given : List (List ℕ × Verdict)) (gone : List (List ℕ)) → Judged changes [] all given gone → given ≡ verdicts DropSpace changes all
-judged-verdicts changes all given gone d = sym (append-nil given) ∙ d.verdicts
-
-pub judged-accepted : (changes : List Change) (all : List (List ℕ × List ℕ)) (given : List (List ℕ × Verdict)) (gone : List (List ℕ)) → Judged changes [] all given gone → gone ≡ accepted DropSpace changes (values_of all)
-judged-accepted changes all given gone d = sym (append-nil gone) ∙ d.accepted
 
 -- ---- the verdicts stand under the names of the items
 

@@ -3,15 +3,17 @@ use Rattle.std.specs.Prelude.{ℕ, ℤ, pos, nat_lt, nat_le, Bool, true, false, 
 use Rattle.std.proofs.Common.{ap, sym, ◌∙◌, subst, append_assoc, append-nil, arith}
 use Rattle.chan_defs.specs.declared.config.Config.{Config}
 use Rattle.object_store.specs.declared.records.SpaceRecord.{SpaceRecord}
+use Rattle.object_store.specs.Tables.{default_dataspace}
 use Rattle.store_machine.specs.declared.call.SpacePut.{SpacePut}
+use Rattle.store_machine.specs.declared.counted.TheConstants.{MAX_JOURNAL_BYTES}
 use Rattle.store_machine.specs.declared.journal.Act.{Act}
 use Rattle.store_machine.specs.declared.journal.Act.TheVariants.{Enter, PutSpaces, DropSpaces}
 use Rattle.store_machine.specs.declared.journal.Entry.{Entry}
-use Rattle.store_machine.specs.History.{Change, DropSpace, default_space, set_space, entry_changes, changes_of}
+use Rattle.store_machine.specs.History.{Change, DropSpace, set_space, entry_changes, changes_of}
 use Rattle.store_machine.specs.declared.call.Reply.TheVariants.{Spaces}
 use Rattle.store_machine.specs.declared.call.StoreCall.TheVariants as call
-use Rattle.store_machine.specs.Spaces.{is_newer}
-use Rattle.store_machine.specs.Counted.{counted_act, counted}
+use Rattle.store_machine.specs.Dataspaces.{is_newer}
+use Rattle.store_machine.specs.Counted.{counted_act, counted, is_room, bytes_with}
 use Rattle.store_machine.specs.Answers.{verdict, is_accepted, accepted, act_of, granted, has_room_for, entry, entered, answer}
 use Rattle.store_machine.specs.Legal.{IsNext, Follows, LegalFrom, Legal, door}
 use Rattle.store_machine.specs.Kept.{Stands, Keeps, put_in, drop_in, put_record}
@@ -47,7 +49,7 @@ counted-push : (history : List Entry) (e : Entry) → counted (history ++ e ∷ 
 counted-push [] e = omega arith
 counted-push (x ∷ xs) e = let rest = counted-push xs e in omega arith
 
-fits : (config : Config) (history : List Entry) (a : Act) → has_room_for config history a ≡ true → counted history + counted_act a ≤ 536870912
+fits : (config : Config) (history : List Entry) (a : Act) → has_room_for config history a ≡ true → counted history + counted_act a ≤ MAX_JOURNAL_BYTES
 fits config history a h = grind (arith, h)
 
 -- ---- a further entry
@@ -57,7 +59,7 @@ keeps-push : (config : Config) (journal : List Entry) (total : ℕ) (rs rs' : Li
 keeps-push config journal total rs rs' e k f room s = record {
   legal = legal-push config journal e k.legal f;
   bytes = ap (λ n. n + counted_act e.act) k.bytes ∙ sym (counted-push journal e);
-  limit = subst (λ n. n + counted_act e.act ≤ 536870912) (sym k.bytes) (fits config journal e.act room);
+  limit = subst (λ n. n + counted_act e.act ≤ MAX_JOURNAL_BYTES) (sym k.bytes) (fits config journal e.act room);
   stands = subst (Stands rs') (sym (changes-push journal e)) s;
 }
 
@@ -97,18 +99,18 @@ keeps-drops config journal total rs by nth at asked paths k next same some room 
     again = ap (act_of DropSpaces) (ap (accepted DropSpace (changes_of journal)) same ∙ accepted-again DropSpace (changes_of journal) asked ∙ sym same) ∙ some_act DropSpaces paths some
 
 -- the door alone
-pub keeps-first : (config : Config) → Keeps config (door ∷ []) 64 (default_space ∷ [])
+pub keeps-first : (config : Config) → Keeps config (door ∷ []) 64 (default_dataspace ∷ [])
 keeps-first config = record { legal = (refl, tt); bytes = refl; limit = omega arith; stands = stands-first }
 
 -- ---- what the code knows
 
 -- the sum with a further entry, where there is room
 pub with_room : (config : Config) (journal : List Entry) (total bytes : ℕ) (a : Act) → total ≡ counted journal
-    → Some bytes ≡ (if nat_lt (length journal) config.journal && nat_le (total + counted_act a) 536870912 then Some (total + counted_act a) else None)
+    → Some bytes ≡ bytes_with config.journal (length journal) total a
     → (has_room_for config journal a ≡ true) × (bytes ≡ total + counted_act a)
 with_room config journal total bytes a e h =
-    let r = by (nat_lt (length journal) config.journal && nat_le (total + counted_act a) 536870912) h in
-    (ap (λ n. nat_lt (length journal) config.journal && nat_le (n + counted_act a) 536870912) (sym e) ∙ r.0, r.1)
+    let r = by (is_room config.journal (length journal) total a) h in
+    (ap (λ n. is_room config.journal (length journal) n a) (sym e) ∙ r.0, r.1)
   where
     by : (b : Bool) → Some bytes ≡ (if b then Some (total + counted_act a) else None) → (b ≡ true) × (bytes ≡ total + counted_act a)
     by true h = (refl, cc)

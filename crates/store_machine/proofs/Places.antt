@@ -13,7 +13,7 @@ use Rattle.std.proofs.lemmas.Bool.{false≢true}
 use Rattle.std.proofs.lemmas.Slice.Eq.{bytes_eq-Decides}
 use Rattle.std.proofs.lemmas.List.Kept.{IsStrictlySortedBy-filter}
 use Rattle.object_store.specs.declared.records.SpaceRecord.{SpaceRecord}
-use Rattle.store_machine.specs.Kept.{space_at, seek, further, put_in, drop_in}
+use Rattle.store_machine.specs.Kept.{dataspace_at, seek, further, put_in, drop_in}
 
 abbrev pub path_cmp : List ℕ → List ℕ → Ordering
 path_cmp = slice_cmp nat_cmp
@@ -115,9 +115,6 @@ drop_in-rises rs p h = subst (IsStrictlySortedBy path_cmp) (sym (paths-drop_in r
 
 -- ---- what is found
 
-bytes_eq-self : (p : List ℕ) → bytes_eq p p ≡ true
-bytes_eq-self p = (bytes_eq-Decides p p).1 refl
-
 -- two tests that both pass name one path
 same_test : {X : Type 0} (a b : Bool) (v w rest : Option X) → (a ≡ true → b ≡ true → ⊥) → cond b w (cond a v rest) ≡ cond a v (cond b w rest)
 same_test true true v w rest n = absurd (n refl refl)
@@ -130,16 +127,16 @@ over_test true b v w rest n = refl
 over_test false true v w rest n = absurd (false≢true (n refl))
 over_test false false v w rest n = refl
 
-pub space_at-put_in : (q : List ℕ) (rs : List SpaceRecord) (r : SpaceRecord) → space_at q (put_in rs r) ≡ cond (bytes_eq q r.path) (Some r) (space_at q rs)
-space_at-put_in q [] r = refl
-space_at-put_in q (x ∷ xs) r = by (path_cmp r.path x.path) refl (space_at-put_in q xs r)
+pub dataspace_at-put_in : (q : List ℕ) (rs : List SpaceRecord) (r : SpaceRecord) → dataspace_at q (put_in rs r) ≡ cond (bytes_eq q r.path) (Some r) (dataspace_at q rs)
+dataspace_at-put_in q [] r = refl
+dataspace_at-put_in q (x ∷ xs) r = by (path_cmp r.path x.path) refl (dataspace_at-put_in q xs r)
   where
-    by : (o : Ordering) → path_cmp r.path x.path ≡ o → space_at q (put_in xs r) ≡ cond (bytes_eq q r.path) (Some r) (space_at q xs)
-        → space_at q (match_ordering o (r ∷ x ∷ xs) (r ∷ xs) (x ∷ put_in xs r)) ≡ cond (bytes_eq q r.path) (Some r) (cond (bytes_eq q x.path) (Some x) (space_at q xs))
+    by : (o : Ordering) → path_cmp r.path x.path ≡ o → dataspace_at q (put_in xs r) ≡ cond (bytes_eq q r.path) (Some r) (dataspace_at q xs)
+        → dataspace_at q (match_ordering o (r ∷ x ∷ xs) (r ∷ xs) (x ∷ put_in xs r)) ≡ cond (bytes_eq q r.path) (Some r) (cond (bytes_eq q x.path) (Some x) (dataspace_at q xs))
     by Less e rest = refl
-    by Equal e rest = over_test (bytes_eq q r.path) (bytes_eq q x.path) (Some r) (Some x) (space_at q xs) (λ h. ap (bytes_eq q) (tie_is r.path x.path e) ∙ h)
+    by Equal e rest = over_test (bytes_eq q r.path) (bytes_eq q x.path) (Some r) (Some x) (dataspace_at q xs) (λ h. ap (bytes_eq q) (tie_is r.path x.path e) ∙ h)
     by Greater e rest = ap (cond (bytes_eq q x.path) (Some x)) rest
-        ∙ same_test (bytes_eq q r.path) (bytes_eq q x.path) (Some r) (Some x) (space_at q xs) (λ h k.
+        ∙ same_test (bytes_eq q r.path) (bytes_eq q x.path) (Some r) (Some x) (dataspace_at q xs) (λ h k.
         let same : r.path ≡ x.path = sym (path_is q r.path h) ∙ path_is q x.path k in
         let tie : path_cmp r.path x.path ≡ Equal = subst (λ p. path_cmp r.path p ≡ Equal) same (tied_itself nat_list_cmp_total r.path) in
         let f : Greater ≡ Equal = sym e ∙ tie in cc)
@@ -159,12 +156,12 @@ one_gone false true false v kept rest e h = h
 one_gone false false true v kept rest e h = refl
 one_gone false false false v kept rest e h = h
 
-pub space_at-drop_in : (q : List ℕ) (rs : List SpaceRecord) (p : List ℕ) → space_at q (drop_in rs p) ≡ cond (bytes_eq q p) None (space_at q rs)
-space_at-drop_in q [] p = none_either (bytes_eq q p) None refl
-space_at-drop_in q (x ∷ xs) p =
-    either (not (bytes_eq p x.path)) ∙ one_gone (bytes_eq q p) (bytes_eq p x.path) (bytes_eq q x.path) x (space_at q (drop_in xs p)) (space_at q xs) one (space_at-drop_in q xs p)
+pub dataspace_at-drop_in : (q : List ℕ) (rs : List SpaceRecord) (p : List ℕ) → dataspace_at q (drop_in rs p) ≡ cond (bytes_eq q p) None (dataspace_at q rs)
+dataspace_at-drop_in q [] p = none_either (bytes_eq q p) None refl
+dataspace_at-drop_in q (x ∷ xs) p =
+    either (not (bytes_eq p x.path)) ∙ one_gone (bytes_eq q p) (bytes_eq p x.path) (bytes_eq q x.path) x (dataspace_at q (drop_in xs p)) (dataspace_at q xs) one (dataspace_at-drop_in q xs p)
   where
-    either : (b : Bool) → space_at q (cond b (x ∷ drop_in xs p) (drop_in xs p)) ≡ cond b (cond (bytes_eq q x.path) (Some x) (space_at q (drop_in xs p))) (space_at q (drop_in xs p))
+    either : (b : Bool) → dataspace_at q (cond b (x ∷ drop_in xs p) (drop_in xs p)) ≡ cond b (cond (bytes_eq q x.path) (Some x) (dataspace_at q (drop_in xs p))) (dataspace_at q (drop_in xs p))
     either true = refl
     either false = refl
 

@@ -3,6 +3,7 @@ use Rattle.std.specs.Prelude.{ℕ, ◌≡◌, Bool, true, false, List, [], ◌�
 use Rattle.std.proofs.Common.{arith}
 use Rattle.std.proofs.lemmas.Grind.{common_steps}
 use Rattle.chan_defs.specs.declared.config.Config.{Config}
+use Rattle.store_machine.specs.declared.counted.TheConstants.{MAX_JOURNAL_BYTES}
 use Rattle.store_machine.specs.declared.journal.Act.TheVariants.{Enter}
 use Rattle.store_machine.specs.declared.journal.Entry.{Entry}
 use Rattle.store_machine.specs.Counted.{counted, counted_act}
@@ -12,9 +13,9 @@ counted-append : (history later : List Entry) → counted (history ++ later) ≡
 counted-append [] later = omega arith
 counted-append (e ∷ es) later = let rest = counted-append es later in omega (arith, rest)
 
--- what is too much stays so where both sides grow
-still_none : (n n' limit b b' : ℕ) → n ≤ n' → b ≤ b' → (nat_lt n limit && nat_le b 536870912) ≡ false → (nat_lt n' limit && nat_le b' 536870912) ≡ false
-still_none n n' limit b b' longer more none = grind (arith, longer, more, none)
+-- where both sides grow, what is too much stays so
+still_none : (n n' limit b b' most : ℕ) → n ≤ n' → b ≤ b' → (nat_lt n limit && nat_le b most) ≡ false → (nat_lt n' limit && nat_le b' most) ≡ false
+still_none n n' limit b b' most longer more none = grind (arith, longer, more, none)
 
 pub full-stays : (config : Config) (history later : List Entry)
     → has_room_for config history Enter ≡ false → has_room_for config (history ++ later) Enter ≡ false
@@ -22,4 +23,4 @@ full-stays config history later none =
     let longer : length history ≤ length (history ++ later) = grind (arith, common_steps) in
     let sum = counted-append history later in
     let more : counted history + counted_act Enter ≤ counted (history ++ later) + counted_act Enter = omega (arith, sum) in
-    still_none (length history) (length (history ++ later)) config.journal (counted history + counted_act Enter) (counted (history ++ later) + counted_act Enter) longer more none
+    still_none (length history) (length (history ++ later)) config.journal (counted history + counted_act Enter) (counted (history ++ later) + counted_act Enter) MAX_JOURNAL_BYTES longer more none

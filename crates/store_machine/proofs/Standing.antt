@@ -14,12 +14,13 @@ use Rattle.std.proofs.lemmas.Bool.{false≢true}
 use Rattle.std.proofs.lemmas.List.Kept.{IsStrictlySortedBy-filter}
 use Rattle.etp_values.proofs.Names.{found_alike}
 use Rattle.object_store.specs.declared.records.SpaceRecord.{SpaceRecord}
+use Rattle.object_store.specs.Tables.{default_dataspace}
 use Rattle.store_machine.specs.declared.call.SpacePut.{SpacePut}
-use Rattle.store_machine.specs.History.{Space, Value, SpaceValue, Change, SetSpace, DropSpace, alters, made_at, left, first, default_space, value, set_space}
-use Rattle.store_machine.specs.Spaces.{with_path, paths, space_in, spaces}
-use Rattle.store_machine.specs.Kept.{space_at, put_in, drop_in, Stands, made, put_record}
+use Rattle.store_machine.specs.History.{Space, Value, SpaceValue, Change, SetSpace, DropSpace, alters, made_at, left, first, value, set_space}
+use Rattle.store_machine.specs.Dataspaces.{with_path, paths, dataspace_in, dataspaces}
+use Rattle.store_machine.specs.Kept.{dataspace_at, put_in, drop_in, Stands, made, put_record}
 use Rattle.store_machine.proofs.Values.{value-push}
-use Rattle.store_machine.proofs.Places.{path_cmp, paths_in, path_is, tie_is, placed-rises, put_in-rises, drop_in-rises, space_at-put_in, space_at-drop_in}
+use Rattle.store_machine.proofs.Places.{path_cmp, paths_in, path_is, tie_is, placed-rises, put_in-rises, drop_in-rises, dataspace_at-put_in, dataspace_at-drop_in}
 
 -- ---- through each change
 
@@ -33,27 +34,27 @@ on_both f true x y v w h k = h refl
 on_both f false x y v w h k = k
 
 -- a put whose record was made over an earlier list, which has the same times
-stands-put : (at : ℤ) (base rs : List SpaceRecord) (cs : List Change) (p : SpacePut) → Stands rs cs → ((path : List ℕ) → made at (space_at path rs) ≡ made at (space_at path base)) → Stands (put_in rs (put_record at base p)) (cs ++ set_space at p ∷ [])
+stands-put : (at : ℤ) (base rs : List SpaceRecord) (cs : List Change) (p : SpacePut) → Stands rs cs → ((path : List ℕ) → made at (dataspace_at path rs) ≡ made at (dataspace_at path base)) → Stands (put_in rs (put_record at base p)) (cs ++ set_space at p ∷ [])
 stands-put at base rs cs p s m = record {
   rise = put_in-rises rs (put_record at base p) s.rise;
-  finds = λ path. ap (option_map SpaceValue) (space_at-put_in path rs (put_record at base p))
-      ∙ on_both SpaceValue (bytes_eq path p.path) (Some (put_record at base p)) (space_at path rs) _ (value (Space path) cs) (λ h. same path h) (s.finds path)
+  finds = λ path. ap (option_map SpaceValue) (dataspace_at-put_in path rs (put_record at base p))
+      ∙ on_both SpaceValue (bytes_eq path p.path) (Some (put_record at base p)) (dataspace_at path rs) _ (value (Space path) cs) (λ h. same path h) (s.finds path)
       ∙ sym (value-push (Space path) cs (set_space at p));
 }
   where
     same : (path : List ℕ) → bytes_eq path p.path ≡ true → Some (SpaceValue (put_record at base p)) ≡ left (value (Space path) cs) (set_space at p)
     same path h = ap (λ n. Some (SpaceValue (record { path = p.path; written = at; created = n; custom = p.custom })))
-        (sym (m p.path) ∙ sym (made-value at (space_at p.path rs)) ∙ ap (made_at at) (s.finds p.path) ∙ ap (λ q. made_at at (value (Space q) cs)) (sym (path_is path p.path h)))
+        (sym (m p.path) ∙ sym (made-value at (dataspace_at p.path rs)) ∙ ap (made_at at) (s.finds p.path) ∙ ap (λ q. made_at at (value (Space q) cs)) (sym (path_is path p.path h)))
 
 -- a put leaves the time of its path
-made-put : (at : ℤ) (base rs : List SpaceRecord) (p : SpacePut) → ((path : List ℕ) → made at (space_at path rs) ≡ made at (space_at path base)) → (path : List ℕ) → made at (space_at path (put_in rs (put_record at base p))) ≡ made at (space_at path base)
-made-put at base rs p m path = ap (made at) (space_at-put_in path rs (put_record at base p)) ∙ by (bytes_eq path p.path) refl
+made-put : (at : ℤ) (base rs : List SpaceRecord) (p : SpacePut) → ((path : List ℕ) → made at (dataspace_at path rs) ≡ made at (dataspace_at path base)) → (path : List ℕ) → made at (dataspace_at path (put_in rs (put_record at base p))) ≡ made at (dataspace_at path base)
+made-put at base rs p m path = ap (made at) (dataspace_at-put_in path rs (put_record at base p)) ∙ by (bytes_eq path p.path) refl
   where
-    by : (b : Bool) → bytes_eq path p.path ≡ b → made at (cond b (Some (put_record at base p)) (space_at path rs)) ≡ made at (space_at path base)
-    by true h = ap (λ q. made at (space_at q base)) (sym (path_is path p.path h))
+    by : (b : Bool) → bytes_eq path p.path ≡ b → made at (cond b (Some (put_record at base p)) (dataspace_at path rs)) ≡ made at (dataspace_at path base)
+    by true h = ap (λ q. made at (dataspace_at q base)) (sym (path_is path p.path h))
     by false h = m path
 
-stands-puts_from : (at : ℤ) (base rs : List SpaceRecord) (cs : List Change) (ps : List SpacePut) → Stands rs cs → ((path : List ℕ) → made at (space_at path rs) ≡ made at (space_at path base)) → Stands (fold put_in rs (map (put_record at base) ps)) (cs ++ map (set_space at) ps)
+stands-puts_from : (at : ℤ) (base rs : List SpaceRecord) (cs : List Change) (ps : List SpacePut) → Stands rs cs → ((path : List ℕ) → made at (dataspace_at path rs) ≡ made at (dataspace_at path base)) → Stands (fold put_in rs (map (put_record at base) ps)) (cs ++ map (set_space at) ps)
 stands-puts_from at base rs cs [] s m = subst (Stands rs) (sym (append-nil cs)) s
 stands-puts_from at base rs cs (p ∷ ps) s m =
     subst (Stands (fold put_in (put_in rs (put_record at base p)) (map (put_record at base) ps))) (append_assoc cs (set_space at p ∷ []) (map (set_space at) ps))
@@ -66,8 +67,8 @@ stands-puts at rs cs ps s = stands-puts_from at rs rs cs ps s (λ path. refl)
 stands-drop : (rs : List SpaceRecord) (cs : List Change) (p : List ℕ) → Stands rs cs → Stands (drop_in rs p) (cs ++ DropSpace p ∷ [])
 stands-drop rs cs p s = record {
   rise = drop_in-rises rs p s.rise;
-  finds = λ path. ap (option_map SpaceValue) (space_at-drop_in path rs p)
-      ∙ on_both SpaceValue (bytes_eq path p) None (space_at path rs) None (value (Space path) cs) (λ h. refl) (s.finds path)
+  finds = λ path. ap (option_map SpaceValue) (dataspace_at-drop_in path rs p)
+      ∙ on_both SpaceValue (bytes_eq path p) None (dataspace_at path rs) None (value (Space path) cs) (λ h. refl) (s.finds path)
       ∙ sym (value-push (Space path) cs (DropSpace p));
 }
 
@@ -82,17 +83,17 @@ not_zero n = grind arith
 
 -- no other dataspace is there at first
 first-named : (c : ℕ) (cs : List ℕ) → first (Space (c ∷ cs)) ≡ None
-first-named c cs = ap (λ b. if b then Some (SpaceValue default_space) else None) (not_zero (length cs))
+first-named c cs = ap (λ b. if b then Some (SpaceValue default_dataspace) else None) (not_zero (length cs))
 
 -- the default dataspace alone
-pub stands-first : Stands (default_space ∷ []) []
+pub stands-first : Stands (default_dataspace ∷ []) []
 unfolding IsStrictlySortedBy
 stands-first = record {
   rise = (tt, tt);
   finds = λ path. by path;
 }
   where
-    by : (path : List ℕ) → option_map SpaceValue (space_at path (default_space ∷ [])) ≡ value (Space path) []
+    by : (path : List ℕ) → option_map SpaceValue (dataspace_at path (default_dataspace ∷ [])) ≡ value (Space path) []
     by [] = refl
     by (c ∷ cs) = sym (first-named c cs)
 
@@ -124,12 +125,12 @@ of-value : (path : List ℕ) (cs : List Change) → IsOf path (value (Space path
 of-value path cs = of-fold path cs (first (Space path)) (of-first path)
 
 -- the paths of the definition's list are those at which something stands
-paths-spaces : (cs : List Change) (ps : List (List ℕ)) → paths_in (flat_map (λ path. space_in (value (Space path) cs)) ps) ≡ filter (λ path. is_some (value (Space path) cs)) ps
-paths-spaces cs [] = refl
-paths-spaces cs (p ∷ ps) = by (value (Space p) cs) (of-value p cs) (paths-spaces cs ps)
+paths-dataspaces : (cs : List Change) (ps : List (List ℕ)) → paths_in (flat_map (λ path. dataspace_in (value (Space path) cs)) ps) ≡ filter (λ path. is_some (value (Space path) cs)) ps
+paths-dataspaces cs [] = refl
+paths-dataspaces cs (p ∷ ps) = by (value (Space p) cs) (of-value p cs) (paths-dataspaces cs ps)
   where
-    by : (v : Option Value) → IsOf p v → paths_in (flat_map (λ path. space_in (value (Space path) cs)) ps) ≡ filter (λ path. is_some (value (Space path) cs)) ps
-        → paths_in (space_in v ++ flat_map (λ path. space_in (value (Space path) cs)) ps) ≡ cond (is_some v) (p ∷ filter (λ path. is_some (value (Space path) cs)) ps) (filter (λ path. is_some (value (Space path) cs)) ps)
+    by : (v : Option Value) → IsOf p v → paths_in (flat_map (λ path. dataspace_in (value (Space path) cs)) ps) ≡ filter (λ path. is_some (value (Space path) cs)) ps
+        → paths_in (dataspace_in v ++ flat_map (λ path. dataspace_in (value (Space path) cs)) ps) ≡ cond (is_some v) (p ∷ filter (λ path. is_some (value (Space path) cs)) ps) (filter (λ path. is_some (value (Space path) cs)) ps)
     by None o rest = rest
     by (Some (SpaceValue r)) o rest = (λ j. o j ∷ rest j)
 
@@ -161,13 +162,13 @@ none_more false any w h = refl
 none_more true true w h = refl
 none_more true false w h = sym (h refl)
 
-found-spaces : (cs : List Change) (q : List ℕ) (ps : List (List ℕ)) → space_at q (flat_map (λ path. space_in (value (Space path) cs)) ps) ≡ cond (list_any (bytes_eq q) ps) (record_of (value (Space q) cs)) None
-found-spaces cs q [] = refl
-found-spaces cs q (p ∷ ps) = by (value (Space p) cs) refl (of-value p cs) (found-spaces cs q ps)
+found-dataspaces : (cs : List Change) (q : List ℕ) (ps : List (List ℕ)) → dataspace_at q (flat_map (λ path. dataspace_in (value (Space path) cs)) ps) ≡ cond (list_any (bytes_eq q) ps) (record_of (value (Space q) cs)) None
+found-dataspaces cs q [] = refl
+found-dataspaces cs q (p ∷ ps) = by (value (Space p) cs) refl (of-value p cs) (found-dataspaces cs q ps)
   where
     by : (v : Option Value) → value (Space p) cs ≡ v → IsOf p v
-        → space_at q (flat_map (λ path. space_in (value (Space path) cs)) ps) ≡ cond (list_any (bytes_eq q) ps) (record_of (value (Space q) cs)) None
-        → space_at q (space_in v ++ flat_map (λ path. space_in (value (Space path) cs)) ps) ≡ cond (bytes_eq q p || list_any (bytes_eq q) ps) (record_of (value (Space q) cs)) None
+        → dataspace_at q (flat_map (λ path. dataspace_in (value (Space path) cs)) ps) ≡ cond (list_any (bytes_eq q) ps) (record_of (value (Space q) cs)) None
+        → dataspace_at q (dataspace_in v ++ flat_map (λ path. dataspace_in (value (Space path) cs)) ps) ≡ cond (bytes_eq q p || list_any (bytes_eq q) ps) (record_of (value (Space q) cs)) None
     by None e o rest = rest ∙ none_more (bytes_eq q p) (list_any (bytes_eq q) ps) (record_of (value (Space q) cs)) (λ h. ap (λ y. record_of (value (Space y) cs)) (path_is q p h) ∙ ap record_of e)
     by (Some (SpaceValue r)) e o rest = ap (cond (bytes_eq q r.path) (Some r)) rest
         ∙ ap (λ y. cond (bytes_eq q y) (Some r) (cond (list_any (bytes_eq q) ps) (record_of (value (Space q) cs)) None)) o
@@ -236,10 +237,10 @@ all_found true v h = value-record v
 all_found false v h = sym (h refl)
 
 -- the definition's list stands for the changes
-stands-spaces : (cs : List Change) → Stands (spaces cs) cs
-stands-spaces cs = record {
-  rise = subst (IsStrictlySortedBy path_cmp) (sym (paths-spaces cs (paths cs))) (IsStrictlySortedBy-filter path_cmp (λ path. is_some (value (Space path) cs)) (paths cs) (paths-rise cs));
-  finds = λ q. ap (option_map SpaceValue) (found-spaces cs q (paths cs)) ∙ all_found (list_any (bytes_eq q) (paths cs)) (value (Space q) cs) (unput q cs);
+stands-dataspaces : (cs : List Change) → Stands (dataspaces cs) cs
+stands-dataspaces cs = record {
+  rise = subst (IsStrictlySortedBy path_cmp) (sym (paths-dataspaces cs (paths cs))) (IsStrictlySortedBy-filter path_cmp (λ path. is_some (value (Space path) cs)) (paths cs) (paths-rise cs));
+  finds = λ q. ap (option_map SpaceValue) (found-dataspaces cs q (paths cs)) ∙ all_found (list_any (bytes_eq q) (paths cs)) (value (Space q) cs) (unput q cs);
 }
 
 -- ---- two lists that stand for the same changes are one
@@ -251,7 +252,7 @@ keys-by_path : (rs : List SpaceRecord) → keys_of (by_path rs) ≡ paths_in rs
 keys-by_path [] = refl
 keys-by_path (r ∷ rs) = ap (λ l. r.path ∷ l) (keys-by_path rs)
 
-lookup-by_path : (q : List ℕ) (rs : List SpaceRecord) → lookup (bytes_eq q) (by_path rs) ≡ space_at q rs
+lookup-by_path : (q : List ℕ) (rs : List SpaceRecord) → lookup (bytes_eq q) (by_path rs) ≡ dataspace_at q rs
 lookup-by_path q [] = refl
 lookup-by_path q (r ∷ rs) = ap (cond (bytes_eq q r.path) (Some r)) (lookup-by_path q rs)
 
@@ -266,11 +267,11 @@ same_map (Some x) None h = absurd (cc)
 same_map (Some x) (Some y) h = ap record_of h
 
 -- the list that stands for the changes is the definition's
-pub stands-is : (rs : List SpaceRecord) (cs : List Change) → Stands rs cs → rs ≡ spaces cs
+pub stands-is : (rs : List SpaceRecord) (cs : List Change) → Stands rs cs → rs ≡ dataspaces cs
 stands-is rs cs s =
-    let other = stands-spaces cs in
-    let same : by_path rs ≡ by_path (spaces cs) = found_alike (by_path rs) (by_path (spaces cs))
+    let other = stands-dataspaces cs in
+    let same : by_path rs ≡ by_path (dataspaces cs) = found_alike (by_path rs) (by_path (dataspaces cs))
     (subst (IsStrictlySortedBy path_cmp) (sym (keys-by_path rs)) s.rise)
-    (subst (IsStrictlySortedBy path_cmp) (sym (keys-by_path (spaces cs))) other.rise)
-    (λ q. lookup-by_path q rs ∙ same_map (space_at q rs) (space_at q (spaces cs)) (s.finds q ∙ sym (other.finds q)) ∙ sym (lookup-by_path q (spaces cs))) in
-    sym (records-by_path rs) ∙ ap (map (λ (e : List ℕ × SpaceRecord). e.1)) same ∙ records-by_path (spaces cs)
+    (subst (IsStrictlySortedBy path_cmp) (sym (keys-by_path (dataspaces cs))) other.rise)
+    (λ q. lookup-by_path q rs ∙ same_map (dataspace_at q rs) (dataspace_at q (dataspaces cs)) (s.finds q ∙ sym (other.finds q)) ∙ sym (lookup-by_path q (dataspaces cs))) in
+    sym (records-by_path rs) ∙ ap (map (λ (e : List ℕ × SpaceRecord). e.1)) same ∙ records-by_path (dataspaces cs)

@@ -1,5 +1,5 @@
 -- What a call answers, and the entry that it adds, by the history before it.
-use Rattle.std.specs.Prelude.{ℕ, ℤ, pos, Bool, true, false, ◌&&◌, ◌+◌, List, [], ◌∷◌, ◌++◌, if◌then◌else◌, is_some, length, nat_lt, nat_le, map, filter}
+use Rattle.std.specs.Prelude.{ℕ, ℤ, pos, Bool, true, false, List, [], ◌∷◌, ◌++◌, if◌then◌else◌, is_some, length, map, filter}
 use Rattle.std.specs.Map.{values_of}
 use Rattle.etp_values.specs.declared.code.ErrorCode.TheVariants.{RequestDenied, NotFound}
 use Rattle.chan_defs.specs.declared.config.Config.{Config}
@@ -14,8 +14,8 @@ use Rattle.store_machine.specs.declared.journal.Act.{Act}
 use Rattle.store_machine.specs.declared.journal.Act.TheVariants.{Enter, PutSpaces, DropSpaces}
 use Rattle.store_machine.specs.declared.journal.Entry.{Entry}
 use Rattle.store_machine.specs.History.{Key, Space, Change, SetSpace, DropSpace, is_default, value, set_space, changes_of}
-use Rattle.store_machine.specs.Spaces.{spaces, is_newer}
-use Rattle.store_machine.specs.Counted.{counted_act, counted}
+use Rattle.store_machine.specs.Dataspaces.{dataspaces, is_newer}
+use Rattle.store_machine.specs.Counted.{counted, is_room}
 
 -- ---- verdicts
 
@@ -67,10 +67,9 @@ wanted config history (call.Spaces newer) = []
 wanted config history (call.PutSpaces items) = granted config history (PutSpaces (values_of items))
 wanted config history (call.DropSpaces items) = granted config history (DropSpaces (values_of items))
 
--- whether the journal takes a further entry of this act: it has fewer entries than configured, and with that one at most
--- 536,870,912 counted bytes
+-- whether the journal takes a further entry of this act
 abbrev pub has_room_for : Config → List Entry → Act → Bool
-has_room_for config history a = nat_lt (length history) config.journal && nat_le (counted history + counted_act a) 536870912
+has_room_for config history a = is_room config.journal (length history) (counted history) a
 
 abbrev pub has_room : Config → List Entry → List Act → Bool
 has_room config history [] = true
@@ -95,7 +94,7 @@ entries_of config history by nth at c = entered config history by nth at (wanted
 -- the reply where the journal has room
 abbrev pub reply : Config → List Entry → StoreCall → Reply
 reply config history call.Enter = Entered (length history)
-reply config history (call.Spaces newer) = Spaces (filter (is_newer newer) (spaces (changes_of history)))
+reply config history (call.Spaces newer) = Spaces (filter (is_newer newer) (dataspaces (changes_of history)))
 reply config history (call.PutSpaces items) = Verdicts (verdicts (set_space (pos 0)) (changes_of history) items)
 reply config history (call.DropSpaces items) = Verdicts (verdicts DropSpace (changes_of history) items)
 

@@ -1,16 +1,17 @@
 -- The bytes that entries count against the limit of a journal.
-use Rattle.std.specs.Prelude.{ℕ, ◌+◌, List, length}
+use Rattle.std.specs.Prelude.{ℕ, Bool, ◌+◌, ◌&&◌, List, Option, Some, None, if◌then◌else◌, length, nat_lt, nat_le}
 use Rattle.etp_values.specs.Weight.{weigh, custom_weight_of}
 use Rattle.store_machine.specs.declared.call.SpacePut.{SpacePut}
+use Rattle.store_machine.specs.declared.counted.TheConstants.{MAX_JOURNAL_BYTES}
 use Rattle.store_machine.specs.declared.journal.Act.{Act}
 use Rattle.store_machine.specs.declared.journal.Act.TheVariants as act
 use Rattle.store_machine.specs.declared.journal.Entry.{Entry}
 
--- a dataspace put: 64, its path and the weight of its custom data
+-- each item counts 64 besides what it holds: of a put the path and the custom data
 abbrev pub put_bytes : SpacePut → ℕ
 put_bytes p = 64 + (length p.path + custom_weight_of p.custom)
 
--- a dataspace dropped: 64 and its path
+-- and of a drop the path
 abbrev pub drop_bytes : List ℕ → ℕ
 drop_bytes path = 64 + length path
 
@@ -27,3 +28,12 @@ counted_act a = 64 + act_bytes a
 -- the entries of a history together
 abbrev pub counted : List Entry → ℕ
 counted history = weigh (λ (e : Entry). counted_act e.act) history
+
+-- whether a journal of so many entries and counted bytes takes a further entry of this act: it has fewer entries than its
+-- limit, and stays in the limit of bytes
+abbrev pub is_room : ℕ → ℕ → ℕ → Act → Bool
+is_room limit entries bytes a = nat_lt entries limit && nat_le (bytes + counted_act a) MAX_JOURNAL_BYTES
+
+-- the counted bytes with that entry, where there is room for it
+abbrev pub bytes_with : ℕ → ℕ → ℕ → Act → Option ℕ
+bytes_with limit entries bytes a = if is_room limit entries bytes a then Some (bytes + counted_act a) else None

@@ -4,6 +4,7 @@ use Rattle.std.specs.List.{flat_map, list_any}
 use Rattle.std.specs.Str.{bytes_eq}
 use Rattle.etp_values.specs.declared.data.DataValue.{DataValue}
 use Rattle.object_store.specs.declared.records.SpaceRecord.{SpaceRecord}
+use Rattle.object_store.specs.Tables.{default_dataspace}
 use Rattle.store_machine.specs.declared.call.SpacePut.{SpacePut}
 use Rattle.store_machine.specs.declared.journal.Act.{Act}
 use Rattle.store_machine.specs.declared.journal.Act.TheVariants as act
@@ -15,7 +16,7 @@ pub data Key : Type 0 where
 
 -- what can stand at a key
 pub data Value : Type 0 where
-  SpaceValue : (space : SpaceRecord) → Value
+  SpaceValue : (dataspace : SpaceRecord) → Value
 
 -- a change of the state
 pub data Change : Type 0 where
@@ -41,12 +42,9 @@ abbrev pub left : Option Value → Change → Option Value
 left before (SetSpace path custom at) = Some (SpaceValue (record { path = path; written = at; created = made_at at before; custom = custom }))
 left before (DropSpace path) = None
 
--- the default dataspace is there from the first, with the times 0 and no custom data
-abbrev pub default_space : SpaceRecord
-default_space = record { path = []; written = pos 0; created = pos 0; custom = [] }
-
+-- the default dataspace is there from the first
 abbrev pub first : Key → Option Value
-first (Space path) = if is_default path then Some (SpaceValue default_space) else None
+first (Space path) = if is_default path then Some (SpaceValue default_dataspace) else None
 
 -- the value of a key after these changes: what those that alter it left, one after the other
 abbrev pub value : Key → List Change → Option Value

@@ -1,5 +1,5 @@
 pub mod History
-pub mod Spaces
+pub mod Dataspaces
 pub mod Counted
 pub mod Answers
 pub mod Legal

@@ -39,7 +39,7 @@ pub enum Reply {
     Spaces(List<SpaceRecord>),
     /// What became of each item.
     Verdicts(Named<Verdict>),
-    /// The call would add an entry, and the journal has no room for it.
+    /// There is no room in the journal for the entry that the call would add.
     JournalFull,
 }
 

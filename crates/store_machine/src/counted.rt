@@ -1,7 +1,7 @@
 //! The bytes that entries count against the limit of a journal.
-ghost use Rattle.std.specs.Prelude.{◌≡◌, ◌≤◌, ◌+◌, ◌&&◌, Some, None, nat_lt, nat_le, if◌then◌else◌};
+ghost use Rattle.std.specs.Prelude.{◌≡◌, ◌≤◌};
 ghost use Rattle.etp_values.specs.Weight.{capped, weigh};
-ghost use Rattle.store_machine.specs.Counted.{put_bytes, drop_bytes, act_bytes, counted_act};
+ghost use Rattle.store_machine.specs.Counted.{put_bytes, drop_bytes, act_bytes, bytes_with};
 
 use crate::call::SpacePut;
 use crate::journal::Act;
@@ -48,11 +48,11 @@ fn items_bytes(act: &Act) -> u64
     }
 }
 
-/// What the entries count together after a further one of this act, if the journal takes it: it has fewer than `limit`
-/// entries, and the sum stays in its own limit.
+/// What the entries count together after a further one of this act, if the journal takes it. The journal has so many
+/// `entries` of at most `limit`, which count `bytes`.
 pub(crate) fn bytes_with(limit: u64, entries: u64, bytes: u64, act: &Act) -> Option<u64>
-    requires { bytes ≤ 536870912 }
-    ensures { result ≡ (if nat_lt entries limit && nat_le (bytes + counted_act act.now) 536870912 then Some (bytes + counted_act act.now) else None) }
+    requires { bytes ≤ MAX_JOURNAL_BYTES }
+    ensures { result ≡ bytes_with limit entries bytes act.now }
 {
     if entries >= limit {
         return None;

@@ -6,9 +6,9 @@ ghost use Rattle.store_machine.specs.declared.call.StoreCall.TheVariants as call
 
 use crate::call::{Answer, Reply, SpacePut, StoreCall};
 use crate::counted::bytes_with;
+use crate::dataspaces::{drop_of, listed, put_all};
 use crate::draft::{Drops, Puts, draft_drops, draft_puts};
 use crate::journal::{Act, Entry};
-use crate::spaces::{drop_of, listed, put_all};
 use chan_defs::Config;
 use etp_values::{List, Named, NoMemory, Text};
 use object_store::SpaceRecord;
@@ -23,7 +23,7 @@ pub struct Store {
     /// What the entries count together.
     bytes: u64,
     /// The dataspaces that stand now, in byte order of their paths.
-    spaces: Vec<SpaceRecord>,
+    dataspaces: Vec<SpaceRecord>,
 }
 
 impl Model for Store {
@@ -34,7 +34,7 @@ impl Model for Store {
 
     ghost view = { λ s. record { config = s.config; journal = s.journal.items } };
 
-    ghost invariant = { λ s. Keeps s.config s.journal.items s.bytes s.spaces.items };
+    ghost invariant = { λ s. Keeps s.config s.journal.items s.bytes s.dataspaces.items };
 }
 
 impl Store {
@@ -42,8 +42,8 @@ impl Store {
     pub fn new(alloc: Global, config: Config) -> Result<Store, NoMemory>
         ensures { IfOk result (λ s. s ≡ record { config = config; journal = door ∷ [] }) }
     {
-        let mut spaces = Vec::new(alloc);
-        spaces.push(SpaceRecord {
+        let mut dataspaces = Vec::new(alloc);
+        dataspaces.push(SpaceRecord {
             path: Text::new(alloc),
             written: 0,
             created: 0,
@@ -60,7 +60,7 @@ impl Store {
             config,
             journal,
             bytes: 64,
-            spaces,
+            dataspaces,
         })
     }
 
@@ -92,7 +92,9 @@ impl Store {
     ) -> Result<Answer, NoMemory>
         requires { MayAsk self.old.journal by nth call }
         ensures answer { IfOk result (λ a. a ≡ answer self.old.config self.old.journal call) }
-        ensures journal { OnOk result (self.new.journal ≡ self.old.journal ++ entries_of self.old.config self.old.journal by nth at call) }
+        ensures journal { OnOk result (
+            self.new.journal
+            ≡ self.old.journal ++ entries_of self.old.config self.old.journal by nth at call) }
         ensures config { self.new.config ≡ self.old.config }
         ensures legal { Legal self.new.config self.new.journal }
         ensures err { OnErr result (self.new ≡ self.old) }
@@ -107,7 +109,9 @@ impl Store {
 
     fn enter(&mut self, at: i64) -> Result<Answer, NoMemory>
         ensures answer { IfOk result (λ a. a ≡ answer self.old.config self.old.journal call.Enter) }
-        ensures journal { OnOk result (self.new.journal ≡ self.old.journal ++ entries_of self.old.config self.old.journal 0 0 at call.Enter) }
+        ensures journal { OnOk result (
+            self.new.journal
+            ≡ self.old.journal ++ entries_of self.old.config self.old.journal 0 0 at call.Enter) }
         ensures config { self.new.config ≡ self.old.config }
         ensures legal { Legal self.new.config self.new.journal }
         ensures err { OnErr result (self.new ≡ self.old) }
@@ -135,14 +139,15 @@ impl Store {
     }
 
     fn list_spaces(&self, alloc: Global, newer: Option<i64>) -> Result<Answer, NoMemory>
-        ensures answer { IfOk result (λ a. a ≡ answer self.now.config self.now.journal (call.Spaces newer)) }
+        ensures answer { IfOk result (λ a.
+            a ≡ answer self.now.config self.now.journal (call.Spaces newer)) }
         ensures legal { Legal self.now.config self.now.journal }
     {
         let mark = self.journal.len() as u64;
-        let spaces = listed(alloc, self.spaces.as_slice(), newer)?;
+        let dataspaces = listed(alloc, self.dataspaces.as_slice(), newer)?;
         Ok(Answer {
             mark,
-            reply: Reply::Spaces(spaces),
+            reply: Reply::Spaces(dataspaces),
         })
     }
 
@@ -155,8 +160,11 @@ impl Store {
         items: Named<SpacePut>,
     ) -> Result<Answer, NoMemory>
         requires { IsNext self.old.journal by nth }
-        ensures answer { IfOk result (λ a. a ≡ answer self.old.config self.old.journal (call.PutSpaces items)) }
-        ensures journal { OnOk result (self.new.journal ≡ self.old.journal ++ entries_of self.old.config self.old.journal by nth at (call.PutSpaces items)) }
+        ensures answer { IfOk result (λ a.
+            a ≡ answer self.old.config self.old.journal (call.PutSpaces items)) }
+        ensures journal { OnOk result (
+            self.new.journal
+            ≡ self.old.journal ++ entries_of self.old.config self.old.journal by nth at (call.PutSpaces items)) }
         ensures config { self.new.config ≡ self.old.config }
         ensures legal { Legal self.new.config self.new.journal }
         ensures err { OnErr result (self.new ≡ self.old) }
@@ -166,7 +174,7 @@ impl Store {
             verdicts,
             accepted,
             records,
-        } = draft_puts(alloc, self.spaces.as_slice(), at, items.into_vec())?;
+        } = draft_puts(alloc, self.dataspaces.as_slice(), at, items.into_vec())?;
         let reply = Reply::Verdicts(Named::from_sorted(verdicts));
         if accepted.is_empty() {
             return Ok(Answer { mark, reply });
@@ -179,8 +187,8 @@ impl Store {
             });
         };
         self.journal.reserve(1)?;
-        self.spaces.reserve(records.len())?;
-        put_all(&mut self.spaces, records);
+        self.dataspaces.reserve(records.len())?;
+        put_all(&mut self.dataspaces, records);
         self.bytes = bytes;
         let _ = self.journal.push(Entry { by, nth, at, act });
         Ok(Answer { mark, reply })
@@ -195,8 +203,11 @@ impl Store {
         items: Named<Text>,
     ) -> Result<Answer, NoMemory>
         requires { IsNext self.old.journal by nth }
-        ensures answer { IfOk result (λ a. a ≡ answer self.old.config self.old.journal (call.DropSpaces items)) }
-        ensures journal { OnOk result (self.new.journal ≡ self.old.journal ++ entries_of self.old.config self.old.journal by nth at (call.DropSpaces items)) }
+        ensures answer { IfOk result (λ a.
+            a ≡ answer self.old.config self.old.journal (call.DropSpaces items)) }
+        ensures journal { OnOk result (
+            self.new.journal
+            ≡ self.old.journal ++ entries_of self.old.config self.old.journal by nth at (call.DropSpaces items)) }
         ensures config { self.new.config ≡ self.old.config }
         ensures legal { Legal self.new.config self.new.journal }
         ensures err { OnErr result (self.new ≡ self.old) }
@@ -205,7 +216,7 @@ impl Store {
         let Drops {
             verdicts,
             accepted: paths,
-        } = draft_drops(alloc, self.spaces.as_slice(), items.into_vec())?;
+        } = draft_drops(alloc, self.dataspaces.as_slice(), items.into_vec())?;
         let reply = Reply::Verdicts(Named::from_sorted(verdicts));
         if paths.is_empty() {
             return Ok(Answer { mark, reply });
@@ -218,7 +229,7 @@ impl Store {
             });
         };
         self.journal.reserve(1)?;
-        drop_of(&mut self.spaces, &act);
+        drop_of(&mut self.dataspaces, &act);
         self.bytes = bytes;
         let _ = self.journal.push(Entry { by, nth, at, act });
         Ok(Answer { mark, reply })

@@ -87,11 +87,11 @@ fn are(reply: &Reply, a: Verdict, b: Verdict) -> bool {
     }
 }
 
-fn is_row(space: &SpaceRecord, row: &(&str, i64, i64, i64)) -> bool {
-    space.path.as_str() == row.0
-        && space.written == row.1
-        && space.created == row.2
-        && number_in(&space.custom) == row.3
+fn is_row(dataspace: &SpaceRecord, row: &(&str, i64, i64, i64)) -> bool {
+    dataspace.path.as_str() == row.0
+        && dataspace.written == row.1
+        && dataspace.created == row.2
+        && number_in(&dataspace.custom) == row.3
 }
 
 /// The number in custom data, or 0.

@@ -1,11 +1,11 @@
-use Rattle.std.proofs.Common.{arith, ap, sym, subst, ◌∙◌, ◌≡◌, ◌++◌, ◌∷◌, ◌+◌, ◌&&◌, nat_cmp, nat_lt, nat_le, [], Some, None, if◌then◌else◌, length, fold}
+use Rattle.std.proofs.Common.{arith, ap, sym, subst, ◌∙◌, ◌≡◌, ◌++◌, ◌∷◌, ◌+◌, nat_cmp, [], Some, length, fold}
 use Rattle.std.proofs.lemmas.Grind.{common_steps}
 use Rattle.std.specs.Cmp.Lexicographic.{slice_cmp}
 use Rattle.std.specs.List.Sorted.{IsStrictlySortedBy}
 use Rattle.std.specs.Map.{keys_of, values_of}
 use Rattle.store_machine.specs.declared.journal.Act.TheVariants.{DropSpaces}
 use Rattle.store_machine.specs.History.{DropSpace, changes_of}
-use Rattle.store_machine.specs.Counted.{counted_act}
+use Rattle.store_machine.specs.Counted.{counted_act, bytes_with}
 use Rattle.store_machine.specs.Answers.{verdicts, accepted}
 use Rattle.store_machine.specs.Legal.{IsNext}
 use Rattle.store_machine.specs.Kept.{Keeps, Stands, drop_in}
@@ -24,14 +24,14 @@ pub invariant_of-self-2 : goal.invariant_of-self-2
 invariant_of-self-2 c =
     let s = c.self.inside in
     let paths = c.in_ok-verdicts.paths.items in
-    let told : Some c.in-Some.bytes ≡ (if nat_lt (length s.journal.items) s.config.journal && nat_le (s.bytes + counted_act (DropSpaces paths)) 536870912 then Some (s.bytes + counted_act (DropSpaces paths)) else None) = grind (arith, common_steps) in
+    let told : Some c.in-Some.bytes ≡ bytes_with s.config.journal (length s.journal.items) s.bytes (DropSpaces paths) = grind (arith, common_steps) in
     let pushed : c.push.new.self.items ≡ s.journal.items ++ record { by = c.args.by; nth = c.args.nth; at = c.args.at; act = DropSpaces paths } ∷ [] = grind (arith, common_steps) in
     let stands : Stands c.as_slice.result.now (changes_of s.journal.items) = rw c.as_slice.ensures.value c.self.invariant.stands in
     let drafted : paths ≡ accepted DropSpace (changes_of s.journal.items) (values_of c.args.items) = grind (arith, common_steps, c.in_ok-verdicts.ensures.accepted (changes_of s.journal.items) stands) in
-    let dropped : c.drop_of.new.spaces.items ≡ fold drop_in s.spaces.items paths = grind (arith, common_steps) in
+    let dropped : c.drop_of.new.dataspaces.items ≡ fold drop_in s.dataspaces.items paths = grind (arith, common_steps) in
     let room = with_room s.config s.journal.items s.bytes c.in-Some.bytes (DropSpaces paths) c.self.invariant.bytes told in
-    rw (pushed, dropped) (subst (λ n. Keeps s.config (s.journal.items ++ record { by = c.args.by; nth = c.args.nth; at = c.args.at; act = DropSpaces paths } ∷ []) n (fold drop_in s.spaces.items paths)) (sym room.1)
-    (keeps-drops s.config s.journal.items s.bytes s.spaces.items c.args.by c.args.nth c.args.at (values_of c.args.items) paths c.self.invariant (subst (λ k. IsNext k.journal c.args.by c.args.nth) (sym c.self.view_is) c.requires) drafted (grind (arith, common_steps)) room.0))
+    rw (pushed, dropped) (subst (λ n. Keeps s.config (s.journal.items ++ record { by = c.args.by; nth = c.args.nth; at = c.args.at; act = DropSpaces paths } ∷ []) n (fold drop_in s.dataspaces.items paths)) (sym room.1)
+    (keeps-drops s.config s.journal.items s.bytes s.dataspaces.items c.args.by c.args.nth c.args.at (values_of c.args.items) paths c.self.invariant (subst (λ k. IsNext k.journal c.args.by c.args.nth) (sym c.self.view_is) c.requires) drafted (grind (arith, common_steps)) room.0))
 
 pub returns-clause-legal : goal.returns-clause-legal
 returns-clause-legal c = (invariant_of-self-2 c).legal

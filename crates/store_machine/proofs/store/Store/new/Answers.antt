@@ -1,6 +1,6 @@
 use Rattle.std.proofs.Common.{arith, ◌≡◌, ◌∷◌, []}
 use Rattle.std.proofs.lemmas.Grind.{common_steps}
-use Rattle.store_machine.specs.History.{default_space}
+use Rattle.object_store.specs.Tables.{default_dataspace}
 use Rattle.store_machine.specs.Legal.{door}
 use Rattle.store_machine.proofs.Lawful.{keeps-first}
 use Rattle.store_machine.proofs.store.Store.new.Goals as goal
@@ -8,5 +8,5 @@ use Rattle.store_machine.proofs.store.Store.new.Goals as goal
 pub invariant_of-result : goal.invariant_of-result
 invariant_of-result c =
     let journal : c.push-2.new.self.items ≡ door ∷ [] = grind (arith, common_steps) in
-    let spaces : c.push.new.self.items ≡ default_space ∷ [] = grind (arith, common_steps) in
-    rw (journal, spaces) (keeps-first c.args.config)
+    let dataspaces : c.push.new.self.items ≡ default_dataspace ∷ [] = grind (arith, common_steps) in
+    rw (journal, dataspaces) (keeps-first c.args.config)

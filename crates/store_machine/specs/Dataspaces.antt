@@ -17,13 +17,13 @@ abbrev pub paths : List Change → List (List ℕ)
 paths changes = fold with_path ([] ∷ []) changes
 
 -- the dataspace that a value is, or none
-abbrev pub space_in : Option Value → List SpaceRecord
-space_in None = []
-space_in (Some (SpaceValue r)) = r ∷ []
+abbrev pub dataspace_in : Option Value → List SpaceRecord
+dataspace_in None = []
+dataspace_in (Some (SpaceValue r)) = r ∷ []
 
 -- the dataspaces that are there after these changes
-abbrev pub spaces : List Change → List SpaceRecord
-spaces changes = flat_map (λ path. space_in (value (Space path) changes)) (paths changes)
+abbrev pub dataspaces : List Change → List SpaceRecord
+dataspaces changes = flat_map (λ path. dataspace_in (value (Space path) changes)) (paths changes)
 
 -- whether a dataspace was written after a moment, where one is given
 abbrev pub is_newer : Option ℤ → SpaceRecord → Bool
