@@ -43,11 +43,17 @@ still_there false None = refl
 still_there false (Some v) = refl
 
 drop_verdict-is : (rs : List SpaceRecord) (changes : List Change) → Stands rs changes → (gone : List (List ℕ)) (path : List ℕ) → drop_verdict rs gone path ≡ verdict (changes ++ map DropSpace gone) (DropSpace path)
-drop_verdict-is rs changes s gone path =
-    ap (λ b. if is_default path then Refused RequestDenied else (if b then Accepted else Refused NotFound))
-    (ap (λ b. b && not (list_any (bytes_eq path) gone)) (there_is (dataspace_at path rs) (value (Space path) changes) (s.finds path))
-    ∙ sym (still_there (list_any (bytes_eq path) gone) (value (Space path) changes))
-    ∙ ap is_some (sym (value-dropped path changes gone)))
+drop_verdict-is rs changes s gone path = by (is_default path) refl
+  where
+    by : (b : Bool) → is_default path ≡ b
+        → (if b then Refused RequestDenied else (if is_some (dataspace_at path rs) && not (list_any (bytes_eq path) gone) then Accepted else Refused NotFound))
+        ≡ (if b then Refused RequestDenied else (if is_some (value (Space path) (changes ++ map DropSpace gone)) then Accepted else Refused NotFound))
+    by true here = refl
+    by false other =
+        ap (λ b. if b then Accepted else Refused NotFound)
+        (ap (λ b. b && not (list_any (bytes_eq path) gone)) (there_is (dataspace_at path rs) (value (Space path) changes) (s.finds path))
+        ∙ sym (still_there (list_any (bytes_eq path) gone) (value (Space path) changes))
+        ∙ ap is_some (sym (value-dropped path other changes gone)))
 
 map-push : (gone : List (List ℕ)) (path : List ℕ) → map DropSpace (gone ++ path ∷ []) ≡ map DropSpace gone ++ DropSpace path ∷ []
 map-push [] path = refl

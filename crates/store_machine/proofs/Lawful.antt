@@ -1,5 +1,7 @@
 -- What a store keeps stays right through a further entry, and its journal legal.
 use Rattle.std.specs.Prelude.{ℕ, ℤ, pos, nat_lt, nat_le, Bool, true, false, List, [], ◌∷◌, ◌++◌, ◌≡◌, ◌+◌, ◌≤◌, ◌&&◌, Option, Some, None, length, filter, fold, map, refl, if◌then◌else◌}
+use Rattle.std.specs.List.{AllByRecursion}
+use Rattle.std.proofs.lemmas.Bool.{false≢true}
 use Rattle.std.proofs.Common.{ap, sym, ◌∙◌, subst, append_assoc, append-nil, arith}
 use Rattle.chan_defs.specs.declared.config.Config.{Config}
 use Rattle.object_store.specs.declared.records.SpaceRecord.{SpaceRecord}
@@ -9,12 +11,15 @@ use Rattle.store_machine.specs.declared.counted.TheConstants.{MAX_JOURNAL_BYTES}
 use Rattle.store_machine.specs.declared.journal.Act.{Act}
 use Rattle.store_machine.specs.declared.journal.Act.TheVariants.{Enter, PutSpaces, DropSpaces}
 use Rattle.store_machine.specs.declared.journal.Entry.{Entry}
-use Rattle.store_machine.specs.History.{Change, DropSpace, set_space, entry_changes, changes_of}
+use Rattle.store_machine.specs.History.{Space, Change, DropSpace, is_default, set_space, entry_changes, changes_of}
+use Rattle.etp_values.specs.declared.code.ErrorCode.TheVariants.{RequestDenied, NotFound}
+use Rattle.store_machine.specs.declared.call.Verdict.{Verdict}
+use Rattle.store_machine.specs.declared.call.Verdict.TheVariants.{Accepted, Refused}
 use Rattle.store_machine.specs.declared.call.Reply.TheVariants.{Spaces}
 use Rattle.store_machine.specs.declared.call.StoreCall.TheVariants as call
 use Rattle.store_machine.specs.Dataspaces.{is_newer}
 use Rattle.store_machine.specs.Counted.{counted_act, counted, is_room, bytes_with}
-use Rattle.store_machine.specs.Answers.{verdict, is_accepted, accepted, act_of, granted, has_room_for, entry, entered, answer}
+use Rattle.store_machine.specs.Answers.{is_there, verdict, is_accepted, accepted, act_of, granted, has_room_for, entry, entered, answer}
 use Rattle.store_machine.specs.Legal.{IsNext, Follows, LegalFrom, Legal, door}
 use Rattle.store_machine.specs.Kept.{Stands, Keeps, put_in, drop_in, put_record}
 use Rattle.store_machine.proofs.Values.{changes-push}
@@ -32,6 +37,28 @@ accepted-again {X} change sofar (x ∷ xs) = by (is_accepted (verdict sofar (cha
     by true e taken kept = ap (λ b. if b then x ∷ accepted change (sofar ++ change x ∷ []) (accepted change (sofar ++ change x ∷ []) xs) else accepted change sofar (accepted change (sofar ++ change x ∷ []) xs)) e
         ∙ ap (λ l. x ∷ l) taken
     by false e taken kept = kept
+
+-- what is accepted is not the default dataspace
+accepted-named : {X : Type 0} (change : X → Change) (path_of : X → List ℕ) → ((sofar : List Change) (x : X) → is_accepted (verdict sofar (change x)) ≡ true → is_default (path_of x) ≡ false)
+    → (sofar : List Change) (xs : List X) → AllByRecursion (λ x. is_default (path_of x) ≡ false) (accepted change sofar xs)
+accepted-named change path_of named sofar [] = tt
+accepted-named {X} change path_of named sofar (x ∷ xs) =
+    by (is_accepted (verdict sofar (change x))) refl (accepted-named change path_of named (sofar ++ change x ∷ []) xs) (accepted-named change path_of named sofar xs)
+  where
+    by : (b : Bool) → is_accepted (verdict sofar (change x)) ≡ b
+        → AllByRecursion (λ y. is_default (path_of y) ≡ false) (accepted change (sofar ++ change x ∷ []) xs)
+        → AllByRecursion (λ y. is_default (path_of y) ≡ false) (accepted change sofar xs)
+        → AllByRecursion (λ y. is_default (path_of y) ≡ false) (if b then x ∷ accepted change (sofar ++ change x ∷ []) xs else accepted change sofar xs)
+    by true e taken kept = (named sofar x e, taken)
+    by false e taken kept = kept
+
+put-named : (b : Bool) → is_accepted (if b then Refused RequestDenied else Accepted) ≡ true → b ≡ false
+put-named true h = absurd (false≢true h)
+put-named false h = refl
+
+drop-named : (b : Bool) (v : Verdict) → is_accepted (if b then Refused RequestDenied else v) ≡ true → b ≡ false
+drop-named true v h = absurd (false≢true h)
+drop-named false v h = refl
 
 -- ---- legal histories
 
@@ -81,8 +108,12 @@ pub keeps-puts : (config : Config) (journal : List Entry) (total : ℕ) (rs : Li
 keeps-puts config journal total rs by nth at asked puts k next same some room =
     keeps-push config journal total rs (fold put_in rs (map (put_record at rs) puts)) (record { by = by; nth = nth; at = at; act = PutSpaces puts }) k
     (record { same = ap (entered config journal by nth at) again ∙ ap (λ b. if b then record { by = by; nth = nth; at = at; act = PutSpaces puts } ∷ [] else []) room; may = next })
-    room (stands-puts at rs (changes_of journal) puts k.stands)
+    room (stands-puts at rs (changes_of journal) puts named k.stands)
   where
+    named : AllByRecursion (λ (p : SpacePut). is_default p.path ≡ false) puts
+    named = subst (AllByRecursion (λ (p : SpacePut). is_default p.path ≡ false)) (sym same)
+        (accepted-named (set_space (pos 0)) (λ p. p.path) (λ sofar p h. put-named (is_default p.path) h) (changes_of journal) asked)
+
     again : granted config journal (PutSpaces puts) ≡ PutSpaces puts ∷ []
     again = ap (act_of PutSpaces) (ap (accepted (set_space (pos 0)) (changes_of journal)) same ∙ accepted-again (set_space (pos 0)) (changes_of journal) asked ∙ sym same) ∙ some_act PutSpaces puts some
 
@@ -93,8 +124,12 @@ pub keeps-drops : (config : Config) (journal : List Entry) (total : ℕ) (rs : L
 keeps-drops config journal total rs by nth at asked paths k next same some room =
     keeps-push config journal total rs (fold drop_in rs paths) (record { by = by; nth = nth; at = at; act = DropSpaces paths }) k
     (record { same = ap (entered config journal by nth at) again ∙ ap (λ b. if b then record { by = by; nth = nth; at = at; act = DropSpaces paths } ∷ [] else []) room; may = next })
-    room (stands-drops rs (changes_of journal) paths k.stands)
+    room (stands-drops rs (changes_of journal) paths named k.stands)
   where
+    named : AllByRecursion (λ p. is_default p ≡ false) paths
+    named = subst (AllByRecursion (λ p. is_default p ≡ false)) (sym same)
+        (accepted-named DropSpace (λ p. p) (λ sofar p h. drop-named (is_default p) (if is_there (Space p) sofar then Accepted else Refused NotFound) h) (changes_of journal) asked)
+
     again : granted config journal (DropSpaces paths) ≡ DropSpaces paths ∷ []
     again = ap (act_of DropSpaces) (ap (accepted DropSpace (changes_of journal)) same ∙ accepted-again DropSpace (changes_of journal) asked ∙ sym same) ∙ some_act DropSpaces paths some
 

@@ -10,9 +10,9 @@ use Rattle.std.specs.Cmp.{tied_itself}
 use Rattle.std.specs.Cmp.Lexicographic.{slice_cmp, nat_list_cmp_total, nat_list_eq_equiv, texts_ties}
 use Rattle.std.specs.Str.{bytes_eq}
 use Rattle.std.proofs.lemmas.Bool.{false≢true}
-use Rattle.std.proofs.lemmas.Slice.Eq.{bytes_eq-Decides}
 use Rattle.std.proofs.lemmas.List.Kept.{IsStrictlySortedBy-filter}
 use Rattle.object_store.specs.declared.records.SpaceRecord.{SpaceRecord}
+use Rattle.store_machine.proofs.Values.{path_is}
 use Rattle.store_machine.specs.Kept.{dataspace_at, seek, further, put_in, drop_in}
 
 abbrev pub path_cmp : List ℕ → List ℕ → Ordering
@@ -20,9 +20,6 @@ path_cmp = slice_cmp nat_cmp
 
 abbrev pub paths_in : List SpaceRecord → List (List ℕ)
 paths_in rs = map (λ (r : SpaceRecord). r.path) rs
-
-pub path_is : (p q : List ℕ) → bytes_eq p q ≡ true → p ≡ q
-path_is p q h = (bytes_eq-Decides p q).0 h
 
 pub tie_is : (p q : List ℕ) → path_cmp p q ≡ Equal → p ≡ q
 tie_is p q tie = path_is p q (texts_ties p q ∙ ap is_eq tie)

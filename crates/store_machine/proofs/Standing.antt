@@ -1,6 +1,6 @@
 -- The list of dataspaces stands for the changes, through each change, and it is the list that the definition makes.
 use Rattle.std.specs.Prelude.{ℕ, ℤ, Bool, true, false, cond, List, [], ◌∷◌, ◌++◌, ◌≡◌, ◌||◌, ◌==◌, Option, Some, None, fold, filter, map, length, refl, is_some}
-use Rattle.std.specs.List.{flat_map, list_any}
+use Rattle.std.specs.List.{flat_map, list_any, AllByRecursion}
 use Rattle.std.specs.List.Sorted.{IsStrictlySortedBy}
 use Rattle.std.specs.declared.cmp.Ordering.{Ordering}
 use Rattle.std.specs.declared.cmp.Ordering.TheVariants.{Less, Equal, Greater}
@@ -16,11 +16,11 @@ use Rattle.etp_values.proofs.Names.{found_alike}
 use Rattle.object_store.specs.declared.records.SpaceRecord.{SpaceRecord}
 use Rattle.object_store.specs.Tables.{default_dataspace}
 use Rattle.store_machine.specs.declared.call.SpacePut.{SpacePut}
-use Rattle.store_machine.specs.History.{Space, Value, SpaceValue, Change, SetSpace, DropSpace, alters, made_at, left, first, value, set_space}
+use Rattle.store_machine.specs.History.{Space, Value, SpaceValue, Change, SetSpace, DropSpace, is_default, alters, made_at, left, first, value, set_space}
 use Rattle.store_machine.specs.Dataspaces.{with_path, paths, dataspace_in, dataspaces}
 use Rattle.store_machine.specs.Kept.{dataspace_at, put_in, drop_in, Stands, made, put_record}
-use Rattle.store_machine.proofs.Values.{value-push}
-use Rattle.store_machine.proofs.Places.{path_cmp, paths_in, path_is, tie_is, placed-rises, put_in-rises, drop_in-rises, dataspace_at-put_in, dataspace_at-drop_in}
+use Rattle.store_machine.proofs.Values.{path_is, value-push}
+use Rattle.store_machine.proofs.Places.{path_cmp, paths_in, tie_is, placed-rises, put_in-rises, drop_in-rises, dataspace_at-put_in, dataspace_at-drop_in}
 
 -- ---- through each change
 
@@ -34,8 +34,8 @@ on_both f true x y v w h k = h refl
 on_both f false x y v w h k = k
 
 -- a put whose record was made over an earlier list, which has the same times
-stands-put : (at : ℤ) (base rs : List SpaceRecord) (cs : List Change) (p : SpacePut) → Stands rs cs → ((path : List ℕ) → made at (dataspace_at path rs) ≡ made at (dataspace_at path base)) → Stands (put_in rs (put_record at base p)) (cs ++ set_space at p ∷ [])
-stands-put at base rs cs p s m = record {
+stands-put : (at : ℤ) (base rs : List SpaceRecord) (cs : List Change) (p : SpacePut) → is_default p.path ≡ false → Stands rs cs → ((path : List ℕ) → made at (dataspace_at path rs) ≡ made at (dataspace_at path base)) → Stands (put_in rs (put_record at base p)) (cs ++ set_space at p ∷ [])
+stands-put at base rs cs p other s m = record {
   rise = put_in-rises rs (put_record at base p) s.rise;
   finds = λ path. ap (option_map SpaceValue) (dataspace_at-put_in path rs (put_record at base p))
       ∙ on_both SpaceValue (bytes_eq path p.path) (Some (put_record at base p)) (dataspace_at path rs) _ (value (Space path) cs) (λ h. same path h) (s.finds path)
@@ -45,6 +45,7 @@ stands-put at base rs cs p s m = record {
     same : (path : List ℕ) → bytes_eq path p.path ≡ true → Some (SpaceValue (put_record at base p)) ≡ left (value (Space path) cs) (set_space at p)
     same path h = ap (λ n. Some (SpaceValue (record { path = p.path; written = at; created = n; custom = p.custom })))
         (sym (m p.path) ∙ sym (made-value at (dataspace_at p.path rs)) ∙ ap (made_at at) (s.finds p.path) ∙ ap (λ q. made_at at (value (Space q) cs)) (sym (path_is path p.path h)))
+        ∙ ap (λ (n : Bool). if n then value (Space path) cs else Some (SpaceValue (record { path = p.path; written = at; created = made_at at (value (Space path) cs); custom = p.custom }))) (sym other)
 
 -- a put leaves the time of its path
 made-put : (at : ℤ) (base rs : List SpaceRecord) (p : SpacePut) → ((path : List ℕ) → made at (dataspace_at path rs) ≡ made at (dataspace_at path base)) → (path : List ℕ) → made at (dataspace_at path (put_in rs (put_record at base p))) ≡ made at (dataspace_at path base)
@@ -54,29 +55,29 @@ made-put at base rs p m path = ap (made at) (dataspace_at-put_in path rs (put_re
     by true h = ap (λ q. made at (dataspace_at q base)) (sym (path_is path p.path h))
     by false h = m path
 
-stands-puts_from : (at : ℤ) (base rs : List SpaceRecord) (cs : List Change) (ps : List SpacePut) → Stands rs cs → ((path : List ℕ) → made at (dataspace_at path rs) ≡ made at (dataspace_at path base)) → Stands (fold put_in rs (map (put_record at base) ps)) (cs ++ map (set_space at) ps)
-stands-puts_from at base rs cs [] s m = subst (Stands rs) (sym (append-nil cs)) s
-stands-puts_from at base rs cs (p ∷ ps) s m =
+stands-puts_from : (at : ℤ) (base rs : List SpaceRecord) (cs : List Change) (ps : List SpacePut) → AllByRecursion (λ (p : SpacePut). is_default p.path ≡ false) ps → Stands rs cs → ((path : List ℕ) → made at (dataspace_at path rs) ≡ made at (dataspace_at path base)) → Stands (fold put_in rs (map (put_record at base) ps)) (cs ++ map (set_space at) ps)
+stands-puts_from at base rs cs [] others s m = subst (Stands rs) (sym (append-nil cs)) s
+stands-puts_from at base rs cs (p ∷ ps) others s m =
     subst (Stands (fold put_in (put_in rs (put_record at base p)) (map (put_record at base) ps))) (append_assoc cs (set_space at p ∷ []) (map (set_space at) ps))
-    (stands-puts_from at base (put_in rs (put_record at base p)) (cs ++ set_space at p ∷ []) ps (stands-put at base rs cs p s m) (made-put at base rs p m))
+    (stands-puts_from at base (put_in rs (put_record at base p)) (cs ++ set_space at p ∷ []) ps others.1 (stands-put at base rs cs p others.0 s m) (made-put at base rs p m))
 
 -- the puts of one call
-pub stands-puts : (at : ℤ) (rs : List SpaceRecord) (cs : List Change) (ps : List SpacePut) → Stands rs cs → Stands (fold put_in rs (map (put_record at rs) ps)) (cs ++ map (set_space at) ps)
-stands-puts at rs cs ps s = stands-puts_from at rs rs cs ps s (λ path. refl)
+pub stands-puts : (at : ℤ) (rs : List SpaceRecord) (cs : List Change) (ps : List SpacePut) → AllByRecursion (λ (p : SpacePut). is_default p.path ≡ false) ps → Stands rs cs → Stands (fold put_in rs (map (put_record at rs) ps)) (cs ++ map (set_space at) ps)
+stands-puts at rs cs ps others s = stands-puts_from at rs rs cs ps others s (λ path. refl)
 
-stands-drop : (rs : List SpaceRecord) (cs : List Change) (p : List ℕ) → Stands rs cs → Stands (drop_in rs p) (cs ++ DropSpace p ∷ [])
-stands-drop rs cs p s = record {
+stands-drop : (rs : List SpaceRecord) (cs : List Change) (p : List ℕ) → is_default p ≡ false → Stands rs cs → Stands (drop_in rs p) (cs ++ DropSpace p ∷ [])
+stands-drop rs cs p other s = record {
   rise = drop_in-rises rs p s.rise;
   finds = λ path. ap (option_map SpaceValue) (dataspace_at-drop_in path rs p)
-      ∙ on_both SpaceValue (bytes_eq path p) None (dataspace_at path rs) None (value (Space path) cs) (λ h. refl) (s.finds path)
+      ∙ on_both SpaceValue (bytes_eq path p) None (dataspace_at path rs) _ (value (Space path) cs) (λ h. ap (λ (n : Bool). if n then value (Space path) cs else None) (sym other)) (s.finds path)
       ∙ sym (value-push (Space path) cs (DropSpace p));
 }
 
 -- the drops of one call
-pub stands-drops : (rs : List SpaceRecord) (cs : List Change) (ps : List (List ℕ)) → Stands rs cs → Stands (fold drop_in rs ps) (cs ++ map DropSpace ps)
-stands-drops rs cs [] s = subst (Stands rs) (sym (append-nil cs)) s
-stands-drops rs cs (p ∷ ps) s =
-    subst (Stands (fold drop_in (drop_in rs p) ps)) (append_assoc cs (DropSpace p ∷ []) (map DropSpace ps)) (stands-drops (drop_in rs p) (cs ++ DropSpace p ∷ []) ps (stands-drop rs cs p s))
+pub stands-drops : (rs : List SpaceRecord) (cs : List Change) (ps : List (List ℕ)) → AllByRecursion (λ p. is_default p ≡ false) ps → Stands rs cs → Stands (fold drop_in rs ps) (cs ++ map DropSpace ps)
+stands-drops rs cs [] others s = subst (Stands rs) (sym (append-nil cs)) s
+stands-drops rs cs (p ∷ ps) others s =
+    subst (Stands (fold drop_in (drop_in rs p) ps)) (append_assoc cs (DropSpace p ∷ []) (map DropSpace ps)) (stands-drops (drop_in rs p) (cs ++ DropSpace p ∷ []) ps others.1 (stands-drop rs cs p others.0 s))
 
 not_zero : (n : ℕ) → (suc n == 0) ≡ false
 not_zero n = grind arith
@@ -104,9 +105,13 @@ abbrev IsOf : List ℕ → Option Value → Type 0
 IsOf path None = Unit {0}
 IsOf path (Some (SpaceValue r)) = r.path ≡ path
 
+either_of : (b : Bool) (path : List ℕ) (v w : Option Value) → IsOf path v → IsOf path w → IsOf path (if b then v else w)
+either_of true path v w h k = h
+either_of false path v w h k = k
+
 of-left : (path : List ℕ) (v : Option Value) (c : Change) → IsOf path v → alters c (Space path) ≡ true → IsOf path (left v c)
-of-left path v (SetSpace p custom at) h e = sym (path_is path p e)
-of-left path v (DropSpace p) h e = tt
+of-left path v (SetSpace p custom at) h e = either_of (is_default p) path v _ h (sym (path_is path p e))
+of-left path v (DropSpace p) h e = either_of (is_default p) path v None h tt
 
 of-fold : (path : List ℕ) (cs : List Change) (v : Option Value) → IsOf path v → IsOf path (fold left v (filter (λ c. alters c (Space path)) cs))
 of-fold path [] v h = h
@@ -203,6 +208,10 @@ right_of : (a b : Bool) → (a || b) ≡ false → b ≡ false
 right_of true b h = absurd (false≢true (sym h))
 right_of false b h = h
 
+none_either : (b : Bool) (v : Option Value) → v ≡ None → (if b then v else None) ≡ None
+none_either true v h = h
+none_either false v h = refl
+
 -- a path that was never put has no value
 unput_from : (q : List ℕ) (cs : List Change) (ps : List (List ℕ)) (v : Option Value) → (list_any (bytes_eq q) ps ≡ false → v ≡ None) → list_any (bytes_eq q) (fold with_path ps cs) ≡ false → fold left v (filter (λ c. alters c (Space q)) cs) ≡ None
 unput_from q [] ps v h k = h k
@@ -222,7 +231,7 @@ unput_from q (DropSpace p ∷ cs) ps v h k = by (bytes_eq q p) (λ w n. unput_fr
 
     by : (b : Bool) → ((w : Option Value) → (list_any (bytes_eq q) ps ≡ false → w ≡ None) → fold left w rest_of ≡ None)
         → fold left v (cond b (DropSpace p ∷ rest_of) rest_of) ≡ None
-    by true rest = rest None (λ n. refl)
+    by true rest = rest (if is_default p then v else None) (λ n. none_either (is_default p) v (h n))
     by false rest = rest v h
 
 unput-first : (q : List ℕ) → list_any (bytes_eq q) ([] ∷ []) ≡ false → first (Space q) ≡ None

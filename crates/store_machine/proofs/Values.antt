@@ -1,14 +1,19 @@
 -- The value of a key after further changes, and after further entries.
-use Rattle.std.specs.Prelude.{ℕ, Bool, true, false, cond, List, [], ◌∷◌, ◌++◌, ◌≡◌, ◌||◌, Option, None, fold, filter, map, refl}
+use Rattle.std.specs.Prelude.{ℕ, Bool, true, false, cond, List, [], ◌∷◌, ◌++◌, ◌≡◌, ◌||◌, Option, Some, None, fold, filter, map, refl, if◌then◌else◌}
 use Rattle.std.specs.List.{list_any}
 use Rattle.std.specs.Str.{bytes_eq}
 use Rattle.std.proofs.Common.{ap, sym, ◌∙◌, append-nil}
 use Rattle.std.proofs.lemmas.Bool.{false≢true}
+use Rattle.std.proofs.lemmas.Slice.Eq.{bytes_eq-Decides}
 use Rattle.std.proofs.lemmas.List.Elements.{filter-append}
 use Rattle.std.proofs.lemmas.List.Sums.{fold-append}
 use Rattle.std.proofs.lemmas.List.Concat.{flat_map-append}
+use Rattle.object_store.specs.Tables.{default_dataspace}
 use Rattle.store_machine.specs.declared.journal.Entry.{Entry}
-use Rattle.store_machine.specs.History.{Key, Space, Value, Change, DropSpace, alters, left, first, value, entry_changes, changes_of, value_after, entry_alters}
+use Rattle.store_machine.specs.History.{Key, Space, Value, SpaceValue, Change, SetSpace, DropSpace, is_default, alters, left, first, value, entry_changes, changes_of, value_after, entry_alters}
+
+pub path_is : (p q : List ℕ) → bytes_eq p q ≡ true → p ≡ q
+path_is p q h = (bytes_eq-Decides p q).0 h
 
 -- none passes: nothing is kept
 filter-none : {X : Type 0} (p : X → Bool) (xs : List X) → list_any p xs ≡ false → filter p xs ≡ []
@@ -47,14 +52,27 @@ nothing_left true r h = sym h
 nothing_left false r h = refl
 
 -- dataspaces that were dropped are gone, and the others as they were
-pub value-dropped : (path : List ℕ) (before : List Change) (gone : List (List ℕ)) → value (Space path) (before ++ map DropSpace gone) ≡ cond (list_any (bytes_eq path) gone) None (value (Space path) before)
-value-dropped path before gone = value-append (Space path) before (map DropSpace gone) ∙ drops gone (value (Space path) before)
+pub value-dropped : (path : List ℕ) → is_default path ≡ false → (before : List Change) (gone : List (List ℕ)) → value (Space path) (before ++ map DropSpace gone) ≡ cond (list_any (bytes_eq path) gone) None (value (Space path) before)
+value-dropped path other before gone = value-append (Space path) before (map DropSpace gone) ∙ drops gone (value (Space path) before)
   where
     drops : (gone : List (List ℕ)) (v : Option Value) → fold left v (filter (λ c. alters c (Space path)) (map DropSpace gone)) ≡ cond (list_any (bytes_eq path) gone) None v
     drops [] v = refl
-    drops (g ∷ gs) v = by (bytes_eq path g) (drops gs)
+    drops (g ∷ gs) v = by (bytes_eq path g) refl (drops gs)
       where
-        by : (b : Bool) → ((v : Option Value) → fold left v (filter (λ c. alters c (Space path)) (map DropSpace gs)) ≡ cond (list_any (bytes_eq path) gs) None v)
+        by : (b : Bool) → bytes_eq path g ≡ b → ((v : Option Value) → fold left v (filter (λ c. alters c (Space path)) (map DropSpace gs)) ≡ cond (list_any (bytes_eq path) gs) None v)
             → fold left v (cond b (DropSpace g ∷ filter (λ c. alters c (Space path)) (map DropSpace gs)) (filter (λ c. alters c (Space path)) (map DropSpace gs))) ≡ cond (b || list_any (bytes_eq path) gs) None v
-        by true rest = rest None ∙ nothing_left (list_any (bytes_eq path) gs) None refl
-        by false rest = rest v
+        by true here rest =
+            ap (λ (n : Bool). fold left (if n then v else None) (filter (λ c. alters c (Space path)) (map DropSpace gs))) (ap is_default (sym (path_is path g here)) ∙ other)
+            ∙ rest None ∙ nothing_left (list_any (bytes_eq path) gs) None refl
+        by false here rest = rest v
+
+-- no change alters the value of the default dataspace
+default-fold : (cs : List Change) (v : Option Value) → fold left v (filter (λ c. alters c (Space [])) cs) ≡ v
+default-fold [] v = refl
+default-fold (SetSpace [] custom at ∷ cs) v = default-fold cs v
+default-fold (SetSpace (b ∷ bs) custom at ∷ cs) v = default-fold cs v
+default-fold (DropSpace [] ∷ cs) v = default-fold cs v
+default-fold (DropSpace (b ∷ bs) ∷ cs) v = default-fold cs v
+
+pub default-stays : (changes : List Change) → value (Space []) changes ≡ Some (SpaceValue default_dataspace)
+default-stays changes = default-fold changes (Some (SpaceValue default_dataspace))

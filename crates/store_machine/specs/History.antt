@@ -37,10 +37,12 @@ abbrev pub made_at : ℤ → Option Value → ℤ
 made_at at None = at
 made_at at (Some (SpaceValue r)) = r.created
 
--- what a change leaves at a key that it alters, from the value before
+-- what a change leaves at a key that it alters, from the value before. The default dataspace stays as it is from the first
 abbrev pub left : Option Value → Change → Option Value
-left before (SetSpace path custom at) = Some (SpaceValue (record { path = path; written = at; created = made_at at before; custom = custom }))
-left before (DropSpace path) = None
+left before (SetSpace path custom at) =
+    if is_default path then before
+    else Some (SpaceValue (record { path = path; written = at; created = made_at at before; custom = custom }))
+left before (DropSpace path) = if is_default path then before else None
 
 -- the default dataspace is there from the first
 abbrev pub first : Key → Option Value

@@ -1,13 +1,14 @@
 -- Laws on histories.
-use Rattle.std.specs.Prelude.{ℕ, ℤ, ◌≡◌, Bool, true, false, List, [], ◌∷◌, ◌++◌, IsSomeAnd, slice_get, length}
+use Rattle.std.specs.Prelude.{ℕ, ℤ, ◌≡◌, Bool, true, false, List, [], ◌∷◌, ◌++◌, Some, IsSomeAnd, slice_get, length}
 use Rattle.std.specs.List.{list_any, AllByRecursion}
 use Rattle.chan_defs.specs.declared.config.Config.{Config}
+use Rattle.object_store.specs.Tables.{default_dataspace}
 use Rattle.store_machine.specs.declared.call.StoreCall.{StoreCall}
 use Rattle.store_machine.specs.declared.call.StoreCall.TheVariants as call
 use Rattle.store_machine.specs.declared.journal.Act.{Act}
 use Rattle.store_machine.specs.declared.journal.Act.TheVariants.{Enter}
 use Rattle.store_machine.specs.declared.journal.Entry.{Entry}
-use Rattle.store_machine.specs.History.{Key, Change, alters, value, value_after, entry_alters}
+use Rattle.store_machine.specs.History.{Key, Space, SpaceValue, Change, alters, value, value_after, entry_alters}
 use Rattle.store_machine.specs.Answers.{entries_of, has_room_for}
 use Rattle.store_machine.specs.Legal.{own, IsNext, MayAsk, Legal}
 
@@ -48,6 +49,10 @@ ChangesLeaveOthers = (key : Key) (before later : List Change)
 abbrev pub EntriesLeaveOthers : Type 0
 EntriesLeaveOthers = (key : Key) (history : List Entry) (e : Entry)
     → entry_alters key e ≡ false → value_after key (history ++ e ∷ []) ≡ value_after key history
+
+-- the default dataspace is always there as it is from the first
+abbrev pub DefaultStays : Type 0
+DefaultStays = (changes : List Change) → value (Space []) changes ≡ Some (SpaceValue default_dataspace)
 
 -- ---- the numbers of sessions
 

@@ -1,4 +1,4 @@
-use Rattle.store_machine.proofs.Values.{value-unaltered, value_after-push}
+use Rattle.store_machine.proofs.Values.{value-unaltered, value_after-push, default-stays}
 use Rattle.store_machine.proofs.laws.state_laws.Goals as goal
 
 pub returns-clause-changes : goal.returns-clause-changes
@@ -6,3 +6,6 @@ returns-clause-changes c = value-unaltered
 
 pub returns-clause-entries : goal.returns-clause-entries
 returns-clause-entries c = value_after-push
+
+pub returns-clause-default : goal.returns-clause-default
+returns-clause-default c = default-stays
