@@ -4,4 +4,5 @@ pub mod Numbers
 pub mod Places
 pub mod Room
 pub mod Standing
+pub mod Tables
 pub mod Values

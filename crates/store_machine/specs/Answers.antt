@@ -26,7 +26,9 @@ is_there key changes = is_some (value key changes)
 -- the verdict on a change after those so far. The default dataspace is neither put nor dropped; only what is there is dropped
 abbrev pub verdict : List Change → Change → Verdict
 verdict sofar (SetSpace path custom at) = if is_default path then Refused RequestDenied else Accepted
-verdict sofar (DropSpace path) = if is_default path then Refused RequestDenied else (if is_there (Space path) sofar then Accepted else Refused NotFound)
+verdict sofar (DropSpace path) =
+    if is_default path then Refused RequestDenied
+    else (if is_there (Space path) sofar then Accepted else Refused NotFound)
 
 abbrev pub is_accepted : Verdict → Bool
 is_accepted Accepted = true
@@ -39,12 +41,15 @@ sofar_with sofar c = if is_accepted (verdict sofar c) then sofar ++ c ∷ [] els
 -- the verdicts on the items of a call in order, each after the accepted ones before it
 abbrev pub verdicts : {X : Type 0} → (X → Change) → List Change → List (List ℕ × X) → List (List ℕ × Verdict)
 verdicts change sofar [] = []
-verdicts change sofar (item ∷ items) = (item.0, verdict sofar (change item.1)) ∷ verdicts change (sofar_with sofar (change item.1)) items
+verdicts change sofar (item ∷ items) =
+    (item.0, verdict sofar (change item.1)) ∷ verdicts change (sofar_with sofar (change item.1)) items
 
 -- the items that are accepted
 abbrev pub accepted : {X : Type 0} → (X → Change) → List Change → List X → List X
 accepted change sofar [] = []
-accepted change sofar (x ∷ xs) = if is_accepted (verdict sofar (change x)) then x ∷ accepted change (sofar ++ change x ∷ []) xs else accepted change sofar xs
+accepted change sofar (x ∷ xs) =
+    if is_accepted (verdict sofar (change x)) then x ∷ accepted change (sofar ++ change x ∷ []) xs
+    else accepted change sofar xs
 
 -- ---- entries
 

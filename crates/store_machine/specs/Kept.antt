@@ -87,7 +87,9 @@ puttable puts = filter (λ p. is_accepted (put_verdict p)) puts
 
 -- the verdict on a drop, where the list is as before its call and some paths were dropped by it
 abbrev pub drop_verdict : List SpaceRecord → List (List ℕ) → List ℕ → Verdict
-drop_verdict rs gone path = if is_default path then Refused RequestDenied else (if is_some (dataspace_at path rs) && not (list_any (bytes_eq path) gone) then Accepted else Refused NotFound)
+drop_verdict rs gone path =
+    if is_default path then Refused RequestDenied
+    else (if is_some (dataspace_at path rs) && not (list_any (bytes_eq path) gone) then Accepted else Refused NotFound)
 
 -- the paths so far judged and those left make the verdicts and the accepted ones of all
 pub record Judged (changes : List Change) (rest all : List (List ℕ × List ℕ)) (given : List (List ℕ × Verdict)) (gone : List (List ℕ)) : Type 0 where

@@ -80,8 +80,8 @@ impl Store {
         &self.journal[place as usize]
     }
 
-    /// Answers a call of a session, at a moment. `by` is the session's number and `nth` the number of its entries so far;
-    /// an Enter looks at neither.
+    /// Answers a call of a session, at a moment. `by` is the session's number and `nth` the number of its entries so
+    /// far; an Enter looks at neither.
     pub fn ask(
         &mut self,
         alloc: Global,

@@ -203,6 +203,22 @@ fn each_item_sees_the_earlier_ones(rt: HostRuntime) -> Result<(), Fail> {
 }
 
 #[test]
+fn a_long_journal_takes_further_calls(rt: HostRuntime) -> Result<(), Fail> {
+    let alloc = rt.alloc();
+    let mut store = store(alloc, 30)?;
+    for at in 0..20 {
+        store.ask(alloc, 0, 0, at, StoreCall::Enter)?;
+    }
+    let put = put_two(alloc, &mut store, 5, "w", "v")?;
+    assert!(rt; are(&put, ACCEPTED, ACCEPTED));
+    let dropped = drop_two(alloc, &mut store, "w", "x")?;
+    assert!(rt; are(&dropped, ACCEPTED, NOT_FOUND));
+    assert!(rt; lists(alloc, &mut store, None, &[("", 0, 0, 0), ("v", 5, 5, 2)])?);
+    assert!(rt; store.entries() == 23);
+    Ok(())
+}
+
+#[test]
 fn the_default_dataspace_is_neither_put_nor_dropped(rt: HostRuntime) -> Result<(), Fail> {
     let alloc = rt.alloc();
     let mut store = store(alloc, 9)?;
