@@ -11,6 +11,7 @@ use Rattle.std.specs.Cmp.Lexicographic.{slice_cmp, nat_list_cmp_total, nat_list_
 use Rattle.std.specs.Str.{bytes_eq}
 use Rattle.std.proofs.lemmas.Bool.{false≢true}
 use Rattle.std.proofs.lemmas.List.Kept.{IsStrictlySortedBy-filter}
+use Rattle.etp_values.proofs.Lookups.{none_either, one_entry}
 use Rattle.object_store.specs.declared.records.SpaceRecord.{SpaceRecord}
 use Rattle.store_machine.proofs.Values.{path_is}
 use Rattle.store_machine.specs.Kept.{dataspace_at, seek, further, put_in, drop_in}
@@ -138,25 +139,10 @@ dataspace_at-put_in q (x ∷ xs) r = by (path_cmp r.path x.path) refl (dataspace
         let tie : path_cmp r.path x.path ≡ Equal = subst (λ p. path_cmp r.path p ≡ Equal) same (tied_itself nat_list_cmp_total r.path) in
         let f : Greater ≡ Equal = sym e ∙ tie in cc)
 
-none_either : {X : Type 0} (b : Bool) (r : Option X) → r ≡ None → r ≡ cond b None r
-none_either true r h = h
-none_either false r h = refl
-
--- one dataspace, by the tests on it: whether the path asked for goes, whether this one goes, whether it is the one asked for
-one_gone : {X : Type 0} (out gone here : Bool) (v : X) (kept rest : Option X) → (here ≡ true → out ≡ gone) → kept ≡ cond out None rest
-    → cond (not gone) (cond here (Some v) kept) kept ≡ cond out None (cond here (Some v) rest)
-one_gone true true here v kept rest e h = h
-one_gone true false true v kept rest e h = absurd (false≢true (sym (e refl)))
-one_gone true false false v kept rest e h = h
-one_gone false true true v kept rest e h = absurd (false≢true (e refl))
-one_gone false true false v kept rest e h = h
-one_gone false false true v kept rest e h = refl
-one_gone false false false v kept rest e h = h
-
 pub dataspace_at-drop_in : (q : List ℕ) (rs : List SpaceRecord) (p : List ℕ) → dataspace_at q (drop_in rs p) ≡ cond (bytes_eq q p) None (dataspace_at q rs)
 dataspace_at-drop_in q [] p = none_either (bytes_eq q p) None refl
 dataspace_at-drop_in q (x ∷ xs) p =
-    either (not (bytes_eq p x.path)) ∙ one_gone (bytes_eq q p) (bytes_eq p x.path) (bytes_eq q x.path) x (dataspace_at q (drop_in xs p)) (dataspace_at q xs) one (dataspace_at-drop_in q xs p)
+    either (not (bytes_eq p x.path)) ∙ one_entry (bytes_eq q p) (bytes_eq p x.path) (bytes_eq q x.path) x (dataspace_at q (drop_in xs p)) (dataspace_at q xs) one (dataspace_at-drop_in q xs p)
   where
     either : (b : Bool) → dataspace_at q (cond b (x ∷ drop_in xs p) (drop_in xs p)) ≡ cond b (cond (bytes_eq q x.path) (Some x) (dataspace_at q (drop_in xs p))) (dataspace_at q (drop_in xs p))
     either true = refl
