@@ -74,7 +74,8 @@ bad_other x why e f r w = absurd_of (sym e ∙ w)
 capture_end : (bytes : List ℕ) (fs : List Frame) → IsCapture fs bytes → end_at 8 fs ≤ capture_limit
 capture_end bytes fs c = omega (arith, end_is 8 fs, ap length c.all ∙ length-append magic (frames_bytes fs), c.small)
 
-behind_magic : (xs ys : List ℕ) → magic ++ xs ≡ magic ++ ys → xs ≡ ys
+-- what stands behind the magic, also for the crates above
+pub behind_magic : (xs ys : List ℕ) → magic ++ xs ≡ magic ++ ys → xs ≡ ys
 behind_magic xs ys e = ap (drop 8) e
 
 starts_magic : (bytes xs : List ℕ) → bytes ≡ magic ++ xs → starts_with nat_eq bytes magic ≡ true

@@ -64,7 +64,7 @@ pub whole_rest : (f g : Frame) (r s : List ℕ) → Whole f r ≡ Whole g s → 
 whole_rest f g r s e = cc
 
 -- what is told of a frame that was found, by its head and what follows
-found_parts : (at k : ℕ) (ks : List ℕ) (f : Frame) (r : List ℕ) → found at (k ∷ ks) ≡ Whole f r
+pub found_parts : (at k : ℕ) (ks : List ℕ) (f : Frame) (r : List ℕ) → found at (k ∷ ks) ≡ Whole f r
     → (is_kind k ≡ true) × (16 ≤ length ks) × (is_length k (length_in (take 17 (k ∷ ks))) ≡ true)
     × (length_in (take 17 (k ∷ ks)) ≤ length (drop 17 (k ∷ ks))) × (at + 17 + length_in (take 17 (k ∷ ks)) ≤ capture_limit)
     × (Whole (frame_of (take 17 (k ∷ ks)) (take (length_in (take 17 (k ∷ ks))) (drop 17 (k ∷ ks)))) (drop (length_in (take 17 (k ∷ ks))) (drop 17 (k ∷ ks))) ≡ Whole f r)

@@ -3,13 +3,9 @@ use Rattle.std.proofs.Common.{◌≡◌, ℕ, zero, suc, ◌+◌, ◌-◌, ◌<�
 use Rattle.std.proofs.lemmas.Bool.Decides.{nat_tests}
 use Rattle.etp_capture.specs.Frames.{is_kind, is_length, length_in, capture_limit, magic, frame_of}
 use Rattle.etp_capture.specs.Found.{found, body_found, Bad, Whole, NoMore}
-use Rattle.etp_capture.specs.Reader.{Shows}
 use Rattle.etp_capture.specs.declared.frame.Frame.{Frame}
 use Rattle.etp_capture.specs.declared.reader.CaptureError.{CaptureError}
 use Rattle.etp_capture.specs.declared.reader.CaptureError.TheVariants.{Magic, Kind, Length, Cut, Limit}
-
-pub found_past : (at k : ℕ) (rest : List ℕ) → capture_limit < at + 1 → found at (k ∷ rest) ≡ Bad Limit
-found_past at k rest past = grind (arith, nat_tests)
 
 pub found_kind : (at k : ℕ) (rest : List ℕ) → at + 1 ≤ capture_limit → is_kind k ≡ false → found at (k ∷ rest) ≡ Bad (Kind at)
 found_kind at k rest within kind = grind (arith, nat_tests)
@@ -84,8 +80,8 @@ head_ok at got head buf xs ys all long same is body =
     let b : P head = subst P front body in
     (e, ap (found at) e ∙ b ∙ ap (λ h. body_found at h (drop 17 (head ++ ys))) (take_at head ys 17 long) ∙ ap (body_found at head) (drop_at head ys 17 long))
 
-pub head_err : (e : CaptureError) (at got : ℕ) (head buf xs ys : List ℕ) → take got buf ≡ take got head → xs ≡ take got buf ++ ys → Shows e (found at (take got head ++ ys)) → Shows e (found at xs)
-head_err e at got head buf xs ys same is h = let P : List ℕ → Type 0 = λ l. Shows e (found at l) in subst P (sym (is ∙ ap (λ l. l ++ ys) same)) h
+pub head_err : (e : CaptureError) (at got : ℕ) (head buf xs ys : List ℕ) → take got buf ≡ take got head → xs ≡ take got buf ++ ys → found at (take got head ++ ys) ≡ Bad e → found at xs ≡ Bad e
+head_err e at got head buf xs ys same is h = ap (found at) (is ∙ ap (λ l. l ++ ys) same) ∙ h
 
 -- fewer than eight bytes don't begin with the magic
 pub short_magic : (got : ℕ) (buf xs ys more : List ℕ) → got ≤ length buf → got < 8 → xs ≡ take got buf ++ ys → ys ≡ [] → xs ≡ magic ++ more → ⊥

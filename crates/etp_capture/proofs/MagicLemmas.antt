@@ -1,5 +1,5 @@
 -- What stands at the beginning of a capture.
-use Rattle.std.proofs.Common.{◌≡◌, ◌≢◌, ℕ, ◌+◌, ◌<◌, ◌≤◌, Bool, true, false, not, nat_eq, List, [], ◌++◌, length, take, drop, refl, ap, sym, ◌∙◌, take_at, arith, Result, Option}
+use Rattle.std.proofs.Common.{◌≡◌, ◌≢◌, ℕ, ◌+◌, ◌<◌, ◌≤◌, Bool, true, false, not, nat_eq, List, [], ◌++◌, length, take, drop, refl, ap, sym, ◌∙◌, take_at, arith}
 use Rattle.std.specs.List.{starts_with}
 use Rattle.std.specs.Str.{bytes_eq}
 use Rattle.std.proofs.lemmas.Bool.{false≢true}
@@ -7,9 +7,6 @@ use Rattle.std.proofs.lemmas.Bool.Decides.{nat_tests, Decides-eqb}
 use Rattle.std.proofs.lemmas.Slice.Eq.{starts_is, bytes_eq-Decides}
 use Rattle.etp_capture.specs.Frames.{magic}
 use Rattle.etp_capture.specs.Found.{found, next_found}
-use Rattle.etp_capture.specs.Reader.{Answers}
-use Rattle.etp_capture.specs.declared.frame.Frame.{Frame}
-use Rattle.etp_capture.specs.declared.reader.CaptureError.{CaptureError}
 use Rattle.etp_capture.proofs.FoundLemmas.{short_magic}
 
 -- a test that can't be true
@@ -35,8 +32,5 @@ other_starts buf xs ys long is other =
     false≢true (sym other ∙ (bytes_eq-Decides buf magic).1 same))
 
 -- behind the magic stands the first frame
-next_first : (at : ℕ) (ys : List ℕ) → at < 8 → next_found at (magic ++ ys) ≡ found 8 ys
+pub next_first : (at : ℕ) (ys : List ℕ) → at < 8 → next_found at (magic ++ ys) ≡ found 8 ys
 next_first at ys early = grind (arith, nat_tests)
-
-pub answers_first : (r : Result (Option Frame) CaptureError) (at : ℕ) (xs ys zs : List ℕ) → at < 8 → xs ≡ magic ++ ys → Answers r (found 8 ys) zs → Answers r (next_found at xs) zs
-answers_first r at xs ys zs early is h = rw (is, next_first at ys early) h

@@ -1,11 +1,9 @@
--- What a writer writes: two pieces, one behind the other, and frames that were read.
-use Rattle.std.proofs.Common.{◌≡◌, ◌≢◌, ℕ, ◌+◌, ◌<◌, ◌≤◌, List, ◌++◌, length, take, refl, ap, sym, ◌∙◌, subst, arith, length-append, Result, Ok, Err, Option, Bool, true, false, ◌||◌, ◌==◌}
+-- What a writer writes: two pieces, one behind the other.
+use Rattle.std.proofs.Common.{◌≡◌, ◌≢◌, ℕ, ◌+◌, ◌<◌, ◌≤◌, List, ◌++◌, length, take, refl, ap, sym, ◌∙◌, subst, arith, length-append, Result, Ok, Err, Option}
 use Rattle.std.specs.Io.KnownBytes.{Appends}
 use Rattle.std.proofs.KnownBytes.{Appends-trans}
 use Rattle.std.proofs.Math.Seq.{take-append-add}
-use Rattle.etp_capture.specs.Frames.{is_length, IsFrame}
-use Rattle.etp_capture.specs.Writer.{Puts, IsWritable}
-use Rattle.etp_capture.specs.declared.frame.Frame.{Frame}
+use Rattle.etp_capture.specs.Writer.{Puts}
 use Rattle.etp_capture.specs.declared.writer.PutError.{PutError}
 use Rattle.etp_capture.specs.declared.writer.PutError.TheVariants.{WriteFault, NoMemory}
 
@@ -17,12 +15,3 @@ puts_behind (Err WriteFault) a b old mid new never first then_b =
     let below : length a + n < length (a ++ b) = simp length-append (omega (arith, then_b.1)) in
     (length a + n, below, subst (Appends old new) (sym (take-append-add a b n)) (Appends-trans old mid new a (take n b) first then_b.2))
 puts_behind (Err NoMemory) a b old mid new never first then_b = absurd (never refl)
-
-last_true : (a b c : Bool) → c ≡ true → (a || b || c) ≡ true
-last_true true b c h = refl
-last_true false true c h = refl
-last_true false false c h = h
-
--- a frame that a capture may hold can be written
-pub frame_is_writable : (f : Frame) → IsFrame f → IsWritable f
-frame_is_writable f good = record { kind = good.kind; payload = last_true (f.kind == 1) (f.kind == 17) (is_length f.kind (length f.bytes)) good.payload }

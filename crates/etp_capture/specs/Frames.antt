@@ -1,26 +1,30 @@
 -- The frames of a capture and their bytes.
 use Rattle.std.specs.Prelude.{◌≡◌, ℕ, ◌+◌, ◌%◌, ◌^◌, ◌<◌, ◌==◌, ◌&&◌, ◌||◌, not, nat_le, Bool, true, List, [], ◌∷◌, ◌++◌, length, get_or, take, drop, codes, FitsSigned, ℤ}
 use Rattle.std.specs.Int.{w32, w64, to_be_bytes, from_be_bytes, cast_signed, cast_unsigned}
+use Rattle.etp_capture.specs.Kinds.{kind_in, kind_poll, kind_end, kind_out, kind_ended}
 use Rattle.etp_capture.specs.declared.frame.Frame.{Frame}
 
 -- what a capture begins with
 abbrev pub magic : List ℕ
 magic = codes "ETPCAP01"
 
--- the greatest number of bytes of a capture, and of a frame's payload
+-- the greatest number of bytes of a capture
 abbrev pub capture_limit : ℕ
 capture_limit = 1073741824
 
+-- the greatest number of bytes of a frame's payload
 abbrev pub frame_limit : ℕ
 frame_limit = 33554432
 
 -- the kinds of frames
 abbrev pub is_kind : ℕ → Bool
-is_kind k = k == 1 || k == 2 || k == 3 || k == 17 || k == 19
+is_kind k = k == kind_in || k == kind_poll || k == kind_end || k == kind_out || k == kind_ended
 
 -- the lengths that a payload of a kind may have
 abbrev pub is_length : ℕ → ℕ → Bool
-is_length kind n = nat_le n frame_limit && (not (kind == 2 || kind == 3) || n == 0) && (not (kind == 19) || n == 1 || n == 5)
+is_length kind n =
+    nat_le n frame_limit && (not (kind == kind_poll || kind == kind_end) || n == 0)
+    && (not (kind == kind_ended) || n == 1 || n == 5)
 
 -- a frame that a capture may hold
 pub record IsFrame (f : Frame) : Type 0 where

@@ -3,6 +3,7 @@ use Rattle.std.specs.Prelude.{◌≡◌, ℕ, ◌==◌, ◌&&◌, ◌||◌, Bool
 use Rattle.std.specs.Io.KnownBytes.{Keeps, Appends}
 use Rattle.std.specs.declared.option.Option.{Option}
 use Rattle.etp_outside.specs.Whole.{AppendsFront}
+use Rattle.etp_capture.specs.Kinds.{kind_in, kind_out}
 use Rattle.etp_capture.specs.Frames.{is_kind, is_length}
 use Rattle.etp_capture.specs.declared.frame.Frame.{Frame}
 use Rattle.etp_capture.specs.declared.writer.PutError.{PutError}
@@ -11,7 +12,7 @@ use Rattle.etp_capture.specs.declared.writer.PutError.TheVariants.{WriteFault, N
 -- a frame that is written: a message is, however long it is
 pub record IsWritable (f : Frame) : Type 0 where
   pub kind : is_kind f.kind ≡ true
-  pub payload : (f.kind == 1 || f.kind == 17 || is_length f.kind (length f.bytes)) ≡ true
+  pub payload : (f.kind == kind_in || f.kind == kind_out || is_length f.kind (length f.bytes)) ≡ true
 
 -- these bytes are written whole, or a part of their front, or nothing
 abbrev pub Puts : {U : Type 0} → Result U PutError → List ℕ → Option (List ℕ) → Option (List ℕ) → Type 0

@@ -1,5 +1,6 @@
 //! One frame of a capture, and its bytes.
-ghost use Rattle.std.specs.Prelude.{◌≡◌, ◌++◌, OnOk};
+ghost use Rattle.std.specs.Prelude.{◌≡◌, ◌++◌, OnOk, OnErr};
+ghost use Rattle.std.specs.Io.{StartsWith};
 ghost use Rattle.std.specs.Int.{to_be_bytes, cast_unsigned, w64};
 ghost use Rattle.etp_capture.specs.Frames.{head_bytes, frame_bytes, magic};
 
@@ -8,7 +9,7 @@ use etp_values::{Blob, NoMemory};
 /// A frame of a capture.
 #[derive(Debug, Drop)]
 pub struct Frame {
-    /// What the frame is: 1, 2, 3, 17 or 19.
+    /// What the frame is, by a number of [`kinds`](crate::kinds).
     pub kind: u8,
     /// The session that it belongs to, by a number of the capture's own.
     pub tag: u32,
@@ -18,18 +19,23 @@ pub struct Frame {
     pub bytes: Blob,
 }
 
-/// Appends the eight bytes that a capture begins with. After an error nothing is said of what was appended.
+/// The eight bytes that a capture begins with.
+pub(crate) const MAGIC: [u8; 8] = *b"ETPCAP01";
+
+/// Appends the eight bytes that a capture begins with. An error loses nothing of what was there.
 pub fn push_magic(into: &mut Vec<u8>) -> Result<(), NoMemory>
-    ensures { OnOk result (into.new.items ≡ into.old.items ++ magic) }
+    ensures ok { OnOk result (into.new.items ≡ into.old.items ++ magic) }
+    ensures err { OnErr result (StartsWith into.new.items into.old.items) }
 {
-    into.extend_from_slice(b"ETPCAP01")?;
+    into.extend_from_slice(&MAGIC)?;
     Ok(())
 }
 
-/// Appends the bytes of a frame. Of a payload of 2^32 bytes or more the stated length is what is left modulo 2^32. After
-/// an error nothing is said of what was appended.
+/// Appends the bytes of a frame. Of a payload of 2^32 bytes or more the stated length is what is left modulo 2^32. An
+/// error loses nothing of what was there.
 pub fn push_frame(into: &mut Vec<u8>, frame: &Frame) -> Result<(), NoMemory>
-    ensures { OnOk result (into.new.items ≡ into.old.items ++ frame_bytes frame.now) }
+    ensures ok { OnOk result (into.new.items ≡ into.old.items ++ frame_bytes frame.now) }
+    ensures err { OnErr result (StartsWith into.new.items into.old.items) }
 {
     let bytes = frame.bytes.as_bytes();
     push_head(
@@ -51,7 +57,8 @@ pub(crate) fn push_head(
     moment: i64,
     length: u64,
 ) -> Result<(), NoMemory>
-    ensures { OnOk result (into.new.items ≡ into.old.items ++ head_bytes kind tag moment length) }
+    ensures ok { OnOk result (into.new.items ≡ into.old.items ++ head_bytes kind tag moment length) }
+    ensures err { OnErr result (StartsWith into.new.items into.old.items) }
 {
     into.push(kind)?;
     into.extend_from_slice(&tag.to_be_bytes())?;

@@ -5,6 +5,7 @@ ghost use Rattle.etp_capture.specs.Reader.{HeadFault};
 ghost use Rattle.etp_capture.specs.declared.reader.CaptureError.TheVariants.{ReadFault, NoMemory};
 
 use crate::frame::Frame;
+use crate::kinds;
 use crate::reader::{CAPTURE_LIMIT, CaptureError};
 use etp_values::Blob;
 
@@ -14,15 +15,19 @@ const FRAME_LIMIT: u32 = 33_554_432;
 fn is_kind(kind: u8) -> bool
     ensures { result ≡ is_kind kind }
 {
-    kind == 1 || kind == 2 || kind == 3 || kind == 17 || kind == 19
+    kind == kinds::IN
+        || kind == kinds::POLL
+        || kind == kinds::END
+        || kind == kinds::OUT
+        || kind == kinds::ENDED
 }
 
 fn is_length(kind: u8, length: u32) -> bool
     ensures { result ≡ is_length kind length }
 {
     length <= FRAME_LIMIT
-        && ((kind != 2 && kind != 3) || length == 0)
-        && (kind != 19 || length == 1 || length == 5)
+        && ((kind != kinds::POLL && kind != kinds::END) || length == 0)
+        && (kind != kinds::ENDED || length == 1 || length == 5)
 }
 
 /// The length that a head states.

@@ -19,6 +19,7 @@
 
 mod frame;
 mod head;
+pub mod kinds;
 mod laws;
 mod reader;
 mod writer;

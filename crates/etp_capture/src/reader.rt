@@ -1,39 +1,47 @@
 //! Reads a capture frame by frame.
-ghost use Rattle.std.specs.Prelude.{◌≡◌, ◌≢◌, ◌⊎◌, ◌+◌, ◌≤◌, ◌<◌, IfOk, IfErr, IfSome, OnOk, Ok, Err, List, ℕ, [], ◌++◌, length, take, Some, None, max};
+ghost use Rattle.std.specs.Prelude.{◌≡◌, ◌≢◌, ◌⊎◌, ◌+◌, ◌≤◌, ◌<◌, IfOk, IfErr, IfSome, Err, length, None, max};
 ghost use Rattle.std.specs.Io.KnownBytes.{Keeps};
 ghost use Rattle.etp_outside.specs.Faults.{Rose};
 ghost use Rattle.etp_outside.specs.Told.{Told};
 ghost use Rattle.etp_capture.specs.Frames.{capture_limit, length_in, IsFrame, IsHead};
 ghost use Rattle.etp_capture.specs.Found.{found, next_found};
-ghost use Rattle.etp_capture.specs.Reader.{Answers, HeadOf, BodyOf, MagicOf, Begins, begun, after};
+ghost use Rattle.etp_capture.specs.Reader.{Answers, HeadOf, BodyOf, MagicOf, Begins, TakesUp, begun, after};
 ghost use Rattle.etp_capture.specs.declared.reader.CaptureError.TheVariants.{Magic, ReadFault, NoMemory};
 
-use crate::frame::Frame;
+use crate::frame::{Frame, MAGIC};
 use crate::head::{frame_with, head_fault, length_of};
 use etp_outside::{Filled, Source, fill};
 use etp_values::Blob;
 use std::alloc::Global;
 use std::marker::Model;
+use thiserror::Error;
 
 /// The greatest number of bytes of a capture.
 pub(crate) const CAPTURE_LIMIT: u64 = 1_073_741_824;
 
 /// Why no frame was read. An offset is that of the frame's first byte in the capture.
-#[derive(Clone, Copy, Debug, PartialEq, Eq)]
+#[derive(Clone, Copy, Debug, PartialEq, Eq, Error)]
 pub enum CaptureError {
     /// The input does not begin with the eight bytes of a capture.
+    #[error("the input does not begin with ETPCAP01")]
     Magic,
     /// The frame at this offset has no kind of the table.
+    #[error("the frame at offset {0} has no known kind")]
     Kind(u64),
     /// The frame at this offset states a length that its kind can't have.
+    #[error("the frame at offset {0} states a length that its kind can't have")]
     Length(u64),
     /// The input ended in the frame at this offset.
+    #[error("the input ended in the frame at offset {0}")]
     Cut(u64),
     /// The input has more bytes than a capture may have, and its byte 1,073,741,825 was reached.
+    #[error("the input has more than {CAPTURE_LIMIT} bytes")]
     Limit,
     /// The source failed.
+    #[error("the source failed")]
     ReadFault,
     /// Memory was refused.
+    #[error("memory was refused")]
     NoMemory,
 }
 
@@ -108,7 +116,7 @@ impl CaptureReader {
         e
     }
 
-    /// The next frame, or `None` where the input ended after a whole frame or the magic. It reads the magic first, unless
+    /// The next frame, or `None` where the input ended behind the magic or a whole frame. It reads the magic first, unless
     /// that was read before, and takes no byte past the frame that it answers.
     pub fn next<S: Source>(
         &mut self,
@@ -116,7 +124,7 @@ impl CaptureReader {
         source: &mut S,
     ) -> Result<Option<Frame>, CaptureError>
         ensures again { IfSome self.old.failed (λ e. (result ≡ Err e) × Keeps (S.left source.old) (S.left source.new)) }
-        ensures bytes { self.old.failed ≡ None → Told (S.left source.old) (S.left source.new) (λ xs ys. Answers result (next_found self.old.at xs) ys) }
+        ensures bytes { self.old.failed ≡ None → Told (S.left source.old) (S.left source.new) (Answers result (next_found self.old.at)) }
         ensures state { self.new ≡ after self.old result }
         ensures frame { IfOk result (λ answer. IfSome answer IsFrame) }
         ensures within { self.new.at ≤ capture_limit }
@@ -147,7 +155,7 @@ fn read_next<S: Source>(
     at: u64,
 ) -> Result<Option<Frame>, CaptureError>
     requires { at ≤ capture_limit }
-    ensures bytes { Told (S.left source.old) (S.left source.new) (λ xs ys. Answers result (next_found at xs) ys) }
+    ensures bytes { Told (S.left source.old) (S.left source.new) (Answers result (next_found at)) }
     ensures frame { IfOk result (λ answer. IfSome answer IsFrame) }
     ensures fits { IfOk result (λ answer. IfSome answer (λ frame. max at 8 + 17 + length frame.bytes ≤ capture_limit)) }
     ensures kept { S.faults source.old ≤ S.faults source.new }
@@ -176,7 +184,7 @@ fn read_magic<S: Source>(source: &mut S) -> Result<(), CaptureError>
     if got < 8 {
         return Err(CaptureError::Magic);
     }
-    if bytes != *b"ETPCAP01" {
+    if bytes != MAGIC {
         return Err(CaptureError::Magic);
     }
     Ok(())
@@ -189,7 +197,7 @@ fn read_frame<S: Source>(
     at: u64,
 ) -> Result<Option<Frame>, CaptureError>
     requires { at ≤ capture_limit }
-    ensures bytes { Told (S.left source.old) (S.left source.new) (λ xs ys. Answers result (found at xs) ys) }
+    ensures bytes { Told (S.left source.old) (S.left source.new) (Answers result (found at)) }
     ensures frame { IfOk result (λ answer. IfSome answer IsFrame) }
     ensures fits { IfOk result (λ answer. IfSome answer (λ frame. at + 17 + length frame.bytes ≤ capture_limit)) }
     ensures kept { S.faults source.old ≤ S.faults source.new }
@@ -268,8 +276,8 @@ fn read_body<S: Source>(
 
 /// Fills the buffer, or as much of it as the input has; none where the source fails.
 fn read_up<S: Source>(source: &mut S, buf: &mut [u8]) -> Option<usize>
-    ensures bytes { IfSome result (λ got. (got ≤ length buf.new) × Told (S.left source.old) (S.left source.new) (λ xs ys. (xs ≡ take got buf.new ++ ys) × (got < length buf.new → ys ≡ []))) }
-    ensures told { Told (S.left source.old) (S.left source.new) (λ xs ys. Unit {0}) }
+    ensures bytes { Told (S.left source.old) (S.left source.new) (TakesUp result buf.new) }
+    ensures within { IfSome result (λ got. got ≤ length buf.new) }
     ensures kept { S.faults source.old ≤ S.faults source.new }
     ensures cause { result ≡ None → Rose (S.faults source.old) (S.faults source.new) }
 {

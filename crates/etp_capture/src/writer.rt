@@ -4,18 +4,21 @@ ghost use Rattle.etp_outside.specs.Faults.{Rose};
 ghost use Rattle.etp_capture.specs.Frames.{magic, frame_bytes};
 ghost use Rattle.etp_capture.specs.Writer.{IsWritable, Puts};
 
-use crate::frame::{Frame, push_head};
+use crate::frame::{Frame, MAGIC, push_head};
 use etp_outside::{Sink, Written, write_all};
 use etp_values::NoMemory;
 use std::alloc::Global;
 use std::marker::Model;
+use thiserror::Error;
 
 /// Why a frame was not written.
-#[derive(Clone, Copy, Debug, PartialEq, Eq)]
+#[derive(Clone, Copy, Debug, PartialEq, Eq, Error)]
 pub enum PutError {
     /// The sink failed. It took a part of the bytes' front, and not all.
+    #[error("the sink failed")]
     WriteFault,
     /// Memory was refused, and nothing was written.
+    #[error("memory was refused")]
     NoMemory,
 }
 
@@ -62,7 +65,7 @@ impl CaptureWriter {
         ensures kept { W.faults sink.old ≤ W.faults sink.new }
         ensures cause { result ≡ Err PutError.WriteFault → Rose (W.faults sink.old) (W.faults sink.new) }
     {
-        put_piece(sink, b"ETPCAP01")
+        put_piece(sink, &MAGIC)
     }
 
     /// Writes a frame. A message is written also where its length is above what a reader takes; of 2^32 bytes and more the

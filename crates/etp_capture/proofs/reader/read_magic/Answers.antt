@@ -7,15 +7,13 @@ use Rattle.etp_capture.proofs.reader.read_magic.Goals as goal
 
 pub returns-then-got-lt8-clause-bytes : goal.returns-then-got-lt8-clause-bytes
 returns-then-got-lt8-clause-bytes g c =
-    let h = c.in-Some.ensures.bytes in
     let short : c.in-Some.got < length c.read_up.new.buf = omega (arith, c.read_up.auto.buf) in
-    told_weaker _ _ _ _ (λ xs ys e. short_starts c.in-Some.got c.read_up.new.buf xs ys h.0 c.if-got-lt8.true e.0 (e.1 short)) h.1
+    told_weaker _ _ _ _ (λ xs ys e. short_starts c.in-Some.got c.read_up.new.buf xs ys c.in-Some.ensures.within c.if-got-lt8.true e.0 (e.1 short)) c.in-Some.ensures.bytes
 
 pub returns-then-ne-clause-bytes : goal.returns-then-ne-clause-bytes
 returns-then-ne-clause-bytes g c =
-    let h = c.in-Some.ensures.bytes in
     let buf = c.read_up.new.buf in
     let long : length buf ≡ 8 = omega (arith, c.read_up.auto.buf) in
     let whole : take c.in-Some.got buf ≡ buf = take_all c.in-Some.got buf (omega arith) in
     let other = not_true (bytes_eq buf magic) (sym c.ne.ensures ∙ c.if-ne.true) in
-    told_weaker _ _ _ _ (λ xs ys e. other_starts buf xs ys long (e.0 ∙ ap (λ l. l ++ ys) whole) other) h.1
+    told_weaker _ _ _ _ (λ xs ys e. other_starts buf xs ys long (e.0 ∙ ap (λ l. l ++ ys) whole) other) c.in-Some.ensures.bytes
