@@ -4,12 +4,12 @@ use Rattle.std.proofs.lemmas.Bool.{le-ltb, lt-ltb}
 use Rattle.std.proofs.lemmas.Bool.Decides.{nat_tests}
 use Rattle.std.proofs.lemmas.List.{length-append, take_at, drop_at}
 use Rattle.std.specs.Int.{Width, byte_len, from_le_bytes, w32, w64}
-use Rattle.avro_bin.specs.Value.{Value, Values, VNull, VBoolean, VInt, VLong, VFloat, VDouble, VBytes, VText, VFixed, VEnum, VArray, VMap, VUnion, VFields, list, row, entries, pairs, Entries, nodes, nodes_named, nodes_in}
+use Rattle.avro_bin.specs.Value.{Value, Values, VNull, VBoolean, VInt, VLong, VFloat, VDouble, VBytes, VText, VFixed, VEnum, VArray, VMap, VUnion, VFields, list, row, pairs, Entries, nodes, nodes_named, nodes_in}
 use Rattle.avro_bin.specs.Value as v
 use Rattle.avro_bin.specs.Schema.{Schema, Schemas, SNull, SBoolean, SInt, SLong, SFloat, SDouble, SBytes, SText, SFixed, SEnum, SArray, SMap, SUnion, SFields, none, more}
 use Rattle.avro_bin.specs.Number.{Number}
 use Rattle.avro_bin.specs.Reading.{Read, Got, Row, Names, element_at, entry_at, mapped, number_at, boolean_at, int_at, fits_32, bytes_at, blob_at, is_utf8, text_at, place_at, fixed_number_at, with, listed, places, count, value_at, fields_at, branch_at, items_at, block_at, blocks_at}
-use Rattle.avro_bin.specs.Grammar.{BytesSpelled, Items, Block, Blocks, SomeBlocks, EntrySpelled, TextSpelled, PlaceSpelled, Spells, AreFields, IsBranch}
+use Rattle.avro_bin.specs.Grammar.{BytesSpelled, Items, Block, Blocks, EntrySpelled, PlaceSpelled, Spells, AreFields, IsBranch}
 use Rattle.avro_bin.proofs.Found.{number_again, zero_or_some}
 use Rattle.avro_bin.specs.Steps.{Push, Put, Steps}
 use Rattle.avro_bin.proofs.Orders.{steps_split, row_steps, sizes, sizes_named, nodes_entries, entries-pairs}

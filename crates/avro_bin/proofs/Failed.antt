@@ -1,22 +1,22 @@
 -- What is refused fails so.
-use Rattle.std.proofs.Common.{◌≡◌, ℕ, zero, suc, ◌+◌, ◌<◌, ◌≤◌, Bool, true, false, List, [], ◌∷◌, ◌++◌, Result, Ok, Err, ltb, eqb, cond, length, take, drop, refl, sym, ap, subst, ◌∙◌, arith, ◌⊎◌, inl, inr, ℤ, pos, negsuc, append_assoc}
+use Rattle.std.proofs.Common.{◌≡◌, ℕ, zero, suc, ◌+◌, ◌<◌, Bool, true, false, List, [], ◌∷◌, ◌++◌, Result, Ok, Err, ltb, eqb, cond, length, take, drop, refl, sym, ap, subst, ◌∙◌, arith, ◌⊎◌, inl, inr, ℤ, pos, negsuc, append_assoc}
 use Rattle.std.proofs.lemmas.Bool.{ltb-true, ltb-false}
 use Rattle.avro_bin.specs.declared.fault.Why.{Why}
 use Rattle.avro_bin.specs.declared.fault.Why.TheVariants as why
 use Rattle.avro_bin.specs.Laws.{IsBytes}
-use Rattle.avro_bin.specs.Number.{Number, NumberFails, signed}
-use Rattle.avro_bin.specs.Value.{Value, Values, VBoolean, VInt, VLong, VFloat, VDouble, VBytes, VText, VFixed, VEnum, VArray, VFields, nodes}
-use Rattle.avro_bin.specs.Steps.{Push, Put, Steps}
+use Rattle.avro_bin.specs.Number.{Number, signed}
+use Rattle.avro_bin.specs.Value.{Value, Values, VBoolean, VInt, VLong, VFloat, VDouble, VBytes, VText, VFixed, VEnum, VArray, VFields}
+use Rattle.avro_bin.specs.Steps.{Push, Put}
 use Rattle.std.specs.Int.{Width, byte_len, w32, w64}
 use Rattle.std.proofs.lemmas.List.{length-append}
 use Rattle.std.proofs.lemmas.Bool.{eqb-false}
 use Rattle.avro_bin.specs.Schema.{Schema, Schemas, SNull, SBoolean, SInt, SLong, SFloat, SDouble, SBytes, SText, SFixed, SEnum, SArray, SMap, SUnion, SFields, none, more}
-use Rattle.avro_bin.specs.Grammar.{BytesSpelled, TextSpelled, EntrySpelled, Items, Spells}
+use Rattle.avro_bin.specs.Grammar.{EntrySpelled, Spells}
 use Rattle.avro_bin.specs.Reading.{Read, Got, Row, Names, ◌>>=◌, boolean_at, bytes_at, of_length, blob_at, is_utf8, text_at, fixed_number_at, element_at, pushed, entry_at, under, has, mapped, items_at, sized, block_at, blocks_at, after_count, placed, groups_at, number_at, int_at, fits_32, place_at, below, places, with, listed, in_branch, count, value_at, fields_at, branch_at}
-use Rattle.avro_bin.specs.Failing.{Then, Later, Refused, BadNumber, BadLength, BadBlob, BadText, BadBoolean, TooShort, NoPlace, BadPlace, EntryFails, ItemsFail, SizedFails, BlockFails, BlocksFail, SomeFails, Fails, FieldsFail, BranchFails}
+use Rattle.avro_bin.specs.Failing.{Then, Refused, BadNumber, BadLength, BadBlob, BadText, BadBoolean, TooShort, NoPlace, BadPlace, EntryFails, ItemsFail, SizedFails, BlockFails, SomeFails, Fails, FieldsFail, BranchFails}
 use Rattle.avro_bin.proofs.Groups.{chosen, done, Groups}
 use Rattle.avro_bin.proofs.NumberFaults.{groups_fail}
-use Rattle.avro_bin.proofs.Found.{number_found, blob_found, text_found, place_found, value_found, element_found, entry_found, items_found, block_found, body_block, zero_or_some, after, after_text, Finds, IsBytes-append}
+use Rattle.avro_bin.proofs.Found.{number_found, blob_found, text_found, place_found, value_found, element_found, entry_found, items_found, block_found, body_block, zero_or_some, after_text, Finds, IsBytes-append}
 use Rattle.avro_bin.proofs.Again.{number_long}
 
 abbrev pub bad : {A : Type 0} → Why × ℕ → Result (A × List ℕ) (Why × ℕ)

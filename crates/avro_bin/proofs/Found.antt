@@ -5,24 +5,22 @@ use Rattle.std.proofs.lemmas.List.{length-append, take-append-drop, length-take}
 use Rattle.std.specs.Int.{Width, byte_len, from_le_bytes, w32, w64}
 use Rattle.avro_bin.specs.declared.fault.Why.{Why}
 use Rattle.avro_bin.specs.declared.fault.Why.TheVariants as why
-use Rattle.avro_bin.specs.Value.{Value, Values, VNull, VBoolean, VInt, VLong, VFloat, VDouble, VBytes, VText, VFixed, VEnum, VArray, VMap, VUnion, VFields, entries, pairs, list, row, nodes, nodes_in}
+use Rattle.avro_bin.specs.Value.{Value, Values, VNull, VBoolean, VInt, VLong, VFloat, VDouble, VBytes, VText, VFixed, VEnum, VArray, VMap, VUnion, VFields, entries, list, row, nodes}
 use Rattle.avro_bin.specs.Schema.{Schema, Schemas, SNull, SBoolean, SInt, SLong, SFloat, SDouble, SBytes, SText, SFixed, SEnum, SArray, SMap, SUnion, SFields, none, more}
 use Rattle.avro_bin.specs.Laws.{IsBytes}
 use Rattle.avro_bin.specs.Number.{signed, Number}
 use Rattle.avro_bin.specs.Reading.{Read, Got, Row, Names, ◌>>=◌, groups_at, placed, number_at, boolean_at, int_at, fits_32, bytes_at, blob_at, of_length, is_utf8, text_at, place_at, below, fixed_number_at, with, listed, mapped, pushed, element_at, under, entry_at, has, in_branch, places, count, value_at, fields_at, branch_at, items_at, block_at, blocks_at, after_count, sized}
-use Rattle.avro_bin.specs.Grammar.{Two, BytesSpelled, Items, Sized, Block, Blocks, SomeBlocks, TextSpelled, PlaceSpelled, EntrySpelled, InSomeOrder, Spells, AreFields, IsBranch}
+use Rattle.avro_bin.specs.Grammar.{BytesSpelled, Items, Sized, Block, SomeBlocks, PlaceSpelled, EntrySpelled, InSomeOrder, Spells, AreFields, IsBranch}
 use Rattle.avro_bin.proofs.Groups.{chosen, done, ok_is, ok_pair, Groups}
 use Rattle.avro_bin.proofs.NumberLaws.{IsBytes-rest, groups_found, groups_again}
 use Rattle.avro_bin.proofs.Steps.{bind_ok}
 use Rattle.avro_bin.specs.Steps.{Push, Put, Steps}
-use Rattle.avro_bin.proofs.Orders.{steps_append, steps_row, steps_names, sizes, sizes_named, sizes_named-permutation, nodes_entries, pairs-entries}
+use Rattle.avro_bin.proofs.Orders.{steps_append, steps_row, steps_names, sizes, sizes_named-permutation, nodes_entries, pairs-entries}
 use Rattle.std.specs.List.Sorted.{IsStrictlySortedBy, IsPermutation}
 use Rattle.std.specs.Ordering.{nat_cmp}
 use Rattle.std.specs.Cmp.Lexicographic.{slice_cmp}
-use Rattle.std.specs.Map.{keys_of}
 use Rattle.std.specs.BTreeMap.{insert_entry}
 use Rattle.std.proofs.lemmas.List.{append-nil}
-use Rattle.std.proofs.lemmas.List.Sorted.{IsPermutation-trans}
 
 -- the front of the bytes has P
 pub record Starts {A : Type 0} (P : A → List ℕ → Type 0) (bytes : List ℕ) (x : A) (rest : List ℕ) : Type 0 where

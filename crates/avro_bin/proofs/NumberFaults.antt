@@ -1,9 +1,9 @@
 -- A number is refused exactly as the definition says.
-use Rattle.std.proofs.Common.{◌≡◌, ℕ, zero, suc, ◌+◌, ◌-◌, ◌<◌, ◌≤◌, ◌%◌, ◌*◌, Bool, true, false, List, [], ◌∷◌, ◌++◌, Result, Ok, Err, ltb, cond, length, refl, sym, ap, subst, ◌∙◌, arith, ◌⊎◌, inl, inr}
-use Rattle.std.proofs.lemmas.Bool.{ltb-true, ltb-false, le-ltb}
+use Rattle.std.proofs.Common.{◌≡◌, ℕ, zero, suc, ◌+◌, ◌-◌, ◌<◌, ◌≤◌, List, [], ◌∷◌, ◌++◌, Ok, Err, ltb, length, refl, ap, subst, ◌∙◌, arith, inl, inr}
+use Rattle.std.proofs.lemmas.Bool.{ltb-false, le-ltb}
 use Rattle.avro_bin.specs.declared.fault.Why.{Why}
 use Rattle.avro_bin.specs.declared.fault.Why.TheVariants as why
-use Rattle.avro_bin.specs.Number.{AreHigh, EndsInside, RunsOn, NumberFails}
+use Rattle.avro_bin.specs.Number.{AreHigh, NumberFails}
 use Rattle.avro_bin.specs.Reading.{groups_at, more_groups}
 use Rattle.avro_bin.proofs.Groups.{chosen, done, Groups}
 

@@ -1,9 +1,8 @@
 -- The shortest groups of a number spell it.
-use Rattle.std.proofs.Common.{◌≡◌, ℕ, zero, suc, ◌+◌, ◌*◌, ◌/◌, ◌%◌, ◌<◌, ◌≤◌, ◌^◌, Bool, true, false, List, [], ◌∷◌, ltb, eqb, cond, length, get_or, refl, ap, sym, ◌∙◌, arith, ◌⊎◌, inl, inr, ℤ, pos, negsuc}
+use Rattle.std.proofs.Common.{◌≡◌, ℕ, zero, suc, ◌+◌, ◌*◌, ◌/◌, ◌%◌, ◌<◌, ◌≤◌, ◌^◌, Bool, true, false, List, [], ◌∷◌, ltb, eqb, length, refl, ap, sym, ◌∙◌, arith, ◌⊎◌, inl, inr, ℤ, pos, negsuc}
 use Rattle.std.proofs.lemmas.Bool.{ltb-true, ltb-false, le-ltb, lt-ltb}
 use Rattle.std.proofs.lemmas.Bool.Decides.{nat_tests}
 use Rattle.avro_bin.specs.Number.{IsGroups, group_sum, signed, unsigned, Number, top, shortest, plain_number}
-use Rattle.avro_bin.proofs.Groups.{chosen}
 use Rattle.avro_bin.proofs.NumberLaws.{IsLast, last_more, last_none, last_one, IsGroups-more}
 
 -- a number of one group, or of a group and others

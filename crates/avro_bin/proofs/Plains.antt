@@ -8,7 +8,7 @@ use Rattle.std.specs.List.Sorted.{IsStrictlySortedBy}
 use Rattle.std.specs.Map.{keys_of}
 use Rattle.avro_bin.specs.Shape.{FitsTree, AllFit, AllNamedFit}
 use Rattle.avro_bin.specs.Plain.{plain, plain_all, plain_named, plain_block}
-use Rattle.avro_bin.specs.Value.{Value, VArray, VMap, row, list, entries, pairs}
+use Rattle.avro_bin.specs.Value.{VArray, VMap, row, list, entries, pairs}
 use Rattle.avro_bin.specs.View.{value_of, entry_of}
 use Rattle.avro_bin.specs.declared.tree.Tree.{Tree}
 

@@ -1,17 +1,16 @@
 -- What fails so is refused.
-use Rattle.std.proofs.Common.{◌≡◌, ℕ, zero, suc, ◌+◌, ◌<◌, ◌≤◌, Bool, true, false, List, [], ◌∷◌, ◌++◌, Result, Ok, Err, ltb, eqb, cond, length, take, drop, refl, sym, ap, subst, ◌∙◌, arith, ◌⊎◌, inl, inr, ℤ, pos, negsuc}
+use Rattle.std.proofs.Common.{◌≡◌, ℕ, zero, suc, ◌+◌, ◌<◌, Bool, true, false, List, [], ◌∷◌, ◌++◌, Result, Ok, Err, eqb, length, refl, sym, ap, ◌∙◌, arith, ◌⊎◌, inl, inr, ℤ, pos, negsuc}
 use Rattle.std.proofs.lemmas.Bool.{le-ltb, lt-ltb, eqb-true}
 use Rattle.std.proofs.lemmas.List.{length-append}
 use Rattle.std.specs.Int.{Width, byte_len, w32, w64}
 use Rattle.avro_bin.specs.declared.fault.Why.{Why}
 use Rattle.avro_bin.specs.declared.fault.Why.TheVariants as why
-use Rattle.avro_bin.specs.Number.{Number, signed}
-use Rattle.avro_bin.specs.Value.{Value, VFields, nodes}
+use Rattle.avro_bin.specs.Number.{Number}
 use Rattle.avro_bin.specs.Schema.{Schema, Schemas, SNull, SBoolean, SInt, SLong, SFloat, SDouble, SBytes, SText, SFixed, SEnum, SArray, SMap, SUnion, SFields, none, more}
-use Rattle.avro_bin.specs.Grammar.{BytesSpelled, TextSpelled, EntrySpelled, Items, Spells}
-use Rattle.avro_bin.specs.Steps.{Push, Put, Steps}
-use Rattle.avro_bin.specs.Reading.{Read, Got, Row, Names, boolean_at, bytes_at, of_length, blob_at, is_utf8, text_at, fixed_number_at, element_at, entry_at, has, items_at, sized, block_at, blocks_at, number_at, int_at, fits_32, place_at, below, places, count, value_at, fields_at, branch_at}
-use Rattle.avro_bin.specs.Failing.{Then, Later, Refused, BadNumber, BadLength, BadBlob, BadText, BadBoolean, TooShort, NoPlace, BadPlace, EntryFails, ItemsFail, SizedFails, BlockFails, BlocksFail, Fails, FieldsFail, BranchFails}
+use Rattle.avro_bin.specs.Grammar.{EntrySpelled, Spells}
+use Rattle.avro_bin.specs.Steps.{Push, Put}
+use Rattle.avro_bin.specs.Reading.{Read, Got, Row, boolean_at, bytes_at, of_length, blob_at, text_at, fixed_number_at, element_at, entry_at, items_at, sized, block_at, blocks_at, number_at, int_at, fits_32, place_at, below, places, count, value_at, fields_at, branch_at}
+use Rattle.avro_bin.specs.Failing.{Then, Refused, BadNumber, BadLength, BadBlob, BadText, BadBoolean, TooShort, NoPlace, BadPlace, EntryFails, ItemsFail, SizedFails, BlockFails, BlocksFail, Fails, FieldsFail, BranchFails}
 use Rattle.avro_bin.proofs.NumberFaults.{fail_groups}
 use Rattle.avro_bin.proofs.Found.{number_again, zero_or_some}
 use Rattle.avro_bin.proofs.Again.{regroup, blob_again, text_again, place_again, ReadsOn, element_again, entry_again, items_again, block_counted, block_long, value_again}

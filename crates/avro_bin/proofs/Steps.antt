@@ -1,5 +1,5 @@
 -- Reading on, as a loop does.
-use Rattle.std.proofs.Common.{◌≡◌, ℕ, zero, suc, ◌-◌, ◌+◌, ◌≤◌, ◌<◌, Bool, true, false, List, [], ◌∷◌, ◌++◌, map, drop, Result, Ok, Err, refl, sym, ap, ◌∙◌, arith, length, ℤ, pos, negsuc, FitsSigned, w64, of_z, get_or, add-one, drop-cons, ltb, cond, inl, inr, Option, Some}
+use Rattle.std.proofs.Common.{◌≡◌, ℕ, zero, suc, ◌-◌, ◌+◌, ◌≤◌, ◌<◌, Bool, true, false, List, [], ◌∷◌, ◌++◌, map, drop, Ok, Err, refl, sym, ap, ◌∙◌, arith, length, ℤ, pos, negsuc, FitsSigned, w64, of_z, get_or, add-one, drop-cons, ltb, cond, inl, inr, Option, Some}
 use Rattle.std.proofs.lemmas.List.{drop_all}
 use Rattle.std.specs.List.{AllByRecursion}
 use Rattle.std.proofs.lemmas.Bool.{ltb-true}
@@ -14,12 +14,12 @@ use Rattle.avro_bin.specs.declared.fault.Why.{Why}
 use Rattle.avro_bin.specs.declared.fault.Why.TheVariants as why
 use Rattle.avro_bin.specs.declared.fault.Fault.{Fault}
 use Rattle.avro_bin.specs.declared.fault.Fault.TheVariants as fault
-use Rattle.avro_bin.specs.Schema.{Schema, Schemas, none, more, schemas}
-use Rattle.avro_bin.specs.Value.{Value, Values, row}
+use Rattle.avro_bin.specs.Schema.{Schema, schemas}
+use Rattle.avro_bin.specs.Value.{Value, Values}
 use Rattle.avro_bin.specs.View.{value_of, entry_of}
 use Rattle.avro_bin.specs.declared.tree.Tree.{Tree}
 use Rattle.avro_bin.proofs.Groups.{chosen, done, ok_pair}
-use Rattle.avro_bin.specs.Reading.{Read, Got, Row, Names, ◌>>=◌, Fails, listed, mapped, in_branch, pushed, element_at, has, under, entry_at, value_at, fields_at, items_at, blocks_at, after_count, block_at, number_at, text_at, place_at, below, places, branch_at, count}
+use Rattle.avro_bin.specs.Reading.{Read, Got, Row, Names, ◌>>=◌, Fails, listed, mapped, in_branch, element_at, has, under, entry_at, value_at, fields_at, items_at, blocks_at, after_count, block_at, number_at, text_at, place_at, below, places, branch_at, count}
 
 pub Fails-then : {A B : Type 0} (e : Fault) (r : Read A) (k : A × List ℕ → Read B) → Fails e r → Fails e (r >>= k)
 Fails-then fault.Memory r k h = tt

@@ -3,10 +3,9 @@ use Rattle.std.proofs.Common.{◌≡◌, ℕ, zero, suc, ◌+◌, ◌<◌, List,
 use Rattle.std.specs.List.{AllByRecursion, Contains}
 use Rattle.std.specs.List.Sorted.{IsPermutation}
 use Rattle.std.proofs.lemmas.List.Sorted.{IsPermutation-sym, Contains-permutation}
-use Rattle.avro_bin.specs.Value.{Value, Values, Entries, VNull, VBoolean, VInt, VLong, VFloat, VDouble, VBytes, VText, VFixed, VEnum, VArray, VMap, VUnion, VFields, list, pairs}
-use Rattle.avro_bin.specs.Schema.{Schema, Schemas, SNull, SBoolean, SInt, SLong, SFloat, SDouble, SBytes, SText, SFixed, SEnum, SArray, SMap, SUnion, SFields, none, more}
-use Rattle.avro_bin.specs.Reading.{places, count}
-use Rattle.avro_bin.specs.Grammar.{EntrySpelled, Items, Block, Blocks, SomeBlocks, Spells, AreFields, IsBranch}
+use Rattle.avro_bin.specs.Value.{Value, VNull, VBoolean, VInt, VLong, VFloat, VDouble, VBytes, VText, VFixed, VEnum, VArray, VMap, VUnion, VFields, list, pairs}
+use Rattle.avro_bin.specs.Schema.{Schemas, SNull, SBoolean, SInt, SLong, SFloat, SDouble, SBytes, SText, SFixed, SEnum, SArray, SMap, SUnion, SFields, none, more}
+use Rattle.avro_bin.specs.Grammar.{EntrySpelled, Items, Block, Blocks, Spells, AreFields, IsBranch}
 use Rattle.avro_bin.specs.Shape.{HasSchema, FieldsHave, BranchHas}
 use Rattle.avro_bin.specs.Laws.{SpelledHasSchema}
 

@@ -46,11 +46,11 @@ is_refused s limit bytes w left fits e =
     let f = value_failed s limit bytes w left fits e in
     let le : left ≤ length bytes = fails_within s limit bytes w left f in
     let same : left ≡ length bytes - (length bytes - left) = omega arith in
-    record { why = w; place = length bytes - left; is = refl; within = omega arith; fails = subst (λ (n : ℕ). Fails s limit bytes w n) same f }
+    record { why = w; offset = length bytes - left; is = refl; within = omega arith; fails = subst (λ (n : ℕ). Fails s limit bytes w n) same f }
 
 -- what is refused is a fault that reading answers
-pub refuses : (s : Schema) (limit : ℕ) (bytes : List ℕ) (e : Refusal) (r : IsRefused s limit bytes e) → value_at s limit bytes ≡ Err (r.why, length bytes - r.place)
-refuses s limit bytes e r = value_refused s limit bytes r.why (length bytes - r.place) r.fails
+pub refuses : (s : Schema) (limit : ℕ) (bytes : List ℕ) (e : Refusal) (r : IsRefused s limit bytes e) → value_at s limit bytes ≡ Err (r.why, length bytes - r.offset)
+refuses s limit bytes e r = value_refused s limit bytes r.why (length bytes - r.offset) r.fails
 
 pub never : {A E : Type 0} (r : Result A E) (e : E) (x : A) → r ≡ Err e → r ≡ Ok x → ⊥
 never r e x p q = cc
@@ -58,9 +58,9 @@ never r e x p q = cc
 -- what reading answered is what is refused
 pub same_refusal : (s : Schema) (limit : ℕ) (bytes : List ℕ) (w : Why) (left : ℕ) (e : Refusal) → value_at s limit bytes ≡ Err (w, left) → IsRefused s limit bytes e → refusal w (length bytes - left) ≡ e
 same_refusal s limit bytes w left e h r =
-    let p = err_pair {A = Got} w r.why left (length bytes - r.place) (sym h ∙ refuses s limit bytes e r) in
-    let place : length bytes - left ≡ r.place = omega (arith, p.1, r.within) in
-    ap (λ (n : ℕ). refusal w n) place ∙ ap (λ (v : Why). refusal v r.place) (sym p.0) ∙ sym r.is
+    let p = err_pair {A = Got} w r.why left (length bytes - r.offset) (sym h ∙ refuses s limit bytes e r) in
+    let offset : length bytes - left ≡ r.offset = omega (arith, p.1, r.within) in
+    ap (λ (n : ℕ). refusal w n) offset ∙ ap (λ (v : Why). refusal v r.offset) (sym p.0) ∙ sym r.is
 
 outcome : (s : Schema) (limit : ℕ) (bytes : List ℕ) (r : Read Got) → IsBytes bytes → value_at s limit bytes ≡ r → ((v : Value) × (len : ℕ) × IsRead s limit bytes v len) ⊎ ((e : Refusal) × IsRefused s limit bytes e)
 outcome s limit bytes (Ok x) fits h = inl (x.0.0, length bytes - length x.1, is_read s limit bytes x.0.0 x.0.1 x.1 fits h)
@@ -70,13 +70,13 @@ pub some_outcome : SomeOutcome
 some_outcome s limit bytes fits = outcome s limit bytes (value_at s limit bytes) fits refl
 
 pub not_both : NotBoth
-not_both s limit bytes v len e r q = never (value_at s limit bytes) (q.why, length bytes - q.place) ((v, limit - nodes v), drop len bytes) (refuses s limit bytes e q) (reads s limit bytes v len r)
+not_both s limit bytes v len e r q = never (value_at s limit bytes) (q.why, length bytes - q.offset) ((v, limit - nodes v), drop len bytes) (refuses s limit bytes e q) (reads s limit bytes v len r)
 
 pub one_refusal : OneRefusal
 one_refusal s limit bytes d e p q =
-    let same = same_refusal s limit bytes p.why (length bytes - p.place) e (refuses s limit bytes d p) q in
-    let place : p.place ≡ length bytes - (length bytes - p.place) = omega (arith, p.within) in
-    p.is ∙ ap (λ (n : ℕ). refusal p.why n) place ∙ same
+    let same = same_refusal s limit bytes p.why (length bytes - p.offset) e (refuses s limit bytes d p) q in
+    let offset : p.offset ≡ length bytes - (length bytes - p.offset) = omega (arith, p.within) in
+    p.is ∙ ap (λ (n : ℕ). refusal p.why n) offset ∙ same
 
 ok_value : (len : ℕ) (r : Read Got) (v : Value) (size : ℕ) → counted len r ≡ Ok (v, size) → (left : ℕ) × (rest : List ℕ) × (r ≡ Ok ((v, left), rest)) × (len - length rest ≡ size)
 ok_value len (Ok x) v size e =
@@ -120,4 +120,4 @@ refuses_exactly s limit bytes e fits = (there, back)
     back : IsRefused s limit bytes e → read_value s limit bytes ≡ Err e
     back r =
         let q = refuses s limit bytes e r in
-        ap (counted (length bytes)) q ∙ ap (λ (d : Refusal). Err d) (same_refusal s limit bytes r.why (length bytes - r.place) e q r)
+        ap (counted (length bytes)) q ∙ ap (λ (d : Refusal). Err d) (same_refusal s limit bytes r.why (length bytes - r.offset) e q r)

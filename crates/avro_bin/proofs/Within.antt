@@ -1,13 +1,12 @@
 -- A fault lies in the bytes.
-use Rattle.std.proofs.Common.{◌≡◌, ℕ, zero, suc, ◌+◌, ◌<◌, ◌≤◌, Bool, true, false, List, [], ◌∷◌, ◌++◌, length, refl, sym, ap, ◌∙◌, arith, ◌⊎◌, inl, inr, ℤ, pos, negsuc}
+use Rattle.std.proofs.Common.{◌≡◌, ℕ, zero, suc, ◌+◌, ◌≤◌, List, [], ◌∷◌, ◌++◌, length, ap, arith, inl, inr, ℤ, pos, negsuc}
 use Rattle.std.proofs.lemmas.List.{length-append}
 use Rattle.avro_bin.specs.declared.fault.Why.{Why}
-use Rattle.avro_bin.specs.Value.{Value, nodes}
 use Rattle.avro_bin.specs.Schema.{Schema, Schemas, SNull, SBoolean, SInt, SLong, SFloat, SDouble, SBytes, SText, SFixed, SEnum, SArray, SMap, SUnion, SFields, none, more}
 use Rattle.avro_bin.specs.Grammar.{EntrySpelled, Spells}
 use Rattle.avro_bin.specs.Steps.{Push, Put}
-use Rattle.avro_bin.specs.Reading.{Names, count}
-use Rattle.avro_bin.specs.Failing.{BadNumber, BadBlob, BadText, BadBoolean, BadPlace, EntryFails, ItemsFail, SizedFails, BlockFails, BlocksFail, Fails, FieldsFail, BranchFails}
+use Rattle.avro_bin.specs.Reading.{count}
+use Rattle.avro_bin.specs.Failing.{BadBlob, BadText, BadBoolean, BadPlace, EntryFails, ItemsFail, SizedFails, BlockFails, BlocksFail, Fails, FieldsFail, BranchFails}
 
 inside : (bytes text rest : List ℕ) (left : ℕ) → bytes ≡ text ++ rest → left ≤ length rest → left ≤ length bytes
 inside bytes text rest left e h = omega (arith, ap length e, length-append text rest)

@@ -1,20 +1,20 @@
 -- What is written of a value spells it.
-use Rattle.std.proofs.Common.{◌≡◌, ℕ, zero, suc, ◌+◌, ◌*◌, ◌<◌, ◌≤◌, ◌^◌, Bool, true, false, List, [], ◌∷◌, ◌++◌, ltb, length, refl, sym, ap, ◌∙◌, arith, ◌⊎◌, inl, inr, ℤ, pos, negsuc, FitsSigned, take, append_assoc}
+use Rattle.std.proofs.Common.{◌≡◌, ℕ, zero, suc, ◌+◌, ◌<◌, ◌^◌, true, List, [], ◌∷◌, ◌++◌, length, refl, sym, arith, inl, ℤ, pos, negsuc, FitsSigned, take}
 use Rattle.std.proofs.lemmas.Bool.{lt-ltb}
 use Rattle.std.proofs.lemmas.List.{append-nil, length-append, take_at}
 use Rattle.std.proofs.lemmas.List.Sorted.{IsPermutation-refl}
 use Rattle.std.proofs.lemmas.Nat.{from_le_bytes-to_le_bytes_4, from_le_bytes-to_le_bytes_8}
-use Rattle.std.specs.Int.{w32, w64, to_le_bytes}
+use Rattle.std.specs.Int.{w32, w64}
 use Rattle.std.specs.List.{AllByRecursion}
-use Rattle.avro_bin.specs.Number.{unsigned, Number, plain_number}
-use Rattle.avro_bin.specs.Value.{Value, Values, Entries, VNull, VBoolean, VInt, VLong, VFloat, VDouble, VBytes, VText, VFixed, VEnum, VArray, VMap, VUnion, VFields, list, pairs, nodes}
+use Rattle.avro_bin.specs.Number.{Number, plain_number}
+use Rattle.avro_bin.specs.Value.{Value, Values, Entries, VNull, VBoolean, VInt, VLong, VFloat, VDouble, VBytes, VText, VFixed, VEnum, VArray, VMap, VUnion, VFields, list, pairs}
 use Rattle.avro_bin.specs.Value as w
-use Rattle.avro_bin.specs.Schema.{Schema, Schemas, SNull, SBoolean, SInt, SLong, SFloat, SDouble, SBytes, SText, SFixed, SEnum, SArray, SMap, SUnion, SFields, none, more}
-use Rattle.avro_bin.specs.Reading.{fits_32, is_utf8, places, count}
-use Rattle.avro_bin.specs.Grammar.{Two, BytesSpelled, TextSpelled, PlaceSpelled, EntrySpelled, Items, SomeBlocks, Spells, AreFields, IsBranch}
+use Rattle.avro_bin.specs.Schema.{Schemas, SNull, SBoolean, SInt, SLong, SFloat, SDouble, SBytes, SText, SFixed, SEnum, SArray, SMap, SUnion, SFields, none, more}
+use Rattle.avro_bin.specs.Reading.{fits_32, places, count}
+use Rattle.avro_bin.specs.Grammar.{BytesSpelled, TextSpelled, PlaceSpelled, EntrySpelled, Items, SomeBlocks, Spells, AreFields, IsBranch}
 use Rattle.avro_bin.specs.Plain.{plain, plain_all, plain_named, plain_blob, plain_block}
 use Rattle.avro_bin.specs.Shape.{HasSchema, FieldsHave, BranchHas, IsText, FitsTree, AllFit, AllNamedFit}
-use Rattle.avro_bin.specs.Laws.{PlainSpells, ReadsBack, IsRead}
+use Rattle.avro_bin.specs.Laws.{PlainSpells, ReadsBack}
 use Rattle.avro_bin.proofs.NumberWritten.{number_plain}
 
 count_plain : (n : ℕ) → n < 2 ^ 63 → Number (pos n) (plain_number (pos n))

@@ -3,10 +3,10 @@ use Rattle.std.specs.Prelude.{◌≡◌, ℕ, zero, suc, ◌+◌, ◌<◌, ◌�
 use Rattle.avro_bin.specs.declared.fault.Why.{Why}
 use Rattle.avro_bin.specs.declared.fault.Why.TheVariants as why
 use Rattle.avro_bin.specs.Number.{Number, NumberFails}
-use Rattle.avro_bin.specs.Value.{Value, nodes}
+use Rattle.avro_bin.specs.Value.{nodes}
 use Rattle.avro_bin.specs.Schema.{Schema, Schemas, SNull, SBoolean, SInt, SLong, SFloat, SDouble, SBytes, SText, SFixed, SEnum, SArray, SMap, SUnion, SFields, none, more}
 use Rattle.avro_bin.specs.Ranges.{fits_32, is_utf8, places, count}
-use Rattle.avro_bin.specs.Reading.{Row, Names, has}
+use Rattle.avro_bin.specs.Reading.{Names, has}
 use Rattle.avro_bin.specs.Grammar.{BytesSpelled, TextSpelled, PlaceSpelled, Items, Block, EntrySpelled, Spells}
 use Rattle.avro_bin.specs.Steps.{Push, Put, Steps}
 

@@ -42,6 +42,10 @@ abbrev pub RefusesAs : Refusal → Result (Tree × ℕ) Refusal → Type 0
 RefusesAs e (Ok x) = ⊥
 RefusesAs e (Err d) = (d ≡ e) ⊎ (d ≡ r.NoMemory)
 
+-- how many nodes a value may have that is decoded
+abbrev pub node_limit : ℕ
+node_limit = 8388608
+
 -- the length, or that it is above 2^40
 abbrev pub IsSize : ℕ → Result ℕ TooLong → Type 0
 IsSize len (Ok n) = (n ≡ len) × (len ≤ 2 ^ 40)

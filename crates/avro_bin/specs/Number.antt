@@ -1,9 +1,9 @@
 -- Whole numbers: zigzag, in groups of seven bits, the lowest group first.
-use Rattle.std.specs.Prelude.{◌≡◌, ℕ, zero, suc, ◌+◌, ◌-◌, ◌*◌, ◌/◌, ◌%◌, ◌<◌, ◌≤◌, ℤ, pos, negsuc, List, [], ◌∷◌, length, ◌++◌, slice_index, nat_lt, ◌==◌, if◌then◌else◌}
+use Rattle.std.specs.Prelude.{◌≡◌, ℕ, zero, suc, ◌+◌, ◌*◌, ◌/◌, ◌%◌, ◌<◌, ◌≤◌, ℤ, pos, negsuc, List, [], ◌∷◌, length, ◌++◌, slice_index, nat_lt, ◌==◌, if◌then◌else◌}
 use Rattle.avro_bin.specs.declared.fault.Why.{Why}
 use Rattle.avro_bin.specs.declared.fault.Why.TheVariants as why
 
--- the high bit is set on all but the last byte
+-- each byte but the last has its high bit set, and the last has not
 abbrev pub IsGroups : List ℕ → Type 0
 IsGroups [] = ⊥
 IsGroups (b ∷ []) = b < 128

@@ -1,10 +1,9 @@
 -- Reading from left to right, with the first fault that is met.
-use Rattle.std.specs.Prelude.{◌≡◌, ◌++◌, Bool, true, false, take, drop, ℕ, zero, suc, ◌+◌, ◌*◌, ◌%◌, ◌^◌, ℤ, pos, negsuc, List, [], ◌∷◌, length, nat_lt, min, ◌==◌, if◌then◌else◌, Result, Ok, Err, is_some}
+use Rattle.std.specs.Prelude.{◌≡◌, ◌++◌, Bool, true, false, take, drop, ℕ, zero, suc, ◌+◌, ◌*◌, ◌%◌, ℤ, pos, negsuc, List, [], ◌∷◌, length, nat_lt, ◌==◌, if◌then◌else◌, Result, Ok, Err, is_some}
 use Rattle.avro_bin.specs.declared.fault.Why.{Why}
 use Rattle.avro_bin.specs.declared.fault.Why.TheVariants as why
 use Rattle.avro_bin.specs.declared.fault.Fault.{Fault}
 use Rattle.avro_bin.specs.declared.fault.Fault.TheVariants as fault
-use Rattle.std.specs.Str.Lossy.{utf8_valid_len}
 use Rattle.std.specs.Int.{Width, byte_len, from_le_bytes, w32, w64}
 use Rattle.std.specs.Ordering.{nat_cmp}
 use Rattle.std.specs.Cmp.Lexicographic.{slice_cmp}

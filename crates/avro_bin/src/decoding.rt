@@ -2,14 +2,14 @@
 //!
 //! Each function hands on what is left of the bytes and of the nodes that are still allowed. Recursion goes to a child's
 //! place, which is smaller, so the table bounds its depth and the bytes do not.
-ghost use Rattle.std.specs.Prelude.{◌≡◌, ◌==◌, ◌+◌, ◌⊎◌, ◌<◌, ◌^◌, ℕ, suc, length, map, [], true, MatchResult, IfOk, IfErr, ◌-◌};
+ghost use Rattle.std.specs.Prelude.{◌≡◌, ◌==◌, ◌+◌, ◌⊎◌, ◌<◌, ℕ, suc, length, map, true, MatchResult, IfOk, IfErr, ◌-◌};
 ghost use Rattle.std.specs.List.{AllByRecursion};
-ghost use Rattle.avro_bin.specs.Reading.{Gives, value_at, fields_at, items_at, block_at, element_at, entry_at};
+ghost use Rattle.avro_bin.specs.Reading.{Gives, value_at, items_at, block_at, element_at, entry_at};
 ghost use Rattle.avro_bin.specs.Schema.{Schema, SFields, SUnion, SArray, SMap, schema, schemas, node_schema, IsTable, is_leaf};
 ghost use Rattle.avro_bin.specs.View.{value_of, entry_of};
 ghost use Rattle.avro_bin.specs.Value.{Value};
 ghost use Rattle.avro_bin.specs.Shape.{HasSchema};
-ghost use Rattle.avro_bin.specs.Laws.{IsRead, ReadsAs, RefusesAs, Decodes, read_value};
+ghost use Rattle.avro_bin.specs.Laws.{IsRead, ReadsAs, RefusesAs, Decodes, read_value, node_limit};
 ghost use Rattle.avro_bin.specs.Refusing.{IsRefused};
 ghost use Rattle.avro_bin.specs.declared.fault.Fault.TheVariants.{Memory};
 ghost use Rattle.avro_bin.specs.declared.refusal.Refusal.{Refusal as Refused};
@@ -389,12 +389,12 @@ fn named(alloc: Global, held: BTreeMap<Text, Tree>) -> Result<Named<Tree>, Fault
 pub fn decode(alloc: Global, table: &Table, id: u32, bytes: &[u8]) -> Result<(Tree, usize), Refusal>
     requires table { IsTable table.now.nodes.now }
     requires there { id < length table.now.nodes.now }
-    ensures found { IfOk result (λ r. IsRead (schema table.now.nodes.now id) NODE_LIMIT bytes.now (value_of r.0) r.1) }
+    ensures found { IfOk result (λ r. IsRead (schema table.now.nodes.now id) node_limit bytes.now (value_of r.0) r.1) }
     ensures typed { IfOk result (λ r. HasSchema (schema table.now.nodes.now id) (value_of r.0)) }
-    ensures only { (v : Value) (len : ℕ) → IsRead (schema table.now.nodes.now id) NODE_LIMIT bytes.now v len → ReadsAs v len result }
-    ensures failed { IfErr result (λ e. IsRefused (schema table.now.nodes.now id) NODE_LIMIT bytes.now e ⊎ (e ≡ Unread)) }
-    ensures exact { Decodes (read_value (schema table.now.nodes.now id) NODE_LIMIT bytes.now) result }
-    ensures refused { (e : Refused) → IsRefused (schema table.now.nodes.now id) NODE_LIMIT bytes.now e → RefusesAs e result }
+    ensures only { (v : Value) (len : ℕ) → IsRead (schema table.now.nodes.now id) node_limit bytes.now v len → ReadsAs v len result }
+    ensures failed { IfErr result (λ e. IsRefused (schema table.now.nodes.now id) node_limit bytes.now e ⊎ (e ≡ Unread)) }
+    ensures exact { Decodes (read_value (schema table.now.nodes.now id) node_limit bytes.now) result }
+    ensures refused { (e : Refused) → IsRefused (schema table.now.nodes.now id) node_limit bytes.now e → RefusesAs e result }
 {
     match value(alloc, table.nodes, id, NODE_LIMIT, bytes) {
         Ok((tree, _, rest)) => Ok((tree, bytes.len().saturating_sub(rest.len()))),

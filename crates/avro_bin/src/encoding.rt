@@ -1,5 +1,5 @@
 //! Writing values: the one spelling that is written of each.
-ghost use Rattle.std.specs.Prelude.{◌≡◌, ◌++◌, ◌<◌, ◌^◌, length, map, pos, OnOk, OnErr};
+ghost use Rattle.std.specs.Prelude.{◌≡◌, ◌++◌, ◌<◌, length, map, OnOk, OnErr};
 ghost use Rattle.avro_bin.specs.Plain.{plain, plain_all, plain_named, plain_block, plain_blob, Writes};
 ghost use Rattle.avro_bin.specs.Value.{VArray, VMap, row, entries};
 ghost use Rattle.avro_bin.specs.View.{value_of, entry_of};
@@ -143,8 +143,8 @@ fn put_named(out: &mut Vec<u8>, named: &Named<Tree>) -> Result<(), NoMemory>
     Ok(())
 }
 
-/// Appends the one spelling of the tree that is written: shortest numbers, at most one block, a positive count, and names
-/// in byte order. The tree says by its variants how each value is written; `table` and `id` name the schema by which it
+/// Appends the one spelling of the tree that is written: shortest numbers, one block with a positive count or none, and
+/// names in byte order. The tree says by its variants how each value is written; `table` and `id` name the schema by which it
 /// is read again, where the tree is one of it.
 pub fn encode(table: &Table, id: u32, tree: &Tree, into: &mut Vec<u8>) -> Result<(), NoMemory>
     ensures written { OnOk result (into.new.items ≡ into.old.items ++ plain (value_of tree.now)) }

@@ -1,5 +1,5 @@
 //! Faults while reading: what is wrong, and how many bytes were left where the refused item begins. So the parts of a
-//! value need not know where in the message they stand; `decode` counts the place from the front.
+//! value need not know where in the message they stand; `decode` counts the offset from the front.
 ghost use Rattle.std.specs.Prelude.{◌≡◌};
 ghost use Rattle.avro_bin.specs.declared.fault.Fault.TheVariants.{Memory};
 

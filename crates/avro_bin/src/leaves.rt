@@ -1,5 +1,5 @@
 //! Values that hold no others: what stands at the front of the bytes, and what stands behind it.
-ghost use Rattle.std.specs.Prelude.{◌≡◌, ◌≤◌, ◌<◌, length};
+ghost use Rattle.std.specs.Prelude.{◌<◌};
 ghost use Rattle.avro_bin.specs.Reading.{Gives, boolean_at, int_at, bytes_at, blob_at, text_at, place_at, fixed_number_at};
 ghost use Rattle.std.specs.Int.{w32, w64};
 

@@ -3,7 +3,7 @@
 //! A [`Table`] is a schema as a static list of [`Node`]s, in which children stand before the nodes that hold them. A
 //! [`Tree`] is a value. [`decode`] reads the value of a node from the front of some bytes: it accepts each spelling that
 //! the encoding allows, in any blocks and with numbers of up to ten bytes, and refuses everything else with one
-//! [`Refusal`] at its place. [`encode`] appends the one spelling that is written: shortest numbers, one block, and a
+//! [`Refusal`] at its offset. [`encode`] appends the one spelling that is written: shortest numbers, one block, and a
 //! map's names in byte order. [`size`] is that spelling's length.
 //!
 //! The grammar is the relation `Spells` of `specs/Grammar`, by recursion on the schema. [`one_spelling`],

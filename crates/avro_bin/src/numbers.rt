@@ -1,5 +1,5 @@
-//! Numbers: zigzag, in groups of seven bits, the lowest group first, with the high bit set on every byte but the last.
-ghost use Rattle.std.specs.Prelude.{◌≡◌, suc, ◌+◌, ◌*◌, ◌++◌, ◌<◌, ◌≤◌, ◌^◌};
+//! Numbers: zigzag, in groups of seven bits, the lowest group first. A set high bit says that a further group follows.
+ghost use Rattle.std.specs.Prelude.{◌≡◌, suc, ◌+◌, ◌*◌, ◌<◌, ◌≤◌};
 ghost use Rattle.avro_bin.specs.Number.{plain_number, shortest, top, unsigned, signed};
 ghost use Rattle.avro_bin.specs.Plain.{Writes};
 ghost use Rattle.avro_bin.specs.Reading.{Gives, groups_at, number_at, GivesWhy};

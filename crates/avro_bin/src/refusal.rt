@@ -3,50 +3,62 @@ ghost use Rattle.std.specs.Prelude.{◌≡◌};
 ghost use Rattle.avro_bin.specs.Refusing.{refusal};
 
 use crate::fault::Why;
+use thiserror::Error;
 
-/// Why bytes were refused, with the place of the first byte of the refused item. The refused item of a text, of bytes,
+/// Why bytes were refused, with the offset of the first byte of the refused item. The refused item of a text, of bytes,
 /// of a name and of a block is the number that it begins with: its length, its count or its size. Where several things
 /// are wrong, the first in reading order is answered.
-#[derive(Clone, Copy, Debug, PartialEq, Eq, Drop)]
+#[derive(Clone, Copy, Debug, PartialEq, Eq, Drop, Error)]
 pub enum Refusal {
     /// The input ends inside the item.
+    #[error("the input ends inside the item at byte {0}")]
     Short(usize),
     /// Ten bytes do not end a number, or the tenth is above 1.
+    #[error("ten bytes do not end the number at byte {0}")]
     Number(usize),
     /// An int passes 32 bits.
+    #[error("the int at byte {0} passes 32 bits")]
     Range(usize),
     /// A boolean is neither 0 nor 1.
+    #[error("the boolean at byte {0} is neither 0 nor 1")]
     Bool(usize),
     /// A union has no branch of that place, or an enum no symbol, or the place passes 32 bits.
+    #[error("the union or enum at byte {0} has no such branch or symbol")]
     Branch(usize),
     /// A text or a name is not UTF-8.
+    #[error("the text at byte {0} is not UTF-8")]
     Utf8(usize),
     /// A length or a block's size is negative.
+    #[error("the length at byte {0} is negative")]
     Length(usize),
     /// The items of a block do not fill exactly the size that the block states.
+    #[error("the items of the block at byte {0} do not fill its size")]
     BlockSize(usize),
     /// A map has the name already.
+    #[error("the map has the name at byte {0} already")]
     DoubleKey(usize),
     /// The value would be one node more than `NODE_LIMIT` allows.
+    #[error("the value at byte {0} is one node too many")]
     Limit(usize),
     /// Memory was refused.
+    #[error("memory was refused")]
     NoMemory,
 }
 
-/// The refusal at a place.
-pub(crate) fn refusal_at(why: Why, place: usize) -> Refusal
-    ensures { result ≡ refusal why place }
+/// The refusal at an offset.
+pub(crate) fn refusal_at(why: Why, offset: usize) -> Refusal
+    ensures { result ≡ refusal why offset }
 {
     match why {
-        Why::Short => Refusal::Short(place),
-        Why::Number => Refusal::Number(place),
-        Why::Range => Refusal::Range(place),
-        Why::Bool => Refusal::Bool(place),
-        Why::Branch => Refusal::Branch(place),
-        Why::Utf8 => Refusal::Utf8(place),
-        Why::Length => Refusal::Length(place),
-        Why::BlockSize => Refusal::BlockSize(place),
-        Why::DoubleKey => Refusal::DoubleKey(place),
-        Why::Limit => Refusal::Limit(place),
+        Why::Short => Refusal::Short(offset),
+        Why::Number => Refusal::Number(offset),
+        Why::Range => Refusal::Range(offset),
+        Why::Bool => Refusal::Bool(offset),
+        Why::Branch => Refusal::Branch(offset),
+        Why::Utf8 => Refusal::Utf8(offset),
+        Why::Length => Refusal::Length(offset),
+        Why::BlockSize => Refusal::BlockSize(offset),
+        Why::DoubleKey => Refusal::DoubleKey(offset),
+        Why::Limit => Refusal::Limit(offset),
     }
 }

@@ -1,16 +1,17 @@
 //! How long the spelling is that is written of a value. Sums stop at the greatest `u64`, so none overflows.
-ghost use Rattle.std.specs.Prelude.{◌≡◌, ◌+◌, ◌-◌, ◌≤◌, ◌<◌, ◌^◌, suc, length, min};
+ghost use Rattle.std.specs.Prelude.{◌≡◌, ◌+◌, ◌-◌, ◌≤◌, ◌<◌, ◌^◌, length, min};
 ghost use Rattle.std.specs.Prelude.{map};
 ghost use Rattle.avro_bin.specs.Plain.{plain, plain_all, plain_named, plain_block, plain_blob};
 ghost use Rattle.avro_bin.specs.Value.{row, entries};
 ghost use Rattle.avro_bin.specs.View.{value_of, entry_of};
 ghost use Rattle.avro_bin.specs.Laws.{IsSize};
-ghost use Rattle.avro_bin.specs.Number.{shortest, top, plain_number};
+ghost use Rattle.avro_bin.specs.Number.{shortest, plain_number};
 
 use crate::numbers::unsigned_of;
 use crate::schema::Table;
 use crate::tree::Tree;
 use etp_values::Named;
+use thiserror::Error;
 
 /// How many groups a number has, of which there are at most `most + 1`.
 #[tactic(auto, using(crate::proofs::Groups::shortest_more))]
@@ -121,8 +122,12 @@ fn named_size(named: &Named<Tree>) -> u64
     sum
 }
 
+/// The greatest length that is answered.
+const SIZE_LIMIT: u64 = 1 << 40;
+
 /// The spelling that is written is longer than 2^40 bytes.
-#[derive(Clone, Copy, Debug, PartialEq, Eq, Drop)]
+#[derive(Clone, Copy, Debug, PartialEq, Eq, Drop, Error)]
+#[error("the value takes more than {SIZE_LIMIT} bytes")]
 pub struct TooLong;
 
 /// The length of the spelling that `encode` writes of the tree. It takes no memory.
@@ -130,7 +135,7 @@ pub fn size(_table: &Table, _id: u32, tree: &Tree) -> Result<u64, TooLong>
     ensures { IsSize (length (plain (value_of tree.now))) result }
 {
     let size = size_of(tree);
-    if size > 1 << 40 {
+    if size > SIZE_LIMIT {
         return Err(TooLong);
     }
     Ok(size)
