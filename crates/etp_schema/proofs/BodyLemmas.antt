@@ -6,7 +6,7 @@ use Rattle.std.proofs.lemmas.Bool.{ltb-true}
 use Rattle.avro_bin.specs.Schema.{Schema, SNull, all_below}
 use Rattle.std.specs.List.{range_with_len}
 use Rattle.std.proofs.lemmas.List.FromFn.{get_or-map-range_with_len}
-use Rattle.etp_schema.specs.Shapes.{table_shapes, shape_at}
+use Rattle.etp_schema.specs.Shapes.{table_shapes, shape_at, table_size}
 use Rattle.etp_schema.specs.Bodies.{BodyRow, ProtocolRow, protocols, place_of, schema_of, row_in, messages_in, body_place, body_schema, is_number}
 use Rattle.etp_schema.specs.declared.body.Side.{Side}
 
@@ -49,12 +49,12 @@ placed : (at : ℕ → Schema) (size : ℕ) (o : Option BodyRow) (id : ℕ) → 
 placed at size None id h e = absurd (let no : None ≡ Some id = e in cc)
 placed at size (Some r) id h e = let same : r.place ≡ id = cc in subst (λ (i : ℕ). (i < size) × (Some r.schema ≡ Some (at i))) same (h.0, ap Some (sym h.1))
 
-shaped : AllByRecursion (λ p. RowsHold shape_at 165 p.messages) protocols
+shaped : AllByRecursion (λ p. RowsHold shape_at table_size p.messages) protocols
 shaped = ((refl, refl), ((refl, refl), ((refl, refl), ((refl, refl), ((refl, refl), ((refl, refl), ((refl, refl), tt)))))))
 
-pub bodies_are : (protocol kind : ℤ) (side : Side) (id : ℕ) → body_place protocol kind side ≡ Some id → (id < 165) × (body_schema protocol kind side ≡ Some (shape_at id))
+pub bodies_are : (protocol kind : ℤ) (side : Side) (id : ℕ) → body_place protocol kind side ≡ Some id → (id < table_size) × (body_schema protocol kind side ≡ Some (shape_at id))
 bodies_are protocol kind side id e =
-    placed shape_at 165 (row_in (messages_in protocols protocol) kind side) id (rows_hold shape_at 165 (messages_in protocols protocol) kind side (messages_hold shape_at 165 protocols protocol shaped)) e
+    placed shape_at table_size (row_in (messages_in protocols protocol) kind side) id (rows_hold shape_at table_size (messages_in protocols protocol) kind side (messages_hold shape_at table_size protocols protocol shaped)) e
 
-pub schemas_are : (at : ℕ → Schema) → map at (range_with_len 0 165) ≡ table_shapes → (id : ℕ) → id < 165 → at id ≡ shape_at id
-schemas_are at e id h = sym (get_or-map-range_with_len at 0 165 id id SNull h (omega arith)) ∙ ap (λ l. get_or l id SNull) e
+pub schemas_are : (at : ℕ → Schema) → map at (range_with_len 0 table_size) ≡ table_shapes → (id : ℕ) → id < table_size → at id ≡ shape_at id
+schemas_are at e id h = sym (get_or-map-range_with_len at 0 table_size id id SNull h (omega arith)) ∙ ap (λ l. get_or l id SNull) e

@@ -1,5 +1,5 @@
 -- Each place from 18 on is read as the last kind.
-use Rattle.std.proofs.Common.{◌≡◌, ◌≤◌, ◌-◌, ℕ, suc, refl, subst, sym, arith}
+use Rattle.std.proofs.Common.{◌≡◌, ◌≤◌, ◌-◌, ℕ, suc, refl, subst, arith}
 use Rattle.avro_bin.specs.Value.{Value}
 use Rattle.etp_values.specs.declared.data.DataValue.TheVariants.{AnySparseArray}
 use Rattle.etp_schema.specs.AnyArray.{array_of, any_subarray_form}

@@ -1,7 +1,7 @@
 -- What parts of trees are.
-use Rattle.std.proofs.Common.{◌≡◌, ℕ, ◌<◌, List, [], ◌∷◌, Option, Some, None, map, arith, subst, sym}
+use Rattle.std.proofs.Common.{ℕ, List, [], ◌∷◌, Some, None, map, arith}
 use Rattle.std.specs.List.{AllByRecursion}
-use Rattle.avro_bin.specs.Value.{Value, row, list, entries, pairs}
+use Rattle.avro_bin.specs.Value.{row, list, entries, pairs}
 use Rattle.avro_bin.specs.View.{with_value}
 use Rattle.avro_bin.specs.Shape.{HasSchema}
 use Rattle.avro_bin.proofs.Views.{values}

@@ -1,6 +1,6 @@
 -- Arrays of any kind in the schema.
 use Rattle.std.proofs.Common.{inl, inr}
-use Rattle.std.specs.Prelude.{◌≡◌, refl, Bool, ℕ, ℤ, List, Option, ◌⊎◌}
+use Rattle.std.specs.Prelude.{◌≡◌, refl, Bool, ℕ, ℤ, List, ◌⊎◌}
 use Rattle.etp_values.specs.declared.bits.Bits32.{Bits32}
 use Rattle.etp_values.specs.declared.bits.Bits64.{Bits64}
 use Rattle.etp_values.specs.declared.data.AnyArray.{AnyArray}

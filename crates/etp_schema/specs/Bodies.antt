@@ -1,5 +1,5 @@
 -- The messages: a row for each, with its protocol, its number there, who sends it, and the place and schema of its body.
-use Rattle.std.specs.Prelude.{ℕ, ℤ, pos, negsuc, Bool, true, false, ◌==◌, ◌&&◌, ◌||◌, List, [], ◌∷◌, ◌++◌, Option, Some, None, if◌then◌else◌}
+use Rattle.std.specs.Prelude.{ℕ, ℤ, pos, negsuc, Bool, true, false, ◌==◌, ◌&&◌, ◌||◌, List, [], ◌∷◌, Option, Some, None, if◌then◌else◌}
 use Rattle.avro_bin.specs.Schema.{Schema}
 use Rattle.etp_schema.specs.Shapes as shape
 use Rattle.etp_schema.specs.declared.places.TheConstants as place
@@ -176,5 +176,5 @@ abbrev pub body_schema : ℤ → ℤ → Side → Option Schema
 body_schema protocol kind side = schema_of (row_of protocol kind side)
 
 -- whether a protocol has this number
-abbrev pub known_protocol : ℤ → Bool
-known_protocol protocol = has_number protocols protocol
+abbrev pub is_protocol : ℤ → Bool
+is_protocol protocol = has_number protocols protocol

@@ -496,6 +496,10 @@ table_shapes =
 abbrev pub nodes_of : Table → List Node
 nodes_of table = table.nodes.now
 
+-- how many nodes the schema has
+abbrev pub table_size : ℕ
+table_size = 165
+
 -- the schema at a place
 abbrev pub shape_at : ℕ → Schema
 shape_at id = get_or table_shapes id SNull

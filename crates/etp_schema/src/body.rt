@@ -1,6 +1,6 @@
 //! Which message has which body.
 ghost use Rattle.std.specs.Prelude.{◌≡◌};
-ghost use Rattle.etp_schema.specs.Bodies.{known_protocol, place_of, row_in, body_place, core_rows, dataspace_rows, store_rows, transaction_rows, data_array_rows, channel_subscribe_rows, channel_data_load_rows};
+ghost use Rattle.etp_schema.specs.Bodies.{is_protocol, place_of, row_in, body_place, core_rows, dataspace_rows, store_rows, transaction_rows, data_array_rows, channel_subscribe_rows, channel_data_load_rows};
 
 use crate::places::*;
 use crate::protocols;
@@ -14,7 +14,7 @@ pub enum Side {
 
 /// Whether the profile has a protocol of this number.
 pub fn is_protocol(number: i32) -> bool
-    ensures { result ≡ known_protocol number }
+    ensures { result ≡ is_protocol number }
 {
     match number {
         protocols::CORE => true,

@@ -1,49 +1,15 @@
 //! Data values and arrays of any kind as trees.
 ghost use Rattle.std.specs.Prelude.{◌≡◌, IfOk, OnOk, [], ◌∷◌};
-ghost use Rattle.avro_bin.specs.Value.{VFields, VUnion, row};
+ghost use Rattle.avro_bin.specs.Value.{VFields, row};
 ghost use Rattle.avro_bin.specs.View.{value_of};
-ghost use Rattle.etp_schema.specs.Form.{Holds, branch_in, chosen_in, fields_in, first};
+ghost use Rattle.etp_schema.specs.Form.{Holds, fields_in, first};
 
+use crate::choices::{branch_of, branch_record};
 use crate::fields::{Fields, record_of};
 use crate::in_tree::InTree;
 use avro_bin::Tree;
-use etp_values::{AnyArray, AnySubarray, Bits32, Bits64, Blob, DataValue, List, NoMemory, Text};
+use etp_values::{AnyArray, AnySubarray, Bits32, Bits64, Blob, Boxed, DataValue, NoMemory};
 use std::alloc::Global;
-
-/// A record whose one field is a branch of a union.
-#[tactic(auto, using(avro_bin::proofs::Views::values))]
-fn item(alloc: Global, place: u32, value: Tree) -> Result<Tree, NoMemory>
-    ensures { IfOk result (λ t. value_of t ≡ VFields (row (VUnion place (value_of value) ∷ []))) }
-{
-    let union = Tree::Union(place, Box::new(alloc, value)?);
-    Ok(record_of(vec![in alloc; union]?))
-}
-
-/// The place of the branch that such a record holds, and its value.
-fn branch_of(alloc: Global, tree: Tree) -> (u32, Tree)
-    ensures place { result.0 ≡ branch_in (first (fields_in (value_of tree))) }
-    ensures value { value_of result.1 ≡ chosen_in (first (fields_in (value_of tree))) }
-{
-    union_of(first_of(alloc, tree))
-}
-
-#[tactic(auto, using(avro_bin::proofs::Views::values))]
-fn union_of(tree: Tree) -> (u32, Tree)
-    ensures place { result.0 ≡ branch_in (value_of tree) }
-    ensures value { value_of result.1 ≡ chosen_in (value_of tree) }
-{
-    match tree {
-        Tree::Union(place, value) => (place, Box::into_inner(value)),
-        _ => (0, Tree::Null),
-    }
-}
-
-/// The first field of a record.
-fn first_of(alloc: Global, tree: Tree) -> Tree
-    ensures { value_of result ≡ first (fields_in (value_of tree)) }
-{
-    Fields::of(alloc, tree).next()
-}
 
 /// The one field of a record.
 fn unwrapped<T: InTree>(alloc: Global, tree: Tree) -> Result<T, NoMemory>
@@ -68,13 +34,13 @@ impl InTree for AnyArray {
     #[tactic(auto, using(avro_bin::proofs::Views::values), unfolding(crate::specs::Form::Holds))]
     fn to_tree(&self, alloc: Global) -> Result<Tree, NoMemory> {
         match self {
-            AnyArray::ArrayOfBoolean(items) => item(alloc, 0, wrapped(alloc, items)?),
-            AnyArray::ArrayOfInt(items) => item(alloc, 1, wrapped(alloc, items)?),
-            AnyArray::ArrayOfLong(items) => item(alloc, 2, wrapped(alloc, items)?),
-            AnyArray::ArrayOfFloat(items) => item(alloc, 3, wrapped(alloc, items)?),
-            AnyArray::ArrayOfDouble(items) => item(alloc, 4, wrapped(alloc, items)?),
-            AnyArray::ArrayOfString(items) => item(alloc, 5, wrapped(alloc, items)?),
-            AnyArray::Bytes(value) => item(alloc, 6, value.to_tree(alloc)?),
+            AnyArray::ArrayOfBoolean(items) => branch_record(alloc, 0, wrapped(alloc, items)?),
+            AnyArray::ArrayOfInt(items) => branch_record(alloc, 1, wrapped(alloc, items)?),
+            AnyArray::ArrayOfLong(items) => branch_record(alloc, 2, wrapped(alloc, items)?),
+            AnyArray::ArrayOfFloat(items) => branch_record(alloc, 3, wrapped(alloc, items)?),
+            AnyArray::ArrayOfDouble(items) => branch_record(alloc, 4, wrapped(alloc, items)?),
+            AnyArray::ArrayOfString(items) => branch_record(alloc, 5, wrapped(alloc, items)?),
+            AnyArray::Bytes(value) => branch_record(alloc, 6, value.to_tree(alloc)?),
         }
     }
 
@@ -119,25 +85,37 @@ impl InTree for DataValue {
     #[tactic(auto, using(avro_bin::proofs::Views::values), unfolding(crate::specs::Form::Holds))]
     fn to_tree(&self, alloc: Global) -> Result<Tree, NoMemory> {
         match self {
-            DataValue::Null => item(alloc, 0, Tree::Null),
-            DataValue::Boolean(value) => item(alloc, 1, value.to_tree(alloc)?),
-            DataValue::Int(value) => item(alloc, 2, value.to_tree(alloc)?),
-            DataValue::Long(value) => item(alloc, 3, value.to_tree(alloc)?),
-            DataValue::Float(value) => item(alloc, 4, value.to_tree(alloc)?),
-            DataValue::Double(value) => item(alloc, 5, value.to_tree(alloc)?),
-            DataValue::String(value) => item(alloc, 6, value.to_tree(alloc)?),
-            DataValue::ArrayOfBoolean(items) => item(alloc, 7, wrapped(alloc, items)?),
-            DataValue::ArrayOfNullableBoolean(items) => item(alloc, 8, wrapped(alloc, items)?),
-            DataValue::ArrayOfInt(items) => item(alloc, 9, wrapped(alloc, items)?),
-            DataValue::ArrayOfNullableInt(items) => item(alloc, 10, wrapped(alloc, items)?),
-            DataValue::ArrayOfLong(items) => item(alloc, 11, wrapped(alloc, items)?),
-            DataValue::ArrayOfNullableLong(items) => item(alloc, 12, wrapped(alloc, items)?),
-            DataValue::ArrayOfFloat(items) => item(alloc, 13, wrapped(alloc, items)?),
-            DataValue::ArrayOfDouble(items) => item(alloc, 14, wrapped(alloc, items)?),
-            DataValue::ArrayOfString(items) => item(alloc, 15, wrapped(alloc, items)?),
-            DataValue::ArrayOfBytes(items) => item(alloc, 16, wrapped(alloc, items)?),
-            DataValue::Bytes(value) => item(alloc, 17, value.to_tree(alloc)?),
-            DataValue::AnySparseArray(items) => item(alloc, 18, wrapped(alloc, items)?),
+            DataValue::Null => branch_record(alloc, 0, Tree::Null),
+            DataValue::Boolean(value) => branch_record(alloc, 1, value.to_tree(alloc)?),
+            DataValue::Int(value) => branch_record(alloc, 2, value.to_tree(alloc)?),
+            DataValue::Long(value) => branch_record(alloc, 3, value.to_tree(alloc)?),
+            DataValue::Float(value) => branch_record(alloc, 4, value.to_tree(alloc)?),
+            DataValue::Double(value) => branch_record(alloc, 5, value.to_tree(alloc)?),
+            DataValue::String(value) => branch_record(alloc, 6, value.to_tree(alloc)?),
+            DataValue::ArrayOfBoolean(items) => branch_record(alloc, 7, wrapped(alloc, items)?),
+            DataValue::ArrayOfNullableBoolean(items) => branch_record(
+                alloc,
+                8,
+                wrapped(alloc, items)?,
+            ),
+            DataValue::ArrayOfInt(items) => branch_record(alloc, 9, wrapped(alloc, items)?),
+            DataValue::ArrayOfNullableInt(items) => branch_record(
+                alloc,
+                10,
+                wrapped(alloc, items)?,
+            ),
+            DataValue::ArrayOfLong(items) => branch_record(alloc, 11, wrapped(alloc, items)?),
+            DataValue::ArrayOfNullableLong(items) => branch_record(
+                alloc,
+                12,
+                wrapped(alloc, items)?,
+            ),
+            DataValue::ArrayOfFloat(items) => branch_record(alloc, 13, wrapped(alloc, items)?),
+            DataValue::ArrayOfDouble(items) => branch_record(alloc, 14, wrapped(alloc, items)?),
+            DataValue::ArrayOfString(items) => branch_record(alloc, 15, wrapped(alloc, items)?),
+            DataValue::ArrayOfBytes(items) => branch_record(alloc, 16, wrapped(alloc, items)?),
+            DataValue::Bytes(value) => branch_record(alloc, 17, value.to_tree(alloc)?),
+            DataValue::AnySparseArray(items) => branch_record(alloc, 18, wrapped(alloc, items)?),
         }
     }
 
@@ -150,7 +128,7 @@ impl InTree for DataValue {
             3 => Ok(DataValue::Long(i64::from_tree(alloc, value)?)),
             4 => Ok(DataValue::Float(Bits32::from_tree(alloc, value)?)),
             5 => Ok(DataValue::Double(Bits64::from_tree(alloc, value)?)),
-            6 => Ok(DataValue::String(Text::from_tree(alloc, value)?)),
+            6 => Ok(DataValue::String(Boxed::from_tree(alloc, value)?)),
             7 => Ok(DataValue::ArrayOfBoolean(unwrapped(alloc, value)?)),
             8 => Ok(DataValue::ArrayOfNullableBoolean(unwrapped(alloc, value)?)),
             9 => Ok(DataValue::ArrayOfInt(unwrapped(alloc, value)?)),
@@ -161,7 +139,7 @@ impl InTree for DataValue {
             14 => Ok(DataValue::ArrayOfDouble(unwrapped(alloc, value)?)),
             15 => Ok(DataValue::ArrayOfString(unwrapped(alloc, value)?)),
             16 => Ok(DataValue::ArrayOfBytes(unwrapped(alloc, value)?)),
-            17 => Ok(DataValue::Bytes(Blob::from_tree(alloc, value)?)),
+            17 => Ok(DataValue::Bytes(Boxed::from_tree(alloc, value)?)),
             _ => Ok(DataValue::AnySparseArray(unwrapped(alloc, value)?)),
         }
     }

@@ -22,6 +22,7 @@
 #![tactic(auto)]
 
 mod body;
+mod choices;
 mod data;
 mod fields;
 mod in_tree;
@@ -36,6 +37,7 @@ mod table;
 mod tests;
 
 pub use body::{Side, body_of, is_protocol};
+pub use choices::{branch_of, branch_record};
 pub use fields::{Fields, record_of};
 pub use in_tree::{InTree, read_back, write_back};
 pub use leaves::symbol_of;

@@ -1,4 +1,4 @@
-//! Lists, maps and optional values as trees.
+//! Lists, maps, optional and boxed values as trees.
 ghost use Rattle.std.specs.Prelude.{◌≡◌, IfOk, OnOk, map};
 ghost use Rattle.std.specs.List.{AllByRecursion};
 ghost use Rattle.avro_bin.specs.View.{value_of, entry_of, with_value};
@@ -6,7 +6,7 @@ ghost use Rattle.etp_schema.specs.Form.{Holds, list_in, named_in};
 
 use crate::in_tree::InTree;
 use avro_bin::Tree;
-use etp_values::{Copied, List, Named, NoMemory};
+use etp_values::{Boxed, Copied, List, Named, NoMemory};
 use std::alloc::Global;
 
 impl<T: InTree> InTree for List<T> {
@@ -111,5 +111,17 @@ impl<T: InTree> InTree for Option<T> {
             Tree::Union(_, value) => Ok(Some(T::from_tree(alloc, Box::into_inner(value))?)),
             _ => Ok(None),
         }
+    }
+}
+
+impl<T: InTree> InTree for Boxed<T> {
+    ghost form = { T.form };
+
+    fn to_tree(&self, alloc: Global) -> Result<Tree, NoMemory> {
+        self.get().to_tree(alloc)
+    }
+
+    fn from_tree(alloc: Global, tree: Tree) -> Result<Boxed<T>, NoMemory> {
+        Boxed::new(alloc, T::from_tree(alloc, tree)?)
     }
 }

@@ -1,7 +1,7 @@
 //! The places of the schema's nodes in [`TABLE`](crate::TABLE).
 //!
 //! The names are those of the schema in capitals. A node that has no name there, because it is written as an array, a
-//! map or a union, is named for what it holds, and stands just before the first named node that holds it. The fields of a
+//! map or a union, is named for what it holds, and stands in front of the named node that needs it first. The fields of a
 //! record, or the symbols of an enumeration, stand beside its place.
 
 pub const NULL: u32 = 0;

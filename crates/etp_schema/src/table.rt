@@ -2,7 +2,7 @@
 ghost use Rattle.std.specs.Prelude.{◌≡◌, ◌<◌, ℕ, ℤ, true, map, length};
 ghost use Rattle.std.specs.List.{range_with_len};
 ghost use Rattle.avro_bin.specs.Schema.{IsTable, is_table, schema};
-ghost use Rattle.etp_schema.specs.Shapes.{table_shapes, shape_at, nodes_of};
+ghost use Rattle.etp_schema.specs.Shapes.{table_shapes, shape_at, nodes_of, table_size};
 ghost use Rattle.etp_schema.specs.Bodies.{body_place, body_schema};
 ghost use Rattle.etp_schema.specs.declared.body.Side.{Side};
 
@@ -297,10 +297,10 @@ pub static TABLE: Table = Table {
 /// place that `body_of` answers.
 pub fn schema_table() -> &'static Table
     ensures order { IsTable (nodes_of result.now) }
-    ensures size { length (nodes_of result.now) ≡ 165 }
-    ensures schemas { (id : ℕ) → id < 165 → schema (nodes_of result.now) id ≡ shape_at id }
+    ensures size { length (nodes_of result.now) ≡ table_size }
+    ensures schemas { (id : ℕ) → id < table_size → schema (nodes_of result.now) id ≡ shape_at id }
     ensures bodies { (protocol kind : ℤ) (side : Side) (id : ℕ) → body_place protocol kind side ≡ Some id
-        → (id < 165) × (body_schema protocol kind side ≡ Some (shape_at id)) }
+        → (id < table_size) × (body_schema protocol kind side ≡ Some (shape_at id)) }
 {
     literal()
 }
@@ -309,8 +309,8 @@ pub fn schema_table() -> &'static Table
 #[tactic(auto, unfolding(avro_bin::specs::Schema::schema_to))]
 fn literal() -> &'static Table
     ensures order { is_table 0 (nodes_of result.now) ≡ true }
-    ensures size { length (nodes_of result.now) ≡ 165 }
-    ensures schemas { map (schema (nodes_of result.now)) (range_with_len 0 165) ≡ table_shapes }
+    ensures size { length (nodes_of result.now) ≡ table_size }
+    ensures schemas { map (schema (nodes_of result.now)) (range_with_len 0 table_size) ≡ table_shapes }
 {
     &TABLE
 }

@@ -1,4 +1,4 @@
-use Rattle.std.proofs.Common.{◌≡◌, ◌≤◌, ◌∙◌, ap, sym, arith}
+use Rattle.std.proofs.Common.{◌≤◌, ◌∙◌, ap, sym, arith}
 use Rattle.avro_bin.specs.View.{value_of}
 use Rattle.etp_values.specs.declared.data.DataValue.TheVariants.{AnySparseArray}
 use Rattle.etp_schema.specs.Form.{branch_in, chosen_in, fields_in, first}

@@ -1,5 +1,3 @@
-use Rattle.std.proofs.Common.{◌≡◌}
-use Rattle.etp_schema.specs.Form.{Holds}
 use Rattle.etp_schema.proofs.Parts.{none_holds, some_holds}
 use Rattle.etp_schema.proofs.many.OptionInTree.to_tree.Goals as goal
 
