@@ -1,5 +1,5 @@
 -- What a filter keeps and what it leaves out make up the list.
-use Rattle.std.proofs.Common.{ℕ, ◌+◌, Bool, true, false, cond, not, List, [], ◌∷◌, filter, length, ◌≡◌, refl, arith}
+use Rattle.std.proofs.Common.{ℕ, ◌+◌, Bool, true, false, cond, not, List, [], ◌∷◌, filter, length, ◌≡◌, arith}
 
 one_more : {X : Type 0} (b : Bool) (x : X) (kept left : List X) (n : ℕ) → length kept + length left ≡ n
     → length (cond b (x ∷ kept) kept) + length (cond (not b) (x ∷ left) left) ≡ n + 1

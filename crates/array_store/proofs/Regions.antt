@@ -1,11 +1,11 @@
 -- Regions row by row: those of an array's rows, one after the other.
-use Rattle.std.proofs.Common.{ℕ, zero, suc, ◌+◌, ◌*◌, ◌-◌, ◌≤◌, ◌<◌, List, [], ◌∷◌, ◌++◌, length, take, drop, set, map, Option, Some, None, slice_get, ◌≡◌, refl, sym, ap, ◌∙◌, subst, arith, append_assoc, length-append, length-take, length-drop, length-set, add-one}
-use Rattle.std.proofs.lemmas.List.{take_at, drop_at, take-append-drop, take_all, drop-drop, append-nil, set-append_left, set-append_right, length-map}
+use Rattle.std.proofs.Common.{ℕ, zero, suc, ◌+◌, ◌*◌, ◌-◌, ◌^◌, ◌≤◌, ◌<◌, nat_lt, Bool, true, false, cond, List, [], ◌∷◌, ◌++◌, length, take, drop, set, map, Option, Some, None, slice_get, ◌≡◌, refl, sym, ap, ◌∙◌, arith, append_assoc, length-append, length-take, length-drop, length-set}
+use Rattle.std.proofs.lemmas.List.{take_at, drop_at, take-append-drop, drop-drop, nil_from_length, set-append_left, set-append_right, length-map}
 use Rattle.std.proofs.Math.Nat.{mul-le-mul_right}
 use Rattle.std.specs.List.{filter_map, cons_option, flat_map, range_with_len, AllByRecursion}
 use Rattle.array_store.specs.Shape.{volume, place}
 use Rattle.array_store.specs.Region.{indexes, elements_at, written_at, sliced, patched}
-use Rattle.array_store.proofs.Rows.{rows_read, rows_written, length-rows_written, length-rows_read, rows_back, rows_read-one, rows_written-one}
+use Rattle.array_store.proofs.Rows.{rows_read, rows_written, rows_back}
 
 -- ---- lists of indexes
 
@@ -20,10 +20,6 @@ filter_map-append h (x ∷ xs) ys = ap (cons_option (h x)) (filter_map-append h 
 pub written_at-none : {X : Type 0} (ds : List ℕ) (xs : List X) (js : List (List ℕ)) → written_at ds xs js [] ≡ xs
 written_at-none ds xs [] = refl
 written_at-none ds xs (j ∷ js) = refl
-
-drop-nil : {X : Type 0} (n : ℕ) → drop {A = X} n [] ≡ []
-drop-nil zero = refl
-drop-nil (suc n) = refl
 
 written_at-append : {X : Type 0} (ds : List ℕ) (xs : List X) (is js : List (List ℕ)) (ys : List X)
     → written_at ds xs (is ++ js) ys ≡ written_at ds (written_at ds xs is ys) js (drop (length is) ys)
@@ -213,6 +209,23 @@ length-elements_at ds xs n (j ∷ js) e all =
 pub length-sliced : {X : Type 0} (ds ss cs : List ℕ) (xs : List X) → Within ds ss cs → length xs ≡ volume ds → length (sliced ds ss cs xs) ≡ volume cs
 unfolding sliced
 length-sliced ds ss cs xs h e = length-elements_at ds xs (volume ds) (indexes ss cs) e (inside ds ss cs h) ∙ length-indexes ds ss cs h
+
+-- ---- a region without elements
+
+-- a number that has 64 bits is the one that it is told as
+pub told-number : (n m : ℕ) → cond (nat_lt n (2 ^ 64)) (Some n) None ≡ Some m → n ≡ m
+told-number n m h = by (nat_lt n (2 ^ 64)) h
+  where
+    by : (b : Bool) → cond b (Some n) None ≡ Some m → n ≡ m
+    by true e = cc
+    by false e = absurd cc
+
+pub sliced-empty : {X : Type 0} (ds ss cs : List ℕ) (xs : List X) → Within ds ss cs → length xs ≡ volume ds → volume cs ≡ 0 → sliced ds ss cs xs ≡ []
+sliced-empty ds ss cs xs h full none = nil_from_length (sliced ds ss cs xs) (length-sliced ds ss cs xs h full ∙ none)
+
+pub patched-empty : {X : Type 0} (ds ss cs : List ℕ) (xs ys : List X) → length ys ≡ 0 → patched ds ss cs xs ys ≡ xs
+unfolding patched
+patched-empty ds ss cs xs ys none = ap (written_at ds xs (indexes ss cs)) (nil_from_length ys none) ∙ written_at-none ds xs (indexes ss cs)
 
 -- ---- what a patch took out, put in again, leaves the array as it was
 

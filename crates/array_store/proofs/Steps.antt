@@ -1,5 +1,5 @@
 -- The steps of reading and writing a region, one dimension after the other.
-use Rattle.std.proofs.Common.{Result, Ok, Err, OnOk, ℕ, zero, suc, ◌+◌, ◌*◌, ◌-◌, ◌/◌, ◌≤◌, ◌<◌, ℤ, pos, negsuc, Bool, true, false, ◌&&◌, nat_le, List, [], ◌∷◌, ◌++◌, length, take, drop, map, ◌≡◌, refl, sym, ap, ◌∙◌, subst, arith, append_assoc, length-append, length-take, length-drop}
+use Rattle.std.proofs.Common.{Result, Ok, Err, OnOk, ℕ, suc, ◌+◌, ◌*◌, ◌-◌, ◌/◌, ◌≤◌, ◌<◌, ℤ, pos, negsuc, Bool, true, false, ◌&&◌, List, [], ◌∷◌, ◌++◌, length, take, drop, ◌≡◌, refl, sym, ap, ◌∙◌, subst, arith, append_assoc, length-append, length-take, length-drop}
 use Rattle.std.proofs.Math.Nat.{mul-div_cancel_left, mul-le-mul_right}
 use Rattle.std.proofs.lemmas.Bool.{false≢true}
 use Rattle.std.proofs.lemmas.Bool.Decides.{nat_tests}
@@ -7,7 +7,7 @@ use Rattle.std.proofs.lemmas.List.{take_all, take_at, drop_at, take-append-drop,
 use Rattle.array_store.specs.Shape.{size, sizes, volume}
 use Rattle.array_store.specs.Region.{is_span, is_region, IsOuter, sliced, patched}
 use Rattle.array_store.proofs.Rows.{rows_read, rows_written, rows_read-one, rows_written-one}
-use Rattle.array_store.proofs.Regions.{Within, sliced-rows, patched-rows, patched-more, length-patched}
+use Rattle.array_store.proofs.Regions.{Within, sliced-rows, patched-rows}
 
 -- ---- what the test of a region says
 
@@ -30,13 +30,6 @@ region-within (d ∷ ds) (s ∷ ss) [] h = absurd (false≢true h)
 region-within (d ∷ ds) (s ∷ ss) (c ∷ cs) h =
     let parts = both (is_span d s c) (is_region ds ss cs) h in
     (span-sizes d s c parts.0, region-within ds ss cs parts.1)
-
-pub region-outer : (d s c : ℤ) (ds ss cs : List ℤ) → is_region (d ∷ ds) (s ∷ ss) (c ∷ cs) ≡ true
-    → IsOuter (sizes (d ∷ ds)) (sizes (s ∷ ss)) (sizes (c ∷ cs)) (size d) (size s) (size c) (sizes ds) (sizes ss) (sizes cs)
-region-outer d s c ds ss cs h = record { dims = refl; starts = refl; counts = refl; within = span-sizes d s c (both (is_span d s c) (is_region ds ss cs) h).0 }
-
-pub region-inner : (d s c : ℤ) (ds ss cs : List ℤ) → is_region (d ∷ ds) (s ∷ ss) (c ∷ cs) ≡ true → is_region ds ss cs ≡ true
-region-inner d s c ds ss cs h = (both (is_span d s c) (is_region ds ss cs) h).1
 
 -- ---- the last dimension: one run
 
@@ -177,10 +170,6 @@ read-next f w c k s out now xs whole below before row =
     ∙ append_assoc out (f (take w (drop ((s + k) * w) xs))) more
     ∙ ap (λ n. out ++ rows_read f w n (drop ((s + k) * w) xs)) (sym left)
     ∙ before
-
--- no row is left
-pub read-last : {X : Type 0} (f : List X → List X) (w n : ℕ) (out xs whole : List X) → n ≡ 0 → out ++ rows_read f w n xs ≡ whole → out ≡ whole
-read-last f w n out xs whole none before = sym (append-nil out) ∙ ap (λ m. out ++ rows_read f w m xs) (sym none) ∙ before
 
 -- ---- results and parts
 

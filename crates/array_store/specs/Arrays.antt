@@ -35,9 +35,11 @@ kind (ArrayOfDouble l) = 4
 kind (ArrayOfString l) = 5
 kind (Bytes b) = 6
 
+-- two arrays have elements of one kind
 abbrev pub is_same_kind : AnyArray → AnyArray → Bool
 is_same_kind a b = kind a == kind b
 
+-- an array has bytes
 abbrev pub is_bytes : AnyArray → Bool
 is_bytes a = kind a == 6
 

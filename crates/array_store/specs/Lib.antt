@@ -1,5 +1,5 @@
 pub mod Arrays
-pub mod Faults
+pub mod Refusals
 pub mod Region
 pub mod Shape
 pub mod Table

@@ -6,9 +6,11 @@ abbrev pub size : ℤ → ℕ
 size (pos n) = n
 size (negsuc n) = 0
 
+-- numbers that are not negative
 abbrev pub sizes : List ℤ → List ℕ
 sizes zs = map size zs
 
+-- a number is negative
 abbrev pub is_negative : ℤ → Bool
 is_negative (pos n) = false
 is_negative (negsuc n) = true
@@ -18,7 +20,7 @@ abbrev pub volume : List ℕ → ℕ
 volume [] = 1
 volume (d ∷ ds) = d * volume ds
 
--- where the element at an index stands in row-major order: the last dimension runs fastest
+-- where the element at an index stands: the indexes are compared from the first dimension on
 abbrev pub place : List ℕ → List ℕ → ℕ
 place [] is = 0
 place (d ∷ ds) [] = 0

@@ -9,19 +9,24 @@ use Rattle.array_store.specs.declared.key.ArrayKey.{ArrayKey}
 use Rattle.array_store.specs.declared.record.ArrayRecord.{ArrayRecord}
 use Rattle.array_store.specs.Shape.{sizes}
 use Rattle.array_store.specs.Arrays.{patch_of}
-use Rattle.array_store.specs.Faults.{record_fault}
+use Rattle.array_store.specs.Refusals.{record_refusal}
 
 -- the arrays by their keys, and how many more fit without memory
 pub record Arrays : Type 0 where
   pub arrays : List (ArrayKey × ArrayRecord)
   pub spare : ℕ
 
+-- two keys name one array: the same object, and the same path
 abbrev pub same_key : ArrayKey → ArrayKey → Bool
 same_key a b = same_uri a.uri b.uri && bytes_eq a.path b.path
 
+-- the array of a key among these
+abbrev pub array_among : List (ArrayKey × ArrayRecord) → ArrayKey → Option ArrayRecord
+array_among arrays key = lookup (same_key key) arrays
+
 -- the array of a key
 abbrev pub array_in : Arrays → ArrayKey → Option ArrayRecord
-array_in t key = lookup (same_key key) t.arrays
+array_in t key = array_among t.arrays key
 
 -- the array that a put leaves: it was made when the one before was, or now where there was none
 abbrev pub put_array : Option ArrayRecord → ArrayRecord → ArrayRecord
@@ -37,8 +42,12 @@ abbrev pub rewritten : ArrayRecord → ℤ → ArrayRecord
 rewritten r at = record r { written = at }
 
 -- one key has this array, and the others have what they had
+abbrev pub SetsAmong : List (ArrayKey × ArrayRecord) → List (ArrayKey × ArrayRecord) → ArrayKey → ArrayRecord → Type 0
+SetsAmong old new key r = (q : ArrayKey) → array_among new q ≡ (if same_key q key then Some r else array_among old q)
+
+-- the same of a store
 abbrev pub Sets : Arrays → Arrays → ArrayKey → ArrayRecord → Type 0
-Sets old new key r = (q : ArrayKey) → array_in new q ≡ (if same_key q key then Some r else array_in old q)
+Sets old new key r = SetsAmong old.arrays new.arrays key r
 
 -- an array of an object, and one of a dataspace
 abbrev pub is_of_object : StoreUri → ArrayKey → Bool
@@ -48,8 +57,12 @@ abbrev pub is_in_space : List ℕ → ArrayKey → Bool
 is_in_space path key = bytes_eq path key.uri.space
 
 -- the keys that go have no array, and the others have what they had
+abbrev pub DropsAmong : List (ArrayKey × ArrayRecord) → List (ArrayKey × ArrayRecord) → (ArrayKey → Bool) → Type 0
+DropsAmong old new goes = (q : ArrayKey) → array_among new q ≡ (if goes q then None else array_among old q)
+
+-- the same of a store
 abbrev pub Drops : Arrays → Arrays → (ArrayKey → Bool) → Type 0
-Drops old new goes = (q : ArrayKey) → array_in new q ≡ (if goes q then None else array_in old q)
+Drops old new goes = DropsAmong old.arrays new.arrays goes
 
 -- how many arrays have such keys
 abbrev pub how_many : (ArrayKey → Bool) → Arrays → ℕ
@@ -57,4 +70,4 @@ how_many goes t = length (filter (λ e. goes e.0) t.arrays)
 
 -- every array is one that a put accepts
 abbrev pub AllSound : List (ArrayKey × ArrayRecord) → Type 0
-AllSound arrays = (key : ArrayKey) (r : ArrayRecord) → lookup (same_key key) arrays ≡ Some r → record_fault r ≡ None
+AllSound arrays = (key : ArrayKey) (r : ArrayRecord) → lookup (same_key key) arrays ≡ Some r → record_refusal r ≡ None

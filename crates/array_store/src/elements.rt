@@ -2,7 +2,7 @@
 ghost use Rattle.std.specs.Prelude.{◌≡◌, ◌^◌, nat_lt, length};
 ghost use Rattle.etp_values.specs.Weight.{capped, weigh, bytes_weight};
 ghost use Rattle.array_store.specs.Arrays.{elements, size_of, kind, is_same_kind};
-ghost use Rattle.array_store.specs.Faults.{weight_fault};
+ghost use Rattle.array_store.specs.Refusals.{weight_refusal};
 
 use crate::error::ArrayError;
 use etp_values::{AnyArray, Text};
@@ -52,8 +52,8 @@ fn text_bytes(texts: &[Text]) -> u64
 }
 
 /// Why elements count too much.
-pub(crate) fn weight_fault(values: &AnyArray) -> Option<ArrayError>
-    ensures { result ≡ weight_fault values.now }
+pub(crate) fn weight_refusal(values: &AnyArray) -> Option<ArrayError>
+    ensures { result ≡ weight_refusal values.now }
 {
     if array_bytes(values) > MAX_BYTES {
         return Some(ArrayError::TooLarge);

@@ -1,20 +1,27 @@
 //! Why an array is refused.
 use etp_values::NoMemory;
+use thiserror::Error;
 
 /// Why an array, a region or values are refused. The variants stand in the order in which they are tested.
-#[derive(Clone, Copy, Debug, PartialEq, Eq)]
+#[derive(Clone, Copy, Debug, PartialEq, Eq, Error)]
 pub enum ArrayError {
     /// There are not 1 to 8 dimensions, or not as many starts or counts as dimensions.
+    #[error("there are not 1 to 8 dimensions, or not as many starts and counts")]
     Rank,
     /// A dimension, a start or a count is negative, or a start and its count pass the dimension.
+    #[error("a dimension, a start or a count is negative, or a region passes a dimension")]
     Outside,
     /// The values are of another kind than the array.
+    #[error("the values are of another kind than the array")]
     Kind,
     /// There are not as many elements as the dimensions or counts make.
+    #[error("there are not as many elements as the dimensions or counts make")]
     Count,
     /// An array would have more than 4,194,304 elements, or they would count more than 33,554,432 bytes.
+    #[error("the array would have more than 4194304 elements or 33554432 bytes")]
     TooLarge,
     /// Memory was refused.
+    #[error("out of memory")]
     NoMemory,
 }
 

@@ -11,16 +11,14 @@
 mod element;
 mod elements;
 mod error;
-mod faults;
 mod key;
 mod patch;
 mod record;
+mod refusals;
 mod region;
 mod shape;
 mod store;
 mod table;
-#[cfg(test)]
-mod tests;
 mod window;
 
 pub use elements::{MAX_BYTES, array_bytes, element_count};

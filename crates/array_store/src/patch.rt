@@ -2,12 +2,12 @@
 ghost use Rattle.std.specs.Prelude.{◌≡◌, Err, None, IfOk, OnOk, OnErr, true};
 ghost use Rattle.array_store.specs.Shape.{sizes};
 ghost use Rattle.array_store.specs.Arrays.{slice_of, is_bytes};
-ghost use Rattle.array_store.specs.Faults.{record_fault, region_fault, patch_fault, Refuses};
+ghost use Rattle.array_store.specs.Refusals.{record_refusal, region_refusal, patch_refusal, Refuses};
 ghost use Rattle.array_store.specs.Table.{patch_array};
 
 use crate::error::ArrayError;
-use crate::faults::{region_fault, values_fault};
 use crate::record::ArrayRecord;
+use crate::refusals::{region_refusal, values_refusal};
 use crate::window::{patch_values, slice_values};
 use etp_values::{AnyArray, Blob};
 use std::alloc::Global;
@@ -20,12 +20,13 @@ pub(crate) fn slice_record(
     starts: &[i64],
     counts: &[i64],
 ) -> Result<AnyArray, ArrayError>
-    requires { record_fault array.now ≡ None }
-    ensures done { Refuses result (region_fault array.now.dims starts.now counts.now) }
-    ensures ok { IfOk result (λ r. r ≡ slice_of (sizes array.now.dims) (sizes starts.now) (sizes counts.now) array.now.values) }
+    requires { record_refusal array.now ≡ None }
+    ensures done { Refuses result (region_refusal array.now.dims starts.now counts.now) }
+    ensures ok { IfOk result (λ r.
+        r ≡ slice_of (sizes array.now.dims) (sizes starts.now) (sizes counts.now) array.now.values) }
 {
     let dims = array.dims.as_slice();
-    if let Some(error) = region_fault(dims, starts, counts) {
+    if let Some(error) = region_refusal(dims, starts, counts) {
         return Err(error);
     }
     match slice_values(alloc, &array.values, dims, starts, counts) {
@@ -42,16 +43,16 @@ pub(crate) fn patch_record(
     counts: &[i64],
     values: AnyArray,
 ) -> Result<(), ArrayError>
-    requires { record_fault array.old ≡ None }
-    ensures done { Refuses result (patch_fault array.old starts.now counts.now values) }
+    requires { record_refusal array.old ≡ None }
+    ensures done { Refuses result (patch_refusal array.old starts.now counts.now values) }
     ensures ok { OnOk result (array.new ≡ patch_array array.old starts.now counts.now values) }
     ensures err { OnErr result (array.new ≡ array.old) }
     ensures memory { result ≡ Err ArrayError.NoMemory → is_bytes array.old.values ≡ true }
 {
-    if let Some(error) = region_fault(array.dims.as_slice(), starts, counts) {
+    if let Some(error) = region_refusal(array.dims.as_slice(), starts, counts) {
         return Err(error);
     }
-    if let Some(error) = values_fault(&array.values, counts, &values) {
+    if let Some(error) = values_refusal(&array.values, counts, &values) {
         return Err(error);
     }
     let held = mem::replace(&mut array.values, AnyArray::Bytes(Blob::new()));

@@ -2,7 +2,7 @@
 use etp_values::{AnyArray, Copied, DataValue, List, Named, NoMemory};
 use std::alloc::Global;
 
-/// An array with its elements in row-major order: the last dimension runs fastest.
+/// An array. Its elements stand in the order of their indexes, which are compared from the first dimension on.
 #[derive(Debug, Drop, PartialEq, Eq)]
 pub struct ArrayRecord {
     pub dims: List<i64>,

@@ -50,7 +50,9 @@ struct Outer<'a> {
 fn first_dimension<'a>(dims: &'a [i64], starts: &'a [i64], counts: &'a [i64]) -> Outer<'a>
     requires region { is_region dims.now starts.now counts.now ≡ true }
     requires some { 0 < length dims.now }
-    ensures parts { IsOuter (sizes dims.now) (sizes starts.now) (sizes counts.now) result.depth result.first result.rows (sizes result.dims.now) (sizes result.starts.now) (sizes result.counts.now) }
+    ensures parts { IsOuter (sizes dims.now) (sizes starts.now) (sizes counts.now)
+        result.depth result.first result.rows
+        (sizes result.dims.now) (sizes result.starts.now) (sizes result.counts.now) }
     ensures region { is_region result.dims.now result.starts.now result.counts.now ≡ true }
     ensures shorter { length dims.now ≡ length result.dims.now + 1 }
 {
@@ -85,7 +87,8 @@ pub(crate) fn read_region<T: Element>(
     requires region { is_region dims.now starts.now counts.now ≡ true }
     requires some { 0 < length dims.now }
     requires full { length items.now ≡ volume (sizes dims.now) }
-    ensures { OnOk result (out.new.items ≡ out.old.items ++ sliced (sizes dims.now) (sizes starts.now) (sizes counts.now) items.now) }
+    ensures { OnOk result (out.new.items ≡ out.old.items
+        ++ sliced (sizes dims.now) (sizes starts.now) (sizes counts.now) items.now) }
 {
     let outer = first_dimension(dims, starts, counts);
     let (first, rows) = (outer.first, outer.rows);
@@ -122,8 +125,10 @@ pub(crate) fn swap_region<T>(
     requires some { 0 < length dims.now }
     requires full { length items.old ≡ volume (sizes dims.now) }
     requires all { length values.old ≡ volume (sizes counts.now) }
-    ensures items { items.new ≡ patched (sizes dims.now) (sizes starts.now) (sizes counts.now) items.old values.old }
-    ensures values { values.new ≡ sliced (sizes dims.now) (sizes starts.now) (sizes counts.now) items.old }
+    ensures items { items.new
+        ≡ patched (sizes dims.now) (sizes starts.now) (sizes counts.now) items.old values.old }
+    ensures values { values.new
+        ≡ sliced (sizes dims.now) (sizes starts.now) (sizes counts.now) items.old }
 {
     let outer = first_dimension(dims, starts, counts);
     let (first, rows) = (outer.first, outer.rows);

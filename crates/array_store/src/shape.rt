@@ -3,7 +3,7 @@ ghost use Rattle.std.specs.Prelude.{◌≡◌, ◌≤◌, ◌^◌, ℤ, Option, 
 ghost use Rattle.std.specs.List.{list_any};
 ghost use Rattle.std.specs.Prelude.{◌≤ℤ◌};
 ghost use Rattle.array_store.specs.Shape.{size, sizes, is_negative, volume};
-ghost use Rattle.array_store.specs.Faults.{dims_of, is_rank};
+ghost use Rattle.array_store.specs.Refusals.{dims_of, is_rank};
 
 use crate::error::ArrayError;
 use etp_values::List;
@@ -55,7 +55,8 @@ fn has_negative(list: &[i64]) -> bool
 
 /// The volume, where it has 64 bits. A dimension of 0 makes it 0, whatever the others are.
 pub(crate) fn volume(list: &[i64]) -> Option<u64>
-    ensures { result ≡ (if nat_lt (volume (sizes list.now)) (2 ^ 64) then Some (volume (sizes list.now)) else None) }
+    ensures { result
+        ≡ (if nat_lt (volume (sizes list.now)) (2 ^ 64) then Some (volume (sizes list.now)) else None) }
 {
     let [first, rest @ ..] = list else {
         return Some(1);

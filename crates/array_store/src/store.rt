@@ -3,10 +3,10 @@ ghost use Rattle.std.specs.Prelude.{◌≡◌, ◌<◌, ◌+◌, ◌≤◌, [], 
 ghost use Rattle.std.specs.Option.{option_copied};
 
 use crate::error::ArrayError;
-use crate::faults::record_fault;
 use crate::key::ArrayKey;
 use crate::patch::slice_record;
 use crate::record::ArrayRecord;
+use crate::refusals::record_refusal;
 use crate::table::{drop_object, drop_space, patch_array, put_array, set_written};
 use etp_values::{AnyArray, List, NoMemory, StoreUri, Text};
 use indexmap::IndexMap;
@@ -33,7 +33,7 @@ impl Model for ArrayStore {
 impl ArrayStore {
     ghost use Rattle.array_store.specs.Shape.{sizes};
     ghost use Rattle.array_store.specs.Arrays.{slice_of, is_bytes};
-    ghost use Rattle.array_store.specs.Faults.{record_fault, region_fault, patch_fault, Refuses};
+    ghost use Rattle.array_store.specs.Refusals.{record_refusal, region_refusal, patch_refusal, Refuses};
     ghost use Rattle.array_store.specs.Table.{array_in, put_array, patch_array, rewritten, Sets, Drops, is_of_object, is_in_space, how_many};
 
     /// A store without arrays.
@@ -55,13 +55,14 @@ impl ArrayStore {
     /// Puts an array in place of the one of its key. It keeps the moment at which that one was made, and counts as made
     /// when it was written where there was none.
     pub fn put(&mut self, key: ArrayKey, value: ArrayRecord) -> Result<(), ArrayError>
-        ensures done { Refuses result (record_fault value) }
-        ensures ok { OnOk result (Sets self.old self.new key (put_array (array_in self.old key) value)) }
+        ensures done { Refuses result (record_refusal value) }
+        ensures ok { OnOk result
+            (Sets self.old self.new key (put_array (array_in self.old key) value)) }
         ensures err { OnErr result (self.new.arrays ≡ self.old.arrays) }
-        ensures succeeds { 0 < self.old.spare → record_fault value ≡ None → IsOk result }
+        ensures succeeds { 0 < self.old.spare → record_refusal value ≡ None → IsOk result }
         ensures room { self.old.spare ≤ self.new.spare + 1 }
     {
-        if let Some(error) = record_fault(&value) {
+        if let Some(error) = record_refusal(&value) {
             return Err(error);
         }
         put_array(&mut self.arrays, key, value)
@@ -76,8 +77,11 @@ impl ArrayStore {
         counts: &List<i64>,
     ) -> Result<AnyArray, ArrayError>
         requires { IsSome (array_in self.now key.now) }
-        ensures done { IfSome (array_in self.now key.now) (λ r. Refuses result (region_fault r.dims starts.now counts.now)) }
-        ensures ok { IfSome (array_in self.now key.now) (λ r. IfOk result (λ values. values ≡ slice_of (sizes r.dims) (sizes starts.now) (sizes counts.now) r.values)) }
+        ensures done { IfSome (array_in self.now key.now)
+            (λ r. Refuses result (region_refusal r.dims starts.now counts.now)) }
+        ensures ok { IfSome (array_in self.now key.now)
+            (λ r. IfOk result (λ values.
+            values ≡ slice_of (sizes r.dims) (sizes starts.now) (sizes counts.now) r.values)) }
     {
         let Some(array) = self.arrays.get(key) else {
             unreachable!();
@@ -97,10 +101,14 @@ impl ArrayStore {
         values: AnyArray,
     ) -> Result<(), ArrayError>
         requires { IsSome (array_in self.old key.now) }
-        ensures done { IfSome (array_in self.old key.now) (λ r. Refuses result (patch_fault r starts.now counts.now values)) }
-        ensures ok { IfSome (array_in self.old key.now) (λ r. OnOk result (Sets self.old self.new key.now (patch_array r starts.now counts.now values))) }
+        ensures done { IfSome (array_in self.old key.now)
+            (λ r. Refuses result (patch_refusal r starts.now counts.now values)) }
+        ensures ok { IfSome (array_in self.old key.now)
+            (λ r. OnOk result (Sets self.old self.new key.now
+            (patch_array r starts.now counts.now values))) }
         ensures err { OnErr result (self.new.arrays ≡ self.old.arrays) }
-        ensures memory { IfSome (array_in self.old key.now) (λ r. result ≡ Err ArrayError.NoMemory → is_bytes r.values ≡ true) }
+        ensures memory { IfSome (array_in self.old key.now)
+            (λ r. result ≡ Err ArrayError.NoMemory → is_bytes r.values ≡ true) }
         ensures room { self.new.spare ≡ self.old.spare }
     {
         patch_array(
@@ -116,7 +124,8 @@ impl ArrayStore {
     /// Notes when the array of a key was last written, which a patch by itself does not know.
     pub fn set_written(&mut self, key: &ArrayKey, at: i64)
         requires { IsSome (array_in self.old key.now) }
-        ensures each { IfSome (array_in self.old key.now) (λ r. Sets self.old self.new key.now (rewritten r at)) }
+        ensures each { IfSome (array_in self.old key.now)
+            (λ r. Sets self.old self.new key.now (rewritten r at)) }
         ensures room { self.new.spare ≡ self.old.spare }
     {
         set_written(&mut self.arrays, key, at);

@@ -1,13 +1,11 @@
 //! The table's own steps.
-ghost use Rattle.std.specs.Prelude.{◌≡◌, ◌<◌, ◌+◌, ◌≤◌, Err, Some, None, IsOk, IsSome, IfSome, OnOk, OnErr, true, if◌then◌else◌, not, filter, length};
-ghost use Rattle.std.specs.Map.{lookup};
+ghost use Rattle.std.specs.Prelude.{◌≡◌, ◌<◌, ◌+◌, ◌≤◌, Err, None, IsOk, IsSome, IfSome, OnOk, OnErr, true, not, filter, length};
 ghost use Rattle.std.specs.Option.{option_copied};
 ghost use Rattle.indexmap.specs.IndexMap.{spare};
-ghost use Rattle.array_store.specs.declared.key.ArrayKey.{ArrayKey};
 ghost use Rattle.array_store.specs.Table as table;
-ghost use Rattle.array_store.specs.Table.{same_key, is_of_object, is_in_space, AllSound};
+ghost use Rattle.array_store.specs.Table.{array_among, is_of_object, is_in_space, AllSound, DropsAmong, SetsAmong};
 ghost use Rattle.array_store.specs.Arrays.{is_bytes};
-ghost use Rattle.array_store.specs.Faults.{record_fault, patch_fault, Refuses};
+ghost use Rattle.array_store.specs.Refusals.{record_refusal, patch_refusal, Refuses};
 
 use crate::error::ArrayError;
 use crate::key::ArrayKey;
@@ -34,10 +32,11 @@ pub(crate) fn put_array(
     key: ArrayKey,
     value: ArrayRecord,
 ) -> Result<(), ArrayError>
-    requires { record_fault value ≡ None }
-    ensures each { OnOk result ((q : ArrayKey) → lookup (same_key q) arrays.new.entries ≡ (if same_key q key then Some (table.put_array (lookup (same_key key) arrays.old.entries) value) else lookup (same_key q) arrays.old.entries)) }
+    requires { record_refusal value ≡ None }
+    ensures each { OnOk result (SetsAmong arrays.old.entries arrays.new.entries key
+        (table.put_array (array_among arrays.old.entries key) value)) }
     ensures same { OnErr result (arrays.new.entries ≡ arrays.old.entries) }
-    ensures done { Refuses result (record_fault value) }
+    ensures done { Refuses result (record_refusal value) }
     ensures sound { AllSound arrays.old.entries → AllSound arrays.new.entries }
     ensures succeeds { 0 < spare arrays.old → IsOk result }
     ensures room { spare arrays.old ≤ spare arrays.new + 1 }
@@ -58,12 +57,16 @@ pub(crate) fn patch_array(
     counts: &[i64],
     values: AnyArray,
 ) -> Result<(), ArrayError>
-    requires there { IsSome (lookup (same_key key.now) arrays.old.entries) }
+    requires there { IsSome (array_among arrays.old.entries key.now) }
     requires sound { AllSound arrays.old.entries }
-    ensures done { IfSome (lookup (same_key key.now) arrays.old.entries) (λ r. Refuses result (patch_fault r starts.now counts.now values)) }
-    ensures each { IfSome (lookup (same_key key.now) arrays.old.entries) (λ r. OnOk result ((q : ArrayKey) → lookup (same_key q) arrays.new.entries ≡ (if same_key q key.now then Some (table.patch_array r starts.now counts.now values) else lookup (same_key q) arrays.old.entries))) }
+    ensures done { IfSome (array_among arrays.old.entries key.now)
+        (λ r. Refuses result (patch_refusal r starts.now counts.now values)) }
+    ensures each { IfSome (array_among arrays.old.entries key.now)
+        (λ r. OnOk result (SetsAmong arrays.old.entries arrays.new.entries key.now
+        (table.patch_array r starts.now counts.now values))) }
     ensures same { OnErr result (arrays.new.entries ≡ arrays.old.entries) }
-    ensures memory { IfSome (lookup (same_key key.now) arrays.old.entries) (λ r. result ≡ Err ArrayError.NoMemory → is_bytes r.values ≡ true) }
+    ensures memory { IfSome (array_among arrays.old.entries key.now)
+        (λ r. result ≡ Err ArrayError.NoMemory → is_bytes r.values ≡ true) }
     ensures sound { AllSound arrays.new.entries }
     ensures room { spare arrays.new ≡ spare arrays.old }
 {
@@ -75,8 +78,9 @@ pub(crate) fn patch_array(
 
 /// Notes when the array of a key was last written.
 pub(crate) fn set_written(arrays: &mut IndexMap<ArrayKey, ArrayRecord>, key: &ArrayKey, at: i64)
-    requires { IsSome (lookup (same_key key.now) arrays.old.entries) }
-    ensures each { IfSome (lookup (same_key key.now) arrays.old.entries) (λ r. (q : ArrayKey) → lookup (same_key q) arrays.new.entries ≡ (if same_key q key.now then Some (table.rewritten r at) else lookup (same_key q) arrays.old.entries)) }
+    requires { IsSome (array_among arrays.old.entries key.now) }
+    ensures each { IfSome (array_among arrays.old.entries key.now)
+        (λ r. SetsAmong arrays.old.entries arrays.new.entries key.now (table.rewritten r at)) }
     ensures sound { AllSound arrays.old.entries → AllSound arrays.new.entries }
     ensures room { spare arrays.new ≡ spare arrays.old }
 {
@@ -88,14 +92,15 @@ pub(crate) fn set_written(arrays: &mut IndexMap<ArrayKey, ArrayRecord>, key: &Ar
 
 /// Takes out the arrays of an object.
 pub(crate) fn drop_object(arrays: &mut IndexMap<ArrayKey, ArrayRecord>, uri: &StoreUri) -> u64
-    ensures each { (q : ArrayKey) → lookup (same_key q) arrays.new.entries ≡ (if is_of_object uri.now q then None else lookup (same_key q) arrays.old.entries) }
+    ensures each { DropsAmong arrays.old.entries arrays.new.entries (is_of_object uri.now) }
     ensures count { result ≡ length (filter (λ e. is_of_object uri.now e.0) arrays.old.entries) }
     ensures room { spare arrays.old ≤ spare arrays.new }
 {
     let before = arrays.len();
     arrays.retain(
         |key: &ArrayKey, array: &mut ArrayRecord| -> bool
-            ensures { (result ≡ not (is_of_object uri.entry.now key.now)) × (array.new ≡ array.old) }
+            ensures { (result ≡ not (is_of_object uri.entry.now key.now))
+                × (array.new ≡ array.old) }
         { !uri.same(&key.uri) },
     );
     (before - arrays.len()) as u64
@@ -103,14 +108,15 @@ pub(crate) fn drop_object(arrays: &mut IndexMap<ArrayKey, ArrayRecord>, uri: &St
 
 /// Takes out the arrays of a dataspace.
 pub(crate) fn drop_space(arrays: &mut IndexMap<ArrayKey, ArrayRecord>, path: &Text) -> u64
-    ensures each { (q : ArrayKey) → lookup (same_key q) arrays.new.entries ≡ (if is_in_space path.now q then None else lookup (same_key q) arrays.old.entries) }
+    ensures each { DropsAmong arrays.old.entries arrays.new.entries (is_in_space path.now) }
     ensures count { result ≡ length (filter (λ e. is_in_space path.now e.0) arrays.old.entries) }
     ensures room { spare arrays.old ≤ spare arrays.new }
 {
     let held = arrays.len();
     arrays.retain(
         |key: &ArrayKey, array: &mut ArrayRecord| -> bool
-            ensures { (result ≡ not (is_in_space path.entry.now key.now)) × (array.new ≡ array.old) }
+            ensures { (result ≡ not (is_in_space path.entry.now key.now))
+                × (array.new ≡ array.old) }
         { *path != key.uri.space },
     );
     (held - arrays.len()) as u64

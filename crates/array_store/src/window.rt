@@ -3,7 +3,7 @@ ghost use Rattle.std.specs.Prelude.{◌≡◌, ◌<◌, ◌≤◌, true, IfOk, N
 ghost use Rattle.array_store.specs.Shape.{sizes, volume};
 ghost use Rattle.array_store.specs.Region.{is_region, sliced, patched};
 ghost use Rattle.array_store.specs.Arrays.{elements, is_same_kind, slice_of, patch_of};
-ghost use Rattle.array_store.specs.Faults.{Patches, PatchesTexts};
+ghost use Rattle.array_store.specs.Refusals.{Patches, PatchesTexts};
 
 use crate::element::Element;
 use crate::elements::are_too_large;
@@ -24,7 +24,8 @@ pub(crate) fn slice_values(
     requires region { is_region dims.now starts.now counts.now ≡ true }
     requires some { 0 < length dims.now }
     requires full { elements values.now ≡ volume (sizes dims.now) }
-    ensures { IfOk result (λ r. r ≡ slice_of (sizes dims.now) (sizes starts.now) (sizes counts.now) values.now) }
+    ensures { IfOk result
+        (λ r. r ≡ slice_of (sizes dims.now) (sizes starts.now) (sizes counts.now) values.now) }
 {
     match values {
         AnyArray::ArrayOfBoolean(items) => Ok(AnyArray::ArrayOfBoolean(slice_list(
@@ -61,7 +62,8 @@ fn slice_list<T: Element>(
     requires region { is_region dims.now starts.now counts.now ≡ true }
     requires some { 0 < length dims.now }
     requires full { length items.now ≡ volume (sizes dims.now) }
-    ensures { IfOk result (λ l. l ≡ sliced (sizes dims.now) (sizes starts.now) (sizes counts.now) items.now) }
+    ensures { IfOk result
+        (λ l. l ≡ sliced (sizes dims.now) (sizes starts.now) (sizes counts.now) items.now) }
 {
     let out = slice_items(alloc, items.as_slice(), dims, starts, counts)?;
     Ok(List::from_vec(out))
@@ -77,12 +79,15 @@ fn slice_blob(
     requires region { is_region dims.now starts.now counts.now ≡ true }
     requires some { 0 < length dims.now }
     requires full { length bytes.now ≡ volume (sizes dims.now) }
-    ensures { IfOk result (λ b. b ≡ sliced (sizes dims.now) (sizes starts.now) (sizes counts.now) bytes.now) }
+    ensures { IfOk result
+        (λ b. b ≡ sliced (sizes dims.now) (sizes starts.now) (sizes counts.now) bytes.now) }
 {
     let out = slice_items(alloc, bytes.as_bytes(), dims, starts, counts)?;
     Blob::from_vec(out)
 }
 
+/// A new list of the elements of a region. Without elements it looks at no dimension, since an array without elements can
+/// have as many empty rows as a dimension may count.
 fn slice_items<T: Element>(
     alloc: Global,
     items: &[T],
@@ -93,9 +98,14 @@ fn slice_items<T: Element>(
     requires region { is_region dims.now starts.now counts.now ≡ true }
     requires some { 0 < length dims.now }
     requires full { length items.now ≡ volume (sizes dims.now) }
-    ensures { IfOk result (λ v. v.items ≡ sliced (sizes dims.now) (sizes starts.now) (sizes counts.now) items.now) }
+    ensures { IfOk result
+        (λ v. v.items ≡ sliced (sizes dims.now) (sizes starts.now) (sizes counts.now) items.now) }
 {
-    let room = volume(counts).unwrap_or(0);
+    let room = match volume(counts) {
+        Some(0) => return Ok(Vec::new(alloc)),
+        Some(room) => room,
+        None => 0,
+    };
     let mut out = Vec::with_capacity(alloc, room as usize)?;
     read_region(alloc, &mut out, items, dims, starts, counts)?;
     Ok(out)
@@ -117,7 +127,8 @@ pub(crate) fn patch_values(
     requires few { elements held ≤ 4194304 }
     requires kinds { is_same_kind held values ≡ true }
     requires all { elements values ≡ volume (sizes counts.now) }
-    ensures { Patches result held (patch_of (sizes dims.now) (sizes starts.now) (sizes counts.now) held values) }
+    ensures { Patches result held
+        (patch_of (sizes dims.now) (sizes starts.now) (sizes counts.now) held values) }
 {
     match (held, values) {
         (AnyArray::ArrayOfBoolean(held), AnyArray::ArrayOfBoolean(values)) => {
@@ -183,7 +194,8 @@ fn patch_texts(
     requires some { 0 < length dims.now }
     requires full { length held ≡ volume (sizes dims.now) }
     requires all { length values ≡ volume (sizes counts.now) }
-    ensures { PatchesTexts result held (patched (sizes dims.now) (sizes starts.now) (sizes counts.now) held values) }
+    ensures { PatchesTexts result held
+        (patched (sizes dims.now) (sizes starts.now) (sizes counts.now) held values) }
 {
     let mut items = held.into_vec();
     let mut values = values.into_vec();
@@ -208,8 +220,11 @@ fn patch_blob(
     requires some { 0 < length dims.now }
     requires full { length held ≡ volume (sizes dims.now) }
     requires all { length values ≡ volume (sizes counts.now) }
-    ensures value { MatchResult result (λ b. b ≡ patched (sizes dims.now) (sizes starts.now) (sizes counts.now) held values) (λ b. b ≡ held) }
-    ensures len { length (patched (sizes dims.now) (sizes starts.now) (sizes counts.now) held values) ≡ length held }
+    ensures value { MatchResult result
+        (λ b. b ≡ patched (sizes dims.now) (sizes starts.now) (sizes counts.now) held values)
+        (λ b. b ≡ held) }
+    ensures len { length (patched (sizes dims.now) (sizes starts.now) (sizes counts.now) held values)
+        ≡ length held }
 {
     match patched_blob(
         alloc,
@@ -236,7 +251,9 @@ fn patched_blob(
     requires some { 0 < length dims.now }
     requires full { length held.now ≡ volume (sizes dims.now) }
     requires all { length values.now ≡ volume (sizes counts.now) }
-    ensures { IfOk result (λ b. b ≡ patched (sizes dims.now) (sizes starts.now) (sizes counts.now) held.now values.now) }
+    ensures { IfOk result
+        (λ b. b
+        ≡ patched (sizes dims.now) (sizes starts.now) (sizes counts.now) held.now values.now) }
 {
     let mut items = Vec::from_slice(alloc, held)?;
     let mut values = Vec::from_slice(alloc, values)?;
@@ -244,7 +261,8 @@ fn patched_blob(
     Blob::from_vec(items)
 }
 
-/// Exchanges the elements of a region with these values.
+/// Exchanges the elements of a region with these values. Without values it looks at no dimension, since an array without
+/// elements can have as many empty rows as a dimension may count.
 fn swap_items<T>(
     items: &mut Vec<T>,
     values: &mut Vec<T>,
@@ -256,11 +274,17 @@ fn swap_items<T>(
     requires some { 0 < length dims.now }
     requires full { length items.old.items ≡ volume (sizes dims.now) }
     requires all { length values.old.items ≡ volume (sizes counts.now) }
-    ensures items { items.new.items ≡ patched (sizes dims.now) (sizes starts.now) (sizes counts.now) items.old.items values.old.items }
-    ensures values { values.new.items ≡ sliced (sizes dims.now) (sizes starts.now) (sizes counts.now) items.old.items }
+    ensures items { items.new.items
+        ≡ patched (sizes dims.now) (sizes starts.now) (sizes counts.now)
+        items.old.items values.old.items }
+    ensures values { values.new.items
+        ≡ sliced (sizes dims.now) (sizes starts.now) (sizes counts.now) items.old.items }
     ensures len { length items.new.items ≡ length items.old.items }
     ensures values_len { length values.new.items ≡ length values.old.items }
 {
+    if values.is_empty() {
+        return;
+    }
     swap_region(
         items.as_mut_slice(),
         values.as_mut_slice(),

@@ -1,7 +1,7 @@
-use Rattle.std.proofs.Common.{◌≡◌, ◌+◌, ◌++◌, ◌<◌, ◌≤◌, ◌*◌, ◌-◌, ◌/◌, length, take, drop, sym, ap, ◌∙◌, arith, rules}
+use Rattle.std.proofs.Common.{◌≡◌, ◌+◌, ◌++◌, ◌<◌, ◌*◌, ◌/◌, length, sym, ap, ◌∙◌, arith, rules}
 use Rattle.std.proofs.lemmas.Bool.Decides.{nat_tests}
 use Rattle.std.proofs.lemmas.List.{append-nil}
-use Rattle.array_store.specs.Shape.{sizes, volume}
+use Rattle.array_store.specs.Shape.{sizes}
 use Rattle.array_store.specs.Region.{sliced}
 use Rattle.array_store.proofs.Steps.{on_ok, sizes-empty, part-of, region-within, sliced-run, sliced-none, read-first, read-next, row-width, row-fits}
 use Rattle.array_store.proofs.region.+read_region.Goals as goal

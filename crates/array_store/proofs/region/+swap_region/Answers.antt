@@ -1,8 +1,8 @@
-use Rattle.std.proofs.Common.{◌≡◌, ◌+◌, ◌++◌, ◌<◌, ◌≤◌, ◌*◌, ◌-◌, ◌/◌, length, take, drop, sym, ap, ◌∙◌, arith, rules}
+use Rattle.std.proofs.Common.{◌≡◌, ◌+◌, ◌<◌, ◌≤◌, ◌*◌, ◌-◌, ◌/◌, length, sym, ◌∙◌, arith, rules}
 use Rattle.std.proofs.lemmas.Bool.Decides.{nat_tests}
-use Rattle.std.proofs.lemmas.List.{append-nil, nil_from_length}
+use Rattle.std.proofs.lemmas.List.{nil_from_length}
 use borrow.Rule.Slice.PartMut.{put_mid}
-use Rattle.array_store.specs.Shape.{sizes, volume}
+use Rattle.array_store.specs.Shape.{sizes}
 use Rattle.array_store.specs.Region.{sliced, patched}
 use Rattle.array_store.proofs.Regions.{length-patched, length-sliced, patched-more}
 use Rattle.array_store.proofs.Steps.{sizes-empty, part-of, region-within, sliced-run, sliced-none, patched-run, patched-none, no-values, row-width, row-part, row-fits, part-fits, parts-end, swap-first, swap-next, swap-last}

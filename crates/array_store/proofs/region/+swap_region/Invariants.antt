@@ -1,7 +1,6 @@
-use Rattle.std.proofs.Common.{length, ◌≡◌, ◌++◌, ◌+◌, ◌-◌, ◌*◌, drop, take, List}
+use Rattle.std.proofs.Common.{length, ◌+◌, ◌-◌, ◌*◌}
 use Rattle.array_store.specs.Shape.{sizes}
 use Rattle.array_store.specs.Region.{sliced, patched}
-use Rattle.array_store.proofs.Rows.{rows_read, rows_written}
 use Rattle.array_store.proofs.Steps.{Swapping}
 use Rattle.array_store.proofs.region.+swap_region.Given as goal
 

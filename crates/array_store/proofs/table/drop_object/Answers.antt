@@ -1,9 +1,9 @@
-use Rattle.std.specs.Prelude.{◌≡◌, ◌-◌, not, filter, length}
+use Rattle.std.specs.Prelude.{◌≡◌, not, filter, length}
 use Rattle.std.specs.Map.{lookup}
-use Rattle.std.proofs.Common.{rules, ap, ◌∙◌, sym, arith}
+use Rattle.std.proofs.Common.{rules, ap, ◌∙◌, arith}
 use Rattle.indexmap.proofs.CallerLemmas.{filter-RetainsPairs}
 use Rattle.etp_values.proofs.Lookups.{lookup-filter}
-use Rattle.array_store.specs.Table.{same_key, is_of_object, is_in_space}
+use Rattle.array_store.specs.Table.{same_key, is_of_object}
 use Rattle.array_store.proofs.Counts.{counted}
 use Rattle.array_store.proofs.Keys.{same_key-is}
 use Rattle.array_store.proofs.table.drop_object.Goals as goal

@@ -1,6 +1,6 @@
 use Rattle.std.specs.Prelude.{◌≡◌, cond, Some, Err, OnOk, IfSome, is_some, true}
 use Rattle.std.specs.Map.{lookup}
-use Rattle.std.proofs.Common.{List, subst, sym, ap, ◌∙◌}
+use Rattle.std.proofs.Common.{subst, sym, ap, ◌∙◌}
 use Rattle.std.proofs.lemmas.Map.Steps.{set_value_same}
 use Rattle.std.specs.Map.{set_value}
 use Rattle.array_store.specs.contracts.key.ArrayKeyPartialEq.TheImpl.{ghosts}
@@ -8,12 +8,12 @@ use Rattle.array_store.specs.declared.key.ArrayKey.{ArrayKey}
 use Rattle.array_store.specs.declared.record.ArrayRecord.{ArrayRecord}
 use Rattle.array_store.specs.declared.error.ArrayError.TheVariants.{NoMemory}
 use Rattle.array_store.specs.Arrays.{is_bytes}
-use Rattle.array_store.specs.Faults.{record_fault, patch_fault, Refuses}
+use Rattle.array_store.specs.Refusals.{record_refusal, patch_refusal, Refuses}
 use Rattle.array_store.specs.Table as table
 use Rattle.array_store.specs.Table.{same_key}
 use Rattle.array_store.proofs.Keys.{found_is, written_is}
 use Rattle.array_store.proofs.Steps.{on_ok}
-use Rattle.array_store.proofs.Sound.{sound-set, sound-call, on_ok_both, on_err, done-fault, fault-patch_array}
+use Rattle.array_store.proofs.Sound.{sound-set, sound-call, on_ok_both, on_err, done-refusal, refusal-patch_array}
 use Rattle.array_store.proofs.table.patch_array.Goals as goal
 
 pub patch_record-requires : goal.patch_record-requires
@@ -22,7 +22,7 @@ patch_record-requires c = c.requires.sound c.args.key.now c.in-Some.array.now (f
 pub returns-clause-done : goal.returns-clause-done
 returns-clause-done c =
     let found = found_is c.args.arrays.now.entries c.args.key.now c.in-Some.array.now (sym c.in-Some.ensures.value) in
-    subst (λ o. IfSome o (λ r. Refuses c.patch_record.result (patch_fault r c.args.starts.now c.args.counts.now c.args.values))) (sym found) c.patch_record.ensures.done
+    subst (λ o. IfSome o (λ r. Refuses c.patch_record.result (patch_refusal r c.args.starts.now c.args.counts.now c.args.values))) (sym found) c.patch_record.ensures.done
 
 pub returns-clause-each : goal.returns-clause-each
 returns-clause-each c =
@@ -60,9 +60,9 @@ returns-clause-sound c =
     let found = found_is old key array raw in
     let updates = (c.get_mut.follows.holds w).3 (ap is_some raw) in
     let sound = c.requires.sound key array found in
-    let fault = done-fault c.patch_record.result (patch_fault array c.args.starts.now c.args.counts.now c.args.values) c.patch_record.ensures.done in
+    let accepted = done-refusal c.patch_record.result (patch_refusal array c.args.starts.now c.args.counts.now c.args.values) c.patch_record.ensures.done in
     sound-call c.patch_record.result old new c.requires.sound
-    (on_ok_both c.patch_record.result (λ e f. sound-set old new key w c.requires.sound (ap record_fault e ∙ fault-patch_array array c.args.starts.now c.args.counts.now c.args.values sound f) (λ q. written_is old new key q w (updates.0 q))) c.patch_record.ensures.ok fault)
+    (on_ok_both c.patch_record.result (λ e f. sound-set old new key w c.requires.sound (ap record_refusal e ∙ refusal-patch_array array c.args.starts.now c.args.counts.now c.args.values sound f) (λ q. written_is old new key q w (updates.0 q))) c.patch_record.ensures.ok accepted)
     (returns-clause-same c)
 
 pub returns-clause-room : goal.returns-clause-room

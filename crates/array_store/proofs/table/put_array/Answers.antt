@@ -7,7 +7,7 @@ use Rattle.array_store.specs.declared.error.ArrayError.TheVariants.{NoMemory}
 use Rattle.array_store.specs.Table as table
 use Rattle.array_store.specs.Table.{same_key}
 use Rattle.array_store.proofs.Keys.{key_test, found_set}
-use Rattle.array_store.proofs.Sound.{sound-set, sound-same, fault-put_array}
+use Rattle.array_store.proofs.Sound.{sound-set, sound-same, refusal-put_array}
 use Rattle.array_store.proofs.table.put_array.Goals as goal
 
 pub returns-in-Ok-clause-each : goal.returns-in-Ok-clause-each
@@ -26,7 +26,7 @@ pub returns-in-Ok-clause-sound : goal.returns-in-Ok-clause-sound
 returns-in-Ok-clause-sound c = λ all.
     let old = c.args.arrays.now.entries in
     let wanted = table.put_array (lookup (same_key c.args.key) old) c.args.value in
-    sound-set old c.insert.new.self.entries c.args.key wanted all (fault-put_array (lookup (same_key c.args.key) old) c.args.value ∙ c.requires) (returns-in-Ok-clause-each c)
+    sound-set old c.insert.new.self.entries c.args.key wanted all (refusal-put_array (lookup (same_key c.args.key) old) c.args.value ∙ c.requires) (returns-in-Ok-clause-each c)
 
 pub returns-clause-sound : goal.returns-clause-sound
 returns-clause-sound c = λ all. sound-same c.args.arrays.now.entries c.insert.new.self.entries all (search rules)

@@ -1,6 +1,6 @@
-use Rattle.std.specs.Prelude.{◌≡◌, ℤ, cond, Some, IfSome, is_some}
+use Rattle.std.specs.Prelude.{◌≡◌, cond, Some, IfSome, is_some}
 use Rattle.std.specs.Map.{lookup}
-use Rattle.std.proofs.Common.{subst, sym, ap, ◌∙◌, to_z, of_z, w64}
+use Rattle.std.proofs.Common.{subst, sym, ap, to_z, of_z, w64}
 use Rattle.std.proofs.lemmas.Int.{to_z-of_z}
 use Rattle.array_store.specs.contracts.key.ArrayKeyPartialEq.TheImpl.{ghosts}
 use Rattle.array_store.specs.declared.key.ArrayKey.{ArrayKey}

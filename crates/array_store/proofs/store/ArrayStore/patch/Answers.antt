@@ -4,7 +4,7 @@ use Rattle.std.specs.Map.{lookup}
 use Rattle.array_store.specs.declared.key.ArrayKey.{ArrayKey}
 use Rattle.array_store.specs.declared.error.ArrayError.TheVariants.{NoMemory}
 use Rattle.array_store.specs.Arrays.{is_bytes}
-use Rattle.array_store.specs.Faults.{patch_fault, Refuses}
+use Rattle.array_store.specs.Refusals.{patch_refusal, Refuses}
 use Rattle.array_store.specs.Table as table
 use Rattle.array_store.specs.Table.{same_key, array_in}
 use Rattle.array_store.proofs.store.ArrayStore.patch.Goals as goal
@@ -23,9 +23,9 @@ returns-clause-done c =
     let key = c.args.key.now in
     let old = c.self.inside.arrays.entries in
     let values = c.args.values in
-    let starts = subst (λ ss. IfSome (lookup (same_key key) old) (λ r. Refuses c.patch_array.result (patch_fault r ss c.as_slice-2.result.now values))) c.as_slice.ensures c.patch_array.ensures.done in
-    let both = subst (λ cs. IfSome (lookup (same_key key) old) (λ r. Refuses c.patch_array.result (patch_fault r c.args.starts.now cs values))) c.as_slice-2.ensures starts in
-    subst (λ t. IfSome (array_in t key) (λ r. Refuses c.patch_array.result (patch_fault r c.args.starts.now c.args.counts.now values))) c.self.view_is both
+    let starts = subst (λ ss. IfSome (lookup (same_key key) old) (λ r. Refuses c.patch_array.result (patch_refusal r ss c.as_slice-2.result.now values))) c.as_slice.ensures c.patch_array.ensures.done in
+    let both = subst (λ cs. IfSome (lookup (same_key key) old) (λ r. Refuses c.patch_array.result (patch_refusal r c.args.starts.now cs values))) c.as_slice-2.ensures starts in
+    subst (λ t. IfSome (array_in t key) (λ r. Refuses c.patch_array.result (patch_refusal r c.args.starts.now c.args.counts.now values))) c.self.view_is both
 
 pub returns-clause-ok : goal.returns-clause-ok
 returns-clause-ok c =

@@ -1,8 +1,8 @@
 //! Why arrays, regions and values are refused.
 ghost use Rattle.std.specs.Prelude.{◌≡◌};
-ghost use Rattle.array_store.specs.Faults.{record_fault, region_fault, values_fault};
+ghost use Rattle.array_store.specs.Refusals.{record_refusal, region_refusal, values_refusal};
 
-use crate::elements::{element_count, is_same_kind, weight_fault};
+use crate::elements::{element_count, is_same_kind, weight_refusal};
 use crate::error::ArrayError;
 use crate::record::ArrayRecord;
 use crate::region::is_region;
@@ -10,18 +10,18 @@ use crate::shape::{dims, volume};
 use etp_values::AnyArray;
 
 /// Why a record is no array.
-pub(crate) fn record_fault(array: &ArrayRecord) -> Option<ArrayError>
-    ensures { result ≡ record_fault array.now }
+pub(crate) fn record_refusal(array: &ArrayRecord) -> Option<ArrayError>
+    ensures { result ≡ record_refusal array.now }
 {
     match dims(&array.dims, Some(element_count(&array.values) as u64)) {
-        Ok(_) => weight_fault(&array.values),
+        Ok(_) => weight_refusal(&array.values),
         Err(error) => Some(error),
     }
 }
 
 /// Why starts and counts are no region of an array of these dimensions.
-pub(crate) fn region_fault(dims: &[i64], starts: &[i64], counts: &[i64]) -> Option<ArrayError>
-    ensures { result ≡ region_fault dims.now starts.now counts.now }
+pub(crate) fn region_refusal(dims: &[i64], starts: &[i64], counts: &[i64]) -> Option<ArrayError>
+    ensures { result ≡ region_refusal dims.now starts.now counts.now }
 {
     if starts.len() != dims.len() || counts.len() != dims.len() {
         return Some(ArrayError::Rank);
@@ -33,8 +33,12 @@ pub(crate) fn region_fault(dims: &[i64], starts: &[i64], counts: &[i64]) -> Opti
 }
 
 /// Why values are none for a region of an array with these elements.
-pub(crate) fn values_fault(held: &AnyArray, counts: &[i64], values: &AnyArray) -> Option<ArrayError>
-    ensures { result ≡ values_fault held.now counts.now values.now }
+pub(crate) fn values_refusal(
+    held: &AnyArray,
+    counts: &[i64],
+    values: &AnyArray,
+) -> Option<ArrayError>
+    ensures { result ≡ values_refusal held.now counts.now values.now }
 {
     if !is_same_kind(held, values) {
         return Some(ArrayError::Kind);

@@ -1,5 +1,5 @@
 -- Why an array, a region or values are refused, in the order in which it is tested.
-use Rattle.std.specs.Prelude.{ℕ, ◌+◌, ◌≡◌, ◌==◌, ℤ, Bool, true, false, not, ◌&&◌, ◌||◌, nat_lt, nat_le, if◌then◌else◌, List, length, Option, Some, None, Result, Ok, Err, MatchResult}
+use Rattle.std.specs.Prelude.{ℕ, ◌≡◌, ◌==◌, ℤ, Bool, true, not, ◌&&◌, nat_lt, nat_le, if◌then◌else◌, List, length, Option, Some, None, Result, Ok, Err, MatchResult}
 use Rattle.std.specs.List.{list_any}
 use Rattle.std.specs.Option.{unwrap_or}
 use Rattle.etp_values.specs.declared.data.AnyArray.{AnyArray}
@@ -31,51 +31,53 @@ dims_of zs count = if not (is_rank (length zs)) then Err Rank
     else counted count (volume (sizes zs))
 
 -- elements count at most 33,554,432
-abbrev pub weight_fault : AnyArray → Option ArrayError
-weight_fault values = if nat_lt 33554432 (size_of values) then Some TooLarge else None
+abbrev pub weight_refusal : AnyArray → Option ArrayError
+weight_refusal values = if nat_lt 33554432 (size_of values) then Some TooLarge else None
 
-abbrev pub texts_fault : List (List ℕ) → Option ArrayError
-texts_fault texts = weight_fault (ArrayOfString texts)
+-- the same of texts
+abbrev pub texts_refusal : List (List ℕ) → Option ArrayError
+texts_refusal texts = weight_refusal (ArrayOfString texts)
 
-abbrev pub elements_fault : AnyArray → Result ℕ ArrayError → Option ArrayError
-elements_fault values (Ok n) = weight_fault values
-elements_fault values (Err e) = Some e
+-- why elements are refused whose dimensions were tested so
+abbrev pub elements_refusal : AnyArray → Result ℕ ArrayError → Option ArrayError
+elements_refusal values (Ok n) = weight_refusal values
+elements_refusal values (Err e) = Some e
 
 -- why a record is no array
-abbrev pub record_fault : ArrayRecord → Option ArrayError
-record_fault r = elements_fault r.values (dims_of r.dims (Some (elements r.values)))
+abbrev pub record_refusal : ArrayRecord → Option ArrayError
+record_refusal r = elements_refusal r.values (dims_of r.dims (Some (elements r.values)))
 
 -- why starts and counts are no region of an array of these dimensions
-abbrev pub region_fault : List ℤ → List ℤ → List ℤ → Option ArrayError
-region_fault ds ss cs = if not (length ss == length ds && length cs == length ds) then Some Rank
+abbrev pub region_refusal : List ℤ → List ℤ → List ℤ → Option ArrayError
+region_refusal ds ss cs = if not (length ss == length ds && length cs == length ds) then Some Rank
     else if not (is_region ds ss cs) then Some Outside
     else None
 
 -- why values are none for a region of an array with these elements
-abbrev pub values_fault : AnyArray → List ℤ → AnyArray → Option ArrayError
-values_fault held cs values = if not (is_same_kind held values) then Some Kind
+abbrev pub values_refusal : AnyArray → List ℤ → AnyArray → Option ArrayError
+values_refusal held cs values = if not (is_same_kind held values) then Some Kind
     else if not (elements values == volume (sizes cs)) then Some Count
     else None
 
--- the first of two faults
-abbrev pub first_fault : Option ArrayError → Option ArrayError → Option ArrayError
-first_fault None later = later
-first_fault (Some e) later = Some e
+-- the first of two refusals
+abbrev pub first_refusal : Option ArrayError → Option ArrayError → Option ArrayError
+first_refusal None later = later
+first_refusal (Some e) later = Some e
 
 -- why a patch is refused: the region, then the values, then what the array would count
-abbrev pub patch_fault : ArrayRecord → List ℤ → List ℤ → AnyArray → Option ArrayError
-patch_fault r ss cs values = first_fault (region_fault r.dims ss cs) (first_fault (values_fault r.values cs values) (weight_fault (patch_of (sizes r.dims) (sizes ss) (sizes cs) r.values values)))
+abbrev pub patch_refusal : ArrayRecord → List ℤ → List ℤ → AnyArray → Option ArrayError
+patch_refusal r ss cs values = first_refusal (region_refusal r.dims ss cs) (first_refusal (values_refusal r.values cs values) (weight_refusal (patch_of (sizes r.dims) (sizes ss) (sizes cs) r.values values)))
 
--- a call is done where there is no fault, and else answers the fault; without one it can only want memory
+-- a call is done where it is not refused, and else answers the refusal; where it is not refused it can only want memory
 abbrev pub Refuses : {X : Type 0} → Result X ArrayError → Option ArrayError → Type 0
-Refuses result fault = MatchResult result (λ _. fault ≡ None) (λ e. e ≡ unwrap_or fault NoMemory)
+Refuses result refusal = MatchResult result (λ _. refusal ≡ None) (λ e. e ≡ unwrap_or refusal NoMemory)
 
 -- an array as it is after a patch, or as it was, with the reason
 abbrev pub Patches : Result AnyArray (AnyArray × ArrayError) → AnyArray → AnyArray → Type 0
-Patches (Ok a) held wanted = (a ≡ wanted) × (weight_fault wanted ≡ None)
-Patches (Err p) held wanted = (p.0 ≡ held) × (p.1 ≡ unwrap_or (weight_fault wanted) NoMemory) × (p.1 ≡ NoMemory → is_bytes held ≡ true)
+Patches (Ok a) held wanted = (a ≡ wanted) × (weight_refusal wanted ≡ None)
+Patches (Err p) held wanted = (p.0 ≡ held) × (p.1 ≡ unwrap_or (weight_refusal wanted) NoMemory) × (p.1 ≡ NoMemory → is_bytes held ≡ true)
 
 -- texts as they are after a patch, or as they were, where they would count too much
 abbrev pub PatchesTexts : Result (List (List ℕ)) (List (List ℕ)) → List (List ℕ) → List (List ℕ) → Type 0
-PatchesTexts (Ok l) held wanted = (l ≡ wanted) × (texts_fault wanted ≡ None)
-PatchesTexts (Err l) held wanted = (l ≡ held) × (texts_fault wanted ≡ Some TooLarge)
+PatchesTexts (Ok l) held wanted = (l ≡ wanted) × (texts_refusal wanted ≡ None)
+PatchesTexts (Err l) held wanted = (l ≡ held) × (texts_refusal wanted ≡ Some TooLarge)

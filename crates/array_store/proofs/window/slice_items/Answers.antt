@@ -1,0 +1,13 @@
+use Rattle.std.proofs.Common.{◌≡◌, Some, ap, sym, ◌∙◌, arith}
+use Rattle.std.proofs.lemmas.Bool.Decides.{nat_tests}
+use Rattle.array_store.specs.Shape.{sizes, volume}
+use Rattle.array_store.proofs.Regions.{sliced-empty, told-number}
+use Rattle.array_store.proofs.Steps.{region-within}
+use Rattle.array_store.proofs.window.slice_items.Goals as goal
+
+pub returns-in-Some-eq0 : goal.returns-in-Some-eq0
+returns-in-Some-eq0 g c =
+    let within = region-within c.args.dims.now c.args.starts.now c.args.counts.now c.requires.region in
+    let zero : c.in-Some-eq0.field-0 ≡ 0 = grind (arith, nat_tests) in
+    let none : volume (sizes c.args.counts.now) ≡ 0 = told-number _ 0 (sym c.volume.ensures ∙ c.in-Some-eq0.is ∙ ap (λ n. Some n) zero) in
+    c.new.ensures.items ∙ sym (sliced-empty (sizes c.args.dims.now) (sizes c.args.starts.now) (sizes c.args.counts.now) c.args.items.now within c.requires.full none)
