@@ -3,6 +3,7 @@ use Rattle.std.proofs.Common.{ℕ, zero, suc, ◌+◌, ◌*◌, ◌-◌, ◌^◌
 use Rattle.std.proofs.lemmas.List.{take_at, drop_at, take-append-drop, drop-drop, nil_from_length, set-append_left, set-append_right, length-map}
 use Rattle.std.proofs.Math.Nat.{mul-le-mul_right}
 use Rattle.std.specs.List.{filter_map, cons_option, flat_map, range_with_len, AllByRecursion}
+use Rattle.etp_values.proofs.Each.{all-append}
 use Rattle.array_store.specs.Shape.{volume, place}
 use Rattle.array_store.specs.Region.{indexes, elements_at, written_at, sliced, patched}
 use Rattle.array_store.proofs.Rows.{rows_read, rows_written, rows_back}
@@ -46,10 +47,6 @@ abbrev pub Within : List ℕ → List ℕ → List ℕ → Type 0
 Within [] [] [] = Unit {0}
 Within (d ∷ ds) (s ∷ ss) (c ∷ cs) = (s + c ≤ d) × Within ds ss cs
 Within ds ss cs = ⊥
-
-all-append : {X : Type 0} (P : X → Type 0) (xs ys : List X) → AllByRecursion P xs → AllByRecursion P ys → AllByRecursion P (xs ++ ys)
-all-append P [] ys p q = q
-all-append P (x ∷ xs) ys p q = (p.0, all-append P xs ys p.1 q)
 
 all-map : {X Y : Type 0} (P : X → Type 0) (Q : Y → Type 0) (f : X → Y) → ((x : X) → P x → Q (f x)) → (xs : List X) → AllByRecursion P xs → AllByRecursion Q (map f xs)
 all-map P Q f h [] p = tt

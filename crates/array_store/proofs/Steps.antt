@@ -4,16 +4,13 @@ use Rattle.std.proofs.Math.Nat.{mul-div_cancel_left, mul-le-mul_right}
 use Rattle.std.proofs.lemmas.Bool.{false≢true}
 use Rattle.std.proofs.lemmas.Bool.Decides.{nat_tests}
 use Rattle.std.proofs.lemmas.List.{take_all, take_at, drop_at, take-append-drop, append-nil, drop-drop, nil_from_length, length-map}
+use Rattle.etp_values.proofs.Bools.{both_true}
 use Rattle.array_store.specs.Shape.{size, sizes, volume}
 use Rattle.array_store.specs.Region.{is_span, is_region, IsOuter, sliced, patched}
 use Rattle.array_store.proofs.Rows.{rows_read, rows_written, rows_read-one, rows_written-one}
 use Rattle.array_store.proofs.Regions.{Within, sliced-rows, patched-rows}
 
 -- ---- what the test of a region says
-
-both : (a b : Bool) → (a && b) ≡ true → (a ≡ true) × (b ≡ true)
-both true b h = (refl, h)
-both false b h = absurd (false≢true h)
 
 pub span-sizes : (d s c : ℤ) → is_span d s c ≡ true → size s + size c ≤ size d
 span-sizes (pos d) (pos s) (pos c) h = grind (arith, nat_tests)
@@ -28,7 +25,7 @@ region-within [] (s ∷ ss) cs h = absurd (false≢true h)
 region-within (d ∷ ds) [] cs h = absurd (false≢true h)
 region-within (d ∷ ds) (s ∷ ss) [] h = absurd (false≢true h)
 region-within (d ∷ ds) (s ∷ ss) (c ∷ cs) h =
-    let parts = both (is_span d s c) (is_region ds ss cs) h in
+    let parts = both_true (is_span d s c) (is_region ds ss cs) h in
     (span-sizes d s c parts.0, region-within ds ss cs parts.1)
 
 -- ---- the last dimension: one run

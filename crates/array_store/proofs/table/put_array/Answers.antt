@@ -6,7 +6,8 @@ use Rattle.array_store.specs.contracts.key.ArrayKeyPartialEq.TheImpl.{ghosts}
 use Rattle.array_store.specs.declared.error.ArrayError.TheVariants.{NoMemory}
 use Rattle.array_store.specs.Table as table
 use Rattle.array_store.specs.Table.{same_key}
-use Rattle.array_store.proofs.Keys.{key_test, found_set}
+use Rattle.etp_values.proofs.Lookups.{found_set}
+use Rattle.array_store.proofs.Keys.{key_test, same_key-equiv}
 use Rattle.array_store.proofs.Sound.{sound-set, sound-same, refusal-put_array}
 use Rattle.array_store.proofs.table.put_array.Goals as goal
 
@@ -20,7 +21,7 @@ returns-in-Ok-clause-each c = λ q.
     let put : lookup (ghosts.eq q) new ≡ cond (ghosts.eq c.args.key q) (Some c.made-value.result) (lookup (ghosts.eq q) old) = search rules in
     let same = subst (λ eq. lookup (eq q) new ≡ cond (eq c.args.key q) (Some c.made-value.result) (lookup (eq q) old)) key_test put in
     let wanted = table.put_array (lookup (same_key c.args.key) old) c.args.value in
-    found_set wanted c.args.key q (lookup (same_key q) old) (lookup (same_key q) new) (same ∙ ap (λ r. cond (same_key c.args.key q) (Some r) (lookup (same_key q) old)) row)
+    found_set same_key same_key-equiv wanted c.args.key q (lookup (same_key q) old) (lookup (same_key q) new) (same ∙ ap (λ r. cond (same_key c.args.key q) (Some r) (lookup (same_key q) old)) row)
 
 pub returns-in-Ok-clause-sound : goal.returns-in-Ok-clause-sound
 returns-in-Ok-clause-sound c = λ all.
