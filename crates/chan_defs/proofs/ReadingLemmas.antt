@@ -1,24 +1,22 @@
 -- What a read of the bytes says of the configuration.
-use Rattle.std.proofs.Common.{◌≡◌, ◌≤◌, ◌<◌, ℕ, List, [], ◌∷◌, ◌++◌, length, codes, Bool, true, false, ◌||◌, ◌&&◌, cond, Option, Some, None, option_and_then, Result, Err, refl, sym, ap, subst, ◌∙◌, nat_lt, arith}
+use Rattle.std.proofs.Common.{◌≡◌, ◌≤◌, ◌<◌, ℕ, List, [], ◌∷◌, ◌++◌, length, codes, Bool, true, false, ◌||◌, cond, Option, Some, None, option_and_then, Result, Err, refl, sym, ap, subst, ◌∙◌, nat_lt, arith}
 use Rattle.std.proofs.lemmas.Bool.{false≢true}
 use Rattle.std.proofs.lemmas.Bool.Decides.{nat_tests}
 use Rattle.std.proofs.lemmas.Str.{is_utf8-from_IsUtf8, IsUtf8-from_is_utf8}
-use Rattle.std.specs.Str.{IsUtf8, is_utf8, bytes_eq}
+use Rattle.std.specs.Str.{IsUtf8, is_utf8}
 use Rattle.toml.specs.Data.{Members}
 use Rattle.toml.specs.Parse.{parse_document}
 use Rattle.uuid.specs.Text.{parsed}
 use Rattle.etp_values.specs.Gives.{Gives}
 use Rattle.std.proofs.lemmas.List.Folds.{list_any-append}
-use Rattle.std.specs.Option.{option_eq}
-use Rattle.etp_values.specs.SameUri.{same_name, same_uri, same_uri-equiv}
-use Rattle.etp_values.specs.declared.uri.ObjectName.{ObjectName}
+use Rattle.etp_values.specs.SameUri.{same_uri, same_uri-equiv}
 use Rattle.etp_values.specs.declared.uri.StoreUri.{StoreUri}
 use Rattle.chan_defs.specs.Keys.{text_at, instance_of}
-use Rattle.chan_defs.specs.Config.{next, or_else, table_of, config_of, defs, channels_after, channels_of, is_taken}
+use Rattle.chan_defs.specs.Config.{next, or_else, table_of, config_of, defs, is_taken}
 use Rattle.chan_defs.specs.declared.config.Config.{Config}
 use Rattle.chan_defs.specs.declared.config.ChannelDef.{ChannelDef}
 use Rattle.chan_defs.specs.declared.error.DefsError.{DefsError}
-use Rattle.chan_defs.specs.declared.error.DefsError.TheVariants.{TooLong, Toml, TooMany, NoMemory}
+use Rattle.chan_defs.specs.declared.error.DefsError.TheVariants.{TooLong, Toml, NoMemory}
 
 none_of : {A : Type 0} (o : Option A) → ((u : A) × (o ≡ Some u) → false ≡ true) → o ≡ None
 none_of None h = refl
@@ -54,14 +52,6 @@ defs_toml b h p = defs_short b h ∙ ap (λ (o : Option Members). next (or_else 
     go true e = rw e (p (IsUtf8-from_is_utf8 b e))
     go false e = rw e refl
 
--- ---- the channels
-
-pub channels_long : (ts : List Members) → 4096 < length ts → channels_of ts ≡ Err TooMany
-channels_long ts h = let long : nat_lt 4096 (length ts) ≡ true = grind (arith, nat_tests) in rw long refl
-
-pub channels_short : (ts : List Members) → length ts ≤ 4096 → channels_of ts ≡ channels_after [] ts
-channels_short ts h = let few : nat_lt 4096 (length ts) ≡ false = grind (arith, nat_tests) in rw few refl
-
 -- ---- the set of taken URIs
 
 join : (a b : Bool) → cond a true b ≡ (b || (a || false))
@@ -78,27 +68,3 @@ put_taken before after key c channels key_is step told q =
     let test : same_uri key q ≡ same_uri q c.uri = ap (λ (k : StoreUri). same_uri k q) key_is ∙ same_uri-equiv.symm c.uri q in
     step q ∙ ap (λ a. cond a true (before q)) test ∙ ap (λ b. cond (same_uri q c.uri) true b) (told q) ∙ join (same_uri q c.uri) (is_taken q channels)
     ∙ sym (list_any-append (λ (d : ChannelDef). same_uri q d.uri) channels (c ∷ []))
-
--- the comparison that tables of URIs make, field by field
-abbrev pub fields_name : ObjectName → ObjectName → Bool
-fields_name a b = bytes_eq a.domain b.domain && (bytes_eq a.name b.name && bytes_eq a.id b.id)
-
-abbrev pub fields_uri : StoreUri → StoreUri → Bool
-fields_uri u v = bytes_eq u.space v.space && option_eq fields_name u.object v.object
-
-and_assoc : (a b c : Bool) → (a && (b && c)) ≡ (a && b && c)
-and_assoc true b c = refl
-and_assoc false b c = refl
-
-same_objects : (x y : Option ObjectName) → option_eq fields_name x y ≡ option_eq same_name x y
-same_objects None None = refl
-same_objects None (Some y) = refl
-same_objects (Some x) None = refl
-same_objects (Some x) (Some y) = and_assoc (bytes_eq x.domain y.domain) (bytes_eq x.name y.name) (bytes_eq x.id y.id)
-
-same_fields : (u v : StoreUri) → fields_uri u v ≡ same_uri u v
-same_fields u v = ap (λ o. bytes_eq u.space v.space && o) (same_objects u.object v.object)
-
--- it is that of the definitions
-pub fields_uri-is : fields_uri ≡ same_uri
-fields_uri-is = λ i u v. same_fields u v i

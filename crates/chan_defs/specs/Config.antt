@@ -59,6 +59,7 @@ channels_after earlier (t ∷ ts) =
     let n = length earlier + 1 in
     next (next (channel_of n t) (put_channel n earlier)) (λ channels. channels_after channels ts)
 
+-- the channels of these tables, at most 4,096
 abbrev pub channels_of : List Members → Result (List ChannelDef) DefsError
 channels_of tables = if nat_lt 4096 (length tables) then Err TooMany else channels_after [] tables
 

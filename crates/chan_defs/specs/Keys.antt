@@ -24,6 +24,7 @@ instance_of t = option_and_then parsed (text_at (codes "instance") t)
 abbrev pub is_name : List ℕ → Bool
 is_name s = nat_le 1 (length s) && nat_le (length s) 256
 
+-- the name of a table
 abbrev pub name_of : Members → Option (List ℕ)
 name_of t = passing is_name (text_at (codes "name") t)
 
@@ -37,6 +38,7 @@ abbrev pub number_or : ℕ → ℕ → Option Data → Option ℕ
 number_or low high None = Some high
 number_or low high (Some d) = option_and_then (within low high) (as_integer d)
 
+-- the number at a key
 abbrev pub number_at : List ℕ → ℕ → ℕ → Members → Option ℕ
 number_at key low high t = number_or low high (get_member key t)
 
@@ -50,6 +52,7 @@ abbrev pub types_or : Option Data → Option (Option (List (List ℕ)))
 types_or None = Some None
 types_or (Some d) = option_map (λ ss. Some ss) (option_and_then filters_of (as_array d))
 
+-- the types of a table
 abbrev pub types_of : Members → Option (Option (List (List ℕ)))
 types_of t = types_or (get_member (codes "types") t)
 
@@ -63,6 +66,7 @@ abbrev pub tables_or : Option Data → Option (List Members)
 tables_or None = Some []
 tables_or (Some d) = option_and_then tables_in (as_array d)
 
+-- the channels' tables of a table
 abbrev pub tables_of : Members → Option (List Members)
 tables_of t = tables_or (get_member (codes "channel") t)
 
@@ -71,16 +75,19 @@ abbrev pub kinds : List (List ℕ × ValueKind)
 kinds = (codes "boolean", Boolean) ∷ (codes "int", Int) ∷ (codes "long", Long) ∷ (codes "float", Float) ∷ (codes "double", Double) ∷ (codes "string", String)
     ∷ (codes "bytes", Bytes) ∷ []
 
+-- the kind of a name
 abbrev pub kind_of : List ℕ → Option ValueKind
 kind_of s = lookup (bytes_eq s) kinds
 
--- a unit of measure has at most 64 bytes, and none where there is nothing
+-- a unit of measure has at most 64 bytes
 abbrev pub is_unit : List ℕ → Bool
 is_unit s = nat_le (length s) 64
 
+-- the unit, and the empty one where there is nothing
 abbrev pub unit_or : Option Data → Option (List ℕ)
 unit_or None = Some []
 unit_or (Some d) = passing is_unit (as_str d)
 
+-- the unit of a table
 abbrev pub unit_of : Members → Option (List ℕ)
 unit_of t = unit_or (get_member (codes "uom") t)

@@ -20,7 +20,8 @@ const MAX_CHANNELS: usize = 4_096;
 
 /// The URI of a channel, which has to be an object's.
 fn read_uri(alloc: Global, channel: u64, text: &str) -> Result<StoreUri, DefsError>
-    ensures { Gives DefsError.NoMemory result (or_else (DefsError.Uri channel) (object_uri (uri_of text.now))) }
+    ensures { Gives DefsError.NoMemory result
+        (or_else (DefsError.Uri channel) (object_uri (uri_of text.now))) }
 {
     match StoreUri::read(alloc, text) {
         Ok(uri) => {
@@ -113,7 +114,8 @@ impl Channels {
 
     /// Puts a channel last, if no other has its URI. The channels stay as they were where it is refused.
     fn put(&mut self, alloc: Global, number: u64, channel: ChannelDef) -> Result<(), DefsError>
-        ensures { MatchResult result (λ _. put_channel number self.old channel ≡ Ok self.new) (λ e. e ≢ DefsError.NoMemory → put_channel number self.old channel ≡ Err e) }
+        ensures { MatchResult result (λ _. put_channel number self.old channel ≡ Ok self.new)
+            (λ e. e ≢ DefsError.NoMemory → put_channel number self.old channel ≡ Err e) }
     {
         let uri = channel.uri.copy(alloc)?;
         self.items.reserve(1)?;

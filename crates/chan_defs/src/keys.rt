@@ -121,7 +121,8 @@ pub fn types(alloc: Global, table: &Table) -> Result<Option<Option<List<Text>>>,
 }
 
 fn tables_of_array(alloc: Global, array: &Vec<Value>) -> Result<Option<Vec<&Table>>, NoMemory>
-    ensures { IfOk result (λ r. option_map (λ v. map (λ t. table_view t.now) v.items) r ≡ tables_in (items_view array.now.items)) }
+    ensures { IfOk result (λ r. option_map (λ v. map (λ t. table_view t.now) v.items) r
+        ≡ tables_in (items_view array.now.items)) }
 {
     let mut found = Vec::new(alloc);
     for item in array {
@@ -135,7 +136,8 @@ fn tables_of_array(alloc: Global, array: &Vec<Value>) -> Result<Option<Vec<&Tabl
 
 /// The tables of the channels: no table where there is no list.
 pub fn tables(alloc: Global, table: &Table) -> Result<Option<Vec<&Table>>, NoMemory>
-    ensures { IfOk result (λ r. option_map (λ v. map (λ t. table_view t.now) v.items) r ≡ tables_of (table_view table.now)) }
+    ensures { IfOk result (λ r. option_map (λ v. map (λ t. table_view t.now) v.items) r
+        ≡ tables_of (table_view table.now)) }
 {
     let Some(found) = value(table, "channel") else {
         return Ok(Some(Vec::new(alloc)));
