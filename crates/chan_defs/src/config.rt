@@ -1,5 +1,5 @@
 //! A server's configuration.
-use etp_values::{Copied, Id16, List, NoMemory, StoreUri, Text};
+use etp_values::{Copied, Id16, List, NoMemory, Shared, StoreUri, Text};
 use std::alloc::Global;
 
 /// What a channel's values are.
@@ -31,7 +31,8 @@ pub struct Config {
     pub lag: u64,
     pub journal: u64,
     pub types: Option<List<Text>>,
-    pub channels: List<ChannelDef>,
+    /// The channels, which copies of a configuration have in common.
+    pub channels: Shared<List<ChannelDef>>,
 }
 
 impl Copied for ChannelDef {

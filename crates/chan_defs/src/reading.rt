@@ -8,7 +8,7 @@ use crate::channels::read_channels;
 use crate::config::Config;
 use crate::error::DefsError;
 use crate::keys::{instance, name, number, tables, types};
-use etp_values::{NoMemory, Text};
+use etp_values::{NoMemory, Shared, Text};
 use std::alloc::Global;
 use toml::Table;
 
@@ -42,7 +42,7 @@ fn read_config(alloc: Global, table: &Table) -> Result<Config, DefsError>
     let Some(tables) = tables(alloc, table)? else {
         return Err(DefsError::Key { channel: 0, key: 6 });
     };
-    let channels = read_channels(alloc, &tables)?;
+    let channels = Shared::new(alloc, read_channels(alloc, &tables)?)?;
     let name = Text::copy(alloc, name)?;
     Ok(Config {
         instance,

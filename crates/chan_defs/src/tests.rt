@@ -48,7 +48,7 @@ fn reads_what_is_there_and_the_defaults(rt: HostRuntime) -> Result<(), Fail> {
     assert!(rt; config.instance.as_bytes()[15] == 1);
     assert!(rt; config.name.as_str() == "wd");
     assert!(rt; config.lag == 65_536 && config.journal == 4_194_304);
-    assert!(rt; config.types.is_none() && config.channels.is_empty());
+    assert!(rt; config.types.is_none() && config.channels.get().is_empty());
     let lines = "lag = 1\njournal = 2\ntypes = [\"witsml21.*\", \"eml23.Well\"]\n";
     let config = read_after_head(alloc, lines)?;
     assert!(rt; config.lag == 1 && config.journal == 2);
@@ -60,8 +60,8 @@ fn reads_what_is_there_and_the_defaults(rt: HostRuntime) -> Result<(), Fail> {
 fn reads_and_copies_a_channel(rt: HostRuntime) -> Result<(), Fail> {
     let alloc = rt.alloc();
     let copy = read_after_head(alloc, CHANNEL)?.copy(alloc)?;
-    assert!(rt; copy.channels.len() == 1);
-    for channel in copy.channels.as_slice() {
+    assert!(rt; copy.channels.get().len() == 1);
+    for channel in copy.channels.get().as_slice() {
         assert!(rt; channel.name.as_str() == "c1");
         assert!(rt; channel.kind == ValueKind::Long);
         assert!(rt; channel.uom.is_empty());

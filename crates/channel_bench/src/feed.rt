@@ -5,7 +5,9 @@ use crate::changes::Change;
 use crate::error::FeedError;
 use chan_defs::{ChannelDef, Config, ValueKind};
 use channel_store::ChannelStore;
-use etp_values::{ChannelPoint, Copied, DataValue, Id16, List, NoMemory, Point, StoreUri, Text};
+use etp_values::{
+    ChannelPoint, Copied, DataValue, Id16, List, NoMemory, Point, Shared, StoreUri, Text,
+};
 use std::alloc::Global;
 use std::marker::Model;
 
@@ -50,7 +52,7 @@ fn config(alloc: Global) -> Result<Config, NoMemory> {
         lag: 1,
         journal: 2,
         types: None,
-        channels: List::from_vec(channels),
+        channels: Shared::new(alloc, List::from_vec(channels))?,
     })
 }
 

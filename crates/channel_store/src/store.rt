@@ -47,7 +47,7 @@ impl ChannelStore {
         ensures channels { IfOk result (λ s. s ≡ map fresh config.now.channels) }
         ensures places { IfOk result (λ s. (place : ℕ) → IsNewPlace place s) }
     {
-        let tracks = fresh_tracks(alloc, config.channels.as_slice())?;
+        let tracks = fresh_tracks(alloc, config.channels.get().as_slice())?;
         Ok(ChannelStore { alloc, tracks })
     }
 

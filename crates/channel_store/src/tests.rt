@@ -4,7 +4,9 @@ ghost use Rattle.channel_store.specs.Store.{IsNewPlace};
 
 use super::*;
 use chan_defs::{ChannelDef, Config, ValueKind};
-use etp_values::{ChannelPoint, Copied, DataValue, Id16, List, NoMemory, Point, StoreUri, Text};
+use etp_values::{
+    ChannelPoint, Copied, DataValue, Id16, List, NoMemory, Point, Shared, StoreUri, Text,
+};
 use std::alloc::Global;
 use std::process::Abort;
 use std::test::Fail;
@@ -37,7 +39,7 @@ fn two_channels(alloc: Global) -> Result<ChannelStore, NoMemory>
         lag: 1,
         journal: 2,
         types: None,
-        channels: List::from_vec(channels),
+        channels: Shared::new(alloc, List::from_vec(channels))?,
     };
     ChannelStore::new(alloc, &config)
 }

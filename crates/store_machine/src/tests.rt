@@ -3,7 +3,7 @@ ghost use Rattle.store_machine.specs.Legal.{own, Legal};
 
 use super::*;
 use chan_defs::Config;
-use etp_values::{DataValue, ErrorCode, Id16, List, Named, NoMemory, Text};
+use etp_values::{DataValue, ErrorCode, Id16, List, Named, NoMemory, Shared, Text};
 use object_store::SpaceRecord;
 use std::alloc::Global;
 use std::test::Fail;
@@ -16,7 +16,7 @@ fn store(alloc: Global, journal: u64) -> Result<Store, NoMemory> {
         lag: 1,
         journal,
         types: None,
-        channels: List::new(alloc),
+        channels: Shared::new(alloc, List::new(alloc))?,
     };
     Store::new(alloc, config)
 }

@@ -1,7 +1,7 @@
 //! Rows with bytes from outside: each message is written out by the wire format's tables.
 use crate::{End, Session};
 use chan_defs::Config;
-use etp_values::{ErrorCode, Id16, List, Named, NoMemory, Text};
+use etp_values::{ErrorCode, Id16, List, Named, NoMemory, Shared, Text};
 use std::alloc::Global;
 use std::process::Abort;
 use std::test::Fail;
@@ -35,7 +35,7 @@ fn config(alloc: Global) -> Result<Config, NoMemory> {
         lag: 65_536,
         journal: 4_194_304,
         types: None,
-        channels: List::new(alloc),
+        channels: Shared::new(alloc, List::new(alloc))?,
     })
 }
 
