@@ -1,9 +1,8 @@
 -- The copy of a stream is the channel's points from its start on.
-use Rattle.std.specs.Prelude.{ℤ, pos, ◌-ℤ◌, ◌≤ℤ◌, ◌<ℤ◌, int_lt, Bool, true, false, cond, List, [], ◌∷◌, ◌++◌, ◌≡◌, fold, filter, not, ◌&&◌, refl, if◌then◌else◌}
+use Rattle.std.specs.Prelude.{ℤ, pos, ◌-ℤ◌, int_lt, Bool, true, false, cond, List, [], ◌∷◌, ◌++◌, ◌≡◌, fold, filter, not, ◌&&◌, refl, if◌then◌else◌}
 use Rattle.std.specs.Int.{int_max}
 use Rattle.std.specs.List.{flat_map, AllByRecursion}
-use Rattle.std.proofs.Math.Seq.{drop-append_seam, take-append_seam}
-use Rattle.std.proofs.Common.{ℕ, length, ◌≤◌, ◌-◌, length-drop, append_assoc, suc, take, drop, ap, sym, ◌∙◌, arith, rules, append-nil, subst}
+use Rattle.std.proofs.Common.{ap, sym, ◌∙◌, arith, append-nil}
 use Rattle.std.proofs.lemmas.Int.{ints}
 use Rattle.std.proofs.lemmas.Bool.{false≢true}
 use Rattle.std.proofs.lemmas.List.Elements.{filter-append}
@@ -11,7 +10,7 @@ use Rattle.std.proofs.lemmas.List.Sums.{fold-append}
 use Rattle.etp_values.specs.declared.point.Point.{Point}
 use Rattle.channel_store.specs.declared.change.What.{What}
 use Rattle.channel_store.specs.declared.change.What.TheVariants.{Append, Replace, Truncate}
-use Rattle.channel_store.specs.Points.{at_most, is_within, put_below, outside, after, copy, past, append_of, view, stream, IsWithin}
+use Rattle.channel_store.specs.Points.{at_most, put_below, outside, after, copy, past, append_of, view, stream, IsWithin}
 
 -- the tests on one index: i against the start s, and the ends
 cut_test : (s e i : ℤ) → at_most s i ≡ true → at_most i (int_max e (s -ℤ pos 1)) ≡ at_most i e

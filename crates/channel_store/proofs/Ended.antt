@@ -1,24 +1,23 @@
 -- How a call ends: which refusal it has, and what it leaves.
-use Rattle.std.proofs.Common.{refl, ℕ, zero, suc, ◌≡◌, ◌≢◌, ◌<◌, ◌≤◌, ◌+◌, Bool, true, false, cond, not, ◌&&◌, ◌||◌, List, [], ◌∷◌, ◌++◌, length, map, ap, sym, ◌∙◌, arith, subst, zero-add, append-nil, append_assoc, Option, Some, None, Ok, Err, option_map}
-use Rattle.std.specs.Prelude.{ℤ, pos, negsuc, slice_get, Result, MatchResult, is_some, zip}
+use Rattle.std.proofs.Common.{refl, ℕ, suc, ◌≡◌, ◌<◌, Bool, true, false, cond, not, ◌||◌, List, [], ◌∷◌, ◌++◌, length, map, ap, sym, ◌∙◌, arith, subst, zero-add, append-nil, append_assoc, Option, Some, None, Ok, Err, option_map}
+use Rattle.std.specs.Prelude.{ℤ, pos, negsuc, Result, MatchResult, is_some, zip}
 use Rattle.std.specs.List.{AllByRecursion}
 use Rattle.std.proofs.lemmas.Bool.{false≢true}
-use Rattle.etp_values.specs.declared.point.Point.{Point}
 use Rattle.etp_values.specs.declared.point.ChannelPoint.{ChannelPoint}
 use Rattle.channel_store.specs.declared.error.ChannelError.{ChannelError}
-use Rattle.channel_store.specs.declared.error.ChannelError.TheVariants.{NoChannel, Index, Kind, Doubled, Interval, Order, Outside, NoMemory}
+use Rattle.channel_store.specs.declared.error.ChannelError.TheVariants.{NoChannel, Index, Kind, Doubled, Outside, NoMemory}
 use Rattle.channel_store.specs.declared.change.What.{What}
 use Rattle.channel_store.specs.declared.change.ChannelChange.{ChannelChange}
 use Rattle.chan_defs.specs.declared.config.ChannelDef.{ChannelDef}
 use Rattle.etp_values.specs.Gives.{Gives}
-use Rattle.channel_store.specs.declared.change.What.TheVariants.{Append, Replace, Truncate}
-use Rattle.channel_store.specs.declared.draft.Way.TheVariants.{Behind, Between, UpTo}
+use Rattle.channel_store.specs.declared.change.What.TheVariants.{Replace, Truncate}
+use Rattle.channel_store.specs.declared.draft.Way.TheVariants.{Between, UpTo}
 use Rattle.channel_store.specs.Points.{is_within}
 use Rattle.channel_store.specs.Channels.{Channel, IsPastAll, fresh}
-use Rattle.channel_store.specs.Rows.{Row, plain, done, done_by, Due, IsDue}
+use Rattle.channel_store.specs.Rows.{Row, plain, done, done_by, Due}
 use Rattle.channel_store.specs.Refusals.{int_eq, channel_at, points_at, points_of, is_listed, or_else, first_refusal, unless, verdict, in_range, suits, item_refusal, disorder, append_refusal, channels_refusal, interval_refusal, inside_refusal, replace_refusal, cut_refusal, truncate_refusal}
 use Rattle.channel_store.specs.Store.{by_number, happens, changed, append_some, appended, replaced, truncated, IsNewPlace}
-use Rattle.channel_store.specs.Sweeps.{EndsAs, shown_of, IsIdle, row_at, step_at, next_rows, steps, append_item, add_item, opened, open_channel, open_cut, unless_fault, shown_in, is_staged, item_fault, inside_fault, staged_by, outcome, swept, all_done, ids_of, AllDue}
+use Rattle.channel_store.specs.Sweeps.{EndsAs, shown_of, IsIdle, row_at, next_rows, steps, append_item, add_item, opened, open_channel, open_cut, unless_refused, shown_in, is_staged, item_refusal_in, inside_refusal_in, staged_by, outcome, all_done, ids_of, AllDue}
 use Rattle.channel_store.proofs.Ordered.{all-map, all-push}
 use Rattle.channel_store.proofs.Numbered.{by_number-same, by_number-map, get-by_number, get-none, by_number-after, map-by_number}
 use Rattle.channel_store.proofs.Staged.{int_eq-refl, step_at-ok, step_at-err, step_at-absent, append-steps, open-steps, add-steps, IsInside}
@@ -124,15 +123,15 @@ row_at-staged what cs (pos k) (Some c) h = get-by_number (λ n c. record { shown
 row_at-staged what cs (negsuc k) None h = refl
 row_at-staged what cs (negsuc k) (Some c) h = cc
 
-item_fault-is : (cs : List Channel) (i : ChannelPoint) → item_fault (staged_by (λ id. None) cs) i ≡ item_refusal (channel_at cs i.channel) i
-item_fault-is cs i = ap (λ r. item_refusal (shown_in r) i) (row_at-staged (λ id. None) cs i.channel (channel_at cs i.channel) refl) ∙ by (channel_at cs i.channel)
+item_refusal_in-is : (cs : List Channel) (i : ChannelPoint) → item_refusal_in (staged_by (λ id. None) cs) i ≡ item_refusal (channel_at cs i.channel) i
+item_refusal_in-is cs i = ap (λ r. item_refusal (shown_in r) i) (row_at-staged (λ id. None) cs i.channel (channel_at cs i.channel) refl) ∙ by (channel_at cs i.channel)
   where
     by : (o : Option Channel) → item_refusal (shown_in (option_map (λ c. record { shown = c; staged = None }) o)) i ≡ item_refusal o i
     by None = refl
     by (Some c) = refl
 
-inside_fault-is : (cs : List Channel) (ids : List ℤ) (from to : ℤ) (i : ChannelPoint) → inside_fault (staged_by (replaced ids from to []) cs) from to i ≡ inside_refusal (is_listed ids i.channel) (channel_at cs i.channel) from to i
-inside_fault-is cs ids from to i = ap (λ r. inside_refusal (is_staged r) (shown_in r) from to i) (row_at-staged (replaced ids from to []) cs i.channel (channel_at cs i.channel) refl) ∙ by (channel_at cs i.channel) (is_listed ids i.channel)
+inside_refusal_in-is : (cs : List Channel) (ids : List ℤ) (from to : ℤ) (i : ChannelPoint) → inside_refusal_in (staged_by (replaced ids from to []) cs) from to i ≡ inside_refusal (is_listed ids i.channel) (channel_at cs i.channel) from to i
+inside_refusal_in-is cs ids from to i = ap (λ r. inside_refusal (is_staged r) (shown_in r) from to i) (row_at-staged (replaced ids from to []) cs i.channel (channel_at cs i.channel) refl) ∙ by (channel_at cs i.channel) (is_listed ids i.channel)
   where
     by : (o : Option Channel) (b : Bool) → inside_refusal (is_staged (option_map (λ c. record { shown = c; staged = cond b (Some (Replace from to [])) None }) o)) (shown_in (option_map (λ c. record { shown = c; staged = cond b (Some (Replace from to [])) None }) o)) from to i ≡ inside_refusal b o from to i
     by None true = refl
@@ -189,16 +188,16 @@ verdict-ok (Some f) u h = cc
 
 -- ---- append
 
-append-faults : (cs : List Channel) (rows : List Row) (items : List ChannelPoint) → rows ≡ map plain cs → first_refusal (item_fault rows) items ≡ first_refusal (λ i. item_refusal (channel_at cs i.channel) i) items
-append-faults cs rows items idle =
-    ap (λ r. first_refusal (item_fault r) items) (idle ∙ plain-staged cs) ∙ first_refusal-same _ _ items (item_fault-is cs)
+append-refusals : (cs : List Channel) (rows : List Row) (items : List ChannelPoint) → rows ≡ map plain cs → first_refusal (item_refusal_in rows) items ≡ first_refusal (λ i. item_refusal (channel_at cs i.channel) i) items
+append-refusals cs rows items idle =
+    ap (λ r. first_refusal (item_refusal_in r) items) (idle ∙ plain-staged cs) ∙ first_refusal-same _ _ items (item_refusal_in-is cs)
 
-pub append-faulty : (cs : List Channel) (rows : List Row) (items : List ChannelPoint) (e : ChannelError) → rows ≡ map plain cs → first_refusal (item_fault rows) items ≡ Some e → append_refusal cs items ≡ Some e
-append-faulty cs rows items e idle h = ap (λ o. or_else o (disorder (points_at cs) [] items)) (sym (append-faults cs rows items idle) ∙ h)
+pub append-refused : (cs : List Channel) (rows : List Row) (items : List ChannelPoint) (e : ChannelError) → rows ≡ map plain cs → first_refusal (item_refusal_in rows) items ≡ Some e → append_refusal cs items ≡ Some e
+append-refused cs rows items e idle h = ap (λ o. or_else o (disorder (points_at cs) [] items)) (sym (append-refusals cs rows items idle) ∙ h)
 
-pub append-outcome : (cs : List Channel) (rows : List Row) (items : List ChannelPoint) → rows ≡ map plain cs → first_refusal (item_fault rows) items ≡ None → steps append_item rows items ≡ outcome (append_refusal cs items) (staged_by (appended items) cs)
+pub append-outcome : (cs : List Channel) (rows : List Row) (items : List ChannelPoint) → rows ≡ map plain cs → first_refusal (item_refusal_in rows) items ≡ None → steps append_item rows items ≡ outcome (append_refusal cs items) (staged_by (appended items) cs)
 append-outcome cs rows items idle h =
-    let none = sym (append-faults cs rows items idle) ∙ h in
+    let none = sym (append-refusals cs rows items idle) ∙ h in
     ap (λ r. steps append_item r items) (idle ∙ plain-staged cs)
     ∙ append-steps cs [] items (all-map _ _ (λ i k. item-known (channel_at cs i.channel) i k) items (none-refused (λ i. item_refusal (channel_at cs i.channel) i) items none))
     ∙ ap (λ o. outcome o (staged_by (appended items) cs)) (sym (ap (λ o. or_else o (disorder (points_at cs) [] items)) none))
@@ -208,27 +207,27 @@ append-outcome cs rows items idle h =
 pub open-outcome : (cs : List Channel) (rows : List Row) (ids : List ℤ) (from to : ℤ) → rows ≡ map plain cs → steps (open_channel (Between from to)) rows ids ≡ outcome (channels_refusal cs [] ids) (staged_by (replaced ids from to []) cs)
 open-outcome cs rows ids from to idle = ap (λ r. steps (open_channel (Between from to)) r ids) (idle ∙ plain-staged cs) ∙ open-steps cs [] ids from to
 
-pub inside-faults : (cs : List Channel) (ids : List ℤ) (from to : ℤ) (rows : List Row) (items : List ChannelPoint) → rows ≡ staged_by (replaced ids from to []) cs → first_refusal (inside_fault rows from to) items ≡ first_refusal (λ i. inside_refusal (is_listed ids i.channel) (channel_at cs i.channel) from to i) items
-inside-faults cs ids from to rows items e = ap (λ r. first_refusal (inside_fault r from to) items) e ∙ first_refusal-same _ _ items (inside_fault-is cs ids from to)
+pub inside-refusals : (cs : List Channel) (ids : List ℤ) (from to : ℤ) (rows : List Row) (items : List ChannelPoint) → rows ≡ staged_by (replaced ids from to []) cs → first_refusal (inside_refusal_in rows from to) items ≡ first_refusal (λ i. inside_refusal (is_listed ids i.channel) (channel_at cs i.channel) from to i) items
+inside-refusals cs ids from to rows items e = ap (λ r. first_refusal (inside_refusal_in r from to) items) e ∙ first_refusal-same _ _ items (inside_refusal_in-is cs ids from to)
 
-pub add-outcome : (cs : List Channel) (ids : List ℤ) (from to : ℤ) (rows : List Row) (items : List ChannelPoint) → rows ≡ staged_by (replaced ids from to []) cs → first_refusal (inside_fault rows from to) items ≡ None
+pub add-outcome : (cs : List Channel) (ids : List ℤ) (from to : ℤ) (rows : List Row) (items : List ChannelPoint) → rows ≡ staged_by (replaced ids from to []) cs → first_refusal (inside_refusal_in rows from to) items ≡ None
     → steps add_item rows items ≡ outcome (disorder (λ id. []) [] items) (staged_by (replaced ids from to items) cs)
 add-outcome cs ids from to rows items e h =
-    let none = sym (inside-faults cs ids from to rows items e) ∙ h in
+    let none = sym (inside-refusals cs ids from to rows items e) ∙ h in
     let facts : (i : ChannelPoint) → inside_refusal (is_listed ids i.channel) (channel_at cs i.channel) from to i ≡ None → IsInside cs ids from to i =
     λ i k. let parts = inside-facts (is_listed ids i.channel) (channel_at cs i.channel) from to i k in record { listed = parts.0; there = parts.1; within = parts.2 } in
     ap (λ r. steps add_item r items) e
     ∙ add-steps cs ids from to [] items (all-map _ _ facts items (none-refused (λ i. inside_refusal (is_listed ids i.channel) (channel_at cs i.channel) from to i) items none))
 
 pub fill-outcome : (cs : List Channel) (ids : List ℤ) (from to : ℤ) (rows : List Row) (items : List ChannelPoint) → rows ≡ staged_by (replaced ids from to []) cs → channels_refusal cs [] ids ≡ None
-    → unless_fault (interval_refusal from to) (unless_fault (first_refusal (inside_fault rows from to) items) (steps add_item rows items)) ≡ outcome (replace_refusal cs ids from to items) (staged_by (replaced ids from to items) cs)
+    → unless_refused (interval_refusal from to) (unless_refused (first_refusal (inside_refusal_in rows from to) items) (steps add_item rows items)) ≡ outcome (replace_refusal cs ids from to items) (staged_by (replaced ids from to items) cs)
 fill-outcome cs ids from to rows items e none =
-    by (interval_refusal from to) (first_refusal (inside_fault rows from to) items) (inside-faults cs ids from to rows items e) (add-outcome cs ids from to rows items e)
+    by (interval_refusal from to) (first_refusal (inside_refusal_in rows from to) items) (inside-refusals cs ids from to rows items e) (add-outcome cs ids from to rows items e)
     ∙ sym (ap (λ o. outcome (or_else o (or_else (interval_refusal from to) (or_else (first_refusal (λ i. inside_refusal (is_listed ids i.channel) (channel_at cs i.channel) from to i) items) (disorder (λ id. []) [] items)))) (staged_by (replaced ids from to items) cs)) none)
   where
     by : (o p : Option ChannelError) → p ≡ first_refusal (λ i. inside_refusal (is_listed ids i.channel) (channel_at cs i.channel) from to i) items
         → (p ≡ None → steps add_item rows items ≡ outcome (disorder (λ id. []) [] items) (staged_by (replaced ids from to items) cs))
-        → unless_fault o (unless_fault p (steps add_item rows items)) ≡ outcome (or_else o (or_else (first_refusal (λ i. inside_refusal (is_listed ids i.channel) (channel_at cs i.channel) from to i) items) (disorder (λ id. []) [] items))) (staged_by (replaced ids from to items) cs)
+        → unless_refused o (unless_refused p (steps add_item rows items)) ≡ outcome (or_else o (or_else (first_refusal (λ i. inside_refusal (is_listed ids i.channel) (channel_at cs i.channel) from to i) items) (disorder (λ id. []) [] items))) (staged_by (replaced ids from to items) cs)
     by (Some f) p same added = refl
     by None (Some f) same added = ap (λ q. outcome (or_else q (disorder (λ id. []) [] items)) (staged_by (replaced ids from to items) cs)) same
     by None None same added = added refl ∙ ap (λ q. outcome (or_else q (disorder (λ id. []) [] items)) (staged_by (replaced ids from to items) cs)) same

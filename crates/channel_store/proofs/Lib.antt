@@ -1,3 +1,4 @@
+pub mod CallLemmas
 pub mod ChangeLemmas
 pub mod Copies
 pub mod Ended

@@ -1,10 +1,9 @@
 -- Lists whose items are changed by their numbers.
-use Rattle.std.proofs.Common.{refl, ℕ, zero, suc, ◌≡◌, ◌<◌, ◌≤◌, ◌+◌, Bool, true, false, cond, List, [], ◌∷◌, ◌++◌, length, map, get_or, ap, sym, ◌∙◌, arith, subst, add-zero, Option, Some, None, Ok, Err}
-use Rattle.std.specs.Prelude.{ℤ, pos, negsuc, slice_get, slice_set, Result}
+use Rattle.std.proofs.Common.{refl, ℕ, zero, suc, ◌≡◌, ◌<◌, ◌≤◌, ◌+◌, List, [], ◌∷◌, length, map, get_or, ap, sym, ◌∙◌, arith, subst, add-zero, Some, None, Ok, Err}
+use Rattle.std.specs.Prelude.{slice_get, slice_set, Result}
 use Rattle.channel_store.specs.declared.error.ChannelError.{ChannelError}
-use Rattle.channel_store.specs.declared.change.What.{What}
 use Rattle.channel_store.specs.Channels.{Channel}
-use Rattle.channel_store.specs.Rows.{Row, plain}
+use Rattle.channel_store.specs.Rows.{Row}
 use Rattle.channel_store.specs.Store.{by_number}
 use Rattle.channel_store.specs.Sweeps.{modify, step_row, before_rows, with_row, shown_of}
 

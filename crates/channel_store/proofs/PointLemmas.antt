@@ -1,22 +1,21 @@
 -- The points of a channel in order.
-use Rattle.std.proofs.Common.{refl, ℕ, zero, suc, ◌≡◌, ◌<◌, ◌≤◌, ◌+◌, ◌-◌, Bool, true, false, cond, not, ◌&&◌, List, [], ◌∷◌, ◌++◌, length, take, drop, filter, map, ap, sym, ◌∙◌, arith, subst, append-nil, append_assoc, length-drop, Option, Some, None, option_map}
+use Rattle.std.proofs.Common.{refl, ℕ, suc, ◌≡◌, ◌≤◌, ◌+◌, ◌-◌, Bool, true, false, cond, not, List, [], ◌∷◌, ◌++◌, length, take, drop, filter, ap, sym, ◌∙◌, arith, subst, append-nil, append_assoc, length-drop, Option, Some, None, option_map}
 use Rattle.std.specs.Prelude.{ℤ, int_lt, slice_get, fold, Ok, Err}
 use Rattle.std.specs.List.{AllByRecursion}
 use Rattle.std.proofs.lemmas.Int.{ints}
 use Rattle.std.proofs.lemmas.List.{take_all}
-use Rattle.std.proofs.lemmas.Bool.{false≢true}
 use Rattle.etp_values.specs.declared.point.Point.{Point}
 use Rattle.channel_store.specs.declared.change.What.{What}
 use Rattle.channel_store.specs.declared.change.What.TheVariants.{Append, Replace, Truncate}
 use Rattle.channel_store.specs.declared.change.ChannelChange.{ChannelChange}
 use Rattle.channel_store.specs.declared.error.ChannelError.TheVariants.{Order, Outside}
-use Rattle.channel_store.specs.Points.{at_most, is_within, put_below, outside, inside, up_to, after, copy, Rises, last_of, lies_past, follows}
-use Rattle.channel_store.specs.Channels.{Channel, whats_of, happened, IsKept, IsPastAll, PlacesRise}
+use Rattle.channel_store.specs.Points.{at_most, is_within, put_below, outside, inside, after, Rises, last_of, follows}
+use Rattle.channel_store.specs.Channels.{Channel, whats_of, happened, IsKept, IsPastAll}
 use Rattle.channel_store.specs.declared.draft.Way.{Way}
 use Rattle.channel_store.specs.declared.draft.Way.TheVariants.{Behind, Between, UpTo}
 use Rattle.channel_store.specs.Rows.{Fits, takes, with_point, what_by, before_next, joins}
-use Rattle.channel_store.specs.Splits.{RisesBy, IsSplit}
-use Rattle.channel_store.proofs.Ordered.{all-map, all-push, all-append, all-filter, filter-all, all-cross, rises-push, rises-append, rises-filter, partitioned, none-pass, all-fail}
+use Rattle.channel_store.specs.Splits.{IsSplit}
+use Rattle.channel_store.proofs.Ordered.{all-map, all-push, all-append, all-filter, filter-all, all-cross, rises-push, rises-append, rises-filter, none-pass, all-fail}
 
 -- ---- tests on indexes
 

@@ -1,13 +1,11 @@
 -- What the code's writes to one row do to all.
 use Rattle.std.proofs.Common.{refl, ℕ, zero, suc, ◌≡◌, ◌<◌, ◌≤◌, ◌+◌, Bool, true, false, cond, ◌||◌, List, [], ◌∷◌, ◌++◌, length, map, take, drop, append-nil, get_or, ap, sym, ◌∙◌, arith, subst, zero-add, add-one, Option, Some, None, Ok, Err}
 use Rattle.std.specs.Prelude.{ℤ, pos, negsuc, slice_get, slice_set, Result, nat_lt, int_lt, zip}
-use Rattle.std.specs.List.{AllByRecursion}
 use Rattle.std.proofs.Math.IntN.{nat_abs}
 use Rattle.std.proofs.lemmas.Int.{ints}
 use Rattle.std.proofs.lemmas.List.{take_all}
 use Rattle.std.proofs.lemmas.Bool.{false≢true}
 use Rattle.std.proofs.lemmas.Bool.Decides.{nat_tests}
-use Rattle.etp_values.specs.declared.point.ChannelPoint.{ChannelPoint}
 use Rattle.channel_store.specs.declared.error.ChannelError.{ChannelError}
 use Rattle.channel_store.specs.declared.error.ChannelError.TheVariants.{NoChannel}
 use Rattle.channel_store.specs.declared.change.What.{What}
@@ -140,15 +138,6 @@ pub cleared-next : (n : ℕ) (rows : List Row) (r : Row) → n < length rows →
 cleared-next n [] r within at = absurd (omega arith)
 cleared-next zero (x ∷ xs) r within at = ap (λ q. cleared q ∷ xs) at
 cleared-next (suc n) (x ∷ xs) r within at = ap (λ l. cleared x ∷ l) (cleared-next n xs r (omega arith) at)
-
-pub cleared-all : (rows : List Row) → cleared_first (length rows) rows ≡ map plain (shown_of rows)
-cleared-all [] = refl
-cleared-all (r ∷ rs) = ap (λ l. plain r.shown ∷ l) (cleared-all rs)
-
-pub length-cleared : (n : ℕ) (rows : List Row) → length (cleared_first n rows) ≡ length rows
-length-cleared zero rows = refl
-length-cleared (suc n) [] = refl
-length-cleared (suc n) (r ∷ rs) = ap suc (length-cleared n rs)
 
 -- ---- one step after the other
 

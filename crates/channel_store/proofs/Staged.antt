@@ -1,23 +1,23 @@
 -- What the steps of a call are about to do to all channels.
-use Rattle.std.proofs.Common.{refl, ℕ, zero, suc, ◌≡◌, ◌<◌, ◌≤◌, ◌+◌, Bool, true, false, cond, not, ◌&&◌, ◌||◌, List, [], ◌∷◌, ◌++◌, length, map, ap, sym, ◌∙◌, arith, subst, zero-add, append-nil, append_assoc, Option, Some, None, Ok, Err}
-use Rattle.std.specs.Prelude.{ℤ, pos, negsuc, slice_get, Result, is_some}
-use Rattle.std.specs.List.{AllByRecursion, list_any}
+use Rattle.std.proofs.Common.{refl, ℕ, ◌≡◌, Bool, true, false, cond, not, ◌||◌, List, [], ◌∷◌, ◌++◌, ap, sym, ◌∙◌, arith, zero-add, append-nil, append_assoc, Option, Some, None, Ok, Err}
+use Rattle.std.specs.Prelude.{ℤ, pos, negsuc, Result, is_some}
+use Rattle.std.specs.List.{AllByRecursion}
 use Rattle.std.proofs.lemmas.Int.{ints}
 use Rattle.std.proofs.lemmas.Bool.{false≢true}
 use Rattle.etp_values.specs.declared.point.Point.{Point}
 use Rattle.etp_values.specs.declared.point.ChannelPoint.{ChannelPoint}
 use Rattle.channel_store.specs.declared.error.ChannelError.{ChannelError}
-use Rattle.channel_store.specs.declared.error.ChannelError.TheVariants.{NoChannel, Index, Kind, Doubled, Interval, Order, Outside}
+use Rattle.channel_store.specs.declared.error.ChannelError.TheVariants.{NoChannel, Doubled, Order, Outside}
 use Rattle.channel_store.specs.declared.change.What.{What}
-use Rattle.channel_store.specs.declared.change.What.TheVariants.{Append, Replace, Truncate}
-use Rattle.channel_store.specs.declared.draft.Way.TheVariants.{Behind, Between, UpTo}
-use Rattle.channel_store.specs.Points.{at_most, is_within, follows}
-use Rattle.channel_store.specs.Channels.{Channel, happened, IsPastAll}
-use Rattle.channel_store.specs.Rows.{Row, plain, begun, added, joins, done, done_by, staged_as, Due, IsDue, what_by, before_next, takes}
-use Rattle.channel_store.specs.Refusals.{int_eq, channel_at, points_in, points_at, points_of, is_listed, or_else, first_refusal, unless, in_range, item_refusal, disorder, append_refusal, channels_refusal, interval_refusal, inside_refusal, replace_refusal, cut_refusal, truncate_refusal, suits}
-use Rattle.channel_store.specs.Store.{by_number, happens, changed, append_some, appended, replaced, truncated, IsNewPlace}
-use Rattle.channel_store.specs.Sweeps.{shown_of, IsIdle, row_at, step_row, step_at, next_rows, steps, append_item, add_item, opened, open_channel, open_cut, shown_in, is_staged, item_fault, inside_fault, staged_by, outcome, swept, all_done, ids_of, AllDue, modify_at}
-use Rattle.channel_store.proofs.Numbered.{by_number-same, by_number-map, get-by_number, get-none, by_number-after, map-by_number, step_row-ok, step_row-err, step_row-absent, by_number-modify}
+use Rattle.channel_store.specs.declared.change.What.TheVariants.{Append, Replace}
+use Rattle.channel_store.specs.declared.draft.Way.TheVariants.{Between}
+use Rattle.channel_store.specs.Points.{is_within, follows}
+use Rattle.channel_store.specs.Channels.{Channel}
+use Rattle.channel_store.specs.Rows.{Row, begun, added, staged_as}
+use Rattle.channel_store.specs.Refusals.{int_eq, channel_at, points_in, points_at, points_of, is_listed, or_else, unless, disorder, channels_refusal}
+use Rattle.channel_store.specs.Store.{append_some, appended, replaced}
+use Rattle.channel_store.specs.Sweeps.{step_at, next_rows, steps, append_item, add_item, opened, open_channel, staged_by, outcome}
+use Rattle.channel_store.proofs.Numbered.{step_row-ok, step_row-err, step_row-absent}
 
 -- ---- ids
 

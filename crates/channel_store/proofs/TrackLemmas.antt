@@ -1,6 +1,5 @@
 -- What is about to happen to a channel, and what is then.
-use Rattle.std.proofs.Common.{refl, ℕ, ◌≡◌, ◌<◌, List, Option, Some, None, option_map, ap, sym, ◌∙◌, subst}
-use Rattle.std.specs.Prelude.{ℤ}
+use Rattle.std.proofs.Common.{ℕ, ◌≡◌, ◌<◌, List, Option, Some, option_map, subst}
 use Rattle.etp_values.specs.declared.point.Point.{Point}
 use Rattle.channel_store.specs.declared.draft.Draft.{Draft}
 use Rattle.channel_store.specs.Channels.{Channel, IsPastAll}

@@ -1,11 +1,12 @@
 -- The points of a change that is about to happen.
-use Rattle.std.specs.Prelude.{ℕ, ◌≡◌, ◌≤◌, ◌<◌, ◌+◌, List, Option, Some, None}
+use Rattle.std.specs.Prelude.{ℕ, ◌≡◌, ◌≤◌, ◌+◌, List}
 use Rattle.std.specs.Vec.{vec_len}
 use Rattle.etp_values.specs.declared.point.Point.{Point}
 use Rattle.channel_store.specs.declared.change.What.{What}
 use Rattle.channel_store.specs.declared.draft.Draft.{Draft}
 use Rattle.channel_store.specs.Rows.{what_by, Fits}
 
+-- the change that a draft will be
 abbrev pub what_of : Draft → What
 what_of d = what_by d.way d.told.items
 

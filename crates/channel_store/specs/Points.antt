@@ -1,5 +1,5 @@
 -- The points of a channel, and what a subscriber is told of its changes.
-use Rattle.std.specs.Prelude.{ℕ, suc, ℤ, pos, ◌-ℤ◌, int_lt, Bool, true, false, List, [], ◌∷◌, ◌++◌, ◌≡◌, fold, filter, not, ◌&&◌, if◌then◌else◌, Option, Some, None}
+use Rattle.std.specs.Prelude.{ℤ, pos, ◌-ℤ◌, int_lt, Bool, true, false, List, [], ◌∷◌, ◌++◌, ◌≡◌, fold, filter, not, ◌&&◌, if◌then◌else◌, Option, Some, None}
 use Rattle.std.specs.Int.{int_max}
 use Rattle.std.specs.List.{flat_map, AllByRecursion}
 use Rattle.etp_values.specs.declared.point.Point.{Point}
@@ -7,6 +7,7 @@ use Rattle.channel_store.specs.Splits.{RisesBy}
 use Rattle.channel_store.specs.declared.change.What.{What}
 use Rattle.channel_store.specs.declared.change.What.TheVariants.{Append, Replace, Truncate}
 
+-- the first is not above the second
 abbrev pub at_most : ℤ → ℤ → Bool
 at_most a b = not (int_lt b a)
 
@@ -33,6 +34,7 @@ inside from to xs = filter (λ x. is_within from to x.index) xs
 abbrev pub up_to : ℤ → List Point → List Point
 up_to end xs = filter (λ x. at_most x.index end) xs
 
+-- the points after a change: an append adds behind the last one, a replacement clears its interval and fills it, a truncation drops what lies above its end
 abbrev pub after : List Point → What → List Point
 after xs (Append points) = xs ++ points
 after xs (Replace from to points) = put_below to points (outside from to xs)

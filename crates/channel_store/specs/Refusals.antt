@@ -1,6 +1,7 @@
 -- Why a call is refused: the first reason in order.
-use Rattle.std.specs.Prelude.{ℕ, ℤ, pos, negsuc, ◌≡◌, Bool, true, false, not, ◌&&◌, ◌||◌, int_lt, List, [], ◌∷◌, ◌++◌, Option, Some, None, is_some, Result, Ok, Err, if◌then◌else◌, slice_get}
+use Rattle.std.specs.Prelude.{ℤ, pos, negsuc, Bool, true, false, not, ◌&&◌, List, [], ◌∷◌, ◌++◌, Option, Some, None, is_some, Result, Ok, Err, if◌then◌else◌, slice_get}
 use Rattle.std.specs.List.{list_any}
+use Rattle.etp_values.specs.Gives.{Gives}
 use Rattle.etp_values.specs.declared.data.DataValue.{DataValue}
 use Rattle.etp_values.specs.declared.data.DataValue.TheVariants as value
 use Rattle.etp_values.specs.declared.point.Point.{Point}
@@ -8,10 +9,11 @@ use Rattle.etp_values.specs.declared.point.ChannelPoint.{ChannelPoint}
 use Rattle.chan_defs.specs.declared.config.ValueKind.{ValueKind}
 use Rattle.chan_defs.specs.declared.config.ValueKind.TheVariants as kind
 use Rattle.channel_store.specs.declared.error.ChannelError.{ChannelError}
-use Rattle.channel_store.specs.declared.error.ChannelError.TheVariants.{NoChannel, Index, Kind, Doubled, Interval, Order, Outside}
+use Rattle.channel_store.specs.declared.error.ChannelError.TheVariants.{NoChannel, Index, Kind, Doubled, Interval, Order, Outside, NoMemory}
 use Rattle.channel_store.specs.Points.{at_most, is_within, follows}
 use Rattle.channel_store.specs.Channels.{Channel}
 
+-- two ids are the same
 abbrev pub int_eq : ℤ → ℤ → Bool
 int_eq a b = at_most a b && at_most b a
 
@@ -22,6 +24,7 @@ abbrev pub channel_at : List Channel → ℤ → Option Channel
 channel_at cs (pos k) = slice_get cs k
 channel_at cs (negsuc k) = None
 
+-- the points of a channel, where there is one
 abbrev pub points_in : Option Channel → List Point
 points_in None = []
 points_in (Some c) = c.points
@@ -35,15 +38,18 @@ abbrev pub points_of : ℤ → List ChannelPoint → List Point
 points_of id [] = []
 points_of id (i ∷ is) = if int_eq id i.channel then i.point ∷ points_of id is else points_of id is
 
+-- an id is among these
 abbrev pub is_listed : List ℤ → ℤ → Bool
 is_listed ids id = list_any (int_eq id) ids
 
 -- ---- one reason after the other
 
+-- the first of two reasons
 abbrev pub or_else : Option ChannelError → Option ChannelError → Option ChannelError
 or_else None later = later
 or_else (Some e) later = Some e
 
+-- the first reason that an item of a list gives
 abbrev pub first_refusal : {X : Type 0} → (X → Option ChannelError) → List X → Option ChannelError
 first_refusal f [] = None
 first_refusal f (x ∷ xs) = or_else (f x) (first_refusal f xs)
@@ -53,9 +59,14 @@ abbrev pub unless : Bool → ChannelError → Option ChannelError
 unless true e = None
 unless false e = Some e
 
+-- what a call answers that is refused for this reason, or for none
 abbrev pub verdict : Option ChannelError → Result (Unit {0}) ChannelError
 verdict None = Ok tt
 verdict (Some e) = Err e
+
+-- a call is refused for this reason, or for none, unless memory ran out
+abbrev pub Refuses : Result (Unit {0}) ChannelError → Option ChannelError → Type 0
+Refuses result refusal = Gives NoMemory result (verdict refusal)
 
 -- ---- tests
 
@@ -63,6 +74,7 @@ verdict (Some e) = Err e
 abbrev pub in_range : ℤ → Bool
 in_range index = is_within (negsuc 4611686018427387903) (pos 4611686018427387904) index
 
+-- two kinds are the same
 abbrev pub is_kind : ValueKind → ValueKind → Bool
 is_kind kind.Boolean kind.Boolean = true
 is_kind kind.Int kind.Int = true
@@ -118,6 +130,7 @@ abbrev pub channels_refusal : List Channel → List ℤ → List ℤ → Option 
 channels_refusal cs earlier [] = None
 channels_refusal cs earlier (id ∷ ids) = or_else (or_else (unless (is_some (channel_at cs id)) (NoChannel id)) (unless (not (is_listed earlier id)) (Doubled id))) (channels_refusal cs (earlier ++ id ∷ []) ids)
 
+-- an interval to be replaced ends no earlier than it begins, and both ends are in range
 abbrev pub interval_refusal : ℤ → ℤ → Option ChannelError
 interval_refusal from to = unless (at_most from to && in_range from && in_range to) Interval
 
@@ -127,6 +140,7 @@ inside_refusal false c from to i = Some (Outside i.channel)
 inside_refusal true None from to i = Some (Outside i.channel)
 inside_refusal true (Some c) from to i = or_else (unless (suits c.kind i.point.value) (Kind i.channel)) (unless (is_within from to i.point.index) (Outside i.channel))
 
+-- all channels, then the interval, then all items by themselves, and then their order
 abbrev pub replace_refusal : List Channel → List ℤ → ℤ → ℤ → List ChannelPoint → Option ChannelError
 replace_refusal cs ids from to items =
     or_else (channels_refusal cs [] ids)
@@ -140,6 +154,7 @@ replace_refusal cs ids from to items =
 abbrev pub cut_refusal : List Channel → List ℤ → ℤ × ℤ → Option ChannelError
 cut_refusal cs earlier cut = or_else (unless (is_some (channel_at cs cut.0)) (NoChannel cut.0)) (or_else (unless (in_range cut.1) (Index cut.0)) (unless (not (is_listed earlier cut.0)) (Doubled cut.0)))
 
+-- each channel with its end, in order; `earlier` are the channels that were listed before
 abbrev pub truncate_refusal : List Channel → List ℤ → List (ℤ × ℤ) → Option ChannelError
 truncate_refusal cs earlier [] = None
 truncate_refusal cs earlier (cut ∷ cuts) = or_else (cut_refusal cs earlier cut) (truncate_refusal cs (earlier ++ cut.0 ∷ []) cuts)

@@ -1,5 +1,5 @@
 -- A channel during a call: what is about to happen to it is made first, and done once nothing can be refused any more.
-use Rattle.std.specs.Prelude.{ℕ, ℤ, ◌≡◌, ◌≢◌, Bool, true, false, List, [], ◌∷◌, ◌++◌, Option, Some, None, option_map, Result, Ok, Err, if◌then◌else◌}
+use Rattle.std.specs.Prelude.{ℕ, ℤ, ◌≡◌, ◌≢◌, Bool, true, false, List, [], ◌∷◌, ◌++◌, Option, Some, None, Result, Ok, Err, if◌then◌else◌}
 use Rattle.std.specs.List.{AllByRecursion}
 use Rattle.etp_values.specs.declared.point.Point.{Point}
 use Rattle.channel_store.specs.declared.change.What.{What}
@@ -16,6 +16,7 @@ pub record Row : Type 0 where
   pub shown : Channel
   pub staged : Option What
 
+-- a channel to which nothing is about to happen
 abbrev pub plain : Channel → Row
 plain c = record { shown = c; staged = None }
 
@@ -29,6 +30,7 @@ what_by Behind points = Append points
 what_by (Between from to) points = Replace from to points
 what_by (UpTo end) points = Truncate end
 
+-- a change with one more point; a truncation has none
 abbrev pub with_point : Point → What → What
 with_point p (Append points) = Append (points ++ p ∷ [])
 with_point p (Replace from to points) = Replace from to (points ++ p ∷ [])
@@ -55,14 +57,17 @@ takes (Truncate end) p = false
 abbrev pub joins : ℤ → List Point → What → Point → Result What ChannelError
 joins id points w p = if takes w p then (if follows (before_next points w) p.index then Ok (with_point p w) else Err (Order id)) else Err (Outside id)
 
+-- a row with another change about to happen to it, or the reason why not
 abbrev pub staged_as : Row → Result What ChannelError → Result Row ChannelError
 staged_as r (Ok w) = Ok (record r { staged = Some w })
 staged_as r (Err e) = Err e
 
+-- a point joins this change of a row; where nothing has begun it lies outside
 abbrev pub added_by : ℤ → Point → Row → Option What → Result Row ChannelError
 added_by id p r None = Err (Outside id)
 added_by id p r (Some w) = staged_as r (joins id r.shown.points w p)
 
+-- a point joins what is about to happen to a row
 abbrev pub added : ℤ → Point → Row → Result Row ChannelError
 added id p r = added_by id p r r.staged
 
@@ -71,6 +76,7 @@ abbrev pub done_by : ℕ → ℤ → ℤ → Channel → Option What → Row
 done_by place id at c None = record { shown = c; staged = None }
 done_by place id at c (Some w) = record { shown = happened place id at c w; staged = None }
 
+-- a row after what was about to happen to it
 abbrev pub done : ℕ → ℤ → ℤ → Row → Row
 done place id at r = done_by place id at r.shown r.staged
 
@@ -79,6 +85,7 @@ abbrev pub Due : ℕ → Channel → Option What → Type 0
 Due place c None = Unit {0}
 Due place c (Some w) = IsPastAll place c.changes
 
+-- what is about to happen to a row may stand at this place of the journal
 abbrev pub IsDue : ℕ → Row → Type 0
 IsDue place r = Due place r.shown r.staged
 

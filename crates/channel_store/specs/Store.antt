@@ -1,5 +1,5 @@
 -- What a call does to the channels of a store.
-use Rattle.std.specs.Prelude.{ℕ, suc, ℤ, pos, ◌≡◌, ◌<◌, Bool, List, [], ◌∷◌, Option, Some, None, Result, Ok, Err, if◌then◌else◌}
+use Rattle.std.specs.Prelude.{ℕ, suc, ℤ, pos, ◌≡◌, Bool, List, [], ◌∷◌, Option, Some, None, Result, Ok, Err, MatchResult, if◌then◌else◌}
 use Rattle.std.specs.List.{AllByRecursion}
 use Rattle.etp_values.specs.declared.point.Point.{Point}
 use Rattle.etp_values.specs.declared.point.ChannelPoint.{ChannelPoint}
@@ -27,11 +27,16 @@ happens place id at c (Some w) = happened place id at c w
 abbrev pub changed : ℕ → ℤ → (ℤ → Option What) → List Channel → List Channel
 changed place at what cs = by_number (λ k c. happens place (pos k) at c (what (pos k))) 0 cs
 
+-- a call whose entry stands at `place` did this to each id, or was refused and left the channels as they were
+abbrev pub Changes : Result (Unit {0}) ChannelError → ℕ → ℤ → (ℤ → Option What) → List Channel → List Channel → Type 0
+Changes result place at what old new = MatchResult result (λ _. new ≡ changed place at what old) (λ _. new ≡ old)
+
 -- an append to each channel of an item
 abbrev pub append_some : List Point → Option What
 append_some [] = None
 append_some (x ∷ xs) = Some (Append (x ∷ xs))
 
+-- what an append of these items does to each id
 abbrev pub appended : List ChannelPoint → ℤ → Option What
 appended items id = append_some (points_of id items)
 
@@ -62,9 +67,11 @@ abbrev pub range_in : Option ChannelError → List Point → Result (List Point)
 range_in None points = Ok points
 range_in (Some e) points = Err e
 
+-- the same for the channel of an id
 abbrev pub range_of : List Channel → ℤ → ℤ → ℤ → Result (List Point) ChannelError
 range_of cs id from to = range_in (range_refusal (channel_at cs id) id from to) (inside from to (points_at cs id))
 
+-- the changes of a channel, where there is one
 abbrev pub changes_in : Option Channel → List ChannelChange
 changes_in None = []
 changes_in (Some c) = c.changes

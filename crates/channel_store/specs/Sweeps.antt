@@ -1,5 +1,5 @@
 -- Steps over the rows of a store during a call.
-use Rattle.std.specs.Prelude.{ℕ, zero, suc, ℤ, pos, negsuc, ◌≡◌, ◌≢◌, Bool, true, false, List, [], ◌∷◌, ◌++◌, map, Option, Some, None, is_some, Result, Ok, Err, if◌then◌else◌, slice_get, nat_lt}
+use Rattle.std.specs.Prelude.{ℕ, zero, suc, ℤ, pos, negsuc, ◌≡◌, ◌≢◌, Bool, false, List, [], ◌∷◌, map, Option, Some, None, is_some, Result, Ok, Err, if◌then◌else◌, slice_get, nat_lt}
 use Rattle.std.specs.List.{AllByRecursion}
 use Rattle.etp_values.specs.declared.point.ChannelPoint.{ChannelPoint}
 use Rattle.channel_store.specs.declared.change.What.{What}
@@ -32,10 +32,12 @@ abbrev pub place_in : ℕ → ℤ → Option ℕ
 place_in len (pos k) = if nat_lt k len then Some k else None
 place_in len (negsuc k) = None
 
+-- a row in front of what became of the rows behind it
 abbrev pub with_row : Row → Result (List Row) ChannelError → Result (List Row) ChannelError
 with_row r (Ok rs) = Ok (r ∷ rs)
 with_row r (Err e) = Err e
 
+-- what became of a row, in front of the rows behind it
 abbrev pub before_rows : Result Row ChannelError → List Row → Result (List Row) ChannelError
 before_rows (Ok r) rs = Ok (r ∷ rs)
 before_rows (Err e) rs = Err e
@@ -51,6 +53,7 @@ abbrev pub step_at : ℤ → (Row → Result Row ChannelError) → List Row → 
 step_at (pos k) f rows = step_row k f (NoChannel (pos k)) rows
 step_at (negsuc k) f rows = Err (NoChannel (negsuc k))
 
+-- a further step, where the one before was not refused
 abbrev pub next_rows : {X : Type 0} → Result X ChannelError → (X → Result (List Row) ChannelError) → Result (List Row) ChannelError
 next_rows (Ok x) f = f x
 next_rows (Err e) f = Err e
@@ -75,38 +78,47 @@ abbrev pub opened_by : ℤ → Way → Row → Option What → Result Row Channe
 opened_by id way r None = Ok (record r { staged = Some (what_by way []) })
 opened_by id way r (Some w) = Err (Doubled id)
 
+-- a change without points begins in a row
 abbrev pub opened : ℤ → Way → Row → Result Row ChannelError
 opened id way r = opened_by id way r r.staged
 
+-- one begins in the row of an id
 abbrev pub open_channel : Way → List Row → ℤ → Result (List Row) ChannelError
 open_channel way rows id = step_at id (opened id way) rows
 
+-- a truncation begins in the row of an id, where its end is in range
 abbrev pub open_cut : List Row → ℤ × ℤ → Result (List Row) ChannelError
 open_cut rows cut = step_at cut.0 (λ r. if in_range cut.1 then opened cut.0 (UpTo cut.1) r else Err (Index cut.0)) rows
 
 -- ---- refusals of items
 
+-- the channel that a row shows, where there is a row
 abbrev pub shown_in : Option Row → Option Channel
 shown_in None = None
 shown_in (Some r) = Some r.shown
 
+-- something is about to happen to a row
 abbrev pub is_staged : Option Row → Bool
 is_staged None = false
 is_staged (Some r) = is_some r.staged
 
-abbrev pub item_fault : List Row → ChannelPoint → Option ChannelError
-item_fault rows i = item_refusal (shown_in (row_at rows i.channel)) i
+-- why an item of an append is refused by itself
+abbrev pub item_refusal_in : List Row → ChannelPoint → Option ChannelError
+item_refusal_in rows i = item_refusal (shown_in (row_at rows i.channel)) i
 
-abbrev pub inside_fault : List Row → ℤ → ℤ → ChannelPoint → Option ChannelError
-inside_fault rows from to i = inside_refusal (is_staged (row_at rows i.channel)) (shown_in (row_at rows i.channel)) from to i
+-- why an item of a replacement is refused by itself, once its channels have begun
+abbrev pub inside_refusal_in : List Row → ℤ → ℤ → ChannelPoint → Option ChannelError
+inside_refusal_in rows from to i = inside_refusal (is_staged (row_at rows i.channel)) (shown_in (row_at rows i.channel)) from to i
 
 -- ---- all rows of a list of ids
 
+-- the row at a place is changed, where there is one
 abbrev pub modify : ℕ → (Row → Row) → List Row → List Row
 modify k f [] = []
 modify zero f (r ∷ rs) = f r ∷ rs
 modify (suc k) f (r ∷ rs) = r ∷ modify k f rs
 
+-- the row of an id is changed, where there is one
 abbrev pub modify_at : ℤ → (Row → Row) → List Row → List Row
 modify_at (pos k) f rows = modify k f rows
 modify_at (negsuc k) f rows = rows
@@ -115,25 +127,29 @@ modify_at (negsuc k) f rows = rows
 abbrev pub staged_by : (ℤ → Option What) → List Channel → List Row
 staged_by what cs = by_number (λ k c. record { shown = c; staged = what (pos k) }) 0 cs
 
+-- this value, unless there is a reason against it
 abbrev pub outcome : {A : Type 0} → Option ChannelError → A → Result A ChannelError
 outcome None x = Ok x
 outcome (Some e) x = Err e
 
--- what follows, unless there is a fault
-abbrev pub unless_fault : Option ChannelError → Result (List Row) ChannelError → Result (List Row) ChannelError
-unless_fault None later = later
-unless_fault (Some e) later = Err e
+-- what follows, unless there is a reason against it
+abbrev pub unless_refused : Option ChannelError → Result (List Row) ChannelError → Result (List Row) ChannelError
+unless_refused None later = later
+unless_refused (Some e) later = Err e
 
 -- each row whose id is listed
 abbrev pub swept : (ℤ → Row → Row) → List ℤ → List Row → List Row
 swept f ids rows = by_number (λ k r. if is_listed ids (pos k) then f (pos k) r else r) 0 rows
 
+-- what is about to happen is done in each row whose id is listed
 abbrev pub all_done : ℕ → ℤ → List ℤ → List Row → List Row
 all_done place at ids rows = swept (λ id r. done place id at r) ids rows
 
+-- the ids of the channels of items
 abbrev pub ids_of : List ChannelPoint → List ℤ
 ids_of items = map (λ i. i.channel) items
 
+-- all that is about to happen may stand at this place of the journal
 abbrev pub AllDue : ℕ → List Row → Type 0
 AllDue place rows = AllByRecursion (IsDue place) rows
 

@@ -1,5 +1,5 @@
 -- How a channel is kept.
-use Rattle.std.specs.Prelude.{ℕ, ◌≡◌, ◌<◌, List, Option, Some, None, option_map}
+use Rattle.std.specs.Prelude.{ℕ, ◌<◌, List, Option, Some, None, option_map}
 use Rattle.std.specs.Vec.{vec_len, vec_capacity}
 use Rattle.etp_values.specs.declared.point.Point.{Point}
 use Rattle.channel_store.specs.declared.draft.Draft.{Draft}
@@ -8,9 +8,11 @@ use Rattle.channel_store.specs.Channels.{Channel, IsKept}
 use Rattle.channel_store.specs.Drafts.{what_of, IsReady}
 use Rattle.channel_store.specs.Rows.{Row}
 
+-- the channel that is kept so
 abbrev pub channel_of : Inside → Channel
 channel_of t = record { uri = t.uri; kind = t.kind; points = t.points.items; changes = t.changes.items }
 
+-- and with what is about to happen to it
 abbrev pub row_of : Inside → Row
 row_of t = record { shown = channel_of t; staged = option_map what_of t.draft }
 
@@ -19,6 +21,7 @@ abbrev pub IsDrafted : List Point → ℕ → ℕ → ℕ → ℕ → Option Dra
 IsDrafted points len cap changes_len changes_cap None = Unit {0}
 IsDrafted points len cap changes_len changes_cap (Some d) = IsReady points len cap d × (changes_len < changes_cap)
 
+-- what holds of each channel that is kept
 pub record IsTrack (t : Inside) : Type 0 where
   pub kept : IsKept (channel_of t)
   pub drafted : IsDrafted t.points.items (vec_len t.points) (vec_capacity t.points) (vec_len t.changes) (vec_capacity t.changes) t.draft

@@ -3,7 +3,7 @@ ghost use Rattle.std.specs.Prelude.{◌≡◌, [], length, zip};
 ghost use Rattle.channel_store.specs.Refusals.{append_refusal, first_refusal, interval_refusal, replace_refusal, truncate_refusal};
 ghost use Rattle.channel_store.specs.Rows.{Becomes};
 ghost use Rattle.channel_store.specs.Store.{IsNewPlace, appended, changed, replaced, truncated};
-ghost use Rattle.channel_store.specs.Sweeps.{EndsAs, IsIdle, add_item, inside_fault, outcome, shown_of, staged_by, steps, unless_fault};
+ghost use Rattle.channel_store.specs.Sweeps.{EndsAs, IsIdle, add_item, inside_refusal_in, outcome, shown_of, staged_by, steps, unless_refused};
 
 use crate::checks::{check_all_inside, check_interval, check_items};
 use crate::draft::Way;
@@ -22,7 +22,9 @@ fn prepare_append(
     items: &[ChannelPoint],
 ) -> Result<(), ChannelError>
     requires { IsIdle tracks.old.items }
-    ensures answer { Becomes result tracks.new.items (outcome (append_refusal (shown_of tracks.old.items) items.now) (staged_by (appended items.now) (shown_of tracks.old.items))) }
+    ensures answer { Becomes result tracks.new.items
+        (outcome (append_refusal (shown_of tracks.old.items) items.now)
+        (staged_by (appended items.now) (shown_of tracks.old.items))) }
     ensures kept { shown_of tracks.new.items ≡ shown_of tracks.old.items }
 {
     match check_items(tracks.as_slice(), items) {
@@ -41,7 +43,9 @@ pub fn append_all(
 ) -> Result<(), ChannelError>
     requires idle { IsIdle tracks.old.items }
     requires new { IsNewPlace place (shown_of tracks.old.items) }
-    ensures { EndsAs result tracks.old.items tracks.new.items (append_refusal (shown_of tracks.old.items) items.now) (changed place at (appended items.now) (shown_of tracks.old.items)) }
+    ensures { EndsAs result tracks.old.items tracks.new.items
+        (append_refusal (shown_of tracks.old.items) items.now)
+        (changed place at (appended items.now) (shown_of tracks.old.items)) }
 {
     if let Err(error) = prepare_append(alloc, tracks, items) {
         clear_all(tracks);
@@ -59,7 +63,9 @@ fn fill_inside(
     to: i64,
     items: &[ChannelPoint],
 ) -> Result<(), ChannelError>
-    ensures answer { Becomes result tracks.new.items (unless_fault (first_refusal (inside_fault tracks.old.items from to) items.now) (steps add_item tracks.old.items items.now)) }
+    ensures answer { Becomes result tracks.new.items
+        (unless_refused (first_refusal (inside_refusal_in tracks.old.items from to) items.now)
+        (steps add_item tracks.old.items items.now)) }
     ensures kept { shown_of tracks.new.items ≡ shown_of tracks.old.items }
 {
     match check_all_inside(tracks.as_slice(), from, to, items) {
@@ -76,7 +82,10 @@ fn fill(
     to: i64,
     items: &[ChannelPoint],
 ) -> Result<(), ChannelError>
-    ensures answer { Becomes result tracks.new.items (unless_fault (interval_refusal from to) (unless_fault (first_refusal (inside_fault tracks.old.items from to) items.now) (steps add_item tracks.old.items items.now))) }
+    ensures answer { Becomes result tracks.new.items
+        (unless_refused (interval_refusal from to)
+        (unless_refused (first_refusal (inside_refusal_in tracks.old.items from to) items.now)
+        (steps add_item tracks.old.items items.now))) }
     ensures kept { shown_of tracks.new.items ≡ shown_of tracks.old.items }
 {
     match check_interval(from, to) {
@@ -95,7 +104,9 @@ fn prepare_replace(
     items: &[ChannelPoint],
 ) -> Result<(), ChannelError>
     requires { IsIdle tracks.old.items }
-    ensures answer { Becomes result tracks.new.items (outcome (replace_refusal (shown_of tracks.old.items) channels.now from to items.now) (staged_by (replaced channels.now from to items.now) (shown_of tracks.old.items))) }
+    ensures answer { Becomes result tracks.new.items
+        (outcome (replace_refusal (shown_of tracks.old.items) channels.now from to items.now)
+        (staged_by (replaced channels.now from to items.now) (shown_of tracks.old.items))) }
     ensures kept { shown_of tracks.new.items ≡ shown_of tracks.old.items }
 {
     match open_channels(alloc, tracks, Way::Between { from, to }, channels) {
@@ -117,7 +128,9 @@ pub fn replace_all(
 ) -> Result<(), ChannelError>
     requires idle { IsIdle tracks.old.items }
     requires new { IsNewPlace place (shown_of tracks.old.items) }
-    ensures { EndsAs result tracks.old.items tracks.new.items (replace_refusal (shown_of tracks.old.items) channels.now from to items.now) (changed place at (replaced channels.now from to items.now) (shown_of tracks.old.items)) }
+    ensures { EndsAs result tracks.old.items tracks.new.items
+        (replace_refusal (shown_of tracks.old.items) channels.now from to items.now)
+        (changed place at (replaced channels.now from to items.now) (shown_of tracks.old.items)) }
 {
     if let Err(error) = prepare_replace(alloc, tracks, channels, from, to, items) {
         clear_all(tracks);
@@ -139,7 +152,9 @@ pub fn truncate_all(
     requires idle { IsIdle tracks.old.items }
     requires new { IsNewPlace place (shown_of tracks.old.items) }
     requires ends { length channels.now ≡ length ends.now }
-    ensures { EndsAs result tracks.old.items tracks.new.items (truncate_refusal (shown_of tracks.old.items) [] (zip channels.now ends.now)) (changed place at (truncated (zip channels.now ends.now)) (shown_of tracks.old.items)) }
+    ensures { EndsAs result tracks.old.items tracks.new.items
+        (truncate_refusal (shown_of tracks.old.items) [] (zip channels.now ends.now))
+        (changed place at (truncated (zip channels.now ends.now)) (shown_of tracks.old.items)) }
 {
     if let Err(error) = open_cuts(alloc, tracks, channels, ends) {
         clear_all(tracks);

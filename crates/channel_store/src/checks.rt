@@ -2,7 +2,7 @@
 ghost use Rattle.std.specs.Prelude.{◌≡◌};
 ghost use Rattle.std.specs.Option.{option_copied};
 ghost use Rattle.channel_store.specs.Refusals.{first_refusal, in_range, interval_refusal, is_kind, suits, verdict};
-ghost use Rattle.channel_store.specs.Sweeps.{inside_fault, item_fault, place_in, row_at};
+ghost use Rattle.channel_store.specs.Sweeps.{inside_refusal_in, item_refusal_in, place_in, row_at};
 
 use crate::error::ChannelError;
 use crate::track::Track;
@@ -64,7 +64,7 @@ pub fn track_at(tracks: &[Track], channel: i64) -> Option<&Track>
 }
 
 fn check_item(tracks: &[Track], item: &ChannelPoint) -> Result<(), ChannelError>
-    ensures { result ≡ verdict (item_fault tracks.now item.now) }
+    ensures { result ≡ verdict (item_refusal_in tracks.now item.now) }
 {
     let Some(track) = track_at(tracks, item.channel) else {
         return Err(ChannelError::NoChannel(item.channel));
@@ -78,9 +78,9 @@ fn check_item(tracks: &[Track], item: &ChannelPoint) -> Result<(), ChannelError>
     Ok(())
 }
 
-/// The first fault of an item of an append by itself: no channel, an index out of range, a value of another kind.
+/// Why the first item of an append is refused by itself: no channel, an index out of range, a value of another kind.
 pub fn check_items(tracks: &[Track], items: &[ChannelPoint]) -> Result<(), ChannelError>
-    ensures { result ≡ verdict (first_refusal (item_fault tracks.now) items.now) }
+    ensures { result ≡ verdict (first_refusal (item_refusal_in tracks.now) items.now) }
 {
     for item in items {
         if let Err(error) = check_item(tracks, item) {
@@ -106,7 +106,7 @@ fn check_inside(
     to: i64,
     item: &ChannelPoint,
 ) -> Result<(), ChannelError>
-    ensures { result ≡ verdict (inside_fault tracks.now from to item.now) }
+    ensures { result ≡ verdict (inside_refusal_in tracks.now from to item.now) }
 {
     let Some(track) = track_at(tracks, item.channel) else {
         return Err(ChannelError::Outside(item.channel));
@@ -123,14 +123,14 @@ fn check_inside(
     Err(ChannelError::Outside(item.channel))
 }
 
-/// The first fault of an item of a replacement by itself: another channel, a value of another kind, an index outside.
+/// Why the first item of a replacement is refused by itself: another channel, a value of another kind, an index outside.
 pub fn check_all_inside(
     tracks: &[Track],
     from: i64,
     to: i64,
     items: &[ChannelPoint],
 ) -> Result<(), ChannelError>
-    ensures { result ≡ verdict (first_refusal (inside_fault tracks.now from to) items.now) }
+    ensures { result ≡ verdict (first_refusal (inside_refusal_in tracks.now from to) items.now) }
 {
     for item in items {
         if let Err(error) = check_inside(tracks, from, to, item) {

@@ -91,7 +91,8 @@ impl Draft {
         point: &Point,
     ) -> Result<(), ChannelError>
         requires { IsReady points.old.items (vec_len points.old) (vec_capacity points.old) self.old }
-        ensures answer { Becomes result (what_of self.new) (joins channel points.old.items (what_of self.old) point.now) }
+        ensures answer { Becomes result (what_of self.new)
+            (joins channel points.old.items (what_of self.old) point.now) }
         ensures ready { IsReady points.new.items (vec_len points.new) (vec_capacity points.new) self.new }
         ensures points { points.new.items ≡ points.old.items }
     {

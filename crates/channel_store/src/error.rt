@@ -3,25 +3,34 @@ ghost use Rattle.std.specs.Prelude.{◌≡◌};
 
 use etp_values::NoMemory;
 use std::alloc::{AllocError, AllocFailed};
+use thiserror::Error;
 
 /// The first reason. A number is the channel of the first item that is refused.
-#[derive(Clone, Copy, Debug, PartialEq, Eq)]
+#[derive(Clone, Copy, Debug, PartialEq, Eq, Error)]
 pub enum ChannelError {
     /// There is no channel of this id.
+    #[error("there is no channel {0}")]
     NoChannel(i64),
     /// An index lies below -2^62 or above 2^62.
+    #[error("an index of channel {0} lies below -2^62 or above 2^62")]
     Index(i64),
     /// A value is not null, and not of the channel's kind.
+    #[error("a value of channel {0} is of another kind")]
     Kind(i64),
     /// A channel is listed twice.
+    #[error("channel {0} is listed twice")]
     Doubled(i64),
     /// An interval ends before it begins, or is to be replaced and lies out of range.
+    #[error("the interval ends before it begins or lies out of range")]
     Interval,
     /// An index does not lie past the one before it.
+    #[error("an index of channel {0} does not lie past the one before it")]
     Order(i64),
     /// An item is not of a channel that is replaced, or lies outside the interval.
+    #[error("an item of channel {0} lies outside what is replaced")]
     Outside(i64),
     /// Memory was refused.
+    #[error("out of memory")]
     NoMemory,
 }
 

@@ -104,7 +104,8 @@ fn cut(points: &mut Vec<Point>, end: i64)
 /// Turns the points behind the first `place` by `count`.
 fn turn_behind(points: &mut Vec<Point>, place: usize, count: usize)
     requires { place + count ≤ vec_len points.old }
-    ensures items { points.new.items ≡ take place points.old.items ++ (drop count (drop place points.old.items) ++ take count (drop place points.old.items)) }
+    ensures items { points.new.items ≡ take place points.old.items
+        ++ (drop count (drop place points.old.items) ++ take count (drop place points.old.items)) }
     ensures len { vec_len points.new ≡ vec_len points.old }
     ensures room { vec_capacity points.new ≡ vec_capacity points.old }
 {
@@ -126,7 +127,8 @@ fn drop_inside(points: &mut Vec<Point>, from: i64, to: i64)
 /// Drops `count` points behind the first `place`.
 fn drop_behind(points: &mut Vec<Point>, place: usize, count: usize)
     requires { place + count ≤ vec_len points.old }
-    ensures items { points.new.items ≡ take place points.old.items ++ drop count (drop place points.old.items) }
+    ensures items { points.new.items
+        ≡ take place points.old.items ++ drop count (drop place points.old.items) }
     ensures len { vec_len points.new ≤ vec_len points.old }
     ensures room { vec_capacity points.new ≡ vec_capacity points.old }
 {
@@ -139,7 +141,8 @@ fn drop_behind(points: &mut Vec<Point>, place: usize, count: usize)
 fn put_at(points: &mut Vec<Point>, place: usize, mut more: Vec<Point>)
     requires within { place ≤ vec_len points.old }
     requires room { vec_len points.old + vec_len more ≤ vec_capacity points.old }
-    ensures { points.new.items ≡ take place points.old.items ++ (more.items ++ drop place points.old.items) }
+    ensures { points.new.items ≡ take place points.old.items
+        ++ (more.items ++ drop place points.old.items) }
 {
     let behind = points.len() - place;
     let _ = points.append(&mut more);

@@ -11,7 +11,8 @@ use etp_values::ChannelPoint;
 use std::alloc::Global;
 
 fn append_to(alloc: Global, track: &mut Track, item: &ChannelPoint) -> Result<(), ChannelError>
-    ensures answer { Becomes result track.new (added item.now.channel item.now.point (record track.old { staged = Some (begun track.old.staged) })) }
+    ensures answer { Becomes result track.new (added item.now.channel item.now.point
+        (record track.old { staged = Some (begun track.old.staged) })) }
     ensures kept { track.new.shown ≡ track.old.shown }
 {
     track.begin_append(alloc)?;
@@ -38,7 +39,8 @@ pub fn append_items(
     tracks: &mut Vec<Track>,
     items: &[ChannelPoint],
 ) -> Result<(), ChannelError>
-    ensures answer { Becomes result tracks.new.items (steps append_item tracks.old.items items.now) }
+    ensures answer { Becomes result tracks.new.items
+        (steps append_item tracks.old.items items.now) }
     ensures kept { shown_of tracks.new.items ≡ shown_of tracks.old.items }
 {
     for item in items {
@@ -109,7 +111,8 @@ pub fn open_channels(
     way: Way,
     channels: &[i64],
 ) -> Result<(), ChannelError>
-    ensures answer { Becomes result tracks.new.items (steps (open_channel way) tracks.old.items channels.now) }
+    ensures answer { Becomes result tracks.new.items
+        (steps (open_channel way) tracks.old.items channels.now) }
     ensures kept { shown_of tracks.new.items ≡ shown_of tracks.old.items }
 {
     for channel in channels {
@@ -146,7 +149,8 @@ pub fn open_cuts(
     ends: &[i64],
 ) -> Result<(), ChannelError>
     requires { length channels.now ≡ length ends.now }
-    ensures answer { Becomes result tracks.new.items (steps open_cut tracks.old.items (zip channels.now ends.now)) }
+    ensures answer { Becomes result tracks.new.items
+        (steps open_cut tracks.old.items (zip channels.now ends.now)) }
     ensures kept { shown_of tracks.new.items ≡ shown_of tracks.old.items }
 {
     for place in 0..channels.len() {

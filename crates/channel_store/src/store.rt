@@ -1,11 +1,11 @@
 //! The store of the channels.
-ghost use Rattle.std.specs.Prelude.{◌≡◌, ◌<◌, ◌==◌, [], ℕ, IfOk, MatchResult, find, length, map, zip};
+ghost use Rattle.std.specs.Prelude.{◌≡◌, ◌<◌, ◌==◌, [], ℕ, IfOk, find, length, map, zip};
 ghost use Rattle.std.specs.Option.{option_copied};
 ghost use Rattle.etp_values.specs.Gives.{Gives};
 ghost use Rattle.channel_store.specs.Channels.{fresh};
-ghost use Rattle.channel_store.specs.Refusals.{append_refusal, points_at, replace_refusal, truncate_refusal, verdict};
+ghost use Rattle.channel_store.specs.Refusals.{Refuses, append_refusal, points_at, replace_refusal, truncate_refusal};
 ghost use Rattle.channel_store.specs.Points.{last_of};
-ghost use Rattle.channel_store.specs.Store.{IsNewPlace, appended, changed, changes_at, id_of, range_of, replaced, truncated};
+ghost use Rattle.channel_store.specs.Store.{Changes, IsNewPlace, appended, changes_at, id_of, range_of, replaced, truncated};
 
 use crate::calls::{append_all, replace_all, truncate_all};
 use crate::change::ChannelChange;
@@ -60,7 +60,7 @@ impl ChannelStore {
 
     /// Adds points behind the last ones of their channels, as the changes of the entry at `place`.
     ///
-    /// `Index` and `Kind` are an item's own faults; `Order` comes where no item has such a fault, and an index does not
+    /// `Index` and `Kind` refuse an item by itself; `Order` comes where no item is refused so, and an index does not
     /// lie past the last one of its channel, in the store or among the earlier items.
     pub fn append(
         &mut self,
@@ -69,8 +69,8 @@ impl ChannelStore {
         items: &List<ChannelPoint>,
     ) -> Result<(), ChannelError>
         requires { IsNewPlace place self.old }
-        ensures answer { Gives ChannelError.NoMemory result (verdict (append_refusal self.old items.now)) }
-        ensures store { MatchResult result (λ _. self.new ≡ changed place at (appended items.now) self.old) (λ _. self.new ≡ self.old) }
+        ensures answer { Refuses result (append_refusal self.old items.now) }
+        ensures store { Changes result place at (appended items.now) self.old self.new }
         ensures places { (later : ℕ) → place < later → IsNewPlace later self.new }
     {
         append_all(self.alloc, &mut self.tracks, place, at, items.as_slice())
@@ -87,8 +87,9 @@ impl ChannelStore {
         items: &List<ChannelPoint>,
     ) -> Result<(), ChannelError>
         requires { IsNewPlace place self.old }
-        ensures answer { Gives ChannelError.NoMemory result (verdict (replace_refusal self.old channels.now from to items.now)) }
-        ensures store { MatchResult result (λ _. self.new ≡ changed place at (replaced channels.now from to items.now) self.old) (λ _. self.new ≡ self.old) }
+        ensures answer { Refuses result (replace_refusal self.old channels.now from to items.now) }
+        ensures store { Changes result place at
+            (replaced channels.now from to items.now) self.old self.new }
         ensures places { (later : ℕ) → place < later → IsNewPlace later self.new }
     {
         replace_all(
@@ -113,8 +114,9 @@ impl ChannelStore {
     ) -> Result<(), ChannelError>
         requires new { IsNewPlace place self.old }
         requires ends { length channels.now ≡ length ends.now }
-        ensures answer { Gives ChannelError.NoMemory result (verdict (truncate_refusal self.old [] (zip channels.now ends.now))) }
-        ensures store { MatchResult result (λ _. self.new ≡ changed place at (truncated (zip channels.now ends.now)) self.old) (λ _. self.new ≡ self.old) }
+        ensures answer { Refuses result (truncate_refusal self.old [] (zip channels.now ends.now)) }
+        ensures store { Changes result place at
+            (truncated (zip channels.now ends.now)) self.old self.new }
         ensures places { (later : ℕ) → place < later → IsNewPlace later self.new }
     {
         truncate_all(
@@ -152,7 +154,8 @@ impl ChannelStore {
 
     /// The change of a channel whose entry stands at a place of the journal.
     pub fn change_at(&self, channel: i64, place: u64) -> Option<&ChannelChange>
-        ensures { option_copied result ≡ find (λ x. x.place == place) (changes_at self.now channel) }
+        ensures { option_copied result ≡ find (λ x. x.place == place)
+            (changes_at self.now channel) }
     {
         let Some(track) = track_at(self.tracks.as_slice(), channel) else {
             return None;

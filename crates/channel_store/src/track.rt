@@ -101,7 +101,8 @@ impl Track {
 
     /// Begins an append, where nothing is about to happen yet.
     pub fn begin_append(&mut self, alloc: Global) -> Result<(), NoMemory>
-        ensures ok { OnOk result (self.new ≡ record self.old { staged = Some (begun self.old.staged) }) }
+        ensures ok { OnOk result
+            (self.new ≡ record self.old { staged = Some (begun self.old.staged) }) }
         ensures kept { self.new.shown ≡ self.old.shown }
     {
         if self.is_staged() {

@@ -1,13 +1,9 @@
-use Rattle.std.proofs.Common.{◌≡◌, ◌<◌, ◌≤◌, ◌+◌, ℕ, sym, ap, subst, ◌∙◌, arith, length, drop, get_or, slice_set, Some, None, Ok, Err, vec_len, w64, to_z, of_z}
-use Rattle.std.proofs.lemmas.Grind.{common_steps}
+use Rattle.std.proofs.Common.{◌≡◌, ◌∙◌, w64, to_z, of_z}
 use Rattle.std.proofs.lemmas.Int.{to_z-of_z}
-use Rattle.channel_store.specs.Refusals.{append_refusal, replace_refusal, truncate_refusal}
-use Rattle.channel_store.specs.Rows.{Becomes, plain}
-use Rattle.channel_store.specs.Store.{appended, replaced, truncated, changed}
-use Rattle.channel_store.specs.Sweeps.{shown_of, outcome, staged_by, all_done, ids_of}
-use Rattle.std.proofs.Common.{[], map}
-use Rattle.std.specs.Prelude.{zip, MatchResult}
-use Rattle.channel_store.proofs.Ended.{outcome-err, outcome-ok, all-due, done-all, cleared-is, appended-none, replaced-none, truncated-none, cut-outcome}
+use Rattle.channel_store.specs.Refusals.{append_refusal}
+use Rattle.channel_store.specs.Store.{appended}
+use Rattle.channel_store.specs.Sweeps.{shown_of, staged_by, all_done, ids_of}
+use Rattle.channel_store.proofs.Ended.{outcome-err, outcome-ok, all-due, done-all, cleared-is, appended-none}
 use Rattle.channel_store.proofs.calls.append_all.Goals as goal
 
 pub returns-in-Err : goal.returns-in-Err

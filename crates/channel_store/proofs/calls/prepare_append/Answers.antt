@@ -1,12 +1,9 @@
-use Rattle.std.proofs.Common.{◌≡◌, ◌<◌, ◌≤◌, ◌+◌, ℕ, sym, ap, subst, ◌∙◌, arith, length, drop, get_or, slice_set, Some, None, Ok, Err, vec_len, w64, to_z, of_z}
-use Rattle.std.proofs.lemmas.Grind.{common_steps}
-use Rattle.std.proofs.lemmas.Int.{to_z-of_z}
-use Rattle.channel_store.specs.Refusals.{append_refusal}
+use Rattle.std.proofs.Common.{◌≡◌, ap, subst, ◌∙◌}
 use Rattle.channel_store.specs.Rows.{Becomes}
 use Rattle.channel_store.specs.Store.{appended}
-use Rattle.channel_store.specs.Sweeps.{shown_of, outcome, staged_by, item_fault}
+use Rattle.channel_store.specs.Sweeps.{shown_of, outcome, staged_by, item_refusal_in}
 use Rattle.channel_store.specs.Refusals.{first_refusal, verdict}
-use Rattle.channel_store.proofs.Ended.{append-faulty, append-outcome, verdict-err, verdict-ok}
+use Rattle.channel_store.proofs.Ended.{append-refused, append-outcome, verdict-err, verdict-ok}
 use Rattle.channel_store.proofs.calls.prepare_append.Goals as goal
 
 pub returns-in-Err-clause-answer : goal.returns-in-Err-clause-answer
@@ -14,13 +11,13 @@ returns-in-Err-clause-answer c =
     let rows = c.args.tracks.now.items in
     let cs = shown_of rows in
     let same : c.as_slice.result.now ≡ rows = c.as_slice.ensures.value in
-    let why = verdict-err (first_refusal (item_fault rows) c.args.items.now) c.in-Err.error (c.in-Err.ensures ∙ ap (λ r. verdict (first_refusal (item_fault r) c.args.items.now)) same) in
-    λ m. ap (λ o. outcome o (staged_by (appended c.args.items.now) cs)) (append-faulty cs rows c.args.items.now c.in-Err.error c.requires why)
+    let why = verdict-err (first_refusal (item_refusal_in rows) c.args.items.now) c.in-Err.error (c.in-Err.ensures ∙ ap (λ r. verdict (first_refusal (item_refusal_in r) c.args.items.now)) same) in
+    λ m. ap (λ o. outcome o (staged_by (appended c.args.items.now) cs)) (append-refused cs rows c.args.items.now c.in-Err.error c.requires why)
 
 pub returns-in-Ok-clause-answer : goal.returns-in-Ok-clause-answer
 returns-in-Ok-clause-answer c =
     let rows = c.args.tracks.now.items in
     let cs = shown_of rows in
     let same : c.as_slice.result.now ≡ rows = c.as_slice.ensures.value in
-    let none = verdict-ok (first_refusal (item_fault rows) c.args.items.now) tt (c.in-Ok.ensures ∙ ap (λ r. verdict (first_refusal (item_fault r) c.args.items.now)) same) in
+    let none = verdict-ok (first_refusal (item_refusal_in rows) c.args.items.now) tt (c.in-Ok.ensures ∙ ap (λ r. verdict (first_refusal (item_refusal_in r) c.args.items.now)) same) in
     subst (Becomes c.append_items.result c.append_items.new.tracks.items) (append-outcome cs rows c.args.items.now c.requires none) c.append_items.ensures.answer

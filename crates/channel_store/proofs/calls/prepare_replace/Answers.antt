@@ -1,11 +1,10 @@
-use Rattle.std.proofs.Common.{◌≡◌, ◌<◌, ◌≤◌, ◌+◌, ℕ, sym, ap, subst, ◌∙◌, arith, length, drop, get_or, slice_set, Some, None, Ok, Err, vec_len, w64, to_z, of_z}
-use Rattle.std.proofs.lemmas.Grind.{common_steps}
+use Rattle.std.proofs.Common.{◌≡◌, sym, ap, subst, ◌∙◌, w64, to_z, of_z}
 use Rattle.std.proofs.lemmas.Int.{to_z-of_z}
 use Rattle.channel_store.specs.declared.draft.Way.TheVariants.{Between}
-use Rattle.channel_store.specs.Refusals.{channels_refusal, interval_refusal, inside_refusal, is_listed, channel_at, disorder, or_else, first_refusal, replace_refusal}
+use Rattle.channel_store.specs.Refusals.{channels_refusal, interval_refusal, inside_refusal, is_listed, channel_at, disorder, or_else, first_refusal}
 use Rattle.channel_store.specs.Rows.{Becomes}
 use Rattle.channel_store.specs.Store.{replaced}
-use Rattle.channel_store.specs.Sweeps.{shown_of, outcome, staged_by, steps, open_channel, add_item, inside_fault, unless_fault}
+use Rattle.channel_store.specs.Sweeps.{shown_of, outcome, staged_by, steps, open_channel, add_item, inside_refusal_in, unless_refused}
 use Rattle.std.proofs.Common.{[]}
 use Rattle.channel_store.proofs.Ended.{outcome-err, outcome-ok, open-outcome, fill-outcome}
 use Rattle.channel_store.proofs.calls.prepare_replace.Goals as goal
@@ -31,6 +30,6 @@ returns-in-Ok-clause-answer c =
     let to : to_z w64 (of_z w64 c.args.to) ≡ c.args.to = to_z-of_z w64 c.args.to c.ranges.to in
     let opened = outcome-ok (channels_refusal cs [] ids) (staged_by (replaced ids c.args.from c.args.to []) cs) mid (sym (open-outcome cs rows ids c.args.from c.args.to c.requires) ∙ (λ j. steps (open_channel (Between (sym from j) (sym to j))) rows ids) ∙ c.in-Ok.ensures.answer) in
     subst (Becomes c.fill.result c.fill.new.tracks.items)
-    ((λ j. unless_fault (interval_refusal (from j) (to j)) (unless_fault (first_refusal (inside_fault mid (from j) (to j)) c.args.items.now) (steps add_item mid c.args.items.now)))
+    ((λ j. unless_refused (interval_refusal (from j) (to j)) (unless_refused (first_refusal (inside_refusal_in mid (from j) (to j)) c.args.items.now) (steps add_item mid c.args.items.now)))
     ∙ fill-outcome cs ids c.args.from c.args.to mid c.args.items.now opened.1 opened.0)
     c.fill.ensures.answer

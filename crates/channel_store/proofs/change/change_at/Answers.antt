@@ -1,4 +1,4 @@
-use Rattle.std.proofs.Common.{rules, sym, ◌∙◌, ◌≡◌, ap, nat_lt, arith}
+use Rattle.std.proofs.Common.{rules, sym, ◌∙◌, ap, nat_lt, arith}
 use Rattle.std.proofs.lemmas.List.Sorted.{IsPartitionPoint-from_clause}
 use Rattle.channel_store.proofs.Ordered.{partitioned}
 use Rattle.channel_store.proofs.ChangeLemmas.{lt_before, find-point, if_at, if_at-same, if_at-other, get-none, get-some}

@@ -1,11 +1,8 @@
-use Rattle.std.proofs.Common.{◌≡◌, ◌<◌, ◌≤◌, ◌+◌, ℕ, sym, ap, subst, ◌∙◌, arith, length, drop, get_or, slice_set, Some, None, Ok, Err, vec_len, w64, to_z, of_z}
-use Rattle.std.specs.Prelude.{ℤ}
-use Rattle.std.proofs.lemmas.Grind.{common_steps}
+use Rattle.std.proofs.Common.{◌≡◌, ◌<◌, ◌≤◌, ap, subst, ◌∙◌, arith, Some, w64, to_z, of_z}
 use Rattle.std.proofs.lemmas.Int.{to_z-of_z, ints}
 use Rattle.std.specs.Prelude.{int_lt, pos}
 use Rattle.std.proofs.Common.{true, false}
 use Rattle.std.proofs.Math.IntN.{nat_abs}
-use Rattle.channel_store.specs.Sweeps.{place_in}
 use Rattle.channel_store.proofs.RowLemmas.{place-neg, place-below, place-past}
 use Rattle.channel_store.proofs.checks.place_of.Goals as goal
 

@@ -1,8 +1,6 @@
-use Rattle.std.proofs.Common.{◌≡◌, ◌<◌, ◌≤◌, ◌+◌, ℕ, sym, ap, subst, ◌∙◌, arith, length, drop, get_or, slice_set, Some, None, Ok, Err, vec_len, w64, to_z, of_z}
-use Rattle.std.specs.Prelude.{ℤ}
-use Rattle.std.proofs.lemmas.Grind.{common_steps}
-use Rattle.std.proofs.lemmas.Int.{to_z-of_z, ints}
-use Rattle.channel_store.specs.Sweeps.{place_in, row_at}
+use Rattle.std.proofs.Common.{◌≡◌, sym, subst, ◌∙◌, length, Some, None, w64, to_z, of_z}
+use Rattle.std.proofs.lemmas.Int.{to_z-of_z}
+use Rattle.channel_store.specs.Sweeps.{place_in}
 use Rattle.channel_store.proofs.RowLemmas.{place-some, row-absent, row-there}
 use Rattle.channel_store.proofs.checks.track_at.Goals as goal
 

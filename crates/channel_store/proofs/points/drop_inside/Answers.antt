@@ -1,10 +1,9 @@
-use Rattle.std.proofs.Common.{subst, sym, ◌∙◌, ◌≡◌, ◌≤◌, ◌+◌, ◌++◌, take, drop, length, arith}
+use Rattle.std.proofs.Common.{subst, sym, ◌∙◌, ◌≡◌, ◌++◌, take, drop}
 use mir.Syntax.{w64}
 use mir.Val.{to_z, of_z}
 use Rattle.std.proofs.lemmas.Int.{to_z-of_z}
-use Rattle.std.proofs.lemmas.Grind.{common_steps}
 use Rattle.channel_store.specs.Points.{Rises, outside}
-use Rattle.channel_store.proofs.PointLemmas.{dropped-is, ends-within}
+use Rattle.channel_store.proofs.PointLemmas.{dropped-is}
 use Rattle.channel_store.proofs.points.drop_inside.Goals as goal
 
 pub returns-clause-items : goal.returns-clause-items

@@ -1,7 +1,5 @@
-use Rattle.std.proofs.Common.{◌≡◌, ◌<◌, ◌≤◌, ◌+◌, ℕ, sym, ap, subst, ◌∙◌, arith, length, drop, get_or, slice_set, Some, None, Ok, Err, vec_len, w64, to_z, of_z}
-use Rattle.std.proofs.lemmas.Grind.{common_steps}
-use Rattle.std.proofs.lemmas.Int.{to_z-of_z}
-use Rattle.channel_store.specs.Sweeps.{steps, add_item}
+use Rattle.std.proofs.Common.{sym, ◌∙◌, arith}
+use Rattle.channel_store.specs.Sweeps.{add_item}
 use Rattle.channel_store.proofs.RowLemmas.{steps-next, steps-stop, steps-end}
 use Rattle.channel_store.proofs.rows.add_items.Goals as goal
 

@@ -1,9 +1,9 @@
-use Rattle.std.proofs.Common.{◌≡◌, ◌<◌, ◌≤◌, ◌+◌, ℕ, sym, ap, subst, ◌∙◌, arith, length, drop, get_or, slice_set, Some, None, Ok, Err, vec_len, w64, to_z, of_z}
+use Rattle.std.proofs.Common.{◌≡◌, sym, ap, ◌∙◌, arith, length, Some, None, Err, w64, to_z, of_z}
 use Rattle.std.proofs.lemmas.Grind.{common_steps}
 use Rattle.std.proofs.lemmas.Int.{to_z-of_z}
-use Rattle.channel_store.specs.declared.error.ChannelError.TheVariants.{NoChannel, Index}
-use Rattle.channel_store.specs.Rows.{Row, Becomes, added, begun}
-use Rattle.channel_store.specs.Sweeps.{place_in, opened}
+use Rattle.channel_store.specs.declared.error.ChannelError.TheVariants.{NoChannel}
+use Rattle.channel_store.specs.Rows.{added, begun}
+use Rattle.channel_store.specs.Sweeps.{place_in}
 use Rattle.channel_store.proofs.RowLemmas.{place-some, step-absent, becomes-there, shown-there}
 use Rattle.channel_store.proofs.rows.append_item.Goals as goal
 

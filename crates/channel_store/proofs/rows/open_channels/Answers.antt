@@ -1,8 +1,8 @@
-use Rattle.std.proofs.Common.{◌≡◌, ◌<◌, ◌≤◌, ◌+◌, ℕ, sym, ap, subst, ◌∙◌, arith, length, drop, get_or, slice_set, Some, None, Ok, Err, vec_len, w64, to_z, of_z}
+use Rattle.std.proofs.Common.{◌≡◌, ◌+◌, sym, ◌∙◌, arith, drop, get_or, w64, to_z, of_z}
 use Rattle.std.proofs.lemmas.Grind.{common_steps}
 use Rattle.std.proofs.lemmas.Int.{to_z-of_z}
-use Rattle.std.specs.Prelude.{ℤ, pos}
-use Rattle.channel_store.specs.Sweeps.{steps, open_channel}
+use Rattle.std.specs.Prelude.{pos}
+use Rattle.channel_store.specs.Sweeps.{open_channel}
 use Rattle.channel_store.proofs.RowLemmas.{drop-here, get_or-any, steps-next-at, steps-stop-at, steps-end}
 use Rattle.channel_store.proofs.rows.open_channels.Goals as goal
 

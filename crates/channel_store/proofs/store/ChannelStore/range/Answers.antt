@@ -1,13 +1,5 @@
-use Rattle.std.proofs.Common.{◌≡◌, ◌<◌, ◌≤◌, ◌+◌, ℕ, [], sym, ap, subst, ◌∙◌, arith, length, Some, None, Ok, Err, w64, to_z, of_z}
-use Rattle.std.specs.Prelude.{MatchResult, zip, find, ◌==◌}
-use Rattle.std.proofs.lemmas.Grind.{common_steps}
+use Rattle.std.proofs.Common.{◌≡◌, sym, ap, ◌∙◌, arith, Some, Ok, w64, to_z, of_z}
 use Rattle.std.proofs.lemmas.Int.{to_z-of_z}
-use Rattle.etp_values.specs.Gives.{Gives}
-use Rattle.channel_store.specs.declared.error.ChannelError.TheVariants.{NoMemory}
-use Rattle.channel_store.specs.Refusals.{append_refusal, replace_refusal, truncate_refusal, verdict}
-use Rattle.channel_store.specs.Store.{IsNewPlace, appended, replaced, truncated, changed}
-use Rattle.channel_store.specs.Sweeps.{shown_of}
-use Rattle.channel_store.proofs.Ended.{ends-answer, ends-store, ends-idle, ends-new}
 use Rattle.std.proofs.Common.{true}
 use Rattle.std.specs.Option.{option_copied}
 use Rattle.std.proofs.lemmas.Int.{ints}

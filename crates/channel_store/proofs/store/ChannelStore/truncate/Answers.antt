@@ -1,66 +1,20 @@
-use Rattle.std.proofs.Common.{◌≡◌, ◌<◌, ◌≤◌, ◌+◌, ℕ, [], sym, ap, subst, ◌∙◌, arith, length, Some, None, Ok, Err, w64, to_z, of_z}
-use Rattle.std.specs.Prelude.{MatchResult, zip, find, ◌==◌}
-use Rattle.std.proofs.lemmas.Grind.{common_steps}
+use Rattle.std.proofs.Common.{sym, subst, w64}
 use Rattle.std.proofs.lemmas.Int.{to_z-of_z}
-use Rattle.etp_values.specs.Gives.{Gives}
-use Rattle.channel_store.specs.declared.error.ChannelError.TheVariants.{NoMemory}
-use Rattle.channel_store.specs.Refusals.{append_refusal, replace_refusal, truncate_refusal, verdict}
-use Rattle.channel_store.specs.Store.{IsNewPlace, appended, replaced, truncated, changed}
-use Rattle.channel_store.specs.Sweeps.{shown_of}
-use Rattle.channel_store.proofs.Ended.{ends-answer, ends-store, ends-idle, ends-new}
+use Rattle.channel_store.specs.Store.{IsNewPlace}
+use Rattle.channel_store.proofs.CallLemmas.{truncate-called}
 use Rattle.channel_store.proofs.store.ChannelStore.truncate.Goals as goal
 
 pub truncate_all-requires-clause-new : goal.truncate_all-requires-clause-new
 truncate_all-requires-clause-new c = subst (IsNewPlace c.args.place) (sym c.self.view_is) c.requires.new
 
 pub invariant_of-self : goal.invariant_of-self
-invariant_of-self c =
-    let t = c.self.inside.tracks.items in
-    let cs = shown_of t in
-    let moment : to_z w64 (of_z w64 c.args.at) ≡ c.args.at = to_z-of_z w64 c.args.at c.ranges.at in
-    let at = to_z w64 (of_z w64 c.args.at) in
-    let ids = c.as_slice.result.now in
-    let channels : ids ≡ c.args.channels.now = c.as_slice.ensures in
-    let es = c.as_slice-2.result.now in
-    let ends : es ≡ c.args.ends.now = c.as_slice-2.ensures in
-    ends-idle c.truncate_all.result t c.truncate_all.new.tracks.items (truncate_refusal cs [] (zip ids es)) (changed c.args.place at (truncated (zip ids es)) cs) c.self.invariant c.truncate_all.ensures
+invariant_of-self c = (truncate-called c.self.view_is (to_z-of_z w64 c.args.at c.ranges.at) c.self.invariant c.requires.new c.as_slice.ensures c.as_slice-2.ensures c.truncate_all.ensures).idle
 
 pub returns-clause-answer : goal.returns-clause-answer
-returns-clause-answer c =
-    let t = c.self.inside.tracks.items in
-    let cs = shown_of t in
-    let moment : to_z w64 (of_z w64 c.args.at) ≡ c.args.at = to_z-of_z w64 c.args.at c.ranges.at in
-    let at = to_z w64 (of_z w64 c.args.at) in
-    let ids = c.as_slice.result.now in
-    let channels : ids ≡ c.args.channels.now = c.as_slice.ensures in
-    let es = c.as_slice-2.result.now in
-    let ends : es ≡ c.args.ends.now = c.as_slice-2.ensures in
-    subst (Gives NoMemory c.truncate_all.result) (λ j. verdict (truncate_refusal (c.self.view_is j) [] (zip (channels j) (ends j)))) (ends-answer c.truncate_all.result t c.truncate_all.new.tracks.items (truncate_refusal cs [] (zip ids es)) (changed c.args.place at (truncated (zip ids es)) cs) c.truncate_all.ensures)
+returns-clause-answer c = (truncate-called c.self.view_is (to_z-of_z w64 c.args.at c.ranges.at) c.self.invariant c.requires.new c.as_slice.ensures c.as_slice-2.ensures c.truncate_all.ensures).answer
 
 pub returns-clause-store : goal.returns-clause-store
-returns-clause-store c =
-    let t = c.self.inside.tracks.items in
-    let cs = shown_of t in
-    let moment : to_z w64 (of_z w64 c.args.at) ≡ c.args.at = to_z-of_z w64 c.args.at c.ranges.at in
-    let at = to_z w64 (of_z w64 c.args.at) in
-    let ids = c.as_slice.result.now in
-    let channels : ids ≡ c.args.channels.now = c.as_slice.ensures in
-    let es = c.as_slice-2.result.now in
-    let ends : es ≡ c.args.ends.now = c.as_slice-2.ensures in
-    let new = shown_of c.truncate_all.new.tracks.items in
-    let path : MatchResult c.truncate_all.result (λ _. new ≡ changed c.args.place at (truncated (zip ids es)) cs) (λ _. new ≡ cs) ≡ MatchResult c.truncate_all.result (λ _. new ≡ changed c.args.place c.args.at (truncated (zip c.args.channels.now c.args.ends.now)) c.args.self.now) (λ _. new ≡ c.args.self.now) =
-    (λ j. MatchResult c.truncate_all.result (λ _. new ≡ changed c.args.place (moment j) (truncated (zip (channels j) (ends j))) (c.self.view_is j)) (λ _. new ≡ c.self.view_is j)) in
-    let P : Type 0 → Type 0 = λ X. X in
-    subst P path (ends-store c.truncate_all.result t c.truncate_all.new.tracks.items (truncate_refusal cs [] (zip ids es)) (changed c.args.place at (truncated (zip ids es)) cs) c.truncate_all.ensures)
+returns-clause-store c = (truncate-called c.self.view_is (to_z-of_z w64 c.args.at c.ranges.at) c.self.invariant c.requires.new c.as_slice.ensures c.as_slice-2.ensures c.truncate_all.ensures).store
 
 pub returns-clause-places : goal.returns-clause-places
-returns-clause-places c =
-    let t = c.self.inside.tracks.items in
-    let cs = shown_of t in
-    let moment : to_z w64 (of_z w64 c.args.at) ≡ c.args.at = to_z-of_z w64 c.args.at c.ranges.at in
-    let at = to_z w64 (of_z w64 c.args.at) in
-    let ids = c.as_slice.result.now in
-    let channels : ids ≡ c.args.channels.now = c.as_slice.ensures in
-    let es = c.as_slice-2.result.now in
-    let ends : es ≡ c.args.ends.now = c.as_slice-2.ensures in
-    λ later above. ends-new c.args.place later at (truncated (zip ids es)) c.truncate_all.result t c.truncate_all.new.tracks.items (truncate_refusal cs [] (zip ids es)) above (subst (IsNewPlace c.args.place) (sym c.self.view_is) c.requires.new) c.truncate_all.ensures
+returns-clause-places c = (truncate-called c.self.view_is (to_z-of_z w64 c.args.at c.ranges.at) c.self.invariant c.requires.new c.as_slice.ensures c.as_slice-2.ensures c.truncate_all.ensures).places

@@ -1,0 +1,55 @@
+-- What a call that changes says of a store as it is seen, by the arguments that its caller gave.
+use Rattle.std.proofs.Common.{◌≡◌, ◌<◌, ℕ, List, [], Result, Option, subst, sym}
+use Rattle.std.specs.Prelude.{ℤ, MatchResult, zip}
+use Rattle.etp_values.specs.Gives.{Gives}
+use Rattle.etp_values.specs.declared.point.ChannelPoint.{ChannelPoint}
+use Rattle.channel_store.specs.declared.change.What.{What}
+use Rattle.channel_store.specs.declared.error.ChannelError.{ChannelError}
+use Rattle.channel_store.specs.declared.error.ChannelError.TheVariants.{NoMemory}
+use Rattle.channel_store.specs.Channels.{Channel}
+use Rattle.channel_store.specs.Refusals.{append_refusal, replace_refusal, truncate_refusal, verdict}
+use Rattle.channel_store.specs.Rows.{Row}
+use Rattle.channel_store.specs.Store.{IsNewPlace, appended, changed, replaced, truncated}
+use Rattle.channel_store.specs.Sweeps.{EndsAs, IsIdle, shown_of}
+use Rattle.channel_store.proofs.Ended.{ends-answer, ends-store, ends-idle, ends-new}
+
+-- what holds after a call on these channels
+pub record Called (r : Result (Unit {0}) ChannelError) (new : List Row) (cs : List Channel) (refusal : Option ChannelError) (place : ℕ) (at : ℤ) (what : ℤ → Option What) : Type 0 where
+  pub answer : Gives NoMemory r (verdict refusal)
+  pub store : MatchResult r (λ _. shown_of new ≡ changed place at what cs) (λ _. shown_of new ≡ cs)
+  pub idle : IsIdle new
+  pub places : (later : ℕ) → place < later → IsNewPlace later (shown_of new)
+
+called : (r : Result (Unit {0}) ChannelError) (old new : List Row) (refusal : Option ChannelError) (place : ℕ) (at : ℤ) (what : ℤ → Option What)
+    → IsIdle old → IsNewPlace place (shown_of old) → EndsAs r old new refusal (changed place at what (shown_of old)) → Called r new (shown_of old) refusal place at what
+called r old new refusal place at what idle fresh h = record {
+  answer = ends-answer r old new refusal (changed place at what (shown_of old)) h;
+  store = ends-store r old new refusal (changed place at what (shown_of old)) h;
+  idle = ends-idle r old new refusal (changed place at what (shown_of old)) idle h;
+  places = λ later above. ends-new place later at what r old new refusal above fresh h;
+}
+
+module _ {r : Result (Unit {0}) ChannelError} {old new : List Row} {cs : List Channel} {place : ℕ} {at at' : ℤ}
+    (view : shown_of old ≡ cs) (moment : at ≡ at') (idle : IsIdle old) (fresh : IsNewPlace place cs) where
+  pub append-called : {is is' : List ChannelPoint} → is ≡ is'
+      → EndsAs r old new (append_refusal (shown_of old) is) (changed place at (appended is) (shown_of old))
+      → Called r new cs (append_refusal cs is') place at' (appended is')
+  append-called {is} {is'} items h =
+      subst (λ (X : Type 0). X) (λ j. Called r new (view j) (append_refusal (view j) (items j)) place (moment j) (appended (items j)))
+      (called r old new (append_refusal (shown_of old) is) place at (appended is) idle (subst (IsNewPlace place) (sym view) fresh) h)
+
+  pub replace-called : {ids ids' : List ℤ} {from from' to to' : ℤ} {is is' : List ChannelPoint} → ids ≡ ids' → from ≡ from' → to ≡ to' → is ≡ is'
+      → EndsAs r old new (replace_refusal (shown_of old) ids from to is) (changed place at (replaced ids from to is) (shown_of old))
+      → Called r new cs (replace_refusal cs ids' from' to' is') place at' (replaced ids' from' to' is')
+  replace-called {ids} {ids'} {from} {from'} {to} {to'} {is} {is'} channels begin end items h =
+      subst (λ (X : Type 0). X)
+      (λ j. Called r new (view j) (replace_refusal (view j) (channels j) (begin j) (end j) (items j)) place (moment j) (replaced (channels j) (begin j) (end j) (items j)))
+      (called r old new (replace_refusal (shown_of old) ids from to is) place at (replaced ids from to is) idle (subst (IsNewPlace place) (sym view) fresh) h)
+
+  pub truncate-called : {ids ids' ends ends' : List ℤ} → ids ≡ ids' → ends ≡ ends'
+      → EndsAs r old new (truncate_refusal (shown_of old) [] (zip ids ends)) (changed place at (truncated (zip ids ends)) (shown_of old))
+      → Called r new cs (truncate_refusal cs [] (zip ids' ends')) place at' (truncated (zip ids' ends'))
+  truncate-called {ids} {ids'} {ends} {ends'} channels limits h =
+      subst (λ (X : Type 0). X)
+      (λ j. Called r new (view j) (truncate_refusal (view j) [] (zip (channels j) (limits j))) place (moment j) (truncated (zip (channels j) (limits j))))
+      (called r old new (truncate_refusal (shown_of old) [] (zip ids ends)) place at (truncated (zip ids ends)) idle (subst (IsNewPlace place) (sym view) fresh) h)

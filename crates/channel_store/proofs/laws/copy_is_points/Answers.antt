@@ -1,0 +1,5 @@
+use Rattle.channel_store.proofs.Copies.{copy-stream}
+use Rattle.channel_store.proofs.laws.copy_is_points.Goals as goal
+
+pub returns : goal.returns
+returns c = copy-stream
