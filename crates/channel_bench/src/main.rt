@@ -1,8 +1,9 @@
 //! Checks and measures the store of channels.
 //!
 //! With no word it takes one channel through a thousand changes of a fixed sequence, beside a plain list of its points, and prints
-//! how many changes of each kind there were, what is left, and whether both were the same after each change. With `points` and a
-//! count it appends that many points one by one, reads them by ranges of a thousand, and prints the time that a point took.
+//! how many changes of each kind there were, what is left, whether both were the same after each change, and how many points a range
+//! gives that were appended at once. With `points` and a count it appends that many points one by one, reads them by ranges of a
+//! thousand, and prints the time that a point took.
 #![tactic(auto)]
 
 mod changes;

@@ -93,6 +93,17 @@ fn thousand(alloc: Global) -> Result<Trial, FeedError> {
     Ok(trial)
 }
 
+/// How many points a range gives, of as many that were appended at once.
+fn read_at_once(alloc: Global, count: u32) -> Result<usize, FeedError> {
+    let mut feed = Feed::new(alloc)?;
+    let mut points = Vec::new(alloc);
+    for index in 0..count {
+        points.push((index as i64, 0))?;
+    }
+    feed.append(points.as_slice())?;
+    Ok(feed.range(0, count as i64)?.len())
+}
+
 fn show(rt: &HostRuntime, trial: &Trial) -> io::Result<()> {
     let tally = trial.tally;
     println!(rt; "appends: {}", tally.appends)?;
@@ -106,7 +117,11 @@ fn show(rt: &HostRuntime, trial: &Trial) -> io::Result<()> {
 
 pub(crate) fn run(rt: &HostRuntime) -> io::Result<()> {
     match thousand(rt.alloc()) {
-        Ok(trial) => show(rt, &trial),
+        Ok(trial) => show(rt, &trial)?,
+        Err(error) => println!(rt; "{error:?}")?,
+    }
+    match read_at_once(rt.alloc(), 2000) {
+        Ok(count) => println!(rt; "points read at once: {count}"),
         Err(error) => println!(rt; "{error:?}"),
     }
 }
