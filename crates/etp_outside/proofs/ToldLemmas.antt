@@ -1,6 +1,5 @@
 -- Facts on a told content follow each other.
-use Rattle.std.proofs.Common.{◌≡◌, List, ℕ, ◌++◌, None, Some}
-use Rattle.std.specs.Io.KnownBytes.{Appends, Consumes}
+use Rattle.std.proofs.Common.{None, Some}
 use Rattle.std.specs.declared.option.Option.{Option}
 use Rattle.etp_outside.specs.Told.{Told}
 
@@ -16,20 +15,3 @@ told_trans None b c P Q R f p q = tt
 told_trans (Some x) None c P Q R f p q = absurd p
 told_trans (Some x) (Some y) None P Q R f p q = absurd q
 told_trans (Some x) (Some y) (Some z) P Q R f p q = f x y z p q
-
--- a fact over no step
-pub told_self : {X : Type 0} (a : Option X) (P : X → X → Type 0) → ((x : X) → P x x) → Told a a P
-told_self None P f = tt
-told_self (Some x) P f = f x
-
--- bytes that were read are the front of what was left
-pub told_consumed : (a b : Option (List ℕ)) (bs : List ℕ) → Consumes a b bs → Told a b (λ xs ys. xs ≡ bs ++ ys)
-told_consumed None b bs h = tt
-told_consumed (Some xs) None bs h = absurd h
-told_consumed (Some xs) (Some ys) bs h = h
-
--- bytes that were written stand behind what was held
-pub told_appended : (a b : Option (List ℕ)) (bs : List ℕ) → Appends a b bs → Told a b (λ xs ys. ys ≡ xs ++ bs)
-told_appended None b bs h = tt
-told_appended (Some xs) None bs h = absurd h
-told_appended (Some xs) (Some ys) bs h = h

@@ -1,8 +1,12 @@
 -- The calls of an object in memory.
-use Rattle.std.specs.Prelude.{ℕ, Bool, true, false, ◌==◌, if◌then◌else◌}
+use Rattle.std.specs.Prelude.{ℕ, List, Bool, true, false, ◌==◌, if◌then◌else◌}
 use Rattle.std.specs.List.{list_any}
 use Rattle.etp_outside.specs.Faults.{next_count}
 use Rattle.etp_outside.specs.declared.script.Script.{Script}
+
+-- the script of an object that had no call
+abbrev pub new_script : List ℕ → Script
+new_script fails = record { fails = fails; made = 0; faults = 0 }
 
 -- whether the next call has a number that is listed
 abbrev pub fails_next : Script → Bool

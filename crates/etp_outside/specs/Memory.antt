@@ -4,7 +4,7 @@ use Rattle.std.specs.declared.option.Option.{Option}
 use Rattle.std.specs.Option.{option_map}
 use Rattle.std.specs.Str.{bytes_eq}
 use Rattle.etp_outside.specs.Faults.{next_count}
-use Rattle.etp_outside.specs.Calls.{fails_next, after_call}
+use Rattle.etp_outside.specs.Calls.{new_script, fails_next, after_call}
 use Rattle.etp_outside.specs.Input.{Input}
 use Rattle.etp_outside.specs.Output.{Output}
 use Rattle.etp_outside.specs.Folder.{Folder}
@@ -37,6 +37,7 @@ abbrev pub IsWriteAnswer : Output → ℕ → WriteOutcome → Type 0
 IsWriteAnswer s len (Wrote.Took n) = (fails_next s.script ≡ false) × (n ≡ min len s.most)
 IsWriteAnswer s len Wrote.Failed = (fails_next s.script ≡ true) ⊎ (s.room < length s.held + min len s.most)
 
+-- a write failed
 abbrev pub is_failed : WriteOutcome → Bool
 is_failed (Wrote.Took n) = false
 is_failed Wrote.Failed = true
@@ -52,12 +53,13 @@ abbrev pub find_file : List MemFile → List ℕ → Option MemFile
 find_file [] name = None
 find_file (f ∷ fs) name = if bytes_eq f.name name then Some f else find_file fs name
 
+-- what a file has
 abbrev pub file_content : MemFile → List ℕ
 file_content f = f.content
 
 -- a file as it is opened
 abbrev pub opened_file : MemFile → Input
-opened_file f = record { left = f.content; most = 2 ^ 64 - 1; script = record { fails = f.fails; made = 0; faults = 0 } }
+opened_file f = record { left = f.content; most = 2 ^ 64 - 1; script = new_script f.fails }
 
 -- opening fails where the call is listed or no file has the name, and else gives the first file of that name
 abbrev pub IsOpenAnswer : Folder → List ℕ → Opened Input → Type 0
@@ -65,6 +67,7 @@ IsOpenAnswer h name (Open.File s) = (fails_next h.script ≡ false) × (option_m
 IsOpenAnswer h name Open.Failed = (fails_next h.script ≡ true) ⊎ (find_file h.files name ≡ None)
 IsOpenAnswer h name Open.NoMemory = (fails_next h.script ≡ false) × IsSome (find_file h.files name)
 
+-- an opening failed
 abbrev pub has_failed : Opened Input → Bool
 has_failed (Open.File s) = false
 has_failed Open.Failed = true

@@ -2,7 +2,7 @@
 ghost use Rattle.std.specs.Prelude.{◌≡◌, ◌<◌, ◌≤◌, ◌==◌, ℕ, List, true, false, Some, None};
 ghost use Rattle.std.specs.Option.{option_copied, option_map};
 ghost use Rattle.etp_outside.specs.Faults.{Rose};
-ghost use Rattle.etp_outside.specs.Calls.{after_call};
+ghost use Rattle.etp_outside.specs.Calls.{after_call, new_script};
 ghost use Rattle.etp_outside.specs.Host.{Opens, OpenCause};
 ghost use Rattle.etp_outside.specs.Memory.{IsOpenAnswer, after_open, after_close, find_file, file_content};
 
@@ -43,7 +43,7 @@ impl Model for MemHost {
 impl MemHost {
     /// A host with these files. The openings of the numbers in `fails` fail, the first one being number 1.
     pub fn new(files: List<MemFile>, fails: List<u64>) -> MemHost
-        ensures { result ≡ record { files = files; script = record { fails = fails; made = 0; faults = 0 } } }
+        ensures { result ≡ record { files = files; script = new_script fails } }
     {
         MemHost {
             files,
@@ -81,8 +81,10 @@ impl Host for MemHost {
     fn open(&mut self, alloc: Global, name: &str) -> Opened<MemSource>
         ensures answer { IsOpenAnswer self.old name.now result }
         ensures after { self.new ≡ after_open self.old result }
-        ensures file { Opens (λ s. Some s.left) (λ s. s.script.faults) result (option_map file_content (find_file self.old.files name.now)) }
-        ensures same { (q : List ℕ) → option_map file_content (find_file self.new.files q) ≡ option_map file_content (find_file self.old.files q) }
+        ensures file { Opens (λ s. Some s.left) (λ s. s.script.faults) result
+            (option_map file_content (find_file self.old.files name.now)) }
+        ensures same { (q : List ℕ) → option_map file_content (find_file self.new.files q)
+            ≡ option_map file_content (find_file self.old.files q) }
         ensures kept { self.old.script.faults ≤ self.new.script.faults }
         ensures cause { OpenCause result self.old.script.faults self.new.script.faults }
     {
@@ -105,7 +107,8 @@ impl Host for MemHost {
 
     fn close(&mut self, file: MemSource)
         ensures after { self.new ≡ after_close self.old file }
-        ensures same { (q : List ℕ) → option_map file_content (find_file self.new.files q) ≡ option_map file_content (find_file self.old.files q) }
+        ensures same { (q : List ℕ) → option_map file_content (find_file self.new.files q)
+            ≡ option_map file_content (find_file self.old.files q) }
         ensures kept { self.old.script.faults ≤ self.new.script.faults }
         ensures cause { 0 < file.script.faults → Rose self.old.script.faults self.new.script.faults }
     {

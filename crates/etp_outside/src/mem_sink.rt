@@ -1,5 +1,6 @@
 //! A sink in memory.
 ghost use Rattle.std.specs.Prelude.{◌≡◌, ◌<◌, ◌≤◌, ◌-◌, ◌^◌, length, Some, vec_capacity};
+ghost use Rattle.etp_outside.specs.Calls.{new_script};
 ghost use Rattle.etp_outside.specs.Faults.{Rose};
 ghost use Rattle.etp_outside.specs.Sink.{IsTaken, Writes};
 ghost use Rattle.etp_outside.specs.Memory.{IsWriteAnswer, AfterWrite};
@@ -32,7 +33,12 @@ impl Model for MemSink {
 impl MemSink {
     /// A sink that holds these bytes. The writes of the numbers in `fails` fail, the first write being number 1.
     pub fn new(contents: Vec<u8>, fails: List<u64>) -> MemSink
-        ensures { result ≡ record { held = contents.items; room = vec_capacity contents; most = 2 ^ 64 - 1; script = record { fails = fails; made = 0; faults = 0 } } }
+        ensures { result ≡ record {
+          held = contents.items;
+          room = vec_capacity contents;
+          most = 2 ^ 64 - 1;
+          script = new_script fails;
+        } }
     {
         MemSink::in_pieces(contents, fails, usize::MAX)
     }
@@ -40,7 +46,12 @@ impl MemSink {
     /// The same, which takes at most `most` bytes of a piece.
     pub fn in_pieces(contents: Vec<u8>, fails: List<u64>, most: usize) -> MemSink
         requires { 0 < most }
-        ensures { result ≡ record { held = contents.items; room = vec_capacity contents; most = most; script = record { fails = fails; made = 0; faults = 0 } } }
+        ensures { result ≡ record {
+          held = contents.items;
+          room = vec_capacity contents;
+          most = most;
+          script = new_script fails;
+        } }
     {
         MemSink {
             bytes: contents,

@@ -1,5 +1,6 @@
 //! A source in memory.
 ghost use Rattle.std.specs.Prelude.{◌≡◌, ◌<◌, ◌≤◌, ◌-◌, ◌^◌, length, drop, Some};
+ghost use Rattle.etp_outside.specs.Calls.{new_script};
 ghost use Rattle.etp_outside.specs.Faults.{Rose};
 ghost use Rattle.etp_outside.specs.Source.{IsCount, Reads};
 ghost use Rattle.etp_outside.specs.Memory.{read_answer, after_read};
@@ -32,7 +33,7 @@ impl Model for MemSource {
 impl MemSource {
     /// A source of these bytes. The reads of the numbers in `fails` fail, the first read being number 1.
     pub fn new(contents: Blob, fails: List<u64>) -> MemSource
-        ensures { result ≡ record { left = contents; most = 2 ^ 64 - 1; script = record { fails = fails; made = 0; faults = 0 } } }
+        ensures { result ≡ record { left = contents; most = 2 ^ 64 - 1; script = new_script fails } }
     {
         MemSource::in_pieces(contents, fails, usize::MAX)
     }
@@ -40,7 +41,7 @@ impl MemSource {
     /// The same, which gives at most `most` bytes to a read.
     pub fn in_pieces(contents: Blob, fails: List<u64>, most: usize) -> MemSource
         requires { 0 < most }
-        ensures { result ≡ record { left = contents; most = most; script = record { fails = fails; made = 0; faults = 0 } } }
+        ensures { result ≡ record { left = contents; most = most; script = new_script fails } }
     {
         MemSource {
             bytes: contents,

@@ -1,6 +1,6 @@
 //! Which calls of an object in memory fail.
 ghost use Rattle.std.specs.Prelude.{◌≡◌, ◌≤◌, true, false};
-ghost use Rattle.etp_outside.specs.Calls.{fails_next, after_call};
+ghost use Rattle.etp_outside.specs.Calls.{after_call, fails_next, new_script};
 ghost use Rattle.etp_outside.specs.Faults.{next_count};
 
 use etp_values::List;
@@ -17,7 +17,7 @@ pub struct Script {
 impl Script {
     /// The script of an object that had no call.
     pub(crate) fn new(fails: List<u64>) -> Script
-        ensures { result ≡ record { fails = fails; made = 0; faults = 0 } }
+        ensures { result ≡ new_script fails }
     {
         Script {
             fails,
@@ -52,7 +52,7 @@ impl Script {
 
     /// Counts a fault.
     pub(crate) fn fault(&mut self)
-        ensures after { self.new ≡ record { fails = self.old.fails; made = self.old.made; faults = next_count self.old.faults } }
+        ensures after { self.new ≡ record self.old { faults = next_count self.old.faults } }
         ensures kept { self.old.faults ≤ self.new.faults }
     {
         let _faults = self.faults;

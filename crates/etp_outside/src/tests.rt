@@ -1,5 +1,5 @@
 //! Tables with values from outside: the lines of the statuses, and the forms in memory with calls that fail.
-ghost use Rattle.std.specs.Prelude.{◌<◌};
+ghost use Rattle.std.specs.Prelude.{◌≡◌, ◌<◌, IfOk};
 
 use crate::{
     Filled, Host, MemFile, MemHost, MemSink, MemSource, Opened, ReadOutcome, Sink, Source, Status,
@@ -7,6 +7,7 @@ use crate::{
 };
 use etp_values::{Blob, List, NoMemory, Text};
 use std::alloc::Global;
+use std::io::{self, ErrorKind, Read, Write};
 use std::process::Abort;
 use std::test::Fail;
 
@@ -284,4 +285,55 @@ fn readers_and_writers_are_sources_and_sinks(rt: HostRuntime) -> Result<(), Fail
     assert_eq!(rt; out.write(b"abc"), WriteOutcome::Took(2));
     assert_eq!(rt; out.write(b"c"), WriteOutcome::Failed);
     Ok(())
+}
+
+/// What a signal interrupts so many times, before it reads and writes all that it is asked to.
+#[derive(Drop)]
+struct Interrupted {
+    times: u32,
+}
+
+impl Interrupted {
+    fn call(&mut self, len: usize) -> io::Result<usize>
+        ensures { IfOk result (λ n. n ≡ len) }
+    {
+        if self.times == 0 {
+            return Ok(len);
+        }
+        self.times -= 1;
+        Err(ErrorKind::Interrupted.into())
+    }
+}
+
+impl Read for Interrupted {
+    fn read(&mut self, buf: &mut [u8]) -> io::Result<usize> {
+        self.call(buf.len())
+    }
+}
+
+impl Write for Interrupted {
+    fn write(&mut self, piece: &[u8]) -> io::Result<usize> {
+        self.call(piece.len())
+    }
+
+    fn flush(&mut self) -> io::Result<()> {
+        Ok(())
+    }
+}
+
+#[test]
+fn an_interrupted_call_is_made_64_times(rt: HostRuntime) {
+    // how often a signal interrupts, and what one read and one write of three bytes then give
+    let rows = [
+        (1, ReadOutcome::Got(3), WriteOutcome::Took(3)),
+        (63, ReadOutcome::Got(3), WriteOutcome::Took(3)),
+        (64, ReadOutcome::Failed, WriteOutcome::Failed),
+    ];
+    for (times, read, wrote) in rows {
+        let mut input = StdSource::new(Interrupted { times });
+        let mut buf = [0u8; 3];
+        assert!(rt; input.read(&mut buf) == read, "{times}");
+        let mut out = StdSink::new(Interrupted { times });
+        assert!(rt; out.write(b"abc") == wrote, "{times}");
+    }
 }

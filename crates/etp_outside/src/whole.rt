@@ -6,6 +6,7 @@ ghost use Rattle.etp_outside.specs.Whole.{Fills, WritesAll, ReadsAll, ReadsPart}
 use crate::sink::{Sink, WriteOutcome};
 use crate::source::{ReadOutcome, Source};
 use std::alloc::Global;
+use thiserror::Error;
 
 /// What filling a buffer gave.
 #[derive(Clone, Copy, Debug, PartialEq, Eq)]
@@ -61,13 +62,16 @@ pub fn write_all<W: Sink>(sink: &mut W, piece: &[u8]) -> Written
 }
 
 /// Why an input was not read whole.
-#[derive(Clone, Copy, Debug, PartialEq, Eq)]
+#[derive(Clone, Copy, Debug, PartialEq, Eq, Error)]
 pub enum Unread {
     /// It has more bytes than the limit.
+    #[error("the input has more bytes than it may have")]
     TooLong,
     /// The source failed.
+    #[error("the input could not be read")]
     Failed,
     /// Memory was refused.
+    #[error("out of memory")]
     NoMemory,
 }
 
