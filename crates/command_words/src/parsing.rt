@@ -15,7 +15,8 @@ use std::alloc::{AllocError, Global};
 /// The words as `clap` finds them: all of them, in their order.
 pub fn read_plain<'a>(alloc: Global, words: &'a [String]) -> Result<Vec<&'a str>, NoMemory>
     requires { has_option (map string_bytes words.now) ≡ false }
-    ensures { IfOk result (λ found. map (λ word. word.now) found.items ≡ map string_bytes words.now) }
+    ensures { IfOk result (λ found.
+        map (λ word. word.now) found.items ≡ map string_bytes words.now) }
 {
     let command = word_command(alloc)?;
     match parsed(command, words) {
@@ -46,7 +47,8 @@ fn word_command<'a>(alloc: Global) -> Result<Command<'a>, AllocError>
 fn parsed<'a>(command: Command<'a>, words: &'a [String]) -> Result<ArgMatches<'a>, Error>
     requires command { app_of command ≡ word_app }
     requires plain { has_option (map string_bytes words.now) ≡ false }
-    ensures values { IfOk result (λ matches. word_values (rows_of (found_of matches)) ≡ map string_bytes words.now) }
+    ensures values { IfOk result (λ matches.
+        word_values (rows_of (found_of matches)) ≡ map string_bytes words.now) }
     ensures memory { IfErr result (λ error. kind_of error ≡ OutOfMemory) }
 {
     command.try_get_matches_from(words)
@@ -54,7 +56,8 @@ fn parsed<'a>(command: Command<'a>, words: &'a [String]) -> Result<ArgMatches<'a
 
 /// The values of `word`; where `clap` has none, there were no words.
 fn values_of<'a>(alloc: Global, matches: &ArgMatches<'a>) -> Result<Vec<&'a str>, NoMemory>
-    ensures { IfOk result (λ found. map (λ word. word.now) found.items ≡ word_values (rows_of (found_of matches.now))) }
+    ensures { IfOk result (λ found.
+        map (λ word. word.now) found.items ≡ word_values (rows_of (found_of matches.now))) }
 {
     match matches.get_strs("word") {
         Some(values) => copied(alloc, values),
@@ -63,7 +66,8 @@ fn values_of<'a>(alloc: Global, matches: &ArgMatches<'a>) -> Result<Vec<&'a str>
 }
 
 fn copied<'a>(alloc: Global, values: &[&'a str]) -> Result<Vec<&'a str>, NoMemory>
-    ensures { IfOk result (λ found. map (λ word. word.now) found.items ≡ map (λ word. word.now) values.now) }
+    ensures { IfOk result (λ found.
+        map (λ word. word.now) found.items ≡ map (λ word. word.now) values.now) }
 {
     match Vec::from_slice(alloc, values) {
         Ok(found) => Ok(found),

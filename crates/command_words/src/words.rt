@@ -11,7 +11,8 @@ use std::alloc::Global;
 ///
 /// `words` are those after the program's name.
 pub fn words_of<'a>(alloc: Global, words: &'a [String]) -> Result<Option<Vec<&'a str>>, NoMemory>
-    ensures { IfOk result (λ found. option_map (λ v. map (λ word. word.now) v.items) found ≡ plain_words (map string_bytes words.now)) }
+    ensures { IfOk result (λ found. option_map (λ v. map (λ word. word.now) v.items) found
+        ≡ plain_words (map string_bytes words.now)) }
 {
     if has_option(words) {
         return Ok(None);
