@@ -5,12 +5,12 @@ use Rattle.etp_values.specs.declared.bits.Bits64.{Bits64}
 use Rattle.etp_schema.specs.Form.{Form, Holds, null_form, boolean_form, int_form, long_form, double_form, text_form, list_form, named_form, symbols, fields, ◌&◌, done, wrapped, union, last, ◌or◌}
 use Rattle.etp_schema.specs.DataValue.{data_value_form}
 use Rattle.etp_schema.specs.Status.{active_status_kind_form}
-use Rattle.msg_channel.specs.declared.channel_records.PassDirection.{PassDirection}
-use Rattle.msg_channel.specs.declared.channel_records.PassDirection.TheVariants as pass_symbol
-use Rattle.msg_channel.specs.declared.channel_records.PassIndexedDepth.{PassIndexedDepth}
-use Rattle.msg_channel.specs.declared.channel_records.IndexValue.{IndexValue}
-use Rattle.msg_channel.specs.declared.channel_records.IndexValue.TheVariants as index_item
-use Rattle.msg_channel.specs.declared.channel_records.IndexInterval.{IndexInterval}
+use Rattle.msg_channel.specs.declared.indexes.PassDirection.{PassDirection}
+use Rattle.msg_channel.specs.declared.indexes.PassDirection.TheVariants as pass_symbol
+use Rattle.msg_channel.specs.declared.indexes.PassIndexedDepth.{PassIndexedDepth}
+use Rattle.msg_channel.specs.declared.indexes.IndexValue.{IndexValue}
+use Rattle.msg_channel.specs.declared.indexes.IndexValue.TheVariants as index_item
+use Rattle.msg_channel.specs.declared.indexes.IndexInterval.{IndexInterval}
 use Rattle.msg_channel.specs.declared.channel_records.ChannelIndexKind.{ChannelIndexKind}
 use Rattle.msg_channel.specs.declared.channel_records.ChannelIndexKind.TheVariants as index_symbol
 use Rattle.msg_channel.specs.declared.channel_records.IndexDirection.{IndexDirection}
@@ -20,9 +20,9 @@ use Rattle.msg_channel.specs.declared.channel_records.ChannelDataKind.TheVariant
 use Rattle.msg_channel.specs.declared.channel_records.IndexMetadataRecord.{IndexMetadataRecord}
 use Rattle.msg_channel.specs.declared.channel_records.AttributeMetadataRecord.{AttributeMetadataRecord}
 use Rattle.msg_channel.specs.declared.channel_records.ChannelMetadataRecord.{ChannelMetadataRecord}
-use Rattle.msg_channel.specs.declared.channel_records.DataAttribute.{DataAttribute}
-use Rattle.msg_channel.specs.declared.channel_records.DataItem.{DataItem}
-use Rattle.msg_channel.specs.declared.channel_records.TruncateInfo.{TruncateInfo}
+use Rattle.msg_channel.specs.declared.points.DataAttribute.{DataAttribute}
+use Rattle.msg_channel.specs.declared.points.DataItem.{DataItem}
+use Rattle.msg_channel.specs.declared.points.TruncateInfo.{TruncateInfo}
 
 -- Up, HoldingSteady, Down
 abbrev pub pass_directions : List PassDirection

@@ -6,18 +6,18 @@ use Rattle.etp_schema.specs.Form.{Form, Holds, boolean_form, id_form, int_form, 
 use Rattle.etp_schema.specs.Family.{Kind, Body, message, body, IsFound, IsAgain, again}
 use Rattle.msg_channel.specs.ChannelRecords.{index_value_form, index_interval_form, channel_metadata_record_form, data_item_form, truncate_info_form}
 use Rattle.msg_channel.specs.declared.channel_subscribe_messages.ChannelSubscribeInfo.{ChannelSubscribeInfo}
-use Rattle.msg_channel.specs.declared.channel_subscribe_messages.ChannelRangeInfo.{ChannelRangeInfo}
+use Rattle.msg_channel.specs.declared.channel_ranges.ChannelRangeInfo.{ChannelRangeInfo}
 use Rattle.msg_channel.specs.declared.channel_subscribe_messages.GetChannelMetadata.{GetChannelMetadata}
 use Rattle.msg_channel.specs.declared.channel_subscribe_messages.GetChannelMetadataResponse.{GetChannelMetadataResponse}
 use Rattle.msg_channel.specs.declared.channel_subscribe_messages.SubscribeChannels.{SubscribeChannels}
 use Rattle.msg_channel.specs.declared.channel_subscribe_messages.ChannelData.{ChannelData}
-use Rattle.msg_channel.specs.declared.channel_subscribe_messages.RangeReplaced.{RangeReplaced}
+use Rattle.msg_channel.specs.declared.channel_ranges.RangeReplaced.{RangeReplaced}
 use Rattle.msg_channel.specs.declared.channel_subscribe_messages.UnsubscribeChannels.{UnsubscribeChannels}
 use Rattle.msg_channel.specs.declared.channel_subscribe_messages.SubscriptionsStopped.{SubscriptionsStopped}
-use Rattle.msg_channel.specs.declared.channel_subscribe_messages.GetRanges.{GetRanges}
-use Rattle.msg_channel.specs.declared.channel_subscribe_messages.GetRangesResponse.{GetRangesResponse}
+use Rattle.msg_channel.specs.declared.channel_ranges.GetRanges.{GetRanges}
+use Rattle.msg_channel.specs.declared.channel_ranges.GetRangesResponse.{GetRangesResponse}
 use Rattle.msg_channel.specs.declared.channel_subscribe_messages.SubscribeChannelsResponse.{SubscribeChannelsResponse}
-use Rattle.msg_channel.specs.declared.channel_subscribe_messages.ChannelsTruncated.{ChannelsTruncated}
+use Rattle.msg_channel.specs.declared.channel_ranges.ChannelsTruncated.{ChannelsTruncated}
 use Rattle.msg_channel.specs.declared.channel_subscribe_messages.ChannelSubscribeMessage.{ChannelSubscribeMessage}
 use Rattle.msg_channel.specs.declared.channel_subscribe_messages.ChannelSubscribeMessage.TheVariants as m
 

@@ -6,7 +6,9 @@ ghost use Rattle.std.specs.List.{AllByRecursion};
 ghost use Rattle.etp_schema.specs.Family.{read_kind, IsFound, IsAgain};
 ghost use Rattle.msg_channel.specs.ChannelDataLoad.{channel_data_load_body, channel_data_load_kinds};
 
-use crate::channel_records::{ChannelMetadataRecord, DataItem, IndexInterval, TruncateInfo};
+use crate::channel_records::ChannelMetadataRecord;
+use crate::indexes::IndexInterval;
+use crate::points::{DataItem, TruncateInfo};
 use avro_bin::Tree;
 use etp_schema::{Fields, InTree, record_of};
 use etp_values::{List, Named, NoMemory, Text};

@@ -10,24 +10,28 @@
 #![tactic(auto)]
 
 mod channel_data_load_messages;
+mod channel_ranges;
 mod channel_records;
 mod channel_subscribe_messages;
-#[cfg(test)]
-mod tests;
+mod indexes;
+mod points;
 
 pub use channel_data_load_messages::{
     ChannelDataLoadMessage, ChannelsClosed, CloseChannels, LoadChannelData, OpenChannelInfo,
     OpenChannels, OpenChannelsResponse, ReplaceRange, ReplaceRangeResponse, TruncateChannels,
     TruncateChannelsResponse, channel_data_load_laws,
 };
+pub use channel_ranges::{
+    ChannelRangeInfo, ChannelsTruncated, GetRanges, GetRangesResponse, RangeReplaced,
+};
 pub use channel_records::{
     AttributeMetadataRecord, ChannelDataKind, ChannelIndexKind, ChannelMetadataRecord,
-    DataAttribute, DataItem, IndexDirection, IndexInterval, IndexMetadataRecord, IndexValue,
-    PassDirection, PassIndexedDepth, TruncateInfo,
+    IndexDirection, IndexMetadataRecord,
 };
 pub use channel_subscribe_messages::{
-    ChannelData, ChannelRangeInfo, ChannelSubscribeInfo, ChannelSubscribeMessage,
-    ChannelsTruncated, GetChannelMetadata, GetChannelMetadataResponse, GetRanges,
-    GetRangesResponse, RangeReplaced, SubscribeChannels, SubscribeChannelsResponse,
-    SubscriptionsStopped, UnsubscribeChannels, channel_subscribe_laws,
+    ChannelData, ChannelSubscribeInfo, ChannelSubscribeMessage, GetChannelMetadata,
+    GetChannelMetadataResponse, SubscribeChannels, SubscribeChannelsResponse, SubscriptionsStopped,
+    UnsubscribeChannels, channel_subscribe_laws,
 };
+pub use indexes::{IndexInterval, IndexValue, PassDirection, PassIndexedDepth};
+pub use points::{DataAttribute, DataItem, TruncateInfo};

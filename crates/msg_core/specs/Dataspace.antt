@@ -1,6 +1,6 @@
 -- The messages of the Dataspace protocol (24), with their records.
 use Rattle.std.proofs.Common.{ap}
-use Rattle.std.specs.Prelude.{◌≡◌, refl, pos, Option, Some, List, [], ◌∷◌}
+use Rattle.std.specs.Prelude.{refl, List, [], ◌∷◌}
 use Rattle.std.specs.List.{AllByRecursion}
 use Rattle.etp_schema.specs.Form.{Form, Holds, long_form, text_form, list_form, named_form, option_form, fields, ◌&◌, done}
 use Rattle.etp_schema.specs.Family.{Kind, Body, message, body, IsFound, IsAgain, again}

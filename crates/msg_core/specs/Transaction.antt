@@ -1,6 +1,6 @@
 -- The messages of the Transaction protocol (18).
 use Rattle.std.proofs.Common.{ap}
-use Rattle.std.specs.Prelude.{◌≡◌, refl, pos, Option, Some, List, [], ◌∷◌}
+use Rattle.std.specs.Prelude.{refl, List, [], ◌∷◌}
 use Rattle.std.specs.List.{AllByRecursion}
 use Rattle.etp_schema.specs.Form.{Form, Holds, boolean_form, id_form, text_form, list_form, fields, ◌&◌, done}
 use Rattle.etp_schema.specs.Family.{Kind, Body, message, body, IsFound, IsAgain, again}

@@ -10,8 +10,6 @@
 
 mod core_messages;
 mod dataspace_messages;
-#[cfg(test)]
-mod tests;
 mod transaction_messages;
 
 pub use core_messages::{

@@ -13,8 +13,6 @@ mod array_records;
 mod array_types;
 mod data_array_messages;
 mod store_messages;
-#[cfg(test)]
-mod tests;
 
 pub use array_records::{
     DataArray, DataArrayIdentifier, DataArrayMetadata, GetDataSubarraysType, PutDataArraysType,
