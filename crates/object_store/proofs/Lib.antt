@@ -1,4 +1,2 @@
 pub mod Applying
-pub mod Found
 pub mod Listed
-pub mod UriKeys
