@@ -4,7 +4,7 @@ use Rattle.std.proofs.Common.{◌≡◌, ℤ, pos, true, false, List, [], ◌∷
 use Rattle.std.specs.List.{AllByRecursion}
 use Rattle.avro_bin.specs.Value.{Value}
 use Rattle.avro_bin.specs.Shape.{HasSchema}
-use Rattle.etp_schema.specs.Bodies.{known_protocol}
+use Rattle.etp_schema.specs.Bodies.{is_protocol}
 use Rattle.etp_schema.specs.Family.{Kind, Body, message, body, kind_in, IsFound, IsAgain, again}
 use Rattle.msg_core.specs.Core.{core_kinds, core_body, core_found, core_again, protocol_exception_form, acknowledge_form}
 use Rattle.msg_core.specs.Dataspace.{dataspace_kinds, dataspace_body, dataspace_found, dataspace_again}
@@ -135,7 +135,7 @@ channel_data_load_at x = reads_behind m.ChannelDataLoad channel_data_load_kinds 
 exception_read : (x : ProtocolException) → Reads (body 1000 protocol_exception_form x) (m.Core (c.ProtocolException x)) (Some (message 1000 protocol_exception_form (λ y. m.Core (c.ProtocolException y))))
 exception_read x = (refl, λ h. ap (λ (y : ProtocolException). m.Core (c.ProtocolException y)) (protocol_exception_form.back x h))
 
-exception_at : (x : ProtocolException) (p : ℤ) → known_protocol p ≡ true → Reads (body 1000 protocol_exception_form x) (m.Core (c.ProtocolException x)) (typed_kind p (pos 1000))
+exception_at : (x : ProtocolException) (p : ℤ) → is_protocol p ≡ true → Reads (body 1000 protocol_exception_form x) (m.Core (c.ProtocolException x)) (typed_kind p (pos 1000))
 exception_at x p h =
     let r = exception_read x in
     at_each (Reads (body 1000 protocol_exception_form x) (m.Core (c.ProtocolException x))) (pos 1000) protocols p (r, (r, (r, (r, (r, (r, (r, tt))))))) h
@@ -143,7 +143,7 @@ exception_at x p h =
 acknowledge_read : (x : Acknowledge) → Reads (body 1001 acknowledge_form x) (m.Core (c.Acknowledge x)) (Some (message 1001 acknowledge_form (λ y. m.Core (c.Acknowledge y))))
 acknowledge_read x = (refl, λ h. ap (λ (y : Acknowledge). m.Core (c.Acknowledge y)) (acknowledge_form.back x h))
 
-acknowledge_at : (x : Acknowledge) (p : ℤ) → known_protocol p ≡ true → Reads (body 1001 acknowledge_form x) (m.Core (c.Acknowledge x)) (typed_kind p (pos 1001))
+acknowledge_at : (x : Acknowledge) (p : ℤ) → is_protocol p ≡ true → Reads (body 1001 acknowledge_form x) (m.Core (c.Acknowledge x)) (typed_kind p (pos 1001))
 acknowledge_at x p h =
     let r = acknowledge_read x in
     at_each (Reads (body 1001 acknowledge_form x) (m.Core (c.Acknowledge x))) (pos 1001) protocols p (r, (r, (r, (r, (r, (r, (r, tt))))))) h
@@ -194,7 +194,7 @@ own_under : {M : Type 0} (whole : M → Message) (p : ℤ) → ((x : M) → IsOf
 own_under whole p all [] = tt
 own_under whole p all (k ∷ ks) = (λ v. all (k.read v), own_under whole p all ks)
 
-common_own : (p : ℤ) → known_protocol p ≡ true → (ks : List (Kind Message)) → AllByRecursion (IsOwn p) ks → AllByRecursion (IsOwn p) (common_kinds ++ ks)
+common_own : (p : ℤ) → is_protocol p ≡ true → (ks : List (Kind Message)) → AllByRecursion (IsOwn p) ks → AllByRecursion (IsOwn p) (common_kinds ++ ks)
 common_own p h ks own = (λ v. h, (λ v. h, own))
 
 core_own : (x : CoreMessage) → IsOf (m.Core x) (pos 0)
@@ -206,7 +206,7 @@ core_own (c.Pong x) = refl
 core_own (c.ProtocolException x) = refl
 core_own (c.Acknowledge x) = refl
 
-behind_own : {M : Type 0} (whole : M → Message) (p : ℤ) → known_protocol p ≡ true → ((x : M) → IsOf (whole x) p) → (ks : List (Kind M)) → AllByRecursion (IsOwn p) (common_kinds ++ under whole ks)
+behind_own : {M : Type 0} (whole : M → Message) (p : ℤ) → is_protocol p ≡ true → ((x : M) → IsOf (whole x) p) → (ks : List (Kind M)) → AllByRecursion (IsOwn p) (common_kinds ++ under whole ks)
 behind_own whole p h all ks = common_own p h (under whole ks) (own_under whole p all ks)
 
 all_own : AllByRecursion (λ q. AllByRecursion (IsOwn (pos q.number)) q.kinds) protocols

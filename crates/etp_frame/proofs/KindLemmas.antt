@@ -1,25 +1,18 @@
 -- Searches for a message by its numbers.
 use Rattle.std.specs.Prelude.{◌||◌, is_some}
-use Rattle.std.proofs.Common.{◌≡◌, ℕ, ℤ, pos, negsuc, Bool, true, false, List, [], ◌∷◌, ◌++◌, Option, Some, None, refl, sym, ap, subst, ◌∙◌, if◌then◌else◌}
+use Rattle.std.proofs.Common.{◌≡◌, ℕ, ℤ, pos, negsuc, Bool, true, false, List, [], ◌∷◌, ◌++◌, Option, Some, None, refl, sym, ap, subst, if◌then◌else◌}
 use Rattle.std.specs.List.{AllByRecursion}
 use Rattle.std.proofs.lemmas.Bool.{eqb-true}
-use Rattle.avro_bin.specs.Value.{Value}
 use Rattle.etp_schema.specs.Bodies.{is_number}
-use Rattle.etp_schema.specs.Family.{Kind, kind_in, read_as, read_kind}
-use Rattle.msg_core.specs.Core.{core_kinds}
-use Rattle.etp_frame.specs.Message.{under, common_kinds, Protocol, kinds_in}
+use Rattle.etp_schema.specs.Family.{Kind, kind_in}
+use Rattle.etp_frame.specs.Message.{under, Protocol, kinds_in}
 use Rattle.etp_frame.specs.declared.message.Message.{Message}
-use Rattle.etp_frame.specs.declared.message.Message.TheVariants as m
 
 pub number_is : (a : ℕ) (n : ℤ) → is_number a n ≡ true → n ≡ pos a
 number_is a (pos b) h = ap pos (sym (eqb-true a b h))
 number_is a (negsuc b) h = absurd (let no : false ≡ true = h in cc)
 
--- a message of one protocol's enum, if there is one, as a message of any
-abbrev pub over : {M : Type 0} → (M → Message) → Option M → Option Message
-over whole None = None
-over whole (Some x) = Some (whole x)
-
+-- what is found among the messages of one enum is found among those of any, as one of them
 abbrev pub whole_kind : {M : Type 0} → (M → Message) → Kind M → Kind Message
 whole_kind whole k = record { number = k.number; schema = k.schema; read = λ v. whole (k.read v) }
 
@@ -35,14 +28,6 @@ kind_under whole (k ∷ ks) n =
       | false ↦ kind_under whole ks n
     ]
 
-read_lifted : {M : Type 0} (whole : M → Message) (v : Value) (o : Option (Kind M)) → read_as v (lifted whole o) ≡ over whole (read_as v o)
-read_lifted whole v None = refl
-read_lifted whole v (Some k) = refl
-
--- what is read among the messages of any protocol is what is read among those of the enum
-pub read_under : {M : Type 0} (whole : M → Message) (ks : List (Kind M)) (n : ℤ) (v : Value) → read_kind (under whole ks) n v ≡ over whole (read_kind ks n v)
-read_under whole ks n v = ap (read_as v) (kind_under whole ks n) ∙ read_lifted whole v (kind_in ks n)
-
 -- what is not in the first list is searched in the second
 pub kind_behind : (ks more : List (Kind Message)) (n : ℤ) → is_some (kind_in ks n) ≡ false → kind_in (ks ++ more) n ≡ kind_in more n
 kind_behind [] more n h = refl
@@ -51,29 +36,6 @@ kind_behind (k ∷ ks) more n h =
       | true ↦ λ e. absurd (let no : true ≡ false = e in cc)
       | false ↦ λ e. kind_behind ks more n e
     ] h
-
--- what is in the first list is found there
-pub kind_before : (ks more : List (Kind Message)) (n : ℤ) → is_some (kind_in ks n) ≡ true → kind_in (ks ++ more) n ≡ kind_in ks n
-kind_before [] more n h = absurd (let no : false ≡ true = h in cc)
-kind_before (k ∷ ks) more n h =
-    elim (is_number k.number n) as (λ b. is_some (if b then Some k else kind_in ks n) ≡ true → (if b then Some k else kind_in (ks ++ more) n) ≡ (if b then Some k else kind_in ks n)) [
-      | true ↦ λ e. refl
-      | false ↦ λ e. kind_before ks more n e
-    ] h
-
--- Core has the messages of every protocol
-pub core_common : (n : ℤ) → is_some (kind_in common_kinds n) ≡ true → kind_in (under m.Core core_kinds) n ≡ kind_in common_kinds n
-core_common n h =
-    elim (is_number 1000 n) as (λ b. is_number 1000 n ≡ b → kind_in (under m.Core core_kinds) n ≡ kind_in common_kinds n) [
-      | true ↦ λ t. subst (λ (z : ℤ). kind_in (under m.Core core_kinds) z ≡ kind_in common_kinds z) (sym (number_is 1000 n t)) refl
-      | false ↦ λ t. elim (is_number 1001 n) as (λ b. is_number 1001 n ≡ b → kind_in (under m.Core core_kinds) n ≡ kind_in common_kinds n) [
-        | true ↦ λ s. subst (λ (z : ℤ). kind_in (under m.Core core_kinds) z ≡ kind_in common_kinds z) (sym (number_is 1001 n s)) refl
-        | false ↦ λ s. absurd (none_common n t s h)
-      ] refl
-    ] refl
-  where
-    none_common : (n : ℤ) → is_number 1000 n ≡ false → is_number 1001 n ≡ false → is_some (kind_in common_kinds n) ≡ true → ⊥
-    none_common n t s h = let e : kind_in common_kinds n ≡ None = rw (t, s) refl in let no : false ≡ true = sym (ap is_some e) ∙ h in cc
 
 -- what is found of a list has what each of the list has, and the number that was searched
 pub kind_has : (P : Kind Message → Type 0) (ks : List (Kind Message)) (n : ℤ) (k : Kind Message) → AllByRecursion P ks → kind_in ks n ≡ Some k → P k × (n ≡ pos k.number)

@@ -3,7 +3,7 @@ use Rattle.std.proofs.Common.{◌≡◌, ◌<◌, ℕ, ℤ, List, Option, Some, 
 use Rattle.avro_bin.specs.Value.{Value}
 use Rattle.etp_schema.specs.Bodies.{BodyRow, place_of, row_of, body_place, body_schema}
 use Rattle.etp_schema.specs.Family.{Kind, read_as}
-use Rattle.etp_schema.specs.Shapes.{shape_at}
+use Rattle.etp_schema.specs.Shapes.{shape_at, table_size}
 use Rattle.etp_schema.specs.declared.body.Side.{Side}
 use Rattle.etp_schema.proofs.BodyLemmas.{bodies_are}
 use Rattle.etp_frame.specs.Message.{typed_kind}
@@ -133,7 +133,7 @@ row_placed (Some row) place e = (row, refl)
 place_row : (side : Side) (protocol kind : ℤ) (place : ℕ) → body_place protocol kind side ≡ Some place → (row : BodyRow) × (row_of protocol kind side ≡ Some row)
 place_row side protocol kind place e = row_placed (row_of protocol kind side) place e
 
-pub in_table : (side : Side) (h : Header) (place : ℕ) → body_place h.protocol h.kind side ≡ Some place → place < 165
+pub in_table : (side : Side) (h : Header) (place : ℕ) → body_place h.protocol h.kind side ≡ Some place → place < table_size
 in_table side h place e = (bodies_are h.protocol h.kind side place e).0
 
 pub shape_sent : (side : Side) (h : Header) (place : ℕ) → body_place h.protocol h.kind side ≡ Some place → body_schema h.protocol h.kind side ≡ Some (shape_at place)

@@ -3,7 +3,7 @@ use Rattle.std.specs.Prelude.{◌&&◌, ◌||◌}
 use Rattle.std.proofs.Common.{◌≡◌, ℕ, ℤ, pos, true, false, List, [], ◌∷◌, Option, Some, None, refl, sym, ap, subst, ◌∙◌, if◌then◌else◌}
 use Rattle.std.specs.List.{AllByRecursion}
 use Rattle.avro_bin.specs.Schema.{Schema}
-use Rattle.etp_schema.specs.Bodies.{BodyRow, ProtocolRow, is_number, row_in, messages_in, has_number, schema_of, row_of, known_protocol, core_rows, dataspace_rows, store_rows, transaction_rows, data_array_rows, channel_subscribe_rows, channel_data_load_rows}
+use Rattle.etp_schema.specs.Bodies.{BodyRow, ProtocolRow, is_number, row_in, messages_in, has_number, schema_of, row_of, is_protocol, core_rows, dataspace_rows, store_rows, transaction_rows, data_array_rows, channel_subscribe_rows, channel_data_load_rows}
 use Rattle.etp_schema.specs.Bodies as bodies
 use Rattle.etp_schema.specs.Family.{Kind, kind_in}
 use Rattle.etp_schema.specs.declared.body.Side.{Side}
@@ -102,7 +102,7 @@ known_in (r ∷ rs) p kind side row e =
     ] e
 
 -- a protocol that has a row is known
-pub known_of : (p kind : ℤ) (side : Side) (row : BodyRow) → row_of p kind side ≡ Some row → known_protocol p ≡ true
+pub known_of : (p kind : ℤ) (side : Side) (row : BodyRow) → row_of p kind side ≡ Some row → is_protocol p ≡ true
 known_of p kind side row e = known_in bodies.protocols p kind side row e
 
 -- a schema is a row's

@@ -13,16 +13,15 @@ use Rattle.avro_bin.specs.declared.refusal.Refusal.{Refusal}
 use Rattle.avro_bin.proofs.Whole.{reads, reads_exactly}
 use Rattle.avro_bin.proofs.Typed.{has_schema}
 use Rattle.avro_bin.proofs.Written.{plain_spells}
-use Rattle.etp_schema.specs.Bodies.{known_protocol, body_place, body_schema, place_of, row_of}
+use Rattle.etp_schema.specs.Bodies.{is_protocol, body_place, body_schema, place_of, row_of}
 use Rattle.etp_schema.specs.Family.{Kind, Body, read_as}
 use Rattle.etp_schema.specs.Shapes.{shape_at}
 use Rattle.etp_schema.specs.declared.body.Side.{Side}
-use Rattle.etp_frame.specs.Header.{header_form, has_flag}
+use Rattle.etp_frame.specs.Header.{header_form, has_flag, extended, compressed}
 use Rattle.etp_frame.specs.Message.{message_body, Names, typed_kind}
 use Rattle.etp_frame.specs.Reading.{node_limit, as_header, header_in, admitted, as_body, body_in, tree_of, read_of}
 use Rattle.etp_frame.specs.Wire.{IsPlain, Sends, IsMessage, message_bytes}
 use Rattle.etp_frame.specs.Laws.{ReadsExactly, OneReading, TreeIsBody, Fits, WrittenIsRead}
-use Rattle.etp_frame.specs.declared.flags.TheConstants.{EXTENSION, COMPRESSED}
 use Rattle.etp_frame.specs.declared.header.Header.{Header}
 use Rattle.etp_frame.specs.declared.message.Message.{Message}
 use Rattle.etp_frame.specs.declared.error.FrameError.{FrameError}
@@ -50,7 +49,7 @@ header_read h bytes front back e spelled few = ap as_header (read_is header_form
 abbrev admit_by : Header → Bool → Bool → Bool → Result (Unit {0}) FrameError
 admit_by h extended compressed known = if extended then Err (f.Extension h) else if compressed then Err (f.Compressed h) else if known then Ok tt else Err (f.UnknownProtocol h)
 
-admitted_is : (h : Header) → IsPlain h → known_protocol h.protocol ≡ true → admitted h ≡ Ok tt
+admitted_is : (h : Header) → IsPlain h → is_protocol h.protocol ≡ true → admitted h ≡ Ok tt
 admitted_is h p known = λ i. admit_by h (p.0 i) (p.1 i) (known i)
 
 body_read : (h : Header) (s : Schema) (v : Value) (front : ℕ) (bytes back : List ℕ) → drop front bytes ≡ back → Spells s v back → nodes v ≤ node_limit → body_in h s front bytes ≡ Ok v
@@ -161,7 +160,7 @@ read_is_message side h x bytes fits e =
     let k = read_typed side bytes t b.1 in
     let s = shape_at t.1.0 in
     let head = header_read_as (read_value header_form.schema node_limit bytes) (g, parts.size) parts.front in
-    let leave = admitted_by g (has_flag g.flags EXTENSION) (has_flag g.flags COMPRESSED) (known_protocol g.protocol) parts.plain in
+    let leave = admitted_by g (has_flag g.flags extended) (has_flag g.flags compressed) (is_protocol g.protocol) parts.plain in
     let tail = body_read_as g parts.size (length (drop parts.size bytes)) (read_value s node_limit (drop parts.size bytes)) t.1.1 parts.body in
     let here = (reads_exactly header_form.schema node_limit bytes head.0 parts.size fits).0 head.1 in
     let there = (reads_exactly s node_limit (drop parts.size bytes) t.1.1 (length (drop parts.size bytes)) (rest_fits parts.size bytes fits)).0 tail in

@@ -1,5 +1,5 @@
 -- Headers, and the bits of their flags.
-use Rattle.std.specs.Prelude.{refl, ℤ, Bool, not, ◌==◌, bit_and}
+use Rattle.std.specs.Prelude.{refl, ℤ, pos, Bool, not, ◌==◌, bit_and}
 use Rattle.std.specs.Int.{w32, cast_unsigned}
 use Rattle.etp_schema.specs.Form.{Form, Holds, int_form, long_form, fields, ◌&◌, done}
 use Rattle.etp_frame.specs.declared.header.Header.{Header}
@@ -15,6 +15,22 @@ header_form =
 pub header_holds : (x : Header) → Holds int_form x.protocol → Holds int_form x.kind → Holds long_form x.correlation → Holds long_form x.id → Holds int_form x.flags → Holds header_form x
 unfolding Holds
 header_holds x h0 h1 h2 h3 h4 = (h0, (h1, (h2, (h3, (h4, tt)))))
+
+-- the bit of the last part of an answer, or of its only one
+abbrev pub final_part : ℤ
+final_part = pos 2
+
+-- the bit of a compressed body
+abbrev pub compressed : ℤ
+compressed = pos 8
+
+-- the bit of a message whose sender wants an Acknowledge
+abbrev pub acknowledge : ℤ
+acknowledge = pos 16
+
+-- the bit of a header extension that stands before the body
+abbrev pub extended : ℤ
+extended = pos 32
 
 -- whether flags have one of these bits
 abbrev pub has_flag : ℤ → ℤ → Bool

@@ -1,6 +1,6 @@
 -- The messages of all protocols: what each is written as, and which protocol has it.
 use Rattle.std.specs.Prelude.{◌≡◌, ◌++◌, ℕ, ℤ, pos, true, List, [], ◌∷◌, map, Option, if◌then◌else◌}
-use Rattle.etp_schema.specs.Bodies.{is_number, known_protocol}
+use Rattle.etp_schema.specs.Bodies.{is_number, is_protocol}
 use Rattle.etp_schema.specs.Family.{Kind, Body, message, kind_in}
 use Rattle.msg_core.specs.Core.{core_kinds, core_body, protocol_exception_form, acknowledge_form}
 use Rattle.msg_core.specs.Dataspace.{dataspace_kinds, dataspace_body}
@@ -25,35 +25,63 @@ message_body (m.DataArray x) = data_array_body x
 message_body (m.ChannelSubscribe x) = channel_subscribe_body x
 message_body (m.ChannelDataLoad x) = channel_data_load_body x
 
+-- the number of the Core protocol
+abbrev pub core_number : ℕ
+core_number = 0
+
+-- that of Dataspace
+abbrev pub dataspace_number : ℕ
+dataspace_number = 24
+
+-- that of Store
+abbrev pub store_number : ℕ
+store_number = 4
+
+-- that of Transaction
+abbrev pub transaction_number : ℕ
+transaction_number = 18
+
+-- that of DataArray
+abbrev pub data_array_number : ℕ
+data_array_number = 9
+
+-- that of ChannelSubscribe
+abbrev pub channel_subscribe_number : ℕ
+channel_subscribe_number = 21
+
+-- that of ChannelDataLoad
+abbrev pub channel_data_load_number : ℕ
+channel_data_load_number = 22
+
 -- the protocol in whose enum a message stands
 abbrev pub protocol_of : Message → ℕ
-protocol_of (m.Core x) = 0
-protocol_of (m.Transaction x) = 18
-protocol_of (m.Dataspace x) = 24
-protocol_of (m.Store x) = 4
-protocol_of (m.DataArray x) = 9
-protocol_of (m.ChannelSubscribe x) = 21
-protocol_of (m.ChannelDataLoad x) = 22
+protocol_of (m.Core x) = core_number
+protocol_of (m.Transaction x) = transaction_number
+protocol_of (m.Dataspace x) = dataspace_number
+protocol_of (m.Store x) = store_number
+protocol_of (m.DataArray x) = data_array_number
+protocol_of (m.ChannelSubscribe x) = channel_subscribe_number
+protocol_of (m.ChannelDataLoad x) = channel_data_load_number
 
 -- the protocol has the message of Core's enum: each protocol has ProtocolException and Acknowledge
 abbrev pub IsOfCore : CoreMessage → ℤ → Type 0
-IsOfCore (c.RequestSession x) protocol = protocol ≡ pos 0
-IsOfCore (c.OpenSession x) protocol = protocol ≡ pos 0
-IsOfCore (c.CloseSession x) protocol = protocol ≡ pos 0
-IsOfCore (c.Ping x) protocol = protocol ≡ pos 0
-IsOfCore (c.Pong x) protocol = protocol ≡ pos 0
-IsOfCore (c.ProtocolException x) protocol = known_protocol protocol ≡ true
-IsOfCore (c.Acknowledge x) protocol = known_protocol protocol ≡ true
+IsOfCore (c.RequestSession x) protocol = protocol ≡ pos core_number
+IsOfCore (c.OpenSession x) protocol = protocol ≡ pos core_number
+IsOfCore (c.CloseSession x) protocol = protocol ≡ pos core_number
+IsOfCore (c.Ping x) protocol = protocol ≡ pos core_number
+IsOfCore (c.Pong x) protocol = protocol ≡ pos core_number
+IsOfCore (c.ProtocolException x) protocol = is_protocol protocol ≡ true
+IsOfCore (c.Acknowledge x) protocol = is_protocol protocol ≡ true
 
 -- the protocol has the message
 abbrev pub IsOf : Message → ℤ → Type 0
 IsOf (m.Core x) protocol = IsOfCore x protocol
-IsOf (m.Transaction x) protocol = protocol ≡ pos 18
-IsOf (m.Dataspace x) protocol = protocol ≡ pos 24
-IsOf (m.Store x) protocol = protocol ≡ pos 4
-IsOf (m.DataArray x) protocol = protocol ≡ pos 9
-IsOf (m.ChannelSubscribe x) protocol = protocol ≡ pos 21
-IsOf (m.ChannelDataLoad x) protocol = protocol ≡ pos 22
+IsOf (m.Transaction x) protocol = protocol ≡ pos transaction_number
+IsOf (m.Dataspace x) protocol = protocol ≡ pos dataspace_number
+IsOf (m.Store x) protocol = protocol ≡ pos store_number
+IsOf (m.DataArray x) protocol = protocol ≡ pos data_array_number
+IsOf (m.ChannelSubscribe x) protocol = protocol ≡ pos channel_subscribe_number
+IsOf (m.ChannelDataLoad x) protocol = protocol ≡ pos channel_data_load_number
 
 -- the header names the message: its number, and a protocol that has it
 abbrev pub Names : Header → Message → Type 0
@@ -79,13 +107,13 @@ protocol number kinds = record { number = number; kinds = kinds }
 
 abbrev pub protocols : List Protocol
 protocols =
-    protocol 0 (under m.Core core_kinds) ∷
-    protocol 24 (common_kinds ++ under m.Dataspace dataspace_kinds) ∷
-    protocol 4 (common_kinds ++ under m.Store store_kinds) ∷
-    protocol 18 (common_kinds ++ under m.Transaction transaction_kinds) ∷
-    protocol 9 (common_kinds ++ under m.DataArray data_array_kinds) ∷
-    protocol 21 (common_kinds ++ under m.ChannelSubscribe channel_subscribe_kinds) ∷
-    protocol 22 (common_kinds ++ under m.ChannelDataLoad channel_data_load_kinds) ∷ []
+    protocol core_number (under m.Core core_kinds) ∷
+    protocol dataspace_number (common_kinds ++ under m.Dataspace dataspace_kinds) ∷
+    protocol store_number (common_kinds ++ under m.Store store_kinds) ∷
+    protocol transaction_number (common_kinds ++ under m.Transaction transaction_kinds) ∷
+    protocol data_array_number (common_kinds ++ under m.DataArray data_array_kinds) ∷
+    protocol channel_subscribe_number (common_kinds ++ under m.ChannelSubscribe channel_subscribe_kinds) ∷
+    protocol channel_data_load_number (common_kinds ++ under m.ChannelDataLoad channel_data_load_kinds) ∷ []
 
 -- the messages of a protocol; none of a number that no protocol has
 abbrev pub kinds_in : List Protocol → ℤ → List (Kind Message)

@@ -11,18 +11,18 @@ use Rattle.etp_frame.specs.declared.error.FrameError.{FrameError}
 use Rattle.etp_frame.specs.declared.error.FrameError.TheVariants as f
 
 -- where an item was refused
-abbrev pub place_in : Refusal → ℕ
-place_in (r.Short place) = place
-place_in (r.Number place) = place
-place_in (r.Range place) = place
-place_in (r.Bool place) = place
-place_in (r.Branch place) = place
-place_in (r.Utf8 place) = place
-place_in (r.Length place) = place
-place_in (r.BlockSize place) = place
-place_in (r.DoubleKey place) = place
-place_in (r.Limit place) = place
-place_in r.NoMemory = 0
+abbrev pub offset_in : Refusal → ℕ
+offset_in (r.Short offset) = offset
+offset_in (r.Number offset) = offset
+offset_in (r.Range offset) = offset
+offset_in (r.Bool offset) = offset
+offset_in (r.Branch offset) = offset
+offset_in (r.Utf8 offset) = offset
+offset_in (r.Length offset) = offset
+offset_in (r.BlockSize offset) = offset
+offset_in (r.DoubleKey offset) = offset
+offset_in (r.Limit offset) = offset
+offset_in r.NoMemory = 0
 
 -- what a refusal of the header is answered as
 abbrev pub as_header_error : Refusal → FrameError

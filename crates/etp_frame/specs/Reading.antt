@@ -5,13 +5,12 @@ use Rattle.avro_bin.specs.Schema.{Schema}
 use Rattle.avro_bin.specs.Laws.{read_value}
 use Rattle.avro_bin.specs.declared.refusal.Refusal.{Refusal}
 use Rattle.avro_bin.specs.declared.refusal.Refusal.TheVariants as r
-use Rattle.etp_schema.specs.Bodies.{known_protocol, body_place}
+use Rattle.etp_schema.specs.Bodies.{is_protocol, body_place}
 use Rattle.etp_schema.specs.Family.{read_as}
 use Rattle.etp_schema.specs.Shapes.{shape_at}
 use Rattle.etp_schema.specs.declared.body.Side.{Side}
-use Rattle.etp_frame.specs.Header.{header_form, has_flag}
+use Rattle.etp_frame.specs.Header.{header_form, has_flag, extended, compressed}
 use Rattle.etp_frame.specs.Message.{typed_kind}
-use Rattle.etp_frame.specs.declared.flags.TheConstants.{EXTENSION, COMPRESSED}
 use Rattle.etp_frame.specs.declared.header.Header.{Header}
 use Rattle.etp_frame.specs.declared.message.Message.{Message}
 use Rattle.etp_frame.specs.declared.error.FrameError.{FrameError}
@@ -34,21 +33,21 @@ header_of_error (f.Compressed h) = Some h
 header_of_error (f.UnknownProtocol h) = Some h
 header_of_error (f.UnknownKind h) = Some h
 header_of_error (f.Body h e) = Some h
-header_of_error (f.Rest h place) = Some h
+header_of_error (f.Rest h offset) = Some h
 header_of_error f.NoMemory = None
 
 -- a refusal so many bytes further on
 abbrev pub shifted : ℕ → Refusal → Refusal
-shifted by (r.Short place) = r.Short (by + place)
-shifted by (r.Number place) = r.Number (by + place)
-shifted by (r.Range place) = r.Range (by + place)
-shifted by (r.Bool place) = r.Bool (by + place)
-shifted by (r.Branch place) = r.Branch (by + place)
-shifted by (r.Utf8 place) = r.Utf8 (by + place)
-shifted by (r.Length place) = r.Length (by + place)
-shifted by (r.BlockSize place) = r.BlockSize (by + place)
-shifted by (r.DoubleKey place) = r.DoubleKey (by + place)
-shifted by (r.Limit place) = r.Limit (by + place)
+shifted by (r.Short offset) = r.Short (by + offset)
+shifted by (r.Number offset) = r.Number (by + offset)
+shifted by (r.Range offset) = r.Range (by + offset)
+shifted by (r.Bool offset) = r.Bool (by + offset)
+shifted by (r.Branch offset) = r.Branch (by + offset)
+shifted by (r.Utf8 offset) = r.Utf8 (by + offset)
+shifted by (r.Length offset) = r.Length (by + offset)
+shifted by (r.BlockSize offset) = r.BlockSize (by + offset)
+shifted by (r.DoubleKey offset) = r.DoubleKey (by + offset)
+shifted by (r.Limit offset) = r.Limit (by + offset)
 shifted by r.NoMemory = r.NoMemory
 
 abbrev pub as_header : Result (Value × ℕ) Refusal → Result (Header × ℕ) FrameError
@@ -62,9 +61,9 @@ header_in bytes = as_header (read_value header_form.schema node_limit bytes)
 -- nothing, where a header has neither an extension nor a compressed body, and a protocol has its number
 abbrev pub admitted : Header → Result (Unit {0}) FrameError
 admitted h =
-    if has_flag h.flags EXTENSION then Err (f.Extension h)
-    else if has_flag h.flags COMPRESSED then Err (f.Compressed h)
-    else if known_protocol h.protocol then Ok tt
+    if has_flag h.flags extended then Err (f.Extension h)
+    else if has_flag h.flags compressed then Err (f.Compressed h)
+    else if is_protocol h.protocol then Ok tt
     else Err (f.UnknownProtocol h)
 
 -- the place of the schema of a body, where there is such a message

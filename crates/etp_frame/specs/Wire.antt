@@ -5,16 +5,15 @@ use Rattle.avro_bin.specs.Grammar.{Spells}
 use Rattle.avro_bin.specs.Plain.{plain}
 use Rattle.etp_schema.specs.Bodies.{body_schema}
 use Rattle.etp_schema.specs.declared.body.Side.{Side}
-use Rattle.etp_frame.specs.Header.{header_form, has_flag}
+use Rattle.etp_frame.specs.Header.{header_form, has_flag, extended, compressed}
 use Rattle.etp_frame.specs.Message.{message_body, Names}
 use Rattle.etp_frame.specs.Reading.{node_limit}
-use Rattle.etp_frame.specs.declared.flags.TheConstants.{EXTENSION, COMPRESSED}
 use Rattle.etp_frame.specs.declared.header.Header.{Header}
 use Rattle.etp_frame.specs.declared.message.Message.{Message}
 
 -- neither an extension nor a compressed body
 abbrev pub IsPlain : Header → Type 0
-IsPlain h = (has_flag h.flags EXTENSION ≡ false) × (has_flag h.flags COMPRESSED ≡ false)
+IsPlain h = (has_flag h.flags extended ≡ false) × (has_flag h.flags compressed ≡ false)
 
 -- the side sends messages of the header's protocol and number, with this message's schema
 abbrev pub Sends : Side → Header → Message → Type 0

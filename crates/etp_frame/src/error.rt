@@ -5,26 +5,35 @@ ghost use Rattle.etp_frame.specs.Reading.{header_of_error};
 use crate::header::Header;
 use avro_bin::Refusal;
 use etp_values::NoMemory;
+use thiserror::Error;
 
-/// The first cause in the order of the variants. Places count from the message's first byte. A cause that comes after the
+/// The first cause in the order of the variants. Offsets count from the message's first byte. A cause that comes after the
 /// header carries it, so that the refusal can name the message.
-#[derive(Clone, Copy, Debug, PartialEq, Eq, Drop)]
+#[derive(Clone, Copy, Debug, PartialEq, Eq, Drop, Error)]
 pub enum FrameError {
     /// The header can't be read.
+    #[error("the header can't be read: {0}")]
     Header(Refusal),
     /// The header has an extension.
+    #[error("the header has an extension")]
     Extension(Header),
     /// The body is compressed.
+    #[error("the body is compressed")]
     Compressed(Header),
     /// No protocol has the header's number.
+    #[error("no protocol has the number {}", .0.protocol)]
     UnknownProtocol(Header),
     /// The protocol has no message of the header's number that the sender sends.
+    #[error("the sender sends no message {} of protocol {}", .0.kind, .0.protocol)]
     UnknownKind(Header),
     /// The body can't be read.
+    #[error("the body can't be read: {1}")]
     Body(Header, Refusal),
-    /// Bytes follow the body, from this place on.
+    /// Bytes follow the body, from this offset on.
+    #[error("bytes follow the body, from byte {1} on")]
     Rest(Header, usize),
     /// Memory was refused.
+    #[error("memory was refused")]
     NoMemory,
 }
 

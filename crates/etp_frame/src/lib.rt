@@ -18,8 +18,6 @@ mod header;
 mod laws;
 mod message;
 mod reading;
-#[cfg(test)]
-mod tests;
 mod writing;
 
 pub use error::FrameError;

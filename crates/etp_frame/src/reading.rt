@@ -5,9 +5,9 @@ ghost use Rattle.avro_bin.specs.Value.{nodes};
 ghost use Rattle.avro_bin.specs.Shape.{HasSchema};
 ghost use Rattle.avro_bin.specs.View.{value_of};
 ghost use Rattle.etp_schema.specs.Bodies.{body_place};
-ghost use Rattle.etp_schema.specs.Shapes.{shape_at};
+ghost use Rattle.etp_schema.specs.Shapes.{shape_at, table_size};
 ghost use Rattle.etp_frame.specs.Reading.{node_limit, tree_of, read_of, header_in, admitted, body_in};
-ghost use Rattle.etp_frame.specs.Parts.{place_in, as_header_error, as_body_error, GivesValue, GivesTree};
+ghost use Rattle.etp_frame.specs.Parts.{offset_in, as_header_error, as_body_error, GivesValue, GivesTree};
 ghost use Rattle.etp_frame.specs.Wire.{IsMessage};
 ghost use Rattle.etp_frame.specs.declared.error.FrameError.TheVariants as f;
 
@@ -48,7 +48,7 @@ pub fn read_tree(
     sender: Side,
 ) -> Result<(Header, u32, Tree), FrameError>
     ensures gives { GivesTree result (tree_of sender bytes.now) }
-    ensures place { IfOk result (λ r. r.1 < 165) }
+    ensures place { IfOk result (λ r. r.1 < table_size) }
     ensures typed { IfOk result (λ r. HasSchema (shape_at r.1) (value_of r.2)) }
     ensures few { IfOk result (λ r. nodes (value_of r.2) ≤ node_limit) }
 {
@@ -122,7 +122,7 @@ fn read_body(
     front: usize,
     bytes: &[u8],
 ) -> Result<Tree, FrameError>
-    requires place { place < 165 }
+    requires place { place < table_size }
     requires front { front ≤ length bytes.now }
     ensures gives { GivesValue result (body_in header (shape_at place) front bytes.now) }
     ensures typed { IfOk result (λ tree. HasSchema (shape_at place) (value_of tree)) }
@@ -141,20 +141,20 @@ fn read_body(
 }
 
 fn body_error(header: Header, front: usize, refusal: Refusal) -> FrameError
-    requires { front + place_in refusal < 2 ^ 64 }
+    requires { front + offset_in refusal < 2 ^ 64 }
     ensures { result ≡ as_body_error header front refusal }
 {
     match refusal {
-        Refusal::Short(place) => FrameError::Body(header, Refusal::Short(front + place)),
-        Refusal::Number(place) => FrameError::Body(header, Refusal::Number(front + place)),
-        Refusal::Range(place) => FrameError::Body(header, Refusal::Range(front + place)),
-        Refusal::Bool(place) => FrameError::Body(header, Refusal::Bool(front + place)),
-        Refusal::Branch(place) => FrameError::Body(header, Refusal::Branch(front + place)),
-        Refusal::Utf8(place) => FrameError::Body(header, Refusal::Utf8(front + place)),
-        Refusal::Length(place) => FrameError::Body(header, Refusal::Length(front + place)),
-        Refusal::BlockSize(place) => FrameError::Body(header, Refusal::BlockSize(front + place)),
-        Refusal::DoubleKey(place) => FrameError::Body(header, Refusal::DoubleKey(front + place)),
-        Refusal::Limit(place) => FrameError::Body(header, Refusal::Limit(front + place)),
+        Refusal::Short(offset) => FrameError::Body(header, Refusal::Short(front + offset)),
+        Refusal::Number(offset) => FrameError::Body(header, Refusal::Number(front + offset)),
+        Refusal::Range(offset) => FrameError::Body(header, Refusal::Range(front + offset)),
+        Refusal::Bool(offset) => FrameError::Body(header, Refusal::Bool(front + offset)),
+        Refusal::Branch(offset) => FrameError::Body(header, Refusal::Branch(front + offset)),
+        Refusal::Utf8(offset) => FrameError::Body(header, Refusal::Utf8(front + offset)),
+        Refusal::Length(offset) => FrameError::Body(header, Refusal::Length(front + offset)),
+        Refusal::BlockSize(offset) => FrameError::Body(header, Refusal::BlockSize(front + offset)),
+        Refusal::DoubleKey(offset) => FrameError::Body(header, Refusal::DoubleKey(front + offset)),
+        Refusal::Limit(offset) => FrameError::Body(header, Refusal::Limit(front + offset)),
         Refusal::NoMemory => FrameError::NoMemory,
     }
 }
