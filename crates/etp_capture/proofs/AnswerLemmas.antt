@@ -1,10 +1,11 @@
 -- Each input is the capture of some frames or fails, and in one way.
-use Rattle.std.proofs.Common.{◌≡◌, ℕ, zero, suc, ◌+◌, ◌-◌, ◌<◌, ◌≤◌, ◌⊎◌, inl, inr, Bool, true, false, not, nat_eq, nat_lt, if◌then◌else◌, List, [], ◌∷◌, ◌++◌, length, take, drop, arith, refl, ap, ap₂, sym, ◌∙◌, subst, le_refl, length-append, drop_at, append_assoc, append-nil, All}
+use Rattle.std.proofs.Common.{◌≡◌, ℕ, zero, suc, ◌+◌, ◌-◌, ◌<◌, ◌≤◌, ◌⊎◌, inl, inr, Bool, true, false, not, nat_eq, nat_lt, if◌then◌else◌, List, [], ◌∷◌, ◌++◌, length, take, drop, arith, refl, ap, ap₂, sym, ◌∙◌, subst, le_refl, length-append, drop_at, append_assoc, append-nil}
 use Rattle.std.specs.List.{starts_with}
 use Rattle.std.proofs.lemmas.Bool.{false≢true}
 use Rattle.std.proofs.lemmas.Bool.Decides.{Decides-eqb}
 use Rattle.std.proofs.lemmas.List.Elements.{All-drop}
 use Rattle.std.proofs.lemmas.Slice.Eq.{starts_is}
+use Rattle.etp_values.proofs.Bools.{by_test}
 use Rattle.etp_capture.specs.Frames.{magic, capture_limit, is_kind, is_length, head_bytes, frame_bytes, frame_of, length_in, IsFrame, IsInRange}
 use Rattle.etp_capture.specs.Found.{Found, Whole, NoMore, Bad, found, head_found, length_found, body_found}
 use Rattle.etp_capture.specs.Capture.{frames_bytes, AreFrames, end_at, IsCapture, FailsBehind, CaptureFails}
@@ -197,10 +198,6 @@ answer_of bytes xs is r =
       | inr fault ↦
           inr (fault.0, inr (record { frames = r.frames; rest = r.rest; all = is ∙ ap (λ l. magic ++ l) r.all; small = r.small; frames_are = r.frames_are; fault = fault.1 }))
     ]
-
-by_test : {P : Type 0} (b : Bool) → (b ≡ true → P) → (b ≡ false → P) → P
-by_test true yes_p no_p = yes_p refl
-by_test false yes_p no_p = no_p refl
 
 pub some_answer : SomeAnswer
 some_answer bytes are =

@@ -1,19 +1,13 @@
 -- Captures are read as they were written, and in one way.
-use Rattle.std.proofs.Common.{◌≡◌, ℕ, zero, suc, ◌+◌, ◌-◌, ◌^◌, ◌<◌, ◌≤◌, ◌⊎◌, inl, inr, Bool, true, false, not, ◌&&◌, nat_eq, nat_lt, nat_le, if◌then◌else◌, List, [], ◌∷◌, ◌++◌, length, get_or, take, drop, arith, refl, ap, ap₂, sym, ◌∙◌, subst, le_refl, length-append, length-take, length-drop, take_all, drop_at, length-take-le, take-append-drop, append_assoc, append-nil, All}
-use Rattle.std.specs.List.{starts_with}
-use Rattle.std.specs.Int.{w64}
-use Rattle.std.proofs.lemmas.Bool.{false≢true}
-use Rattle.std.proofs.lemmas.Bool.Decides.{nat_tests, Decides-eqb}
-use Rattle.std.proofs.lemmas.List.Elements.{All-take, All-drop}
-use Rattle.std.proofs.lemmas.Slice.Eq.{starts_is}
-use borrow.Author.Gap.{read_sfits}
-use Rattle.etp_capture.specs.Frames.{magic, capture_limit, frame_limit, is_kind, is_length, head_bytes, frame_bytes, frame_of, length_in, IsFrame, IsInRange}
-use Rattle.etp_capture.specs.Found.{Found, Whole, NoMore, Bad, found, head_found, length_found, body_found}
-use Rattle.etp_capture.specs.Capture.{frames_bytes, AreFrames, end_at, IsCapture, FailsBehind, CaptureFails}
-use Rattle.etp_capture.specs.Laws.{AreBytes, ReadsBack, WritesBack, OneCapture, OneFault, NoFault, SomeAnswer}
+use Rattle.std.proofs.Common.{◌≡◌, ℕ, ◌+◌, ◌-◌, ◌<◌, ◌≤◌, Bool, true, false, not, ◌&&◌, nat_lt, nat_le, if◌then◌else◌, List, [], ◌∷◌, ◌++◌, length, take, drop, arith, refl, ap, ap₂, sym, ◌∙◌, subst, le_refl, take_all, length-take-le, take-append-drop, append_assoc}
+use Rattle.std.proofs.lemmas.Bool.Decides.{nat_tests}
+use Rattle.std.proofs.lemmas.List.Elements.{All-take}
+use Rattle.etp_capture.specs.Frames.{capture_limit, frame_limit, is_kind, is_length, head_bytes, frame_bytes, frame_of, length_in, IsFrame, IsInRange}
+use Rattle.etp_capture.specs.Found.{Found, Whole, Bad, found, head_found, length_found, body_found}
+use Rattle.etp_capture.specs.Laws.{AreBytes, ReadsBack, WritesBack}
 use Rattle.etp_capture.specs.declared.frame.Frame.{Frame}
 use Rattle.etp_capture.specs.declared.reader.CaptureError.{CaptureError}
-use Rattle.etp_capture.specs.declared.reader.CaptureError.TheVariants.{Magic, Kind, Length, Cut, Limit}
+use Rattle.etp_capture.specs.declared.reader.CaptureError.TheVariants.{Kind, Length, Cut, Limit}
 use Rattle.etp_capture.proofs.FoundLemmas.{front_body, head_whole, body_whole}
 use Rattle.etp_capture.proofs.HeadLemmas.{head_again, length_head, length_in_head, frame_of_head, head_in_range}
 

@@ -1,11 +1,10 @@
 -- What is found at a frame's place, by the tests that lead there.
-use Rattle.std.proofs.Common.{◌≡◌, ℕ, zero, suc, ◌+◌, ◌-◌, ◌<◌, ◌≤◌, Bool, true, false, List, [], ◌∷◌, ◌++◌, length, get_or, take, drop, arith, refl, ap, sym, ◌∙◌, subst, length-append, length-take, length-drop, take_all, take_at, drop_at, length-take-le, add-zero}
+use Rattle.std.proofs.Common.{◌≡◌, ℕ, zero, suc, ◌+◌, ◌-◌, ◌<◌, ◌≤◌, true, false, List, [], ◌∷◌, ◌++◌, length, get_or, take, drop, arith, ap, sym, ◌∙◌, subst, length-append, length-take, length-drop, take_all, take_at, drop_at, length-take-le, add-zero}
 use Rattle.std.proofs.lemmas.Bool.Decides.{nat_tests}
 use Rattle.etp_capture.specs.Frames.{is_kind, is_length, length_in, capture_limit, magic, frame_of}
-use Rattle.etp_capture.specs.Found.{found, body_found, Bad, Whole, NoMore}
-use Rattle.etp_capture.specs.declared.frame.Frame.{Frame}
+use Rattle.etp_capture.specs.Found.{found, body_found, Bad, Whole}
 use Rattle.etp_capture.specs.declared.reader.CaptureError.{CaptureError}
-use Rattle.etp_capture.specs.declared.reader.CaptureError.TheVariants.{Magic, Kind, Length, Cut, Limit}
+use Rattle.etp_capture.specs.declared.reader.CaptureError.TheVariants.{Kind, Length, Cut, Limit}
 
 pub found_kind : (at k : ℕ) (rest : List ℕ) → at + 1 ≤ capture_limit → is_kind k ≡ false → found at (k ∷ rest) ≡ Bad (Kind at)
 found_kind at k rest within kind = grind (arith, nat_tests)

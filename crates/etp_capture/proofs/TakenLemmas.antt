@@ -5,7 +5,7 @@ use Rattle.std.proofs.lemmas.Bool.Decides.{nat_tests}
 use Rattle.etp_outside.specs.Told.{Told}
 use Rattle.etp_capture.specs.Frames.{magic, capture_limit, length_in, frame_of, IsHead}
 use Rattle.etp_capture.specs.Found.{Found, Whole, NoMore, Bad, found, body_found, next_found}
-use Rattle.etp_capture.specs.Reader.{IsNoFrame, IsOneAtMost, TakesBelow, TakesNoFrame, TakesOneAtMost, Shows, Answers, MagicFault}
+use Rattle.etp_capture.specs.Reader.{IsNoFrame, IsOneAtMost, TakesBelow, Shows, Answers, MagicFault}
 use Rattle.etp_capture.specs.declared.frame.Frame.{Frame}
 use Rattle.etp_capture.specs.declared.reader.CaptureError.{CaptureError}
 use Rattle.etp_capture.specs.declared.reader.CaptureError.TheVariants.{Magic, Kind, Length, Cut, Limit, ReadFault, NoMemory}

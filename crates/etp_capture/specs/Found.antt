@@ -1,5 +1,5 @@
 -- What comes next in a capture, of whose bytes so many were read before.
-use Rattle.std.specs.Prelude.{◌≡◌, ℕ, ◌+◌, not, nat_eq, nat_lt, nat_le, if◌then◌else◌, List, [], ◌∷◌, length, take, drop}
+use Rattle.std.specs.Prelude.{ℕ, ◌+◌, not, nat_eq, nat_lt, nat_le, if◌then◌else◌, List, [], ◌∷◌, length, take, drop}
 use Rattle.std.specs.List.{starts_with}
 use Rattle.etp_capture.specs.Frames.{magic, capture_limit, is_kind, is_length, length_in, frame_of}
 use Rattle.etp_capture.specs.declared.frame.Frame.{Frame}

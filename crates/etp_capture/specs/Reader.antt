@@ -1,12 +1,12 @@
 -- What a reader answers, and how it is afterwards.
-use Rattle.std.specs.Prelude.{◌≡◌, ℕ, ◌+◌, ◌≤◌, ◌<◌, false, nat_eq, nat_le, max, if◌then◌else◌, List, [], ◌++◌, length, take, None, Some, Ok, Err, Result}
+use Rattle.std.specs.Prelude.{◌≡◌, ℕ, ◌+◌, ◌<◌, false, nat_eq, nat_le, max, if◌then◌else◌, List, [], ◌++◌, length, take, None, Some, Ok, Err, Result}
 use Rattle.std.specs.List.{starts_with}
 use Rattle.std.specs.declared.option.Option.{Option}
 use Rattle.etp_capture.specs.Frames.{frame_of, magic}
 use Rattle.etp_capture.specs.Found.{Found, Whole, NoMore, Bad, found, body_found}
 use Rattle.etp_capture.specs.declared.frame.Frame.{Frame}
 use Rattle.etp_capture.specs.declared.reader.CaptureError.{CaptureError}
-use Rattle.etp_capture.specs.declared.reader.CaptureError.TheVariants.{Magic, Kind, Length, Cut, Limit, ReadFault, NoMemory}
+use Rattle.etp_capture.specs.declared.reader.CaptureError.TheVariants.{Magic, ReadFault, NoMemory}
 
 -- no whole frame
 abbrev pub IsNoFrame : Found → Type 0

@@ -1,5 +1,5 @@
 -- What a writer writes.
-use Rattle.std.specs.Prelude.{◌≡◌, ℕ, ◌==◌, ◌&&◌, ◌||◌, Bool, true, List, length, Ok, Err, Result}
+use Rattle.std.specs.Prelude.{◌≡◌, ℕ, ◌==◌, ◌||◌, true, List, length, Ok, Err, Result}
 use Rattle.std.specs.Io.KnownBytes.{Keeps, Appends}
 use Rattle.std.specs.declared.option.Option.{Option}
 use Rattle.etp_outside.specs.Whole.{AppendsFront}

@@ -1,4 +1,4 @@
-use Rattle.std.proofs.Common.{rules, arith, ◌≡◌, ◌≤◌, ◌<◌, List, ℕ, ◌++◌, length, get_or, take, drop, ap, sym, ◌∙◌, subst, inl, inr}
+use Rattle.std.proofs.Common.{arith, ◌≡◌, ℕ, ◌++◌, get_or, take, drop, ap, sym, ◌∙◌, subst}
 use Rattle.etp_capture.specs.Frames.{is_length}
 use Rattle.etp_capture.specs.Found.{found, body_found}
 use Rattle.etp_capture.proofs.FoundLemmas.{front_kind, front_limit, front_cut, front_length, front_body}

@@ -1,4 +1,4 @@
-use Rattle.std.proofs.Common.{arith, refl, Some, List, [], ℕ, length-take-le, ◌≡◌, ◌≤◌, ◌<◌, ◌+◌, ◌∙◌, ◌++◌, ap, sym, length, take, drop, take_at}
+use Rattle.std.proofs.Common.{arith, Some, List, ℕ, length-take-le, ◌≡◌, ◌≤◌, ◌∙◌, length, take, drop, take_at}
 use Rattle.etp_outside.proofs.ToldLemmas.{told_weaker}
 use Rattle.etp_capture.specs.Frames.{length_in}
 use Rattle.etp_capture.proofs.FoundLemmas.{body_limit, body_whole}

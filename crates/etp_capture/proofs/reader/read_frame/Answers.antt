@@ -1,5 +1,4 @@
 use Rattle.etp_outside.proofs.ToldLemmas.{told_trans}
-use Rattle.etp_capture.specs.Frames.{length_in}
 use Rattle.etp_capture.specs.Found.{found, body_found}
 use Rattle.etp_capture.proofs.TakenLemmas.{shows_behind, head_behind}
 use Rattle.etp_capture.proofs.reader.read_frame.Goals as goal

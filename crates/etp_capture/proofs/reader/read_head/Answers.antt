@@ -1,7 +1,7 @@
-use Rattle.std.proofs.Common.{rules, arith, Some, ◌≡◌, ◌≤◌, ◌<◌, ◌++◌, ◌+◌, List, [], ◌∷◌, ℕ, take, drop, sym, ◌-◌, min, ◌∙◌, length-take-le, length, length-append, length-drop}
+use Rattle.std.proofs.Common.{arith, Some, ◌≡◌, ◌++◌, ◌+◌, List, [], ◌∷◌, ℕ, drop, sym, ◌-◌, ◌∙◌, length-take-le, length, length-append, length-drop}
 use lib.Seq.{take-append-le}
 use Rattle.etp_outside.proofs.ToldLemmas.{told_weaker}
-use Rattle.etp_capture.specs.Reader.{HeadOf, TakesUp}
+use Rattle.etp_capture.specs.Reader.{TakesUp}
 use Rattle.etp_capture.proofs.FoundLemmas.{head_ok, head_err}
 use Rattle.etp_capture.proofs.TakenLemmas.{shows_bad, head_unread}
 use Rattle.etp_capture.proofs.reader.read_head.Goals as goal
