@@ -1,12 +1,14 @@
 #!/usr/bin/env python3
 """One sample of every message of the profile, with every field filled.
 
+    python3 message_samples.py samples > ../crates/hostile_messages/stdin
     python3 message_samples.py capture > ../crates/message_samples/stdin
     python3 message_samples.py answer > ../crates/message_samples/stdout
 
 The capture has each message once for each side that sends it, those that every protocol has under Core and under one other; a
 few of them come twice, the second time spelled otherwise than they are written. One frame of each kind that has no message
-follows. The answer is what the program `message_samples` has to print for it.
+follows. These are the samples; the capture has besides a message for each cause that refuses one, and ends in a frame that is
+cut. The answer is what the program `message_samples` has to print for it.
 """
 import itertools
 import re
@@ -120,15 +122,18 @@ def debug_bytes(raw):
     return 'b"' + "".join(escapes.get(b) or (chr(b) if 0x20 <= b < 0x7F else f"\\x{b:02x}") for b in raw) + '"'
 
 
-def debug_branch(node, value):
-    """The variant of an enum: the branch's name, and what it holds."""
+def debug_branch(node, value, is_boxed):
+    """The variant of an enum: the branch's name, and what it holds, in a box where that has memory of its own."""
     if node == Leaf("null"):
         return "Null"
-    if isinstance(node, Record) and len(node.fields) == 1:
-        (field, part), = node.fields
-        return f"{node.name}({debug(part, value[field])})"
     name = node.name[0].upper() + node.name[1:]
-    return f"{name}({debug(node, value)})"
+    if isinstance(node, Record) and len(node.fields) == 1:
+        (field, node), = node.fields
+        value = value[field]
+    text = debug(node, value)
+    if is_boxed and (isinstance(node, Array) or node in (Leaf("string"), Leaf("bytes"))):
+        text = struct("Boxed", [("inner", text)])
+    return f"{name}({text})"
 
 
 def debug(node, value):
@@ -158,7 +163,7 @@ def debug(node, value):
             return "None" if value[0] == 0 else f"Some({debug(branches[1], value[1])})"
         case Record(name, [("item", Union(branches))]) if name in UNION_RECORDS:
             place, inner = value["item"]
-            return debug_branch(branches[place], inner)
+            return debug_branch(branches[place], inner, name == "DataValue")
         case Record(name, fields):
             return struct(name, [(rust_name(field), debug(part, value[field])) for field, part in fields])
 
@@ -211,22 +216,128 @@ def samples():
 LOOSE = {"RequestSession", "Pong", "PutDataObjects", "PutDataSubarrays", "GetChannelMetadataResponse", "LoadChannelData"}
 
 
-def capture_and_answer():
-    capture, answer = bytearray(wire.MAGIC), []
-    for place, (kind, data, same) in enumerate(samples()):
-        frame = wire.Frame(len(capture), kind, place % 3, 1000 * place - 5000, data)
-        capture += wire.write_frame(*frame[1:])
-        answer.append(wire.show_line(frame))
-        if kind in wire.SENDERS:
-            message = wire.read_message(data, wire.SENDERS[kind])
-            answer.append(debug_header(message[0]) + "\n" + debug_message(*message) + "\n")
-            answer.append("" if same else "it is written otherwise\n")
-    return bytes(capture), "".join(answer)
+# --- the refused messages ------------------------------------------------------------------------------------------------
+
+NUMBER = wire.Writer().number
+
+
+def front(protocol, kind, flags=2):
+    """The header of a message whose id is 2."""
+    return b"".join(NUMBER(number) for number in (protocol, kind, 0, 2, flags))
+
+
+# Of each message the kind of its frame and its bytes: one for each cause, a header's first.
+REFUSED = [
+    (1, b""),
+    (1, front(0, 8)[:4]),
+    (17, b"\xff" * 10 + b"\x01"),
+    (1, NUMBER(1 << 31) + front(0, 8)[1:]),
+    (1, front(0, 8, 0x22) + b"\0"),
+    (1, front(24, 3, 0x0A) + b"\xff\xff"),
+    (1, front(7, 1)),
+    (1, front(-1, 1)),
+    (1, front(24, 2) + b"\0"),
+    (17, front(24, 1) + b"\0"),
+    (1, front(0, 8)),
+    (1, front(0, 9) + b"\xff" * 9 + b"\x02"),
+    (17, front(0, 1000) + NUMBER(1) + b"\x02e" + NUMBER(1 << 31) + b"\0"),
+    (1, front(18, 1) + b"\x02"),
+    (1, front(24, 1) + NUMBER(2)),
+    (1, front(22, 4) + NUMBER(1) + NUMBER(1) + NUMBER(1) + NUMBER(4)),
+    (1, front(0, 5) + b"\x02\xff"),
+    (17, front(0, 5) + NUMBER(-1)),
+    (1, front(22, 3) + NUMBER(-1) + NUMBER(1) + b"\x02a" + NUMBER(0) + b"\0"),
+    (1, front(22, 3) + NUMBER(2) + 2 * (b"\x02a" + NUMBER(0)) + b"\0"),
+    (1, front(0, 8) + NUMBER(0) + b"\0"),
+]
+
+# A cut frame's first bytes.
+CUT = wire.write_frame(1, 0, 0, b"a message")[:20]
+
+CAUSES = {
+    "short": "the input ends inside the item at byte {}",
+    "number": "ten bytes do not end the number at byte {}",
+    "range": "the int at byte {} passes 32 bits",
+    "boolean": "the boolean at byte {} is neither 0 nor 1",
+    "branch": "the union or enum at byte {} has no such branch or symbol",
+    "utf8": "the text at byte {} is not UTF-8",
+    "length": "the length at byte {} is negative",
+    "blocksize": "the items of the block at byte {} do not fill its size",
+    "doublekey": "the map has the name at byte {} already",
+}
+
+
+def sentence(fault, data):
+    """The sentence in which the product says a fault that its shown line has in a word."""
+    word, *rest = fault.split(" ")
+    match word:
+        case "header" | "body":
+            return f"the {word} can't be read: " + CAUSES[rest[0]].format(rest[1])
+        case "extension":
+            return "the header has an extension"
+        case "compressed":
+            return "the body is compressed"
+        case "protocol":
+            return f"no protocol has the number {rest[0]}"
+        case "message":
+            protocol = wire.Reader(data).value(wire.HEADER)["protocol"]
+            return f"the sender sends no message {rest[1]} of protocol {protocol}"
+        case "rest":
+            return f"bytes follow the body, from byte {rest[0]} on"
+
+
+# --- the capture and the answer ------------------------------------------------------------------------------------------
+
+
+def framed(messages):
+    """Frames of these kinds and bytes, each behind the one before it, and what else is said of each."""
+    offset = len(wire.MAGIC)
+    for place, (kind, data, *more) in enumerate(messages):
+        frame = wire.Frame(offset, kind, place % 3, 1000 * place - 5000, data)
+        yield frame, more
+        offset += len(wire.write_frame(*frame[1:]))
+
+
+def answer_to(frame, same):
+    """What is printed for a frame of the samples."""
+    lines = wire.show_line(frame)
+    if frame.kind in wire.SENDERS:
+        header, body, value = wire.read_message(frame.data, wire.SENDERS[frame.kind])
+        lines += debug_header(header) + "\n" + debug_message(header, body, value) + "\n"
+        lines += "" if same else "it is written otherwise\n"
+    return lines
+
+
+def answer_to_refused(frame):
+    """What is printed for a frame whose message is refused."""
+    try:
+        wire.read_message(frame.data, wire.SENDERS[frame.kind])
+    except wire.Fault as fault:
+        return wire.show_line(frame) + f"refused: {sentence(str(fault), frame.data)}\n"
+    raise SystemExit(f"not refused: {frame}")
+
+
+def capture_of(messages, end=b""):
+    return wire.MAGIC + b"".join(wire.write_frame(*frame[1:]) for frame, _ in framed(messages)) + end
+
+
+def answer():
+    lines, end = [], len(wire.MAGIC)
+    for frame, more in framed([*samples(), *REFUSED]):
+        lines.append(answer_to(frame, *more) if more else answer_to_refused(frame))
+        end = frame.offset + len(wire.write_frame(*frame[1:]))
+    lines.append(f"the input ended in the frame at offset {end}\n")
+    return "".join(lines)
 
 
 def main():
-    capture, answer = capture_and_answer()
-    sys.stdout.buffer.write(capture if sys.argv[1] == "capture" else answer.encode())
+    match sys.argv[1]:
+        case "samples":
+            sys.stdout.buffer.write(capture_of(samples()))
+        case "capture":
+            sys.stdout.buffer.write(capture_of([*samples(), *REFUSED], CUT))
+        case "answer":
+            sys.stdout.buffer.write(answer().encode())
 
 
 if __name__ == "__main__":

@@ -6,7 +6,7 @@ use Rattle.std.proofs.lemmas.Bool.{le-leb, lt-leb, ltb-true, ltb-false}
 use Rattle.std.proofs.lemmas.Bool.Decides.{nat_tests}
 use Rattle.std.proofs.lemmas.Int.{ints}
 use Rattle.std.proofs.lemmas.Fmt.{decimal_by_steps, decimal_nonempty, decimal_injective}
-use Rattle.capture_text.specs.Pieces.{hex_digit, hex_byte, hex, is_plain, shown_byte, escaped}
+use Rattle.capture_text.specs.Pieces.{hex_digit, hex_byte, hex, is_shown, shown_byte, escaped}
 use Rattle.capture_text.specs.Laws.{is_digit, Ends, AreBytes, OneNumber, OneRunOfBytes, OneQuotedText}
 
 -- each is a digit
@@ -122,26 +122,26 @@ bytes_one a b x y p q ex ey e =
 abbrev as_shown : Bool → ℕ → List ℕ
 as_shown plain c = if plain then c ∷ [] else 92 ∷ 120 ∷ hex_byte c
 
-not_plain : (c d : ℕ) → c ≡ d → is_plain c ≡ false → is_plain d ≡ true → ⊥
-not_plain c d e p q = let no : true ≡ false = sym q ∙ subst (λ (n : ℕ). is_plain n ≡ false) e p in cc
+not_shown : (c d : ℕ) → c ≡ d → is_shown c ≡ false → is_shown d ≡ true → ⊥
+not_shown c d e p q = let no : true ≡ false = sym q ∙ subst (λ (n : ℕ). is_shown n ≡ false) e p in cc
 
 two_marks : (m n : ℕ) → m ≡ n → m ≡ 34 → n ≡ 92 → ⊥
 two_marks m n e p q = omega arith
 
-not_quote : (p : Bool) (d : ℕ) (t r : List ℕ) → is_plain d ≡ p → 34 ∷ r ≡ as_shown p d ++ t → ⊥
-not_quote true d t r p e = let f : 34 ∷ r ≡ d ∷ t = e in let h : 34 ≡ d = cc in not_plain 34 d h refl p
+not_quote : (p : Bool) (d : ℕ) (t r : List ℕ) → is_shown d ≡ p → 34 ∷ r ≡ as_shown p d ++ t → ⊥
+not_quote true d t r p e = let f : 34 ∷ r ≡ d ∷ t = e in let h : 34 ≡ d = cc in not_shown 34 d h refl p
 not_quote false d t r p e = let f : 34 ∷ r ≡ 92 ∷ 120 ∷ hex_digit (d / 16) ∷ hex_digit (d % 16) ∷ t = e in two_marks 34 92 (cc) refl refl
 
-shown_one : (p q : Bool) (c d : ℕ) (s t : List ℕ) → c < 256 → d < 256 → is_plain c ≡ p → is_plain d ≡ q → as_shown p c ++ s ≡ as_shown q d ++ t → (c ≡ d) × (s ≡ t)
+shown_one : (p q : Bool) (c d : ℕ) (s t : List ℕ) → c < 256 → d < 256 → is_shown c ≡ p → is_shown d ≡ q → as_shown p c ++ s ≡ as_shown q d ++ t → (c ≡ d) × (s ≡ t)
 shown_one true true c d s t hc hd p q e = let f : c ∷ s ≡ d ∷ t = e in let h : c ≡ d = cc in let r : s ≡ t = cc in (h, r)
 shown_one true false c d s t hc hd p q e =
     let f : c ∷ s ≡ 92 ∷ 120 ∷ hex_digit (d / 16) ∷ hex_digit (d % 16) ∷ t = e in
     let h : 92 ≡ c = cc in
-    absurd (not_plain 92 c h refl p)
+    absurd (not_shown 92 c h refl p)
 shown_one false true c d s t hc hd p q e =
     let f : 92 ∷ 120 ∷ hex_digit (c / 16) ∷ hex_digit (c % 16) ∷ s ≡ d ∷ t = e in
     let h : 92 ≡ d = cc in
-    absurd (not_plain 92 d h refl q)
+    absurd (not_shown 92 d h refl q)
 shown_one false false c d s t hc hd p q e =
     let f : 92 ∷ 120 ∷ hex_digit (c / 16) ∷ hex_digit (c % 16) ∷ s ≡ 92 ∷ 120 ∷ hex_digit (d / 16) ∷ hex_digit (d % 16) ∷ t = e in
     let high : hex_digit (c / 16) ≡ hex_digit (d / 16) = cc in
@@ -153,14 +153,14 @@ text_one : (a b x y : List ℕ) → AreBytes a → AreBytes b → escaped a ++ 3
 text_one [] [] x y p q e = let f : 34 ∷ x ≡ 34 ∷ y = e in let r : x ≡ y = cc in (refl, r)
 text_one [] (d ∷ b) x y p q e =
     let f : 34 ∷ x ≡ shown_byte d ++ (escaped b ++ 34 ∷ y) = e ∙ append_assoc (shown_byte d) (escaped b) (34 ∷ y) in
-    absurd (not_quote (is_plain d) d (escaped b ++ 34 ∷ y) x refl f)
+    absurd (not_quote (is_shown d) d (escaped b ++ 34 ∷ y) x refl f)
 text_one (c ∷ a) [] x y p q e =
     let f : 34 ∷ y ≡ shown_byte c ++ (escaped a ++ 34 ∷ x) = sym e ∙ append_assoc (shown_byte c) (escaped a) (34 ∷ x) in
-    absurd (not_quote (is_plain c) c (escaped a ++ 34 ∷ x) y refl f)
+    absurd (not_quote (is_shown c) c (escaped a ++ 34 ∷ x) y refl f)
 text_one (c ∷ a) (d ∷ b) x y p q e =
     let f : shown_byte c ++ (escaped a ++ 34 ∷ x) ≡ shown_byte d ++ (escaped b ++ 34 ∷ y) =
     sym (append_assoc (shown_byte c) (escaped a) (34 ∷ x)) ∙ e ∙ append_assoc (shown_byte d) (escaped b) (34 ∷ y) in
-    let r = shown_one (is_plain c) (is_plain d) c d (escaped a ++ 34 ∷ x) (escaped b ++ 34 ∷ y) p.0 q.0 refl refl f in
+    let r = shown_one (is_shown c) (is_shown d) c d (escaped a ++ 34 ∷ x) (escaped b ++ 34 ∷ y) p.0 q.0 refl refl f in
     let h : c ≡ d = r.0 in
     let s = text_one a b x y p.1 q.1 r.1 in
     let t : a ≡ b = s.0 in

@@ -1,6 +1,6 @@
 -- What the tables of names and places have, row by row.
 use Rattle.std.specs.Prelude.{◌&&◌}
-use Rattle.std.proofs.Common.{◌≡◌, ◌≢◌, ◌∙◌, ◌==◌, ℕ, ℤ, zero, suc, Bool, true, false, List, [], ◌∷◌, Option, Some, None, map, length, get_or, refl, sym, ap, subst, cond, if◌then◌else◌}
+use Rattle.std.proofs.Common.{◌≡◌, ◌≢◌, ◌∙◌, ◌==◌, ℕ, ℤ, pos, zero, suc, Bool, true, false, List, [], ◌∷◌, Option, Some, None, map, length, get_or, refl, sym, ap, subst, cond, if◌then◌else◌}
 use Rattle.std.proofs.lemmas.Bool.{eq-eqb}
 use Rattle.std.specs.List.{AllByRecursion}
 use Rattle.avro_bin.specs.Schema.{SNull}
@@ -8,7 +8,9 @@ use Rattle.etp_schema.specs.Shapes.{table_shapes, shape_at}
 use Rattle.etp_schema.specs.Bodies.{BodyRow, ProtocolRow, protocols, place_of, row_in, messages_in, is_number}
 use Rattle.etp_schema.specs.declared.body.Side.{Side}
 use Rattle.capture_text.specs.Names.{Named, nothing, table_names, table_children, names_at, children_at, message_at}
-use Rattle.capture_text.specs.Laws.{field_count, parts_of, FieldsAreNamed, PartsAreTheSchemas, MessagesAreNamed, NamesDiffer}
+use Rattle.capture_text.specs.MessageNames.{name_of}
+use Rattle.capture_text.specs.Laws.{field_count, parts_of, FieldsAreNamed, PartsAreTheSchemas, MessagesAreNamed, MessagesHaveTheirNames, NamesDiffer}
+use Rattle.etp_frame.proofs.KindLemmas.{number_is}
 
 get_map : {A B : Type 0} (f : A → B) (xs : List A) (k : ℕ) (d : A) → get_or (map f xs) k (f d) ≡ f (get_or xs k d)
 get_map f [] k d = refl
@@ -83,6 +85,49 @@ placed (Some r) place h e = let same : r.place ≡ place = cc in subst (λ (p : 
 pub messages_named : MessagesAreNamed
 messages_named protocol kind side place e =
     placed (row_in (messages_in protocols protocol) kind side) place (named_row (messages_in protocols protocol) kind side (named_messages protocols protocol all_named)) e
+
+-- the names at the places of rows are those of their numbers
+abbrev RowsCalled : (ℤ → List ℕ) → List BodyRow → Type 0
+RowsCalled name rows = map (λ r. message_at r.place) rows ≡ map (λ r. name (pos r.kind)) rows
+
+abbrev RowCalled : (ℤ → List ℕ) → ℤ → Option BodyRow → Type 0
+RowCalled name kind None = Unit {0}
+RowCalled name kind (Some r) = message_at r.place ≡ name kind
+
+called_row : (name : ℤ → List ℕ) (rows : List BodyRow) (kind : ℤ) (side : Side) → RowsCalled name rows → RowCalled name kind (row_in rows kind side)
+called_row name [] kind side h = tt
+called_row name (r ∷ rows) kind side h =
+    let e : (message_at r.place) ∷ map (λ q. message_at q.place) rows ≡ name (pos r.kind) ∷ map (λ q. name (pos q.kind)) rows = h in
+    let here : message_at r.place ≡ name (pos r.kind) = cc in
+    let later : map (λ q. message_at q.place) rows ≡ map (λ q. name (pos q.kind)) rows = cc in
+    elim (is_number r.kind kind) as (λ b. is_number r.kind kind ≡ b → RowCalled name kind (if b && r.by side then Some r else row_in rows kind side)) [
+      | true ↦ λ t. elim (r.by side) as (λ b. RowCalled name kind (if b then Some r else row_in rows kind side)) [
+        | true ↦ here ∙ ap name (sym (number_is r.kind kind t))
+        | false ↦ called_row name rows kind side later
+      ]
+      | false ↦ λ t. called_row name rows kind side later
+    ] refl
+
+called_messages : (ps : List ProtocolRow) (protocol kind : ℤ) (side : Side) → AllByRecursion (λ p. RowsCalled (name_of (pos p.number)) p.messages) ps
+    → RowCalled (name_of protocol) kind (row_in (messages_in ps protocol) kind side)
+called_messages [] protocol kind side h = tt
+called_messages (p ∷ ps) protocol kind side h =
+    elim (is_number p.number protocol) as (λ b. is_number p.number protocol ≡ b → RowCalled (name_of protocol) kind (row_in (if b then p.messages else messages_in ps protocol) kind side)) [
+      | true ↦ λ t. subst (λ (n : ℤ). RowCalled (name_of n) kind (row_in p.messages kind side)) (sym (number_is p.number protocol t)) (called_row (name_of (pos p.number)) p.messages kind side h.0)
+      | false ↦ λ t. called_messages ps protocol kind side h.1
+    ] refl
+
+all_called : AllByRecursion (λ p. RowsCalled (name_of (pos p.number)) p.messages) protocols
+unfolding names_at
+all_called = (refl, (refl, (refl, (refl, (refl, (refl, (refl, tt)))))))
+
+called_at : (name : ℤ → List ℕ) (kind : ℤ) (o : Option BodyRow) (place : ℕ) → RowCalled name kind o → place_of o ≡ Some place → message_at place ≡ name kind
+called_at name kind None place h e = absurd (let no : None ≡ Some place = e in cc)
+called_at name kind (Some r) place h e = let same : r.place ≡ place = cc in subst (λ (p : ℕ). message_at p ≡ name kind) same h
+
+pub names_are : MessagesHaveTheirNames
+names_are protocol kind side place e =
+    called_at (name_of protocol) kind (row_in (messages_in protocols protocol) kind side) place (called_messages protocols protocol kind side all_called) e
 
 abbrev same_text : List ℕ → List ℕ → Bool
 same_text [] [] = true

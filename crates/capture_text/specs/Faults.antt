@@ -6,18 +6,18 @@ use Rattle.avro_bin.specs.declared.refusal.Refusal.TheVariants as r
 use Rattle.etp_frame.specs.declared.error.FrameError.{FrameError}
 use Rattle.etp_frame.specs.declared.error.FrameError.TheVariants as f
 
--- why an item is refused, and its place; want of memory is no such cause
+-- why an item is refused, and its offset; want of memory is no such cause
 abbrev pub refusal_text : Refusal → List ℕ
-refusal_text (r.Short place) = codes "short " ++ decimal place
-refusal_text (r.Number place) = codes "number " ++ decimal place
-refusal_text (r.Range place) = codes "range " ++ decimal place
-refusal_text (r.Bool place) = codes "boolean " ++ decimal place
-refusal_text (r.Branch place) = codes "branch " ++ decimal place
-refusal_text (r.Utf8 place) = codes "utf8 " ++ decimal place
-refusal_text (r.Length place) = codes "length " ++ decimal place
-refusal_text (r.BlockSize place) = codes "blocksize " ++ decimal place
-refusal_text (r.DoubleKey place) = codes "doublekey " ++ decimal place
-refusal_text (r.Limit place) = codes "limit " ++ decimal place
+refusal_text (r.Short offset) = codes "short " ++ decimal offset
+refusal_text (r.Number offset) = codes "number " ++ decimal offset
+refusal_text (r.Range offset) = codes "range " ++ decimal offset
+refusal_text (r.Bool offset) = codes "boolean " ++ decimal offset
+refusal_text (r.Branch offset) = codes "branch " ++ decimal offset
+refusal_text (r.Utf8 offset) = codes "utf8 " ++ decimal offset
+refusal_text (r.Length offset) = codes "length " ++ decimal offset
+refusal_text (r.BlockSize offset) = codes "blocksize " ++ decimal offset
+refusal_text (r.DoubleKey offset) = codes "doublekey " ++ decimal offset
+refusal_text (r.Limit offset) = codes "limit " ++ decimal offset
 refusal_text r.NoMemory = []
 
 -- why a message is refused
@@ -28,5 +28,5 @@ fault_text (f.Compressed h) = codes "compressed"
 fault_text (f.UnknownProtocol h) = codes "protocol " ++ signed_decimal h.protocol
 fault_text (f.UnknownKind h) = codes "message type " ++ signed_decimal h.kind
 fault_text (f.Body h refusal) = codes "body " ++ refusal_text refusal
-fault_text (f.Rest h place) = codes "rest " ++ decimal place
+fault_text (f.Rest h offset) = codes "rest " ++ decimal offset
 fault_text f.NoMemory = []

@@ -12,6 +12,7 @@ use Rattle.etp_schema.specs.Shapes.{shape_at}
 use Rattle.etp_schema.specs.Bodies.{body_place}
 use Rattle.etp_schema.specs.declared.body.Side.{Side}
 use Rattle.capture_text.specs.Names.{message_at, fields_at, children_at}
+use Rattle.capture_text.specs.MessageNames.{name_of}
 use Rattle.capture_text.specs.Pieces.{hex, quoted}
 use Rattle.capture_text.specs.Values.{value_text}
 
@@ -44,6 +45,10 @@ PartsAreTheSchemas = (place : ℕ) → map shape_at (children_at place) ≡ part
 -- a message that a side sends has a name
 abbrev pub MessagesAreNamed : Type 0
 MessagesAreNamed = (protocol kind : ℤ) (side : Side) (place : ℕ) → body_place protocol kind side ≡ Some place → message_at place ≢ []
+
+-- that name is the one of its protocol's number and its own
+abbrev pub MessagesHaveTheirNames : Type 0
+MessagesHaveTheirNames = (protocol kind : ℤ) (side : Side) (place : ℕ) → body_place protocol kind side ≡ Some place → message_at place ≡ name_of protocol kind
 
 -- no two bodies have one name
 abbrev pub NamesDiffer : Type 0

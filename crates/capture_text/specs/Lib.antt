@@ -1,4 +1,5 @@
 pub mod Names
+pub mod MessageNames
 pub mod Pieces
 pub mod Values
 pub mod Faults

@@ -2,6 +2,7 @@
 use Rattle.std.specs.Prelude.{ℕ, ℤ, ◌==◌, ◌++◌, List, [], codes, if◌then◌else◌, Option, Some, None, Result, Ok, Err}
 use Rattle.std.specs.Fmt.{decimal, signed_decimal}
 use Rattle.avro_bin.specs.Value.{Value}
+use Rattle.etp_capture.specs.Kinds.{kind_in, kind_poll, kind_end, kind_out, kind_ended}
 use Rattle.etp_capture.specs.declared.frame.Frame.{Frame}
 use Rattle.etp_schema.specs.declared.body.Side.{Side}
 use Rattle.etp_schema.specs.declared.body.Side.TheVariants.{Client, Server}
@@ -19,16 +20,16 @@ use Rattle.capture_text.specs.Faults.{fault_text}
 -- what a frame of a kind is called; a kind that no capture has is called by its number
 abbrev pub kind_name : ℕ → List ℕ
 kind_name kind =
-    if kind == 1 then codes "in"
-    else if kind == 2 then codes "poll"
-    else if kind == 3 then codes "end"
-    else if kind == 17 then codes "out"
-    else if kind == 19 then codes "ended"
+    if kind == kind_in then codes "in"
+    else if kind == kind_poll then codes "poll"
+    else if kind == kind_end then codes "end"
+    else if kind == kind_out then codes "out"
+    else if kind == kind_ended then codes "ended"
     else decimal kind
 
 -- who sent the message of a frame of a kind, where such frames have one
 abbrev pub sender_of : ℕ → Option Side
-sender_of kind = if kind == 1 then Some Client else if kind == 17 then Some Server else None
+sender_of kind = if kind == kind_in then Some Client else if kind == kind_out then Some Server else None
 
 -- what a message is read as: the header, the place of the body's schema and the body's value, or the cause that refuses it
 abbrev pub Reading : Type 0
@@ -73,7 +74,7 @@ reading_text (Err e) = codes " refused " ++ fault_text e
 
 -- what stands behind a frame's moment: its message, or the bytes of a session's end, or nothing
 abbrev pub rest_text : Option Reading → Frame → List ℕ
-rest_text None f = if f.kind == 19 then codes " " ++ hex f.bytes else []
+rest_text None f = if f.kind == kind_ended then codes " " ++ hex f.bytes else []
 rest_text (Some reading) f = reading_text reading
 
 -- the line that shows a frame

@@ -15,12 +15,12 @@ hex [] = []
 hex (b ∷ bs) = hex_byte b ++ hex bs
 
 -- whether a byte of a text stands for itself: a visible one or a space, but neither a quotation mark nor a backslash
-abbrev pub is_plain : ℕ → Bool
-is_plain b = nat_le 32 b && nat_le b 126 && not (b == 34) && not (b == 92)
+abbrev pub is_shown : ℕ → Bool
+is_shown b = nat_le 32 b && nat_le b 126 && not (b == 34) && not (b == 92)
 
 -- a byte of a text: itself, or a backslash, an x and its two digits
 abbrev pub shown_byte : ℕ → List ℕ
-shown_byte b = if is_plain b then b ∷ [] else 92 ∷ 120 ∷ hex_byte b
+shown_byte b = if is_shown b then b ∷ [] else 92 ∷ 120 ∷ hex_byte b
 
 -- the bytes of a text
 abbrev pub escaped : List ℕ → List ℕ

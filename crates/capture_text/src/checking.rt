@@ -1,5 +1,5 @@
 //! The line of a message that is refused.
-ghost use Rattle.std.specs.Prelude.{◌≡◌, ◌++◌, codes, Some, IfOk};
+ghost use Rattle.std.specs.Prelude.{◌++◌, codes, Some};
 ghost use Rattle.std.specs.Fmt.{decimal};
 ghost use Rattle.capture_text.specs.Faults.{fault_text};
 ghost use Rattle.capture_text.specs.Lines.{line_of, found_of, checked_line, checked_of};

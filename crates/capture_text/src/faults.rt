@@ -9,13 +9,13 @@ use avro_bin::Refusal;
 use etp_frame::FrameError;
 use etp_values::NoMemory;
 
-/// Appends a word and a place.
+/// Appends a word and an offset.
 #[tactic(auto, using(crate::proofs::Writing::writes_after))]
-fn put_at(into: &mut Vec<u8>, word: &[u8], place: usize) -> Result<(), NoMemory>
-    ensures { Writes (word.now ++ decimal place) into.old.items into.new.items result }
+fn put_at(into: &mut Vec<u8>, word: &[u8], offset: usize) -> Result<(), NoMemory>
+    ensures { Writes (word.now ++ decimal offset) into.old.items into.new.items result }
 {
     put(into, word)?;
-    put_number(into, place as u64)
+    put_number(into, offset as u64)
 }
 
 /// Appends words and a number of the header.
@@ -32,16 +32,16 @@ fn put_refusal(into: &mut Vec<u8>, refusal: Refusal) -> Result<(), NoMemory>
     ensures { Writes (refusal_text refusal) into.old.items into.new.items result }
 {
     match refusal {
-        Refusal::Short(place) => put_at(into, b"short ", place),
-        Refusal::Number(place) => put_at(into, b"number ", place),
-        Refusal::Range(place) => put_at(into, b"range ", place),
-        Refusal::Bool(place) => put_at(into, b"boolean ", place),
-        Refusal::Branch(place) => put_at(into, b"branch ", place),
-        Refusal::Utf8(place) => put_at(into, b"utf8 ", place),
-        Refusal::Length(place) => put_at(into, b"length ", place),
-        Refusal::BlockSize(place) => put_at(into, b"blocksize ", place),
-        Refusal::DoubleKey(place) => put_at(into, b"doublekey ", place),
-        Refusal::Limit(place) => put_at(into, b"limit ", place),
+        Refusal::Short(offset) => put_at(into, b"short ", offset),
+        Refusal::Number(offset) => put_at(into, b"number ", offset),
+        Refusal::Range(offset) => put_at(into, b"range ", offset),
+        Refusal::Bool(offset) => put_at(into, b"boolean ", offset),
+        Refusal::Branch(offset) => put_at(into, b"branch ", offset),
+        Refusal::Utf8(offset) => put_at(into, b"utf8 ", offset),
+        Refusal::Length(offset) => put_at(into, b"length ", offset),
+        Refusal::BlockSize(offset) => put_at(into, b"blocksize ", offset),
+        Refusal::DoubleKey(offset) => put_at(into, b"doublekey ", offset),
+        Refusal::Limit(offset) => put_at(into, b"limit ", offset),
         Refusal::NoMemory => Ok(()),
     }
 }
@@ -66,7 +66,7 @@ pub fn put_fault(into: &mut Vec<u8>, error: &FrameError) -> Result<(), NoMemory>
         FrameError::UnknownProtocol(header) => put_with(into, b"protocol ", header.protocol),
         FrameError::UnknownKind(header) => put_with(into, b"message type ", header.kind),
         FrameError::Body(_, refusal) => put_part(into, b"body ", *refusal),
-        FrameError::Rest(_, place) => put_at(into, b"rest ", *place),
+        FrameError::Rest(_, offset) => put_at(into, b"rest ", *offset),
         FrameError::NoMemory => Ok(()),
     }
 }

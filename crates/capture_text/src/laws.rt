@@ -1,12 +1,13 @@
 //! Laws of the names and of the texts. Each function does nothing: its contract is the law.
-ghost use Rattle.capture_text.specs.Laws.{FieldsAreNamed, PartsAreTheSchemas, MessagesAreNamed, NamesDiffer, OneNumber, OneRunOfBytes, OneQuotedText, OneText};
+ghost use Rattle.capture_text.specs.Laws.{FieldsAreNamed, PartsAreTheSchemas, MessagesAreNamed, MessagesHaveTheirNames, NamesDiffer, OneNumber, OneRunOfBytes, OneQuotedText, OneText};
 
 /// Each record has as many names as fields, and its fields' schemas stand where its names look for them; each message that a
-/// side sends has a name of its own.
+/// side sends has the name of its number, and no other one has that name.
 pub fn names_fit()
     ensures fields { FieldsAreNamed }
     ensures parts { PartsAreTheSchemas }
     ensures messages { MessagesAreNamed }
+    ensures own { MessagesHaveTheirNames }
     ensures differ { NamesDiffer }
 {}
 

@@ -2,7 +2,7 @@
 ghost use Rattle.std.specs.Prelude.{◌≡◌, ◌<◌, ◌∷◌};
 ghost use Rattle.std.specs.Fmt.{decimal, signed_decimal};
 ghost use Rattle.avro_bin.specs.Plain.{Writes};
-ghost use Rattle.capture_text.specs.Pieces.{hex_digit, hex_byte, hex, is_plain, shown_byte, escaped, quoted, separator};
+ghost use Rattle.capture_text.specs.Pieces.{hex_digit, hex_byte, hex, is_shown, shown_byte, escaped, quoted, separator};
 
 use etp_values::NoMemory;
 use itoa::Buffer;
@@ -59,7 +59,7 @@ pub fn put_hex(into: &mut Vec<u8>, bytes: &[u8]) -> Result<(), NoMemory>
 
 /// Whether a byte of a text is shown as it is.
 fn is_shown(byte: u8) -> bool
-    ensures { result ≡ is_plain byte }
+    ensures { result ≡ is_shown byte }
 {
     32 <= byte && byte <= 126 && byte != b'"' && byte != b'\\'
 }

@@ -2,6 +2,7 @@
 ghost use Rattle.std.specs.Prelude.{◌≡◌, ◌++◌, ◌==◌, codes, false, [], if◌then◌else◌};
 ghost use Rattle.avro_bin.specs.Plain.{Writes};
 ghost use Rattle.avro_bin.specs.View.{value_of};
+ghost use Rattle.etp_capture.specs.Kinds.{kind_ended};
 ghost use Rattle.etp_frame.specs.Reading.{tree_of};
 ghost use Rattle.capture_text.specs.Pieces.{hex};
 ghost use Rattle.capture_text.specs.Values.{value_text};
@@ -14,7 +15,7 @@ use crate::names::message_of;
 use crate::pieces::{put, put_hex, put_number, put_signed};
 use crate::values::put_value;
 use avro_bin::Tree;
-use etp_capture::Frame;
+use etp_capture::{Frame, kinds};
 use etp_frame::{FrameError, Header, read_tree};
 use etp_schema::Side;
 use etp_values::NoMemory;
@@ -25,8 +26,8 @@ pub(crate) fn sender_of(kind: u8) -> Option<Side>
     ensures { result ≡ sender_of kind }
 {
     match kind {
-        1 => Some(Side::Client),
-        17 => Some(Side::Server),
+        kinds::IN => Some(Side::Client),
+        kinds::OUT => Some(Side::Server),
         _ => None,
     }
 }
@@ -45,11 +46,11 @@ fn put_kind(into: &mut Vec<u8>, kind: u8) -> Result<(), NoMemory>
     ensures { Writes (kind_name kind) into.old.items into.new.items result }
 {
     match kind {
-        1 => put(into, b"in"),
-        2 => put(into, b"poll"),
-        3 => put(into, b"end"),
-        17 => put(into, b"out"),
-        19 => put(into, b"ended"),
+        kinds::IN => put(into, b"in"),
+        kinds::POLL => put(into, b"poll"),
+        kinds::END => put(into, b"end"),
+        kinds::OUT => put(into, b"out"),
+        kinds::ENDED => put(into, b"ended"),
         _ => put_number(into, kind as u64),
     }
 }
@@ -168,9 +169,9 @@ fn put_bytes(alloc: Global, bytes: &[u8], sender: Side, into: &mut Vec<u8>) -> R
 /// Appends the bytes of a session's end; a poll and the client's end have none.
 #[tactic(auto, using(crate::proofs::Writing::writes_after))]
 fn put_end(into: &mut Vec<u8>, frame: &Frame) -> Result<(), NoMemory>
-    ensures { Writes (if frame.now.kind == 19 then codes " " ++ hex frame.now.bytes else []) into.old.items into.new.items result }
+    ensures { Writes (if frame.now.kind == kind_ended then codes " " ++ hex frame.now.bytes else []) into.old.items into.new.items result }
 {
-    if frame.kind != 19 {
+    if frame.kind != kinds::ENDED {
         return Ok(());
     }
     put(into, b" ")?;

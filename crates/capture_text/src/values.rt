@@ -1,5 +1,5 @@
 //! Values.
-ghost use Rattle.std.specs.Prelude.{◌≡◌, ◌++◌, map, codes, if◌then◌else◌};
+ghost use Rattle.std.specs.Prelude.{◌++◌, map, codes, if◌then◌else◌};
 ghost use Rattle.std.specs.Fmt.{decimal};
 ghost use Rattle.avro_bin.specs.Plain.{Writes};
 ghost use Rattle.avro_bin.specs.Value.{row, entries};

@@ -15,7 +15,7 @@ mod making;
 mod random;
 mod tally;
 
-use etp_capture::{CaptureReader, Frame};
+use etp_capture::{CaptureReader, Frame, kinds};
 use etp_outside::StdSource;
 use etp_values::NoMemory;
 use making::{damaged, headed, noise};
@@ -61,13 +61,13 @@ fn samples(rt: &HostRuntime) -> io::Result<Vec<Frame>> {
     for _ in 0..u64::MAX {
         match reader.next(rt.alloc(), &mut input) {
             Ok(Some(frame)) => {
-                if frame.kind == 1 || frame.kind == 17 {
+                if frame.kind == kinds::IN || frame.kind == kinds::OUT {
                     samples.push(frame)?;
                 }
             }
             Ok(None) => break,
             Err(error) => {
-                println!(rt; "{error:?}")?;
+                println!(rt; "{error}")?;
                 break;
             }
         }

@@ -2,7 +2,7 @@
 ghost use Rattle.std.specs.Prelude.{◌<◌, length};
 
 use crate::random::Random;
-use etp_capture::Frame;
+use etp_capture::{Frame, kinds};
 use etp_values::{Blob, NoMemory};
 use std::alloc::Global;
 
@@ -23,7 +23,20 @@ fn frame_of(random: &mut Random, kind: u8, bytes: Vec<u8>) -> Result<Frame, NoMe
 
 /// The kind of a frame of either side's messages.
 fn either_side(random: &mut Random) -> u8 {
-    if random.below(2) == 0 { 1 } else { 17 }
+    if random.below(2) == 0 {
+        kinds::IN
+    } else {
+        kinds::OUT
+    }
+}
+
+/// The kind of a frame of the other side's messages.
+fn other_side(kind: u8) -> u8 {
+    if kind == kinds::IN {
+        kinds::OUT
+    } else {
+        kinds::IN
+    }
 }
 
 /// A message of random bytes.
@@ -85,7 +98,7 @@ pub(crate) fn damaged(
 {
     let sample = one_of(random, samples);
     let kind = if random.below(8) == 0 {
-        18 - sample.kind.min(17)
+        other_side(sample.kind)
     } else {
         sample.kind
     };

@@ -1,12 +1,12 @@
 //! Reads a capture, and prints of each frame the line that shows it, and of each message that is read its header, the message
-//! field by field, and a line where it is not written as the bytes that it came in.
+//! field by field, and a line where it is not written as the bytes that it came in. Of a message that is refused it prints why.
 //!
-//! The capture that it is run on has every message of the profile with every field filled, once for each side that sends it. It
-//! and the expected output were made outside of this product, by the schema alone (`bench/message_samples.py`).
+//! The capture that it is run on has every message of the profile with every field filled, once for each side that sends it, and
+//! a message for each cause that refuses one. It and the expected output were made outside of this product, by the schema alone (`bench/message_samples.py`).
 #![tactic(auto)]
 
 use capture_text::show_frame;
-use etp_capture::{CaptureReader, Frame};
+use etp_capture::{CaptureReader, Frame, kinds};
 use etp_frame::{FrameError, Header, Message, flags, read_message, write_message};
 use etp_outside::StdSource;
 use etp_schema::Side;
@@ -17,8 +17,8 @@ use std::io::{self, BufReader, Write};
 /// The side that sent the frame's message, where it has one.
 fn sender_of(frame: &Frame) -> Option<Side> {
     match frame.kind {
-        1 => Some(Side::Client),
-        17 => Some(Side::Server),
+        kinds::IN => Some(Side::Client),
+        kinds::OUT => Some(Side::Server),
         _ => None,
     }
 }
@@ -67,7 +67,7 @@ fn print_read(
 ) -> io::Result<()> {
     match read {
         Ok(whole) => print_whole(rt, &whole.0, &whole.1, bytes),
-        Err(error) => println!(rt; "refused: {error:?}"),
+        Err(error) => println!(rt; "refused: {error}"),
     }
 }
 
@@ -101,7 +101,7 @@ fn main(rt: HostRuntime) -> io::Result<()> {
                 print_typed(&rt, &frame)?;
             }
             Ok(None) => return Ok(()),
-            Err(error) => return println!(rt; "{error:?}"),
+            Err(error) => return println!(rt; "{error}"),
         }
     }
     Ok(())
