@@ -1,6 +1,6 @@
 -- What is said, with its headers.
 use Rattle.std.specs.Prelude.{◌≡◌, ℕ, ℤ, pos, Bool, true, false, List, [], ◌∷◌, ◌++◌, ◌+◌, ◌==◌, nat_le, Option, Some, None, if◌then◌else◌}
-use Rattle.etp_schema.specs.Bodies.{known_protocol}
+use Rattle.etp_schema.specs.Bodies.{is_protocol}
 use Rattle.msg_core.specs.declared.core_messages.CoreMessage.{CoreMessage}
 use Rattle.msg_core.specs.declared.core_messages.CoreMessage.TheVariants as core
 use Rattle.etp_frame.specs.declared.header.Header.{Header}
@@ -24,7 +24,7 @@ max_id = 4611686018427387904
 
 -- an exception and an Acknowledge go under the protocol of what they answer, where the profile has it; else under Core
 abbrev pub common_protocol : ℤ → ℤ
-common_protocol protocol = if known_protocol protocol then protocol else pos 0
+common_protocol protocol = if is_protocol protocol then protocol else pos 0
 
 abbrev pub core_protocol : ℤ → CoreMessage → ℤ
 core_protocol protocol (core.RequestSession m) = pos 0
