@@ -42,6 +42,6 @@ fn named_values_have_their_encoded_size(rt: HostRuntime) -> Result<(), Fail> {
     let tree = named.to_tree(alloc)?;
     let mut bytes = Vec::new(alloc);
     encode(&TABLE, places::MAP_OF_DATA_VALUE, &tree, &mut bytes)?;
-    assert!(rt; bytes.as_slice() == b"\x02\x02a\x06\x80\x01\x00");
+    assert!(rt; bytes.as_slice() == b"\x02\x02a\x06\x80\x01\x00".as_slice());
     Ok(())
 }
