@@ -1,18 +1,20 @@
 -- What holds of every half step.
-use Rattle.std.specs.Prelude.{ℕ, ℤ, Bool, true, false, List, [], ◌∷◌, ◌≡◌, Option, Some, None, is_some, IfSome, refl}
+use Rattle.std.specs.Prelude.{ℕ, ℤ, Bool, true, false, List, [], ◌∷◌, ◌≡◌, ◌≤◌, Option, Some, None, Result, Ok, Err, is_some, IfSome, IfOk, length, refl}
+use Rattle.std.proofs.Common.{subst, sym, ap, ◌∙◌}
 use Rattle.etp_values.specs.declared.code.ErrorCode.{ErrorCode}
+use Rattle.etp_values.specs.declared.memory.NoMemory.{NoMemory}
 use Rattle.etp_frame.specs.declared.message.Message.{Message}
 use Rattle.etp_frame.specs.declared.message.Message.TheVariants as message
 use Rattle.msg_core.specs.declared.dataspace_messages.DataspaceMessage.{DataspaceMessage}
 use Rattle.msg_core.specs.declared.dataspace_messages.DataspaceMessage.TheVariants as space
+use Rattle.store_machine.specs.declared.journal.Entry.{Entry}
 use Rattle.store_machine.specs.declared.call.Answer.{Answer}
 use Rattle.store_machine.specs.declared.call.StoreCall.{StoreCall}
 use Rattle.store_machine.specs.declared.call.SpacePut.{SpacePut}
-use Rattle.store_machine.specs.declared.journal.Entry.{Entry}
 use Rattle.store_machine.specs.Laws.{IsCallAt}
 use Rattle.session_core.specs.declared.scheme.Judged.{Judged}
 use Rattle.session_core.specs.declared.saying.Asked.{Asked}
-use Rattle.session_core.specs.declared.saying.Asked.TheVariants.{Says, Asks}
+use Rattle.session_core.specs.declared.saying.Asked.TheVariants.{Says, Asks as Calls}
 use Rattle.session_core.specs.declared.spaces.SpacePending.{SpacePending}
 use Rattle.session_core.specs.declared.state.Request.{Request}
 use Rattle.session_core.specs.declared.state.Arrived.{Arrived}
@@ -25,36 +27,42 @@ use Rattle.session_core.specs.Spaces.{spaces_asked, unless_refused, put_called, 
 use Rattle.session_core.specs.Scheme.{judged, kept, sent}
 use Rattle.session_core.specs.State.{State}
 use Rattle.session_core.specs.Arriving.{Event, arrived}
-use Rattle.session_core.specs.Machine.{Taken, taken, taken_in, taken_as, on_message, on_protocol, on_accepted, on_row, spaces_taken, is_accepted, accepting, given, given_to, CallsAreAsks, AnswersAreLast}
+use Rattle.session_core.specs.Machine.{Taken, taken, taken_in, taken_as, on_message, on_protocol, on_accepted, on_row, spaces_taken, is_accepted, accepting, given, given_to}
+use Rattle.session_core.specs.Run.{takes, hears, Remembers, Asks, FirstRemembers, TakingRemembers, TakingAsks, HearingRemembers, MoreIsRemembered, DrainedRemembers, AnswersAreLast}
 
-abbrev IsAsked : List Entry → Asked SpacePending → Type 0
-IsAsked h (Says sayings) = Unit {0}
-IsAsked h (Asks c p) = IsCallAt h c
-
+-- ---- the calls of a session, at any history
 module _ (h : List Entry) where
-  unless : (why : Option ErrorCode) (a : Asked SpacePending) → IsAsked h a → IsAsked h (unless_refused why a)
+  abbrev IsAsked : Asked SpacePending → Type 0
+  IsAsked (Says sayings) = Unit {0}
+  IsAsked (Calls c p) = IsCallAt h c
+
+  unless : (why : Option ErrorCode) (a : Asked SpacePending) → IsAsked a → IsAsked (unless_refused why a)
   unless (Some code) a is = tt
   unless None a is = is
 
-  put : (items : List (List ℕ × Judged (Unit {0}))) (puts : List (List ℕ × SpacePut)) → IsAsked h (put_called items puts)
+  put : (items : List (List ℕ × Judged (Unit {0}))) (puts : List (List ℕ × SpacePut)) → IsAsked (put_called items puts)
   put items [] = tt
   put items (x ∷ xs) = tt
 
-  delete : (items : List (List ℕ × Judged (Unit {0}))) (paths : List (List ℕ × List ℕ)) → IsAsked h (delete_called items paths)
+  delete : (items : List (List ℕ × Judged (Unit {0}))) (paths : List (List ℕ × List ℕ)) → IsAsked (delete_called items paths)
   delete items [] = tt
   delete items (x ∷ xs) = tt
 
-  spaces : (m : DataspaceMessage) (in_transaction : Bool) → IsAsked h (spaces_asked m in_transaction)
+  spaces : (m : DataspaceMessage) (in_transaction : Bool) → IsAsked (spaces_asked m in_transaction)
   spaces (space.GetDataspaces x) b = tt
-  spaces (space.PutDataspaces x) b = let items = judged (λ s d. (s, put_judged d)) tt x.dataspaces in unless (change_fault b x.dataspaces) (put_parted items) (put (kept (λ put. tt) items) (sent (λ put. put) items))
-  spaces (space.DeleteDataspaces x) b = let items = judged (λ s uri. (s, path_judged uri)) tt x.uris in unless (change_fault b x.uris) (delete_parted items) (delete (kept (λ path. tt) items) (sent (λ path. path) items))
+  spaces (space.PutDataspaces x) b =
+      let items = judged (λ s d. (s, put_judged d)) tt x.dataspaces in
+      unless (change_fault b x.dataspaces) (put_parted items) (put (kept (λ put. tt) items) (sent (λ put. put) items))
+  spaces (space.DeleteDataspaces x) b =
+      let items = judged (λ s uri. (s, path_judged uri)) tt x.uris in
+      unless (change_fault b x.uris) (delete_parted items) (delete (kept (λ path. tt) items) (sent (λ path. path) items))
   spaces (space.GetDataspacesResponse x) b = tt
   spaces (space.PutDataspacesResponse x) b = tt
   spaces (space.DeleteDataspacesResponse x) b = tt
 
-  by_spaces : (r : Request) (a : Asked SpacePending) (s : State) → IsAsked h a → IfSome (spaces_taken r a s).call (IsCallAt h)
+  by_spaces : (r : Request) (a : Asked SpacePending) (s : State) → IsAsked a → IfSome (spaces_taken r a s).call (IsCallAt h)
   by_spaces r (Says sayings) s is = tt
-  by_spaces r (Asks c p) s is = is
+  by_spaces r (Calls c p) s is = is
 
   by_row : (r : Request) (moment : ℤ) (m : Message) (s : State) → IfSome (on_row r moment m s).call (IsCallAt h)
   by_row r moment (message.Core m) s = tt
@@ -86,12 +94,46 @@ module _ (h : List Entry) where
   by_phase phase.Open a s = by_arrived a s
   by_phase (phase.Ended e) a s = tt
 
-pub calls_are_asks : CallsAreAsks
-calls_are_asks h s e = by_phase h s.phase (arrived s.last_id e) s
+-- what holds of a call at each history is what a state asks
+asks_of : (s : State) (o : Option StoreCall) → ((h : List Entry) → IfSome o (IsCallAt h)) → IfSome o (Asks s)
+asks_of s None all = tt
+asks_of s (Some call) all = λ h remembered. all h
 
+pub taking_asks : TakingAsks
+unfolding takes
+taking_asks s e = asks_of s (taken s e).call (λ h. by_phase h s.phase (arrived s.last_id e) s)
+
+-- the same of the answer of a call of the session
+pub answer_asks : (s : State) (e : Event) (r : Result (Option StoreCall) NoMemory) → IfOk r (λ call. call ≡ (takes s e).call) → IfOk r (λ call. IfSome call (Asks s))
+answer_asks s e (Ok call) is = subst (λ (o : Option StoreCall). IfSome o (Asks s)) (sym is) (taking_asks s e)
+answer_asks s e (Err why) is = tt
+
+-- ---- what is remembered
+pub first_remembers : FirstRemembers
+unfolding Remembers
+first_remembers config n len first_id = tt
+
+pub taking_remembers : TakingRemembers
+unfolding Remembers
+taking_remembers len s e remembered = tt
+
+pub hearing_remembers : HearingRemembers
+unfolding Remembers
+hearing_remembers config h s call remembered = tt
+
+pub more_is_remembered : MoreIsRemembered
+unfolding Remembers
+more_is_remembered len more s longer remembered = tt
+
+pub drained_remembers : DrainedRemembers
+unfolding Remembers
+drained_remembers len s remembered = tt
+
+-- ---- the answer
 by_pending : (p : Option Pending) (a : Answer) (s : State) → s.pending ≡ None → (given_to p a s).pending ≡ None
-by_pending None a s h = h
-by_pending (Some (pending.Spaces r p)) a s h = h
+by_pending None a s is = is
+by_pending (Some (pending.Spaces r p)) a s is = is
 
 pub answers_are_last : AnswersAreLast
+unfolding hears
 answers_are_last s a = by_pending s.pending a (record s { pending = None }) refl

@@ -1,5 +1,5 @@
 -- The machine of a session: an event and the store's answer to its call are one step, in two halves.
-use Rattle.std.specs.Prelude.{ℕ, ℤ, pos, ◌≡◌, Bool, true, false, List, [], ◌∷◌, Option, Some, None, is_some, IfSome}
+use Rattle.std.specs.Prelude.{ℤ, pos, Bool, true, false, List, [], ◌∷◌, Option, Some, None, is_some}
 use Rattle.std.specs.List.{list_any}
 use Rattle.std.specs.Ordering.{int_eq}
 use Rattle.etp_values.specs.declared.code.ErrorCode.{ErrorCode}
@@ -11,8 +11,6 @@ use Rattle.etp_frame.specs.declared.message.Message.{Message}
 use Rattle.etp_frame.specs.declared.message.Message.TheVariants as message
 use Rattle.store_machine.specs.declared.call.Answer.{Answer}
 use Rattle.store_machine.specs.declared.call.StoreCall.{StoreCall}
-use Rattle.store_machine.specs.declared.journal.Entry.{Entry}
-use Rattle.store_machine.specs.Laws.{IsCallAt}
 use Rattle.session_core.specs.declared.saying.Saying.{Saying}
 use Rattle.session_core.specs.declared.saying.Asked.{Asked}
 use Rattle.session_core.specs.declared.saying.Asked.TheVariants.{Says, Asks}
@@ -136,12 +134,3 @@ given_to (Some (pending.Spaces r p)) a s = said r (spaces_given p a.reply) s
 
 abbrev pub given : State → Answer → State
 given s a = given_to s.pending a (record s { pending = None })
-
--- ---- what holds of every half step
--- what a session asks is one of its calls, at each history
-abbrev pub CallsAreAsks : Type 0
-CallsAreAsks = (history : List Entry) (s : State) (e : Event) → IfSome (taken s e).call (IsCallAt history)
-
--- once the answer is given, no request awaits one
-abbrev pub AnswersAreLast : Type 0
-AnswersAreLast = (s : State) (a : Answer) → (given s a).pending ≡ None

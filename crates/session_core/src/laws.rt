@@ -1,16 +1,24 @@
 //! Laws of the machine.
-ghost use Rattle.session_core.specs.Machine.{AnswersAreLast, CallsAreAsks};
-ghost use Rattle.session_core.specs.Run.{PlayIsRun, RunIsSame};
+ghost use Rattle.session_core.specs.Run.{FirstRemembers, TakingRemembers, TakingAsks, HearingRemembers, MoreIsRemembered, DrainedRemembers, AnswersAreLast};
+ghost use Rattle.session_core.specs.Run.{PlayIsRun, RunGoesOn, RunIsSame};
 
-/// A session never makes the call by which it is entered, and no request is left when its answer was given.
+/// A session remembers no place past the history that it was told of; each call that it makes is one that a session may make
+/// at a history with all these places, never the one by which it is entered; and no request is left when its answer was given.
 pub fn steps()
-    ensures calls { CallsAreAsks }
+    ensures first { FirstRemembers }
+    ensures taken { TakingRemembers }
+    ensures asks { TakingAsks }
+    ensures given { HearingRemembers }
+    ensures more { MoreIsRemembered }
+    ensures drained { DrainedRemembers }
     ensures answers { AnswersAreLast }
 {}
 
-/// A run depends on its history only up to its places; and what one thread plays, while others add entries between the
-/// session's events, is the run over the history that it leaves.
+/// A run depends on its history only up to its places; what one thread plays, while others add entries between the session's
+/// events, is the run over the history that it leaves; and a run goes on, over a longer history and with more places, by one
+/// event at a time.
 pub fn runs()
     ensures same { RunIsSame }
     ensures play { PlayIsRun }
+    ensures next { RunGoesOn }
 {}

@@ -1,9 +1,10 @@
 //! The session of one client.
 ghost use Rattle.std.specs.List.{list_any};
 ghost use Rattle.std.specs.Ordering.{int_eq};
-ghost use Rattle.std.specs.Prelude.{◌≡◌, ◌≤◌, ◌%◌, ◌∷◌, [], pos, negsuc, IfOk, OnOk, ℤ, ◌≤ℤ◌, int_rem, Some, None};
+ghost use Rattle.std.specs.Prelude.{◌≡◌, ◌≤◌, ◌%◌, ◌∷◌, [], pos, negsuc, IfOk, IfSome, OnOk, ℤ, ◌≤ℤ◌, int_rem, Some, None};
 ghost use Rattle.session_core.specs.Arriving.{Receives, Polls};
-ghost use Rattle.session_core.specs.Machine.{taken, taken_as, taken_in, given, replies, refuses, unread, opened, on_request_session, on_ping, on_core, spaces_taken, on_row, on_accepted, is_accepted, on_protocol, on_message};
+ghost use Rattle.session_core.specs.Machine.{taken_as, taken_in, replies, refuses, unread, opened, on_request_session, on_ping, on_core, spaces_taken, on_row, on_accepted, is_accepted, on_protocol, on_message};
+ghost use Rattle.session_core.specs.Run.{takes, hears, Asks};
 ghost use Rattle.session_core.specs.Sending.{said, max_id, IsWritable};
 ghost use Rattle.session_core.specs.Session.{bytes_of, next_bytes, sent_one, end_of};
 ghost use Rattle.session_core.specs.State.{first_state};
@@ -78,30 +79,35 @@ impl Session {
 
     /// The bytes of the client's next message, which came at this moment: microseconds since 1970-01-01 UTC. Answers the
     /// call that the store has to answer before the session goes on, if there is one.
+    #[tactic(auto, unfolding(crate::specs::Run::takes))]
     pub fn take(
         &mut self,
         alloc: Global,
         bytes: &[u8],
         now: i64,
     ) -> Result<Option<StoreCall>, NoMemory>
-        ensures call { IfOk result (λ call. call ≡ (taken self.old (Receives bytes.now now)).call) }
-        ensures state { OnOk result (self.new ≡ (taken self.old (Receives bytes.now now)).state) }
+        ensures call { IfOk result (λ call. call ≡ (takes self.old (Receives bytes.now now)).call) }
+        ensures state { OnOk result (self.new ≡ (takes self.old (Receives bytes.now now)).state) }
+        ensures asks { IfOk result (λ call. IfSome call (Asks self.old)) }
     {
         let arrived = arrive(alloc, self.last_id, bytes, now)?;
         self.take_in(alloc, arrived)
     }
 
     /// A poll, with the length of the store's journal.
+    #[tactic(auto, unfolding(crate::specs::Run::takes))]
     pub fn poll(&mut self, alloc: Global, front: u64) -> Result<Option<StoreCall>, NoMemory>
-        ensures call { IfOk result (λ call. call ≡ (taken self.old (Polls front)).call) }
-        ensures state { OnOk result (self.new ≡ (taken self.old (Polls front)).state) }
+        ensures call { IfOk result (λ call. call ≡ (takes self.old (Polls front)).call) }
+        ensures state { OnOk result (self.new ≡ (takes self.old (Polls front)).state) }
+        ensures asks { IfOk result (λ call. IfSome call (Asks self.old)) }
     {
         self.take_in(alloc, Arrived::Polled { front })
     }
 
     /// The store's answer to the call in hand.
+    #[tactic(auto, unfolding(crate::specs::Run::hears))]
     pub fn give(&mut self, alloc: Global, answer: Answer) -> Result<(), NoMemory>
-        ensures { OnOk result (self.new ≡ given self.old answer) }
+        ensures { OnOk result (self.new ≡ hears self.old answer) }
     {
         match self.pending.take() {
             None => Ok(()),
