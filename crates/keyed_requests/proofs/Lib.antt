@@ -1,0 +1,4 @@
+pub mod Cases
+pub mod Order
+pub mod Once
+pub mod Split

@@ -1,0 +1,5 @@
+pub mod Keys
+pub mod Sending
+pub mod Keyed
+pub mod Plain
+pub mod Laws
