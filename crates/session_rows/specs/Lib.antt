@@ -1,0 +1,4 @@
+pub mod Once
+pub mod Formats
+pub mod Opening
+pub mod Dataspaces

@@ -1,0 +1,89 @@
+-- How a session is opened: what is accepted of a RequestSession, and its reply.
+use Rattle.std.specs.Prelude.{ℕ, ℤ, pos, Bool, ◌&&◌, List, [], ◌∷◌, ◌++◌, Option, Some, None, codes, map, filter}
+use Rattle.std.specs.List.{list_any}
+use Rattle.std.specs.Ordering.{int_eq}
+use Rattle.std.specs.Str.{bytes_eq}
+use Rattle.std.specs.Fmt.{decimal}
+use Rattle.chan_defs.specs.declared.config.Config.{Config}
+use Rattle.etp_values.specs.Id.{version5}
+use Rattle.etp_values.specs.declared.code.ErrorCode.TheVariants.{NoSupportedProtocols, NoSupportedFormats}
+use Rattle.etp_values.specs.declared.data.DataValue.{DataValue}
+use Rattle.etp_values.specs.declared.data.DataValue.TheVariants.{Long}
+use Rattle.msg_core.specs.declared.core_messages.OpenSession.{OpenSession}
+use Rattle.msg_core.specs.declared.core_messages.RequestSession.{RequestSession}
+use Rattle.msg_core.specs.declared.core_messages.SupportedDataObject.{SupportedDataObject}
+use Rattle.msg_core.specs.declared.core_messages.SupportedProtocol.{SupportedProtocol}
+use Rattle.msg_core.specs.declared.core_messages.Version.{Version}
+use Rattle.session_rows.specs.Once.{once}
+use Rattle.session_rows.specs.Formats.{format_text, formats_of}
+use Rattle.session_rows.specs.declared.formats.Format.{Format}
+use Rattle.session_rows.specs.declared.opening.Opening.{Opening}
+use Rattle.session_rows.specs.declared.opening.Opening.TheVariants.{Refused, Opened}
+
+-- ---- protocols
+
+-- the protocols that a session can have beside Core: Store, DataArray, Transaction, the two of channels, and Dataspace
+abbrev pub offered : List ℤ
+offered = pos 4 ∷ pos 9 ∷ pos 18 ∷ pos 21 ∷ pos 22 ∷ pos 24 ∷ []
+
+-- revision and patch don't matter
+abbrev pub is_version_1_2 : Version → Bool
+is_version_1_2 v = int_eq v.major (pos 1) && int_eq v.minor (pos 2)
+
+-- a protocol that can be accepted: an offered number, version 1.2, and the role `store`
+abbrev pub is_acceptable : SupportedProtocol → Bool
+is_acceptable p = list_any (int_eq p.protocol) offered && is_version_1_2 p.protocol_version && bytes_eq p.role (codes "store")
+
+-- the accepted protocols, in the order in which they are asked for
+abbrev pub accepted_protocols : List SupportedProtocol → List ℤ
+accepted_protocols asked = once int_eq (map (λ p. p.protocol) (filter is_acceptable asked))
+
+-- ---- the reply
+
+-- an accepted protocol as the server states it
+abbrev pub supported : ℤ → SupportedProtocol
+supported protocol = record {
+  protocol = protocol;
+  protocol_version = record { major = pos 1; minor = pos 2; revision = pos 0; patch = pos 0 };
+  role = codes "store";
+  protocol_capabilities = [];
+}
+
+-- the configured types of objects, where there are such
+abbrev pub data_objects : Option (List (List ℕ)) → List SupportedDataObject
+data_objects None = []
+data_objects (Some types) = map (λ t. record { qualified_type = t; data_object_capabilities = [] }) types
+
+-- the identifier of the session of a number
+abbrev pub session_id : List ℕ → ℕ → List ℕ
+session_id instance number = version5 instance (codes "session:" ++ decimal number)
+
+-- the greatest number of bytes of a message, which is all that the server states of itself
+abbrev pub capabilities : List (List ℕ × DataValue)
+capabilities = (codes "MaxWebSocketMessagePayloadSize", Long (pos 16777216)) ∷ []
+
+-- the reply to a RequestSession of which this was accepted
+abbrev pub open_session : Config → ℕ → ℤ → List ℤ → List Format → OpenSession
+open_session config number moment accepted formats = record {
+  application_name = config.name;
+  application_version = codes "1";
+  server_instance_id = config.instance;
+  supported_protocols = map supported accepted;
+  supported_data_objects = data_objects config.types;
+  supported_compression = [];
+  supported_formats = map format_text formats;
+  current_date_time = moment;
+  earliest_retained_change_time = pos 0;
+  session_id = session_id config.instance number;
+  endpoint_capabilities = capabilities;
+}
+
+-- without a protocol, and then without a format, there is no session
+abbrev pub opening_with : Config → ℕ → ℤ → List ℤ → List Format → Opening
+opening_with config number moment [] formats = Refused NoSupportedProtocols
+opening_with config number moment (p ∷ ps) [] = Refused NoSupportedFormats
+opening_with config number moment (p ∷ ps) (f ∷ fs) = Opened (p ∷ ps) (f ∷ fs) (open_session config number moment (p ∷ ps) (f ∷ fs))
+
+-- what comes of a RequestSession to a session that waits for it
+abbrev pub opening_of : Config → ℕ → ℤ → RequestSession → Opening
+opening_of config number moment request = opening_with config number moment (accepted_protocols request.requested_protocols) (formats_of request.supported_formats)

@@ -1,0 +1,373 @@
+//! The requests of the Dataspace protocol.
+ghost use Rattle.std.specs.Prelude.{◌≡◌, IfOk};
+ghost use Rattle.etp_values.specs.Uri.{space_text};
+ghost use Rattle.keyed_requests.specs.Plain.{plain_outcome, plain_reply};
+ghost use Rattle.keyed_requests.specs.Sending.{refusal_alone};
+ghost use Rattle.session_rows.specs.Dataspaces.{change_refusal, changeable_path, checked_put, dataspace_of, dataspace_outcome, dataspace_reply, decided, decided_found, delete_called, delete_response, is_custom_large, listed, path_in_uri, put_called, put_response, records_reply, unless_refused, verdicts_reply};
+
+use etp_schema::encoded_size;
+use etp_values::{Copied, DataValue, ErrorCode, List, Named, NoMemory, StoreUri, Text, UriError};
+use keyed_requests::{
+    Decision, Findings, Outcome, Plain, PlainRequest, Sending, keys_refusal, refusal_alone,
+    reply_alone, request_outcome, request_reply,
+};
+use msg_core::{
+    Dataspace, DataspaceMessage, DeleteDataspacesResponse, GetDataspacesResponse,
+    PutDataspacesResponse,
+};
+use object_store::SpaceRecord;
+use std::alloc::Global;
+use store_machine::{Reply, SpacePut, StoreCall, Verdict};
+
+/// The greatest number of bytes that a dataspace's custom data has on the wire.
+pub const MAX_CUSTOM_SIZE: u64 = 16_384;
+
+/// What a request of the Dataspace protocol keeps while the store is asked.
+#[derive(Debug, Drop)]
+pub enum DataspacePending {
+    /// GetDataspaces.
+    Get,
+    /// PutDataspaces, with what was decided of its keys.
+    Put(Named<Decision<()>>),
+    /// DeleteDataspaces, with what was decided of its keys.
+    Delete(Named<Decision<()>>),
+}
+
+/// What comes of a request of the Dataspace protocol.
+pub type DataspaceOutcome = Outcome<StoreCall, DataspacePending, DataspaceMessage>;
+
+/// The path of a dataspace that can be changed.
+fn changeable_path(alloc: Global, uri: &str) -> Result<Decision<Text>, NoMemory>
+    ensures { IfOk result (λ d. d ≡ changeable_path uri.now) }
+{
+    match StoreUri::read(alloc, uri) {
+        Ok(uri) => Ok(path_in_uri(uri)),
+        Err(UriError::NoMemory) => Err(NoMemory),
+        Err(_) => Ok(Decision::Refused(ErrorCode::InvalidUri)),
+    }
+}
+
+fn path_in_uri(uri: StoreUri) -> Decision<Text>
+    ensures { result ≡ path_in_uri uri.space uri.object }
+{
+    if uri.object.is_some() {
+        return Decision::Refused(ErrorCode::InvalidUri);
+    }
+    if uri.space.is_empty() {
+        return Decision::Refused(ErrorCode::RequestDenied);
+    }
+    Decision::Granted(uri.space)
+}
+
+fn is_custom_large(alloc: Global, custom: &Named<DataValue>) -> Result<bool, NoMemory>
+    ensures { IfOk result (λ large. large ≡ is_custom_large custom.now) }
+{
+    let size = encoded_size(alloc, custom)?;
+    Ok(size > MAX_CUSTOM_SIZE)
+}
+
+/// What the store decided of a key.
+fn decided(alloc: Global, verdict: &Verdict) -> Decision<Text>
+    ensures { result ≡ decided verdict.now }
+{
+    match verdict {
+        Verdict::Accepted => Decision::Granted(Text::new(alloc)),
+        Verdict::Refused(code) => Decision::Refused(*code),
+    }
+}
+
+/// PutDataspaces.
+struct PutDataspaces;
+
+impl PlainRequest for PutDataspaces {
+    type Item = Dataspace;
+
+    type Sent = SpacePut;
+
+    type Found = (Text, Verdict);
+
+    type Given = Text;
+
+    type Message = DataspaceMessage;
+
+    ghost check = { λ put dataspace. checked_put dataspace };
+
+    ghost decide = { λ put found. decided_found found };
+
+    ghost response = { λ put success. put_response success };
+
+    fn check(&self, alloc: Global, item: Dataspace) -> Result<Decision<SpacePut>, NoMemory> {
+        let Dataspace {
+            uri,
+            custom_data,
+            ..
+        } = item;
+        match changeable_path(alloc, uri.as_str())? {
+            Decision::Granted(path) => {
+                if is_custom_large(alloc, &custom_data)? {
+                    return Ok(Decision::Refused(ErrorCode::SizeExceeded));
+                }
+                Ok(Decision::Granted(SpacePut {
+                    path,
+                    custom: custom_data,
+                }))
+            }
+            Decision::Refused(code) => Ok(Decision::Refused(code)),
+        }
+    }
+
+    fn decide(&self, alloc: Global, found: &(Text, Verdict)) -> Result<Decision<Text>, NoMemory> {
+        Ok(decided(alloc, &found.1))
+    }
+
+    fn response(&self, success: Named<Text>) -> DataspaceMessage
+        ensures { result ≡ put_response success }
+    {
+        DataspaceMessage::PutDataspacesResponse(PutDataspacesResponse { success })
+    }
+}
+
+/// DeleteDataspaces.
+struct DeleteDataspaces;
+
+impl PlainRequest for DeleteDataspaces {
+    type Item = Text;
+
+    type Sent = Text;
+
+    type Found = (Text, Verdict);
+
+    type Given = Text;
+
+    type Message = DataspaceMessage;
+
+    ghost check = { λ delete uri. changeable_path uri };
+
+    ghost decide = { λ delete found. decided_found found };
+
+    ghost response = { λ delete success. delete_response success };
+
+    fn check(&self, alloc: Global, item: Text) -> Result<Decision<Text>, NoMemory> {
+        changeable_path(alloc, item.as_str())
+    }
+
+    fn decide(&self, alloc: Global, found: &(Text, Verdict)) -> Result<Decision<Text>, NoMemory> {
+        Ok(decided(alloc, &found.1))
+    }
+
+    fn response(&self, success: Named<Text>) -> DataspaceMessage
+        ensures { result ≡ delete_response success }
+    {
+        DataspaceMessage::DeleteDataspacesResponse(DeleteDataspacesResponse { success })
+    }
+}
+
+fn put_called(
+    outcome: Outcome<Named<SpacePut>, Named<Decision<()>>, DataspaceMessage>,
+) -> DataspaceOutcome
+    ensures { result ≡ put_called outcome }
+{
+    match outcome {
+        Outcome::Replies(sendings) => Outcome::Replies(sendings),
+        Outcome::Calls { call, pending } => Outcome::Calls {
+            call: StoreCall::PutSpaces { items: call },
+            pending: DataspacePending::Put(pending),
+        },
+    }
+}
+
+fn put_outcome(alloc: Global, items: Named<Dataspace>) -> Result<DataspaceOutcome, NoMemory>
+    ensures { let outcome = plain_outcome checked_put put_response items in
+        IfOk result (λ o. o ≡ put_called outcome) }
+{
+    let outcome = request_outcome(alloc, &Plain(PutDataspaces), &mut (), items)?;
+    Ok(put_called(outcome))
+}
+
+fn delete_called(
+    outcome: Outcome<Named<Text>, Named<Decision<()>>, DataspaceMessage>,
+) -> DataspaceOutcome
+    ensures { result ≡ delete_called outcome }
+{
+    match outcome {
+        Outcome::Replies(sendings) => Outcome::Replies(sendings),
+        Outcome::Calls { call, pending } => Outcome::Calls {
+            call: StoreCall::DropSpaces { items: call },
+            pending: DataspacePending::Delete(pending),
+        },
+    }
+}
+
+fn delete_outcome(alloc: Global, items: Named<Text>) -> Result<DataspaceOutcome, NoMemory>
+    ensures { let outcome = plain_outcome changeable_path delete_response items in
+        IfOk result (λ o. o ≡ delete_called outcome) }
+{
+    let outcome = request_outcome(alloc, &Plain(DeleteDataspaces), &mut (), items)?;
+    Ok(delete_called(outcome))
+}
+
+/// Why a change of dataspaces is refused as a whole: a transaction is open, or its keys don't pass the limits.
+fn change_refusal<T>(in_transaction: bool, items: &Named<T>) -> Option<ErrorCode>
+    ensures { result ≡ change_refusal in_transaction items.now }
+{
+    if in_transaction {
+        return Some(ErrorCode::InvalidState);
+    }
+    keys_refusal(items)
+}
+
+fn refused(alloc: Global, code: ErrorCode) -> Result<DataspaceOutcome, NoMemory>
+    ensures { IfOk result (λ o. o ≡ Outcome.Replies (refusal_alone code)) }
+{
+    Ok(Outcome::Replies(refusal_alone(alloc, code)?))
+}
+
+/// What comes of a message of the Dataspace protocol, while a transaction is open or none is.
+pub fn dataspace_outcome(
+    alloc: Global,
+    message: DataspaceMessage,
+    in_transaction: bool,
+) -> Result<DataspaceOutcome, NoMemory>
+    ensures { IfOk result (λ o. o ≡ dataspace_outcome message in_transaction) }
+{
+    match message {
+        DataspaceMessage::GetDataspaces(request) => Ok(Outcome::Calls {
+            call: StoreCall::Spaces {
+                newer: request.store_last_write_filter,
+            },
+            pending: DataspacePending::Get,
+        }),
+        DataspaceMessage::PutDataspaces(request) => match change_refusal(
+            in_transaction,
+            &request.dataspaces,
+        ) {
+            Some(code) => refused(alloc, code),
+            None => put_outcome(alloc, request.dataspaces),
+        },
+        DataspaceMessage::DeleteDataspaces(request) => match change_refusal(
+            in_transaction,
+            &request.uris,
+        ) {
+            Some(code) => refused(alloc, code),
+            None => delete_outcome(alloc, request.uris),
+        },
+        DataspaceMessage::GetDataspacesResponse(_)
+        | DataspaceMessage::PutDataspacesResponse(_)
+        | DataspaceMessage::DeleteDataspacesResponse(_) => refused(
+            alloc,
+            ErrorCode::InvalidMessageType,
+        ),
+    }
+}
+
+fn dataspace_of(alloc: Global, space: SpaceRecord) -> Result<Dataspace, NoMemory>
+    ensures { IfOk result (λ d. d ≡ dataspace_of space) }
+{
+    let SpaceRecord {
+        path,
+        written,
+        created,
+        custom,
+    } = space;
+    let uri = dataspace_uri(alloc, &path)?;
+    Ok(Dataspace {
+        uri,
+        path,
+        store_last_write: written,
+        store_created: created,
+        custom_data: custom,
+    })
+}
+
+/// The canonical text of a dataspace's URI.
+fn dataspace_uri(alloc: Global, path: &Text) -> Result<Text, NoMemory>
+    ensures { IfOk result (λ text. text ≡ space_text path.now) }
+{
+    let uri = StoreUri {
+        space: path.copy(alloc)?,
+        object: None,
+    };
+    uri.write(alloc)
+}
+
+/// The response that lists these dataspaces.
+fn listed(alloc: Global, records: List<SpaceRecord>) -> Result<DataspaceMessage, NoMemory>
+    ensures { IfOk result (λ message. message ≡ listed records) }
+{
+    let mut dataspaces = Vec::new(alloc);
+    for space in records.into_vec() {
+        let dataspace = dataspace_of(alloc, space)?;
+        dataspaces.push(dataspace)?;
+    }
+    Ok(DataspaceMessage::GetDataspacesResponse(GetDataspacesResponse {
+        dataspaces: List::from_vec(dataspaces),
+    }))
+}
+
+fn records_reply(
+    alloc: Global,
+    pending: DataspacePending,
+    records: List<SpaceRecord>,
+) -> Result<List<Sending<DataspaceMessage>>, NoMemory>
+    ensures { IfOk result (λ sendings. sendings ≡ records_reply pending records) }
+{
+    match pending {
+        DataspacePending::Get => {
+            let message = listed(alloc, records)?;
+            reply_alone(alloc, message)
+        }
+        DataspacePending::Put(_) | DataspacePending::Delete(_) => Ok(List::new(alloc)),
+    }
+}
+
+fn put_reply(
+    alloc: Global,
+    items: Named<Decision<()>>,
+    verdicts: Named<Verdict>,
+) -> Result<List<Sending<DataspaceMessage>>, NoMemory>
+    ensures { IfOk result (λ l. l ≡ plain_reply decided_found put_response items verdicts) }
+{
+    let findings = Findings::from_vec(verdicts.into_vec());
+    request_reply(alloc, &Plain(PutDataspaces), &mut (), items, findings)
+}
+
+fn delete_reply(
+    alloc: Global,
+    items: Named<Decision<()>>,
+    verdicts: Named<Verdict>,
+) -> Result<List<Sending<DataspaceMessage>>, NoMemory>
+    ensures { IfOk result (λ l. l ≡ plain_reply decided_found delete_response items verdicts) }
+{
+    let findings = Findings::from_vec(verdicts.into_vec());
+    request_reply(alloc, &Plain(DeleteDataspaces), &mut (), items, findings)
+}
+
+fn verdicts_reply(
+    alloc: Global,
+    pending: DataspacePending,
+    verdicts: Named<Verdict>,
+) -> Result<List<Sending<DataspaceMessage>>, NoMemory>
+    ensures { IfOk result (λ sendings. sendings ≡ verdicts_reply pending verdicts) }
+{
+    match pending {
+        DataspacePending::Get => Ok(List::new(alloc)),
+        DataspacePending::Put(items) => put_reply(alloc, items, verdicts),
+        DataspacePending::Delete(items) => delete_reply(alloc, items, verdicts),
+    }
+}
+
+/// The reply at the store's answer to the call of a request of the Dataspace protocol.
+pub fn dataspace_reply(
+    alloc: Global,
+    pending: DataspacePending,
+    reply: Reply,
+) -> Result<List<Sending<DataspaceMessage>>, NoMemory>
+    ensures { IfOk result (λ sendings. sendings ≡ dataspace_reply pending reply) }
+{
+    match reply {
+        Reply::Spaces(records) => records_reply(alloc, pending, records),
+        Reply::Verdicts(verdicts) => verdicts_reply(alloc, pending, verdicts),
+        Reply::JournalFull => refusal_alone(alloc, ErrorCode::LimitExceeded),
+        Reply::Entered(_) => Ok(List::new(alloc)),
+    }
+}
