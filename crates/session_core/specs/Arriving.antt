@@ -26,34 +26,34 @@ max_message_len = 16777216
 abbrev pub follows : ℤ → ℤ → Bool
 follows last_id id = int_lt last_id id && int_eq (int_rem id (pos 2)) (pos 0)
 
+-- what a refusal or a reply answers
 abbrev pub request_of : Header → Request
 request_of h = record { protocol = h.protocol; id = h.id }
 
-abbrev pub came_by : Bool → ℤ → Request → Message → Arrived
-came_by true moment r m = Fresh r moment m
-came_by false moment r m = Stale r
+-- where its id follows, an event is this; else it is stale
+abbrev pub unless_stale : Bool → Request → Arrived → Arrived
+unless_stale true r a = a
+unless_stale false r a = Stale r
 
-abbrev pub came : ℤ → ℤ → Header → Message → Arrived
-came last_id moment h m = came_by (follows last_id h.id) moment (request_of h) m
+-- a message that could be read
+abbrev pub message_event : ℤ → ℤ → Header → Message → Arrived
+message_event last_id moment h m = unless_stale (follows last_id h.id) (request_of h) (Fresh (request_of h) moment m)
 
-abbrev pub refused_by : Bool → Request → ErrorCode → Arrived
-refused_by true r c = Refused r c
-refused_by false r c = Stale r
-
-abbrev pub refused : ℤ → Header → ErrorCode → Arrived
-refused last_id h c = refused_by (follows last_id h.id) (request_of h) c
+-- a message that is refused for what its bytes are
+abbrev pub refused_event : ℤ → Header → ErrorCode → Arrived
+refused_event last_id h c = unless_stale (follows last_id h.id) (request_of h) (Refused (request_of h) c)
 
 -- the refusals of a message's bytes; that of a header's content comes after that of its id
-abbrev pub failed : ℤ → FrameError → Arrived
-failed last_id (frame.Header why) = Unreadable code.InvalidMessage
-failed last_id (frame.Extension h) = refused last_id h code.InvalidMessage
-failed last_id (frame.Compressed h) = refused last_id h code.CompressionNotSupported
-failed last_id (frame.UnknownProtocol h) = refused last_id h code.UnsupportedProtocol
-failed last_id (frame.UnknownKind h) = refused last_id h code.InvalidMessageType
-failed last_id (frame.Body h why) = refused last_id h code.InvalidMessage
-failed last_id (frame.Rest h at) = refused last_id h code.InvalidMessage
+abbrev pub error_event : ℤ → FrameError → Arrived
+error_event last_id (frame.Header why) = Unreadable code.InvalidMessage
+error_event last_id (frame.Extension h) = refused_event last_id h code.InvalidMessage
+error_event last_id (frame.Compressed h) = refused_event last_id h code.CompressionNotSupported
+error_event last_id (frame.UnknownProtocol h) = refused_event last_id h code.UnsupportedProtocol
+error_event last_id (frame.UnknownKind h) = refused_event last_id h code.InvalidMessageType
+error_event last_id (frame.Body h why) = refused_event last_id h code.InvalidMessage
+error_event last_id (frame.Rest h at) = refused_event last_id h code.InvalidMessage
 -- no bytes are read so
-failed last_id frame.NoMemory = Unreadable code.InvalidMessage
+error_event last_id frame.NoMemory = Unreadable code.InvalidMessage
 
 -- the bytes are at fault, and not the memory
 abbrev pub IsFault : FrameError → Type 0
@@ -66,10 +66,12 @@ IsFault (frame.Body h why) = Unit {0}
 IsFault (frame.Rest h at) = Unit {0}
 IsFault frame.NoMemory = ⊥
 
+-- what was read of the bytes
 abbrev pub arrived_as : ℤ → ℤ → Result (Header × Message) FrameError → Arrived
-arrived_as last_id moment (Ok x) = came last_id moment x.0 x.1
-arrived_as last_id moment (Err e) = failed last_id e
+arrived_as last_id moment (Ok x) = message_event last_id moment x.0 x.1
+arrived_as last_id moment (Err e) = error_event last_id e
 
+-- whether the bytes are few enough to be read
 abbrev pub arrived_by : Bool → ℤ → ℤ → List ℕ → Arrived
 arrived_by true last_id moment bytes = arrived_as last_id moment (read_of Client bytes)
 arrived_by false last_id moment bytes = Unreadable code.SizeExceeded
@@ -81,4 +83,4 @@ arrived_message last_id moment bytes = arrived_by (nat_le (length bytes) max_mes
 -- an event after a message with this id
 abbrev pub arrived : ℤ → Event → Arrived
 arrived last_id (Receives bytes moment) = arrived_message last_id moment bytes
-arrived last_id (Polls front) = Polled front
+arrived last_id (Polls front) = Polled

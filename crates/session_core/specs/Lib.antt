@@ -1,7 +1,4 @@
-pub mod Saying
-pub mod Scheme
-pub mod Spaces
-pub mod Opening
+pub mod Replies
 pub mod State
 pub mod Arriving
 pub mod Sending

@@ -4,7 +4,7 @@ use Rattle.std.specs.Option.{option_map}
 use Rattle.etp_frame.specs.Wire.{message_bytes}
 use Rattle.session_core.specs.declared.state.Outgoing.{Outgoing}
 use Rattle.session_core.specs.declared.state.Phase.{Phase}
-use Rattle.session_core.specs.declared.state.Phase.TheVariants.{Waiting, Open, Ended}
+use Rattle.session_core.specs.declared.state.Phase.TheVariants as phase
 use Rattle.session_core.specs.declared.state.End.{End}
 use Rattle.session_core.specs.State.{State}
 use Rattle.session_core.specs.Sending.{first_of, rest_of}
@@ -23,6 +23,5 @@ sent_one s = record s { out = rest_of s.out }
 
 -- how a session ended
 abbrev pub end_of : Phase → Option End
-end_of Waiting = None
-end_of Open = None
-end_of (Ended e) = Some e
+end_of (phase.Live live) = None
+end_of (phase.Ended e) = Some e

@@ -1,6 +1,6 @@
 //! What arrives: a message, or why there is none.
 ghost use Rattle.std.specs.Prelude.{◌≡◌, IfOk, OnOk};
-ghost use Rattle.session_core.specs.Arriving.{arrived_message, came, failed, follows, refused, IsFault};
+ghost use Rattle.session_core.specs.Arriving.{IsFault, arrived_message, error_event, follows, message_event, refused_event};
 
 use crate::state::{Arrived, Request};
 use etp_frame::{FrameError, Header, Message, read_message};
@@ -12,7 +12,7 @@ use std::alloc::Global;
 pub(crate) const MAX_MESSAGE_LEN: usize = 16_777_216;
 
 /// The message of these bytes, after one with the id `last_id`.
-pub(crate) fn arrive(
+pub(crate) fn arrived_message(
     alloc: Global,
     last_id: i64,
     bytes: &[u8],
@@ -24,16 +24,17 @@ pub(crate) fn arrive(
         return Ok(Arrived::Unreadable(ErrorCode::SizeExceeded));
     }
     match read_message(alloc, bytes, Side::Client) {
-        Ok((header, message)) => Ok(came(last_id, moment, &header, message)),
+        Ok((header, message)) => Ok(message_event(last_id, moment, &header, message)),
         Err(error) => {
-            let arrived = failed(last_id, error)?;
+            let arrived = error_event(last_id, error)?;
             Ok(arrived)
         }
     }
 }
 
-fn came(last_id: i64, moment: i64, header: &Header, message: Message) -> Arrived
-    ensures { result ≡ came last_id moment header.now message }
+/// A message that could be read.
+fn message_event(last_id: i64, moment: i64, header: &Header, message: Message) -> Arrived
+    ensures { result ≡ message_event last_id moment header.now message }
 {
     let request = Request {
         protocol: header.protocol,
@@ -50,30 +51,44 @@ fn came(last_id: i64, moment: i64, header: &Header, message: Message) -> Arrived
     }
 }
 
-fn failed(last_id: i64, error: FrameError) -> Result<Arrived, NoMemory>
-    ensures value { IfOk result (λ a. a ≡ failed last_id error) }
+/// Bytes that are no message.
+fn error_event(last_id: i64, error: FrameError) -> Result<Arrived, NoMemory>
+    ensures value { IfOk result (λ a. a ≡ error_event last_id error) }
     ensures fault { OnOk result (IsFault error) }
 {
     match error {
         FrameError::Header(_) => Ok(Arrived::Unreadable(ErrorCode::InvalidMessage)),
-        FrameError::Extension(header) => Ok(refused(last_id, &header, ErrorCode::InvalidMessage)),
+        FrameError::Extension(header) => Ok(refused_event(
+            last_id,
+            &header,
+            ErrorCode::InvalidMessage,
+        )),
         FrameError::Compressed(header) => {
-            Ok(refused(last_id, &header, ErrorCode::CompressionNotSupported))
+            Ok(refused_event(last_id, &header, ErrorCode::CompressionNotSupported))
         }
         FrameError::UnknownProtocol(header) => {
-            Ok(refused(last_id, &header, ErrorCode::UnsupportedProtocol))
+            Ok(refused_event(last_id, &header, ErrorCode::UnsupportedProtocol))
         }
         FrameError::UnknownKind(header) => {
-            Ok(refused(last_id, &header, ErrorCode::InvalidMessageType))
+            Ok(refused_event(last_id, &header, ErrorCode::InvalidMessageType))
         }
-        FrameError::Body(header, _) => Ok(refused(last_id, &header, ErrorCode::InvalidMessage)),
-        FrameError::Rest(header, _) => Ok(refused(last_id, &header, ErrorCode::InvalidMessage)),
+        FrameError::Body(header, _) => Ok(refused_event(
+            last_id,
+            &header,
+            ErrorCode::InvalidMessage,
+        )),
+        FrameError::Rest(header, _) => Ok(refused_event(
+            last_id,
+            &header,
+            ErrorCode::InvalidMessage,
+        )),
         FrameError::NoMemory => Err(NoMemory),
     }
 }
 
-fn refused(last_id: i64, header: &Header, code: ErrorCode) -> Arrived
-    ensures { result ≡ refused last_id header.now code }
+/// A message that is refused for what its bytes are.
+fn refused_event(last_id: i64, header: &Header, code: ErrorCode) -> Arrived
+    ensures { result ≡ refused_event last_id header.now code }
 {
     let request = Request {
         protocol: header.protocol,

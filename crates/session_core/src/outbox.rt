@@ -1,8 +1,7 @@
 //! The messages that are left to send, with their headers.
 ghost use Rattle.std.specs.Prelude.{◌≡◌, ◌++◌, ◌∷◌, [], ◌≤◌, IfOk, OnOk, IfSome};
-ghost use Rattle.session_core.specs.Sending.{numbered, is_spent, next_after, replies_in, outgoing, sent_under, core_protocol, common_protocol, flags_of, correlation_of, replies_to, IsWritable, max_id, first_of, rest_of};
+ghost use Rattle.session_core.specs.Sending.{IsWritable, common_protocol, core_protocol, first_of, flags_of, is_spent, max_id, next_after, numbered, outgoing, rest_of, sent_under};
 
-use crate::saying::{Addressee, Saying};
 use crate::state::{Outgoing, Request};
 use etp_frame::flags::FINAL_PART;
 use etp_frame::{Header, Message};
@@ -15,6 +14,9 @@ use std::marker::Model;
 
 /// The greatest message id.
 pub(crate) const MAX_ID: u64 = 4_611_686_018_427_387_904;
+
+/// How far one own id is above the one before: own ids are odd.
+const OWN_ID_STEP: u64 = 2;
 
 /// Messages to send, first message first. Each has a header that it can be written with.
 #[derive(Debug, Drop)]
@@ -70,29 +72,29 @@ impl Outbox {
         Ok(())
     }
 
-    /// Adds what is said to a request, each message with the next own id. Where the ids end, so does what is added.
+    /// Adds the messages of the reply to a request, each with the next own id. Where the ids end, so does what is added.
     pub(crate) fn number(
         &mut self,
         request: &Request,
         next: u64,
-        sayings: List<Saying>,
+        messages: List<Message>,
     ) -> Result<Ids, NoMemory>
-        ensures messages { OnOk result (self.new ≡ self.old ++ numbered request.now next sayings) }
-        ensures next { IfOk result (λ ids. ids.next ≡ next_after next sayings) }
-        ensures spent { IfOk result (λ ids. ids.spent ≡ is_spent next sayings) }
+        ensures messages { OnOk result (self.new ≡ self.old ++ numbered request.now next messages) }
+        ensures next { IfOk result (λ ids. ids.next ≡ next_after next messages) }
+        ensures spent { IfOk result (λ ids. ids.spent ≡ is_spent next messages) }
     {
         let mut id = next;
-        let mut left = replies_in(sayings.as_slice());
-        for saying in sayings.into_vec() {
+        let mut left = messages.len();
+        for message in messages.into_vec() {
             if id > MAX_ID {
                 return Ok(Ids {
                     next: id,
                     spent: true,
                 });
             }
-            left -= replies_to(saying.to);
-            self.push(outgoing(request, id, left, saying))?;
-            id += 2;
+            left -= 1;
+            self.push(outgoing(request, id, left, message))?;
+            id += OWN_ID_STEP;
         }
         Ok(Ids {
             next: id,
@@ -101,59 +103,26 @@ impl Outbox {
     }
 }
 
-fn replies_to(to: Addressee) -> usize
-    ensures { result ≡ replies_to to }
-{
-    match to {
-        Addressee::Request => 1,
-        Addressee::Nobody => 0,
-    }
-}
-
-/// How many of these belong to the reply.
-fn replies_in(sayings: &[Saying]) -> usize
-    ensures { result ≡ replies_in sayings.now }
-{
-    let mut count = 0;
-    for saying in sayings {
-        count += replies_to(saying.to);
-    }
-    count
-}
-
-/// The message with its header, where this own id is the next, and so much of the reply is left behind it.
-fn outgoing(request: &Request, id: u64, left: usize, saying: Saying) -> Outgoing
+/// The message with its header, where this own id is the next, and so many messages of the reply are left behind it.
+fn outgoing(request: &Request, id: u64, left: usize, message: Message) -> Outgoing
     requires { id ≤ max_id }
-    ensures value { result ≡ outgoing request.now id left saying }
+    ensures value { result ≡ outgoing request.now id left message }
     ensures writable { IsWritable result }
 {
-    let Saying { to, message } = saying;
     let header = Header {
         protocol: sent_under(request, &message),
         kind: message.kind(),
-        correlation: correlation_of(to, request),
+        correlation: request.id,
         id: id as i64,
-        flags: flags_of(to, left),
+        flags: flags_of(left),
     };
     Outgoing { header, message }
 }
 
-fn correlation_of(to: Addressee, request: &Request) -> i64
-    ensures { result ≡ correlation_of to request.now.id }
+fn flags_of(left: usize) -> i32
+    ensures { result ≡ flags_of left }
 {
-    match to {
-        Addressee::Request => request.id,
-        Addressee::Nobody => 0,
-    }
-}
-
-fn flags_of(to: Addressee, left: usize) -> i32
-    ensures { result ≡ flags_of to left }
-{
-    match to {
-        Addressee::Request if left > 0 => 0,
-        _ => FINAL_PART,
-    }
+    if left == 0 { FINAL_PART } else { 0 }
 }
 
 /// The protocol under which a message goes that answers this request.

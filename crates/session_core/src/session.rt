@@ -1,24 +1,26 @@
 //! The session of one client.
 ghost use Rattle.std.specs.List.{list_any};
 ghost use Rattle.std.specs.Ordering.{int_eq};
-ghost use Rattle.std.specs.Prelude.{◌≡◌, ◌≤◌, ◌%◌, ◌∷◌, [], pos, negsuc, IfOk, IfSome, OnOk, ℤ, ◌≤ℤ◌, int_rem, Some, None};
+ghost use Rattle.std.specs.Prelude.{◌≡◌, ◌∷◌, [], pos, IfOk, IfSome, OnOk, ◌≤ℤ◌, int_rem, Some, None};
 ghost use Rattle.session_core.specs.Arriving.{Receives, Polls};
-ghost use Rattle.session_core.specs.Machine.{taken_as, taken_in, replies, refuses, unread, opened, on_request_session, on_ping, on_core, spaces_taken, on_row, on_accepted, is_accepted, on_protocol, on_message};
-ghost use Rattle.session_core.specs.Run.{takes, hears, Asks};
-ghost use Rattle.session_core.specs.Sending.{said, max_id, IsWritable};
-ghost use Rattle.session_core.specs.Session.{bytes_of, next_bytes, sent_one, end_of};
+ghost use Rattle.session_core.specs.Machine.{by_event, by_phase, on_core, on_dataspaces, on_message, on_ping, on_protocol, on_request_session, on_row, opened, protocol_refusal, refuses, replies_one};
+ghost use Rattle.session_core.specs.Run.{Asks, hears, takes};
+ghost use Rattle.session_core.specs.Sending.{IsWritable, max_id, replied};
+ghost use Rattle.session_core.specs.Session.{bytes_of, end_of, next_bytes, sent_one};
 ghost use Rattle.session_core.specs.State.{first_state};
 
-use crate::arriving::arrive;
-use crate::opening::{Format, Opening, open_asked};
+use crate::arriving::arrived_message;
 use crate::outbox::Outbox;
-use crate::saying::{Asked, Saying, one_reply, refused};
-use crate::spaces::{spaces_asked, spaces_given};
-use crate::state::{Arrived, Desk, End, Outgoing, Pending, Phase, Request};
+use crate::replies::{messages_of, refusal};
+use crate::state::{Arrived, End, Live, Outgoing, Pending, Phase, Request, Transaction};
 use chan_defs::Config;
 use etp_frame::{Message, write_message};
 use etp_values::{Blob, ErrorCode, List, NoMemory};
-use msg_core::{CoreMessage, DataspaceMessage, OpenSession, Pong, RequestSession};
+use keyed_requests::Outcome;
+use msg_core::{CoreMessage, OpenSession, Pong, RequestSession};
+use session_rows::{
+    DataspaceOutcome, Format, Opening, dataspace_outcome, dataspace_reply, opening_of,
+};
 use std::alloc::Global;
 use std::marker::Model;
 use store_machine::{Answer, StoreCall};
@@ -37,7 +39,7 @@ pub struct Session {
     next_id: u64,
     accepted: List<i32>,
     formats: List<Format>,
-    desk: Desk,
+    transaction: Option<Transaction>,
     pending: Option<Pending>,
     out: Outbox,
 }
@@ -47,7 +49,7 @@ impl Model for Session {
 
     ghost Value = { State };
 
-    ghost view = { λ s. record { config = s.config; number = s.number; phase = s.phase; last_id = s.last_id; next_id = s.next_id; accepted = s.accepted; formats = s.formats; desk = s.desk; pending = s.pending; out = s.out } };
+    ghost view = { λ s. record { config = s.config; number = s.number; phase = s.phase; last_id = s.last_id; next_id = s.next_id; accepted = s.accepted; formats = s.formats; transaction = s.transaction; pending = s.pending; out = s.out } };
 }
 
 impl Session {
@@ -66,12 +68,12 @@ impl Session {
         Ok(Session {
             config,
             number,
-            phase: Phase::Waiting,
+            phase: Phase::Live(Live::Waiting),
             last_id: 0,
             next_id: first_id as u64,
             accepted: List::new(alloc),
             formats: List::new(alloc),
-            desk: Desk { staging: None },
+            transaction: None,
             pending: None,
             out: Outbox::new(alloc),
         })
@@ -90,8 +92,8 @@ impl Session {
         ensures state { OnOk result (self.new ≡ (takes self.old (Receives bytes.now now)).state) }
         ensures asks { IfOk result (λ call. IfSome call (Asks self.old)) }
     {
-        let arrived = arrive(alloc, self.last_id, bytes, now)?;
-        self.take_in(alloc, arrived)
+        let arrived = arrived_message(alloc, self.last_id, bytes, now)?;
+        self.by_phase(alloc, arrived)
     }
 
     /// A poll, with the length of the store's journal.
@@ -101,7 +103,7 @@ impl Session {
         ensures state { OnOk result (self.new ≡ (takes self.old (Polls front)).state) }
         ensures asks { IfOk result (λ call. IfSome call (Asks self.old)) }
     {
-        self.take_in(alloc, Arrived::Polled { front })
+        self.by_phase(alloc, Arrived::Polled)
     }
 
     /// The store's answer to the call in hand.
@@ -111,10 +113,11 @@ impl Session {
     {
         match self.pending.take() {
             None => Ok(()),
-            Some(Pending::Spaces { request, pending }) => {
+            Some(Pending::Dataspaces { request, pending }) => {
                 let Answer { mark: _, reply } = answer;
-                let sayings = spaces_given(alloc, pending, reply)?;
-                self.say(&request, sayings)
+                let sendings = dataspace_reply(alloc, pending, reply)?;
+                let messages = messages_of(alloc, sendings)?;
+                self.reply(&request, messages)
             }
         }
     }
@@ -127,7 +130,7 @@ impl Session {
         let Some(outgoing) = self.out.pop() else {
             return Ok(None);
         };
-        let bytes = written(alloc, outgoing)?;
+        let bytes = bytes_of(alloc, outgoing)?;
         Ok(Some(bytes))
     }
 
@@ -136,25 +139,29 @@ impl Session {
         ensures { result ≡ end_of self.now.phase }
     {
         match self.phase {
+            Phase::Live(_) => None,
             Phase::Ended(end) => Some(end),
-            _ => None,
         }
     }
 
-    fn take_in(&mut self, alloc: Global, arrived: Arrived) -> Result<Option<StoreCall>, NoMemory>
-        ensures call { IfOk result (λ call. call ≡ (taken_in self.old.phase arrived self.old).call) }
-        ensures state { OnOk result (self.new ≡ (taken_in self.old.phase arrived self.old).state) }
+    fn by_phase(&mut self, alloc: Global, arrived: Arrived) -> Result<Option<StoreCall>, NoMemory>
+        ensures call { IfOk result (λ call. call ≡ (by_phase self.old.phase arrived self.old).call) }
+        ensures state { OnOk result (self.new ≡ (by_phase self.old.phase arrived self.old).state) }
     {
         match self.phase {
-            Phase::Waiting => self.take_as(alloc, arrived),
-            Phase::Open => self.take_as(alloc, arrived),
+            Phase::Live(live) => self.by_event(alloc, live, arrived),
             Phase::Ended(_) => Ok(None),
         }
     }
 
-    fn take_as(&mut self, alloc: Global, arrived: Arrived) -> Result<Option<StoreCall>, NoMemory>
-        ensures call { IfOk result (λ call. call ≡ (taken_as arrived self.old).call) }
-        ensures state { OnOk result (self.new ≡ (taken_as arrived self.old).state) }
+    fn by_event(
+        &mut self,
+        alloc: Global,
+        live: Live,
+        arrived: Arrived,
+    ) -> Result<Option<StoreCall>, NoMemory>
+        ensures call { IfOk result (λ call. call ≡ (by_event live arrived self.old).call) }
+        ensures state { OnOk result (self.new ≡ (by_event live arrived self.old).state) }
     {
         match arrived {
             Arrived::Unreadable(code) => {
@@ -178,28 +185,29 @@ impl Session {
             } => {
                 let Request { id, .. } = request;
                 self.last_id = id;
-                self.on_message(alloc, request, moment, message)
+                self.on_message(alloc, live, request, moment, message)
             }
-            Arrived::Polled { .. } => Ok(None),
+            Arrived::Polled => Ok(None),
         }
     }
 
     fn on_message(
         &mut self,
         alloc: Global,
+        live: Live,
         request: Request,
         moment: i64,
         message: Message,
     ) -> Result<Option<StoreCall>, NoMemory>
-        ensures call { IfOk result (λ call. call ≡ (on_message request moment message self.old).call) }
-        ensures state { OnOk result (self.new ≡ (on_message request moment message self.old).state) }
+        ensures call { IfOk result (λ call. call ≡ (on_message live request moment message self.old).call) }
+        ensures state { OnOk result (self.new ≡ (on_message live request moment message self.old).state) }
     {
         match message {
             Message::Core(message) => {
-                self.on_core(alloc, &request, moment, message)?;
+                self.on_core(alloc, live, &request, moment, message)?;
                 Ok(None)
             }
-            other => self.on_protocol(alloc, request, moment, other),
+            other => self.on_protocol(alloc, live, request, other),
         }
     }
 
@@ -207,62 +215,57 @@ impl Session {
     fn on_protocol(
         &mut self,
         alloc: Global,
+        live: Live,
         request: Request,
-        moment: i64,
         message: Message,
     ) -> Result<Option<StoreCall>, NoMemory>
-        ensures call { IfOk result (λ call. call ≡ (on_protocol self.old.phase request moment message self.old).call) }
-        ensures state { OnOk result (self.new ≡ (on_protocol self.old.phase request moment message self.old).state) }
+        ensures call { let why = protocol_refusal live self.old.accepted request.protocol in
+            IfOk result (λ call. call ≡ (on_protocol why request message self.old).call) }
+        ensures state { let why = protocol_refusal live self.old.accepted request.protocol in
+            OnOk result (self.new ≡ (on_protocol why request message self.old).state) }
     {
-        match self.phase {
-            Phase::Waiting => self.turn_away(alloc, &request, message, ErrorCode::InvalidState),
-            Phase::Open => self.on_accepted(alloc, request, moment, message),
-            Phase::Ended(_) => {
-                drop(message);
-                Ok(None)
-            }
+        match protocol_refusal(live, self.accepted.as_slice(), &request) {
+            Some(code) => self.turn_away(alloc, &request, message, code),
+            None => self.on_row(alloc, request, message),
         }
     }
 
-    fn on_accepted(
+    /// A message of an accepted protocol.
+    fn on_row(
         &mut self,
         alloc: Global,
         request: Request,
-        moment: i64,
         message: Message,
     ) -> Result<Option<StoreCall>, NoMemory>
-        ensures call { IfOk result (λ call. call ≡ (on_accepted (is_accepted self.old request.protocol) request moment message self.old).call) }
-        ensures state { OnOk result (self.new ≡ (on_accepted (is_accepted self.old request.protocol) request moment message self.old).state) }
+        ensures call { IfOk result (λ call. call ≡ (on_row request message self.old).call) }
+        ensures state { OnOk result (self.new ≡ (on_row request message self.old).state) }
     {
-        if !is_accepted(self.accepted.as_slice(), &request) {
-            return self.turn_away(alloc, &request, message, ErrorCode::UnsupportedProtocol);
-        }
         match message {
-            Message::Core(message) => {
-                self.on_core(alloc, &request, moment, message)?;
-                Ok(None)
+            Message::Dataspace(message) => {
+                let outcome = dataspace_outcome(alloc, message, self.transaction.is_some())?;
+                self.on_dataspaces(alloc, request, outcome)
             }
-            Message::Dataspace(message) => self.on_spaces(alloc, request, message),
             other => self.turn_away(alloc, &request, other, ErrorCode::InvalidMessageType),
         }
     }
 
-    fn on_spaces(
+    fn on_dataspaces(
         &mut self,
         alloc: Global,
         request: Request,
-        message: DataspaceMessage,
+        outcome: DataspaceOutcome,
     ) -> Result<Option<StoreCall>, NoMemory>
-        ensures call { IfOk result (λ call. call ≡ (on_row request (pos 0) (Message.Dataspace message) self.old).call) }
-        ensures state { OnOk result (self.new ≡ (on_row request (pos 0) (Message.Dataspace message) self.old).state) }
+        ensures call { IfOk result (λ call. call ≡ (on_dataspaces request outcome self.old).call) }
+        ensures state { OnOk result (self.new ≡ (on_dataspaces request outcome self.old).state) }
     {
-        match spaces_asked(alloc, message, self.desk.staging.is_some())? {
-            Asked::Says(sayings) => {
-                self.say(&request, sayings)?;
+        match outcome {
+            Outcome::Replies(sendings) => {
+                let messages = messages_of(alloc, sendings)?;
+                self.reply(&request, messages)?;
                 Ok(None)
             }
-            Asked::Asks { call, pending } => {
-                self.pending = Some(Pending::Spaces { request, pending });
+            Outcome::Calls { call, pending } => {
+                self.pending = Some(Pending::Dataspaces { request, pending });
                 Ok(Some(call))
             }
         }
@@ -271,15 +274,16 @@ impl Session {
     fn on_core(
         &mut self,
         alloc: Global,
+        live: Live,
         request: &Request,
         moment: i64,
         message: CoreMessage,
     ) -> Result<(), NoMemory>
-        ensures { OnOk result (self.new ≡ on_core request.now moment message self.old) }
+        ensures { OnOk result (self.new ≡ on_core live request.now moment message self.old) }
     {
         match message {
             CoreMessage::RequestSession(message) => {
-                self.on_request_session(alloc, request, moment, message)
+                self.on_request_session(alloc, live, request, moment, message)
             }
             CoreMessage::OpenSession(_) => {
                 self.refuse(alloc, request, ErrorCode::InvalidMessageType)
@@ -288,44 +292,49 @@ impl Session {
                 self.phase = Phase::Ended(End::Closed);
                 Ok(())
             }
-            CoreMessage::Ping(_) => self.on_ping(alloc, request, moment),
+            CoreMessage::Ping(_) => self.on_ping(alloc, live, request, moment),
             CoreMessage::Pong(_) => Ok(()),
             CoreMessage::ProtocolException(_) => Ok(()),
             CoreMessage::Acknowledge(_) => Ok(()),
         }
     }
 
-    fn on_ping(&mut self, alloc: Global, request: &Request, moment: i64) -> Result<(), NoMemory>
-        ensures { OnOk result (self.new ≡ on_ping self.old.phase request.now moment self.old) }
+    fn on_ping(
+        &mut self,
+        alloc: Global,
+        live: Live,
+        request: &Request,
+        moment: i64,
+    ) -> Result<(), NoMemory>
+        ensures { OnOk result (self.new ≡ on_ping live request.now moment self.old) }
     {
-        match self.phase {
-            Phase::Waiting => self.refuse(alloc, request, ErrorCode::InvalidState),
-            Phase::Open => {
+        match live {
+            Live::Waiting => self.refuse(alloc, request, ErrorCode::InvalidState),
+            Live::Open => {
                 let pong = Pong {
                     current_date_time: moment,
                 };
-                self.reply(alloc, request, Message::Core(CoreMessage::Pong(pong)))
+                self.reply_one(alloc, request, Message::Core(CoreMessage::Pong(pong)))
             }
-            Phase::Ended(_) => Ok(()),
         }
     }
 
     fn on_request_session(
         &mut self,
         alloc: Global,
+        live: Live,
         request: &Request,
         moment: i64,
         message: RequestSession,
     ) -> Result<(), NoMemory>
-        ensures { OnOk result (self.new ≡ on_request_session self.old.phase request.now moment message self.old) }
+        ensures { OnOk result (self.new ≡ on_request_session live request.now moment message self.old) }
     {
-        match self.phase {
-            Phase::Waiting => {
-                let opening = open_asked(alloc, &self.config, self.number, moment, message)?;
+        match live {
+            Live::Waiting => {
+                let opening = opening_of(alloc, &self.config, self.number, moment, message)?;
                 self.open(alloc, request, opening)
             }
-            Phase::Open => self.refuse(alloc, request, ErrorCode::InvalidState),
-            Phase::Ended(_) => Ok(()),
+            Live::Open => self.refuse(alloc, request, ErrorCode::InvalidState),
         }
     }
 
@@ -341,17 +350,29 @@ impl Session {
                 accepted,
                 formats,
                 reply,
-            } => {
-                self.phase = Phase::Open;
-                self.accepted = accepted;
-                self.formats = formats;
-                self.reply(
-                    alloc,
-                    request,
-                    Message::Core(CoreMessage::OpenSession(reply)),
-                )
-            }
+            } => self.open_with(alloc, request, accepted, formats, reply),
         }
+    }
+
+    fn open_with(
+        &mut self,
+        alloc: Global,
+        request: &Request,
+        accepted: List<i32>,
+        formats: List<Format>,
+        reply: OpenSession,
+    ) -> Result<(), NoMemory>
+        ensures { let opening = Opening.Opened accepted formats reply in
+            OnOk result (self.new ≡ opened request.now opening self.old) }
+    {
+        self.phase = Phase::Live(Live::Open);
+        self.accepted = accepted;
+        self.formats = formats;
+        self.reply_one(
+            alloc,
+            request,
+            Message::Core(CoreMessage::OpenSession(reply)),
+        )
     }
 
     /// Refuses a message whole, at whose content nobody looks.
@@ -374,23 +395,29 @@ impl Session {
     fn refuse(&mut self, alloc: Global, request: &Request, code: ErrorCode) -> Result<(), NoMemory>
         ensures { OnOk result (self.new ≡ refuses request.now code self.old) }
     {
-        let sayings = refused(alloc, code)?;
-        self.say(request, sayings)
+        let message = refusal(alloc, code)?;
+        self.reply_one(alloc, request, message)
     }
 
     /// Answers a message by one.
-    fn reply(&mut self, alloc: Global, request: &Request, message: Message) -> Result<(), NoMemory>
-        ensures { OnOk result (self.new ≡ replies request.now message self.old) }
+    fn reply_one(
+        &mut self,
+        alloc: Global,
+        request: &Request,
+        message: Message,
+    ) -> Result<(), NoMemory>
+        ensures { OnOk result (self.new ≡ replies_one request.now message self.old) }
     {
-        let sayings = one_reply(alloc, message)?;
-        self.say(request, sayings)
+        let mut messages = Vec::new(alloc);
+        messages.push(message)?;
+        self.reply(request, List::from_vec(messages))
     }
 
-    /// Adds what is said to what is to be sent. Where the own ids end, so does the session.
-    fn say(&mut self, request: &Request, sayings: List<Saying>) -> Result<(), NoMemory>
-        ensures { OnOk result (self.new ≡ said request.now sayings self.old) }
+    /// Adds the messages of a reply to what is to be sent. Where the own ids end, so does the session.
+    fn reply(&mut self, request: &Request, messages: List<Message>) -> Result<(), NoMemory>
+        ensures { OnOk result (self.new ≡ replied request.now messages self.old) }
     {
-        let ids = self.out.number(request, self.next_id, sayings)?;
+        let ids = self.out.number(request, self.next_id, messages)?;
         self.next_id = ids.next;
         if ids.spent {
             self.phase = Phase::Ended(End::IdsSpent);
@@ -399,19 +426,29 @@ impl Session {
     }
 }
 
-fn written(alloc: Global, outgoing: Outgoing) -> Result<Blob, NoMemory>
+fn bytes_of(alloc: Global, outgoing: Outgoing) -> Result<Blob, NoMemory>
     requires { IsWritable outgoing }
     ensures { IfOk result (λ bytes. bytes ≡ bytes_of outgoing) }
 {
     write_message(alloc, &outgoing.header, &outgoing.message)
 }
 
-/// Whether the session accepted a message's protocol.
-fn is_accepted(accepted: &[i32], request: &Request) -> bool
-    ensures { result ≡ list_any (int_eq request.now.protocol) accepted.now }
+/// Why a message of a protocol other than Core isn't taken, if it isn't.
+fn protocol_refusal(live: Live, accepted: &[i32], request: &Request) -> Option<ErrorCode>
+    ensures { result ≡ protocol_refusal live accepted.now request.now.protocol }
 {
-    for protocol in accepted {
-        if request.protocol == *protocol {
+    match live {
+        Live::Waiting => Some(ErrorCode::InvalidState),
+        Live::Open if is_accepted(accepted, request.protocol) => None,
+        Live::Open => Some(ErrorCode::UnsupportedProtocol),
+    }
+}
+
+fn is_accepted(accepted: &[i32], protocol: i32) -> bool
+    ensures { result ≡ list_any (int_eq protocol) accepted.now }
+{
+    for other in accepted {
+        if protocol == *other {
             return true;
         }
     }

@@ -1,7 +1,7 @@
 //! What a session is made of.
-use crate::spaces::SpacePending;
 use etp_frame::{Header, Message};
 use etp_values::{ErrorCode, Id16};
+use session_rows::DataspacePending;
 
 /// How a session ended.
 #[derive(Clone, Copy, Debug, PartialEq, Eq, Drop)]
@@ -14,13 +14,19 @@ pub enum End {
     IdsSpent,
 }
 
-/// How far a session has come.
+/// How far a session has come that has not ended.
 #[derive(Clone, Copy, Debug, PartialEq, Eq, Drop)]
-pub enum Phase {
+pub enum Live {
     /// No RequestSession was accepted yet.
     Waiting,
     /// The client's requests are taken.
     Open,
+}
+
+/// How far a session has come.
+#[derive(Clone, Copy, Debug, PartialEq, Eq, Drop)]
+pub enum Phase {
+    Live(Live),
     /// Nothing is taken any more.
     Ended(End),
 }
@@ -32,24 +38,18 @@ pub struct Request {
     pub id: i64,
 }
 
-/// An open transaction.
+/// An open transaction. No message opens one yet.
 #[derive(Clone, Copy, Debug, PartialEq, Eq, Drop)]
-pub struct Staging {
+pub struct Transaction {
     pub id: Id16,
-}
-
-/// The session's transaction, if one is open. No message opens one yet.
-#[derive(Clone, Copy, Debug, PartialEq, Eq, Drop)]
-pub struct Desk {
-    pub staging: Option<Staging>,
 }
 
 /// A request that awaits the store's answer, with what its protocol kept of it.
 #[derive(Debug, Drop)]
 pub enum Pending {
-    Spaces {
+    Dataspaces {
         request: Request,
-        pending: SpacePending,
+        pending: DataspacePending,
     },
 }
 
@@ -78,8 +78,6 @@ pub enum Arrived {
         moment: i64,
         message: Message,
     },
-    /// A poll, with the length of the journal.
-    Polled {
-        front: u64,
-    },
+    /// A poll.
+    Polled,
 }
