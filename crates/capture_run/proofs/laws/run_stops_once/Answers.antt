@@ -1,0 +1,5 @@
+use Rattle.capture_run.proofs.Once.{stops_once}
+use Rattle.capture_run.proofs.laws.run_stops_once.Goals as goal
+
+pub returns : goal.returns
+returns c = stops_once

@@ -1,0 +1,4 @@
+pub mod Reading
+pub mod Form
+pub mod Running
+pub mod Laws

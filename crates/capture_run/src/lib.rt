@@ -1,0 +1,17 @@
+//! One run over the frames of a capture, for whatever is made of them.
+//!
+//! A [`Form`] takes one frame at a time and appends what is to be written of it, or refuses it; its `plan` says in whole lists
+//! what that comes to. [`run_form`] reads a capture frame by frame, hands each to the form, gathers what is to be written and
+//! writes it in large pieces, until something makes it [`Stop`]. `Runs` of `specs/Running` says for each stop what of the input
+//! was read and what was written; [`run_form`] answers the stop's [`Status`](etp_outside::Status).
+//!
+//! It holds one frame at a time, and what it has gathered.
+#![tactic(auto)]
+
+mod form;
+mod laws;
+mod running;
+
+pub use form::{Form, Stop, status_of, stop_for};
+pub use laws::run_stops_once;
+pub use running::run_form;
