@@ -67,9 +67,11 @@ module _ (config : Config) (n : ℕ) where
 
   heeds_longer : (old new : List Entry) → IsPrefix old new → (c : Course) (es : List Event) → AllWithin (length old) c.places → HeedsFrom config n old c es → HeedsFrom config n new c es
   heeds_longer old new pre c [] w all = tt
-  heeds_longer old new pre c (e ∷ es) w all =
-      (all.0, subst (λ (d : Course). HeedsFrom config n new d es) (sym (happens_longer old new pre c.short c e w))
-      (heeds_longer old new pre (happens config n old c e) es (happens_within old (length old) c.short c e w) all.1))
+  heeds_longer old new pre c (e ∷ es) w all = (
+    all.0,
+    subst (λ (d : Course). HeedsFrom config n new d es) (sym (happens_longer old new pre c.short c e w))
+        (heeds_longer old new pre (happens config n old c e) es (happens_within old (length old) c.short c e w) all.1),
+  )
 
   -- ---- more places
 
@@ -108,9 +110,11 @@ module _ (config : Config) (n : ℕ) where
 
   heeds_more : (h : List Entry) (q : List ℕ) (c : Course) (es : List Event) → (run_from config n h c es).short ≡ false → HeedsFrom config n h c es → HeedsFrom config n h (more q c) es
   heeds_more h q c [] fed all = tt
-  heeds_more h q c (e ∷ es) fed all =
-      (all.0, subst (λ (d : Course). HeedsFrom config n h d es) (sym (happens_more h q c.short c e (not_short h (happens config n h c e) es fed)))
-      (heeds_more h q (happens config n h c e) es fed all.1))
+  heeds_more h q c (e ∷ es) fed all = (
+    all.0,
+    subst (λ (d : Course). HeedsFrom config n h d es) (sym (happens_more h q c.short c e (not_short h (happens config n h c e) es fed)))
+        (heeds_more h q (happens config n h c e) es fed all.1),
+  )
 
 pub run_is_same : RunIsSame
 run_is_same config n old new places es pre w =
@@ -122,10 +126,11 @@ run_goes_on config n old new places q es e s sent made reach pre w is =
     let c : Course = first_course config n places in
     let now : run_from config n new c es ≡ r = run_longer config n old new pre c es w ∙ is in
     let fed : (run_from config n new c es).short ≡ false = ap (λ (d : Course). d.short) now in
-    let all : run_from config n new (more q c) es ≡ more q r = run_more config n new q c es fed ∙ ap (more q) now in
-    (run_snoc config n new (more q c) es e ∙ ap (λ (d : Course). happens config n new d e) all,
-    λ heeds last. heeds_snoc config n new (more q c) es e (heeds_more config n new q c es fed (heeds_longer config n old new pre c es w heeds))
-    (subst (λ (d : Course). IsHeeded d.reach e) (sym all) last))
+    let all : run_from config n new (more q c) es ≡ more q r = run_more config n new q c es fed ∙ ap (more q) now in (
+      run_snoc config n new (more q c) es e ∙ ap (λ (d : Course). happens config n new d e) all,
+      λ heeds last. heeds_snoc config n new (more q c) es e (heeds_more config n new q c es fed (heeds_longer config n old new pre c es w heeds))
+          (subst (λ (d : Course). IsHeeded d.reach e) (sym all) last),
+    )
 
 -- ---- on one thread
 abbrev course : State → List ℕ → List Outgoing → List (ℕ × Entry) → ℕ → Course

@@ -96,10 +96,10 @@ pub taking_asks : TakingAsks
 unfolding takes
 taking_asks s e = asks_of s (taken s e).call (λ h. of_phase h s.phase (arrived s.last_id e) s)
 
--- the same of the answer of a call of the session
-pub answer_asks : (s : State) (e : Event) (r : Result (Option StoreCall) NoMemory) → IfOk r (λ call. call ≡ (takes s e).call) → IfOk r (λ call. IfSome call (Asks s))
-answer_asks s e (Ok call) is = subst (λ (o : Option StoreCall). IfSome o (Asks s)) (sym is) (taking_asks s e)
-answer_asks s e (Err why) is = tt
+-- the same of what comes of an event at first sight
+pub phase_asks : (s : State) (p : Phase) (a : Arrived) (r : Result (Option StoreCall) NoMemory) → IfOk r (λ call. call ≡ (by_phase p a s).call) → IfOk r (λ call. IfSome call (Asks s))
+phase_asks s p a (Ok call) is = subst (λ (o : Option StoreCall). IfSome o (Asks s)) (sym is) (asks_of s (by_phase p a s).call (λ h. of_phase h p a s))
+phase_asks s p a (Err why) is = tt
 
 -- ---- what is remembered
 pub first_remembers : FirstRemembers

@@ -194,8 +194,8 @@ RunGoesOn = (config : Config) (n : ℕ) (old new : List Entry) (places more : Li
     → IsPrefix old new → AllWithin (length old) places
     → run config n old places es ≡ record { state = s; places = []; sent = sent; made = made; short = false; reach = reach }
     → let c : Course = record { state = s; places = more; sent = sent; made = made; short = false; reach = reach } in
-      (run config n new (places ++ more) (es ++ e ∷ []) ≡ asked config n new (moment_of e) c (takes s e).state (takes s e).call)
-      × (Heeds config n old places es → IsHeeded reach e → Heeds config n new (places ++ more) (es ++ e ∷ []))
+    (run config n new (places ++ more) (es ++ e ∷ []) ≡ asked config n new (moment_of e) c (takes s e).state (takes s e).call)
+    × (Heeds config n old places es → IsHeeded reach e → Heeds config n new (places ++ more) (es ++ e ∷ []))
 
 -- ---- the laws of a step
 
