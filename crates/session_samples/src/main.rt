@@ -26,7 +26,7 @@ use etp_values::{Copied, Id16, List, NoMemory, Shared, Text};
 use lines::{Line, read_line};
 use session_core::Session;
 use std::alloc::{AllocError, Global};
-use std::io::{self, BufReader};
+use std::io::{self, BufRead, BufReader};
 use store_machine::StoreCall;
 
 /// The greatest message id.
