@@ -1,0 +1,66 @@
+-- A replay plays the frames that it takes.
+use Rattle.std.proofs.Common.{◌≡◌, ℕ, Bool, true, false, List, [], ◌∷◌, ◌++◌, refl, ap, sym, ◌∙◌, subst, Option, None, Some, append_assoc, append-nil}
+use Rattle.etp_capture.specs.declared.frame.Frame.{Frame}
+use Rattle.chan_defs.specs.declared.config.Config.{Config}
+use Rattle.capture_run.specs.Form.{Takes}
+use Rattle.capture_run.specs.Laws.{IsForward}
+use Rattle.tool_forms.specs.Play.{World, Played, first, next_played, happens, happens_to, play_from, play, world_after, bytes_after, is_refused}
+use Rattle.tool_forms.specs.Plays.{Plays}
+use Rattle.tool_forms.specs.Replay.{is_none, replay_plan, Leads}
+
+play_from-append : (p : Played) (fs gs : List Frame) → play_from p (fs ++ gs) ≡ play_from (play_from p fs) gs
+play_from-append p [] gs = refl
+play_from-append p (f ∷ fs) gs = play_from-append (happens p f) fs gs
+
+-- one more frame behind frames that are played without a refusal
+next : (w : World) (fs : List Frame) (f : Frame) → Leads fs w → play w.config (fs ++ f ∷ []) ≡ next_played (play w.config fs) (is_refused w f) f
+next w fs f leads =
+    let p : Played = play w.config fs in
+    play_from-append (first w.config) fs (f ∷ []) ∙ ap (λ m. happens_to m p f) leads.accepted ∙ ap (λ (v : World). next_played p (is_refused v f) f) leads.world_is
+
+-- what playing a frame leaves is what taking it leaves
+pub plays_takes : (refused : Bool) (old new : World) (f : Frame) (nothing answer before after : List ℕ) → Plays refused old f new nothing answer → nothing ≡ [] → after ≡ before ++ answer
+    → (fs : List Frame) → Leads fs old → Takes refused (replay_plan old.config) fs f (λ gs. Leads gs new) before after
+plays_takes true old new f nothing answer before after plays nil is fs leads =
+    let played = next old fs f leads ∙ ap (λ b. next_played (play old.config fs) b f) plays.0 in
+    (ap (λ (p : Played). is_none p.refused) played, is ∙ ap (λ l. before ++ l) (plays.2 ∙ nil) ∙ append-nil before)
+plays_takes false old new f nothing answer before after plays nil is fs leads =
+    let p : Played = play old.config fs in
+    let played = next old fs f leads ∙ ap (λ b. next_played p b f) plays.0 in
+    let world : (play old.config (fs ++ f ∷ [])).world ≡ new = ap (λ (q : Played). q.world) played ∙ ap (λ (w : World). world_after w f) leads.world_is ∙ sym plays.1 in
+    let config : old.config ≡ new.config = ap (λ (w : World). w.config) (sym plays.1) in
+    let accepted : (play old.config (fs ++ f ∷ [])).refused ≡ None = ap (λ (q : Played). q.refused) played in (
+      ap (λ (q : Played). is_none q.refused) played,
+      record {
+        world_is = subst (λ (c : Config). (play c (fs ++ f ∷ [])).world ≡ new) config world;
+        accepted = subst (λ (c : Config). (play c (fs ++ f ∷ [])).refused ≡ None) config accepted;
+      },
+      (
+        bytes_after old f,
+        is ∙ ap (λ l. before ++ l) (plays.2 ∙ ap (λ l. l ++ bytes_after old f) nil),
+        ap (λ (q : Played). q.bytes) played ∙ ap (λ (w : World). p.bytes ++ bytes_after w f) leads.world_is,
+      ),
+    )
+
+-- a frame that is played leaves the configuration
+pub plays_config : (refused : Bool) (old new : World) (f : Frame) (before after : List ℕ) → Plays refused old f new before after → replay_plan new.config ≡ replay_plan old.config
+plays_config true old new f before after plays = ap (λ (w : World). replay_plan w.config) plays.1
+plays_config false old new f before after plays = ap (λ (w : World). replay_plan w.config) plays.1
+
+-- ---- a frame that is refused stays so
+
+refused_stays : (p : Played) (fs : List Frame) (o : ℕ) → p.refused ≡ Some o → (play_from p fs).refused ≡ Some o
+refused_stays p [] o is = is
+refused_stays p (f ∷ fs) o is = refused_stays (happens p f) fs o (ap (λ m. (happens_to m p f).refused) is ∙ is)
+
+false_true : false ≡ true → ⊥
+false_true e = cc
+
+by_refusal : (m : Option ℕ) (p : Played) (gs : List Frame) → p.refused ≡ m → is_none (play_from p gs).refused ≡ true → is_none p.refused ≡ true
+by_refusal None p gs is later = ap is_none is
+by_refusal (Some o) p gs is later = absurd (false_true (sym (ap is_none (refused_stays p gs o is)) ∙ later))
+
+pub replay_forward : (config : Config) → IsForward (replay_plan config)
+replay_forward config fs f gs later =
+    let parts : play config (fs ++ f ∷ gs) ≡ play_from (play config (fs ++ f ∷ [])) gs = ap (play config) (sym (append_assoc fs (f ∷ []) gs)) ∙ play_from-append (first config) (fs ++ f ∷ []) gs in
+    by_refusal (play config (fs ++ f ∷ [])).refused (play config (fs ++ f ∷ [])) gs refl (ap (λ (p : Played). is_none p.refused) (sym parts) ∙ later)

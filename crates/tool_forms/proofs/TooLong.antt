@@ -1,0 +1,39 @@
+-- A configuration that is too long.
+use Rattle.std.proofs.Common.{◌≡◌, ℕ, ◌+◌, ◌<◌, Bool, true, List, ◌++◌, length, refl, ap, sym, ◌∙◌, subst, arith, length-append, None, Some, Result, Err, nat_lt, if◌then◌else◌}
+use Rattle.std.specs.declared.option.Option.{Option}
+use Rattle.std.specs.Io.KnownBytes.{Keeps}
+use Rattle.std.proofs.lemmas.Bool.Decides.{nat_tests}
+use Rattle.chan_defs.specs.Config.{defs, next, or_else, table_of, config_of}
+use Rattle.chan_defs.specs.declared.config.Config.{Config as Settings}
+use Rattle.chan_defs.specs.declared.error.DefsError.{DefsError}
+use Rattle.chan_defs.specs.declared.error.DefsError.TheVariants as defs_error
+use Rattle.etp_outside.specs.Whole.{ReadsPart}
+use Rattle.etp_outside.specs.declared.whole.Unread.{Unread}
+use Rattle.etp_outside.specs.declared.whole.Unread.TheVariants.{TooLong, Failed, NoMemory}
+use Rattle.etp_outside.specs.declared.status.Status.{Status}
+use Rattle.tool_forms.specs.Settings.{refusal_status, unread_status, IsNoConfig}
+
+is_long : (b : List ℕ) → 1048576 < length b → nat_lt 1048576 (length b) ≡ true
+is_long b long = grind (arith, nat_tests)
+
+defs_long : (b : List ℕ) → 1048576 < length b → defs b ≡ Err defs_error.TooLong
+unfolding defs
+defs_long b long = ap (λ (t : Bool). if t then Err defs_error.TooLong else next (or_else defs_error.Toml (table_of b)) config_of) (is_long b long)
+
+longer : (xs ys front rest : List ℕ) → ys ≡ xs → ys ≡ front ++ rest → 1048576 < length front → 1048576 < length xs
+longer xs ys front rest same is long = omega (arith, ap length same, ap length is, length-append front rest)
+
+no_config : (content old new : Option (List ℕ)) → Keeps content old → ReadsPart TooLong 1048576 old new → IsNoConfig (refusal_status defs_error.TooLong) content
+no_config None old new kept part = tt
+no_config (Some xs) None new kept part = absurd kept
+no_config (Some xs) (Some ys) None kept part = absurd part.2
+no_config (Some xs) (Some ys) (Some zs) kept part = (defs_error.TooLong, defs_long xs (longer xs ys part.0 zs kept part.2 part.1), refl)
+
+-- a file that was not read whole gives no configuration
+unread : (e : Unread) (content old new : Option (List ℕ)) → Keeps content old → ReadsPart e 1048576 old new → IsNoConfig (unread_status e) content
+unread TooLong content old new kept part = no_config content old new kept part
+unread Failed content old new kept part = tt
+unread NoMemory content old new kept part = tt
+
+pub unread_config : (s : Status) (e : Unread) (content old new : Option (List ℕ)) → Keeps content old → ReadsPart e 1048576 old new → s ≡ unread_status e → IsNoConfig s content
+unread_config s e content old new kept part status = subst (λ (t : Status). IsNoConfig t content) (sym status) (unread e content old new kept part)

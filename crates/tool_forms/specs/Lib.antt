@@ -1,0 +1,10 @@
+pub mod Words
+pub mod Commands
+pub mod Settings
+pub mod Turns
+pub mod Play
+pub mod Plays
+pub mod Sound
+pub mod Replay
+pub mod Top
+pub mod Program

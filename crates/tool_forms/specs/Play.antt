@@ -1,0 +1,83 @@
+-- The one-thread run of a capture.
+use Rattle.std.specs.Prelude.{◌≡◌, ℕ, ◌+◌, Bool, true, false, List, [], ◌∷◌, ◌++◌, ◌==◌, ◌||◌, nat_eq, if◌then◌else◌, length, Option, None, Some}
+use Rattle.std.specs.Ordering.{nat_cmp}
+use Rattle.std.specs.Map.{lookup}
+use Rattle.std.specs.BTreeMap.{is_at, insert_entry}
+use Rattle.etp_capture.specs.Frames.{magic}
+use Rattle.etp_capture.specs.declared.frame.Frame.{Frame}
+use Rattle.chan_defs.specs.declared.config.Config.{Config}
+use Rattle.store_machine.specs.Legal.{door}
+use Rattle.store_machine.specs.declared.journal.Entry.{Entry}
+use Rattle.tool_forms.specs.Turns.{Effect, effect_at}
+use Rattle.tool_forms.specs.declared.seat.Seat.{Seat}
+use Rattle.tool_forms.specs.declared.seat.Seat.TheVariants.{Over, Sits}
+
+-- the store's configuration and journal, and the seats of the sessions by their tags
+pub record World : Type 0 where
+  pub config : Config
+  pub journal : List Entry
+  pub seats : List (ℕ × Seat)
+
+abbrev pub first_world : Config → World
+first_world c = record { config = c; journal = door ∷ []; seats = [] }
+
+-- the seat of a tag, which a new tag does not have
+abbrev pub seat_of : ℕ → List (ℕ × Seat) → Option Seat
+seat_of tag seats = lookup (is_at (nat_cmp tag)) seats
+
+-- a tag's seat is put among the others, in the order of tags
+abbrev pub with_seat : ℕ → Seat → List (ℕ × Seat) → List (ℕ × Seat)
+with_seat tag seat seats = insert_entry nat_cmp seats tag seat
+
+-- a session that has ended, or that never entered
+abbrev pub is_over : Option Seat → Bool
+is_over None = false
+is_over (Some Over) = true
+is_over (Some (Sits s)) = false
+
+-- what a frame does
+abbrev pub effect : World → Frame → Effect
+effect w f = effect_at w.config w.journal f (seat_of f.tag w.seats)
+
+-- a frame that is refused: one of a server, or one that follows its session's end
+abbrev pub is_refused : World → Frame → Bool
+is_refused w f = f.kind == 17 || f.kind == 19 || is_over (seat_of f.tag w.seats)
+
+abbrev pub world_with : World → ℕ → Effect → World
+world_with w tag e = record { config = w.config; journal = e.journal; seats = with_seat tag e.seat w.seats }
+
+abbrev pub world_after : World → Frame → World
+world_after w f = world_with w f.tag (effect w f)
+
+abbrev pub bytes_after : World → Frame → List ℕ
+bytes_after w f = (effect w f).bytes
+
+-- a run so far: the offset behind the frames that were played, what was written, and the offset of the frame that was refused
+pub record Played : Type 0 where
+  pub world : World
+  pub at : ℕ
+  pub bytes : List ℕ
+  pub refused : Option ℕ
+
+abbrev pub first : Config → Played
+first c = record { world = first_world c; at = 8; bytes = magic; refused = None }
+
+-- one more frame, refused or not
+abbrev pub next_played : Played → Bool → Frame → Played
+next_played p true f = record { world = p.world; at = p.at; bytes = p.bytes; refused = Some p.at }
+next_played p false f = record { world = world_after p.world f; at = p.at + (17 + length f.bytes); bytes = p.bytes ++ bytes_after p.world f; refused = None }
+
+-- behind a refused frame nothing happens
+abbrev pub happens_to : Option ℕ → Played → Frame → Played
+happens_to (Some o) p f = p
+happens_to None p f = next_played p (is_refused p.world f) f
+
+abbrev pub happens : Played → Frame → Played
+happens p f = happens_to p.refused p f
+
+abbrev pub play_from : Played → List Frame → Played
+play_from p [] = p
+play_from p (f ∷ fs) = play_from (happens p f) fs
+
+abbrev pub play : Config → List Frame → Played
+play c fs = play_from (first c) fs

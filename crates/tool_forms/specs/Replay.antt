@@ -1,0 +1,24 @@
+-- What a replay makes of frames.
+use Rattle.std.specs.Prelude.{◌≡◌, ℕ, Bool, true, false, List, [], Option, None, Some}
+use Rattle.etp_capture.specs.declared.frame.Frame.{Frame}
+use Rattle.chan_defs.specs.declared.config.Config.{Config}
+use Rattle.capture_run.specs.Form.{Plan}
+use Rattle.tool_forms.specs.Play.{World, play}
+
+abbrev pub is_none : Option ℕ → Bool
+is_none None = true
+is_none (Some offset) = false
+
+-- the frames are played, and what they are answered by is written; at the end nothing follows
+abbrev pub replay_plan : Config → Plan
+replay_plan config = record {
+  accepts = λ fs. is_none (play config fs).refused;
+  written = λ fs. (play config fs).bytes;
+  last = λ fs. [];
+  refused = λ fs. 0;
+}
+
+-- these frames are played without a refusal, and leave this world
+pub record Leads (fs : List Frame) (world : World) : Type 0 where
+  pub world_is : (play world.config fs).world ≡ world
+  pub accepted : (play world.config fs).refused ≡ None

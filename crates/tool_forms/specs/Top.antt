@@ -1,0 +1,37 @@
+-- What the top call answers, by all that it was handed and left.
+use Rattle.std.specs.Prelude.{◌≡◌, ◌⊎◌, ℕ, List, Option, None, Some, IfSome, Ok}
+use Rattle.std.specs.Io.KnownBytes.{Keeps}
+use Rattle.etp_outside.specs.declared.status.Status.{Status}
+use Rattle.etp_outside.specs.declared.status.Status.TheVariants.{Usage, NoMemory}
+use Rattle.chan_defs.specs.Config.{defs}
+use Rattle.chan_defs.specs.declared.config.Config.{Config as Settings}
+use Rattle.tool_forms.specs.Words.{Command, Replay, Show, Check}
+use Rattle.tool_forms.specs.Settings.{IsNoConfig}
+use Rattle.capture_run.specs.Running.{Stream, Ran}
+use Rattle.tool_forms.specs.Replay.{replay_plan}
+use Rattle.capture_listing.specs.Listing.{show_plan, check_plan}
+
+-- nothing was read and nothing was written
+abbrev pub Untouched : Stream → Stream → Type 0
+Untouched input output = Keeps input.before input.after × Keeps output.before output.after
+
+-- the configuration was read, and the input was replayed with it
+pub record Started (status : Status) (content : Option (List ℕ)) (input output : Stream) : Type 0 where
+  pub config : Settings
+  pub is_read : IfSome content (λ bytes. defs bytes ≡ Ok config)
+  pub replayed : Ran (replay_plan config) status input output
+
+-- what a status says of a replay: of the configuration's file, where the host tells it, of the input and of what was written
+abbrev pub ReplaysWith : Status → Option (List ℕ) → Stream → Stream → Type 0
+ReplaysWith status content input output = (IsNoConfig status content × Untouched input output) ⊎ Started status content input output
+
+-- what a status says of a command, of the files of the host, the input and what was written
+abbrev pub Fulfils : Status → Command → (List ℕ → Option (List ℕ)) → Stream → Stream → Type 0
+Fulfils status (Replay name) files input output = ReplaysWith status (files name) input output
+Fulfils status Show files input output = Ran show_plan status input output
+Fulfils status Check files input output = Ran check_plan status input output
+
+-- the same of words, which may be in no form
+abbrev pub Answers : Status → Option Command → (List ℕ → Option (List ℕ)) → Stream → Stream → Type 0
+Answers status None files input output = ((status ≡ Usage) ⊎ (status ≡ NoMemory)) × Untouched input output
+Answers status (Some command) files input output = Fulfils status command files input output ⊎ ((status ≡ NoMemory) × Untouched input output)

@@ -1,0 +1,16 @@
+//! The laws of the tool. Each stands on an empty function, so that it is proved with the crate.
+ghost use Rattle.chan_defs.specs.declared.config.Config.{Config};
+ghost use Rattle.capture_run.specs.Laws.{StopsOnce};
+ghost use Rattle.tool_forms.specs.Replay.{replay_plan};
+ghost use Rattle.capture_listing.specs.Listing.{show_plan, check_plan};
+
+use capture_run::run_stops_once;
+
+/// An input makes a run of a form stop in one way at most, behind one list of frames.
+pub fn input_has_one_answer()
+    ensures replay { (config : Config) → StopsOnce (replay_plan config) }
+    ensures show { StopsOnce show_plan }
+    ensures check { StopsOnce check_plan }
+{
+    run_stops_once();
+}
