@@ -1,9 +1,11 @@
 -- A journal grows by the entries of one session.
-use Rattle.std.proofs.Common.{◌≡◌, ◌≢◌, ℕ, zero, suc, ◌+◌, ◌<◌, ◌≤◌, Bool, true, false, cond, List, [], ◌∷◌, ◌++◌, length, filter, refl, ap, sym, ◌∙◌, subst, arith, append_assoc, append-nil, length-append, None, Some, ◌==◌, nat_eq, eq-eqb}
+use Rattle.std.proofs.Common.{◌≡◌, ◌≢◌, ℕ, ℤ, zero, suc, ◌+◌, ◌-◌, ◌<◌, ◌≤◌, Bool, true, false, cond, List, [], ◌∷◌, ◌++◌, length, filter, refl, ap, sym, ◌∙◌, subst, arith, append_assoc, append-nil, length-append, None, Some, ◌==◌, nat_eq, eq-eqb}
 use Rattle.std.specs.Prelude.{IsSomeAnd, slice_get}
+use Rattle.std.specs.List.{AllByRecursion}
 use Rattle.std.specs.declared.option.Option.{Option}
 use Rattle.std.proofs.lemmas.Bool.Decides.{nat_tests}
 use Rattle.std.proofs.lemmas.List.Elements.{filter-append}
+use Rattle.store_machine.specs.Laws.{IsEntryOf, IsNumber, NumbersStay}
 use Rattle.store_machine.specs.Legal.{own, IsNext}
 use Rattle.store_machine.specs.declared.journal.Entry.{Entry}
 use Rattle.store_machine.specs.declared.journal.Act.TheVariants.{Enter}
@@ -12,6 +14,10 @@ use Rattle.store_machine.specs.declared.journal.Act.TheVariants.{Enter}
 abbrev pub By : ℕ → List Entry → Type 0
 By n [] = Unit {0}
 By n (e ∷ es) = (e.by ≡ n) × By n es
+
+pub by_of : (n nth : ℕ) (at : ℤ) (es : List Entry) → AllByRecursion (IsEntryOf n nth at) es → By n es
+by_of n nth at [] all = tt
+by_of n nth at (e ∷ es) all = (all.0.0, by_of n nth at es all.1)
 
 -- a journal and what it has grown to
 pub record Grows (n : ℕ) (h h' : List Entry) : Type 0 where
@@ -33,12 +39,10 @@ grows_trans n h i j a b = record {
   by = By-append n a.more b.more a.by b.by;
 }
 
--- ---- the entry of entering stays where it is
+pub grows_length : (n : ℕ) (h h' : List Entry) → Grows n h h' → length h ≤ length h'
+grows_length n h h' a = let same = ap length a.is in omega (arith, same, length-append h a.more)
 
-entry_kept : (h more : List Entry) (i : ℕ) (P : Entry → Type 0) → IsSomeAnd (slice_get h i) P → IsSomeAnd (slice_get (h ++ more) i) P
-entry_kept [] more i P there = absurd there
-entry_kept (e ∷ es) more zero P there = there
-entry_kept (e ∷ es) more (suc i) P there = entry_kept es more i P there
+-- ---- the entry of entering
 
 pub entry_last : (h : List Entry) (e : Entry) (P : Entry → Type 0) → P e → IsSomeAnd (slice_get (h ++ e ∷ []) (length h)) P
 entry_last [] e P is = is
@@ -67,20 +71,20 @@ pub own_more : (m : ℕ) (h es : List Entry) → own m (h ++ es) ≡ own m h ++ 
 own_more m h es = filter-append (λ (e : Entry). e.by == m) h es
 
 -- the entries of another session are as many as before
-pub next_kept : (n m k : ℕ) (h h' : List Entry) → Grows n h h' → m ≢ n → IsNext h m k → IsNext h' m k
-next_kept n m k h h' grows other next =
+pub next_kept : NumbersStay → (n m k : ℕ) (h h' : List Entry) → Grows n h h' → m ≢ n → IsNext h m k → IsNext h' m k
+next_kept stay n m k h h' grows other next =
     let same : own m h' ≡ own m h = ap (own m) grows.is ∙ own_more m h grows.more ∙ ap (λ l. own m h ++ l) (own_other n m grows.more other grows.by) ∙ append-nil (own m h) in
     record {
-      session = subst (λ l. IsSomeAnd (slice_get l m) (λ (e : Entry). e.act ≡ Enter)) (sym grows.is) (entry_kept h grows.more m (λ (e : Entry). e.act ≡ Enter) next.session);
+      session = subst (λ l. IsNumber l m) (sym grows.is) (stay h grows.more m next.session);
       entries = next.entries ∙ ap length (sym same);
     }
 
 -- its own are more by those
-pub next_more : (n k : ℕ) (h es : List Entry) → By n es → IsNext h n k → IsNext (h ++ es) n (k + length es)
-next_more n k h es by next =
+pub next_more : NumbersStay → (n k : ℕ) (h es : List Entry) → By n es → IsNext h n k → IsNext (h ++ es) n (k + length es)
+next_more stay n k h es by next =
     let all : own n (h ++ es) ≡ own n h ++ es = own_more n h es ∙ ap (λ l. own n h ++ l) (own_all n es by) in
     record {
-      session = entry_kept h es n (λ (e : Entry). e.act ≡ Enter) next.session;
+      session = stay h es n next.session;
       entries = ap (λ x. x + length es) next.entries ∙ sym (length-append (own n h) es) ∙ ap length (sym all);
     }
 
@@ -89,6 +93,14 @@ few true e xs k below = omega arith
 few false e xs k below = omega arith
 
 -- own entries are no more than all
-pub own_few : (n : ℕ) (h : List Entry) → length (own n h) ≤ length h
+own_few : (n : ℕ) (h : List Entry) → length (own n h) ≤ length h
 own_few n [] = omega arith
 own_few n (e ∷ es) = few (nat_eq e.by n) e (own n es) (length es) (own_few n es)
+
+-- the count of own entries, and of what was added, is a number of the machine where the journal's length is
+pub own_fits : (n entries : ℕ) (h h' : List Entry) (before after : ℕ) (es : List Entry) → h' ≡ h ++ es → entries ≡ length (own n h) → before ≡ length h → after ≡ length h' → after < 18446744073709551616
+    → entries + (after - before) < 18446744073709551616
+own_fits n entries h h' before after es grown own_is before_is after_is small =
+    let few = own_few n h in
+    let long = ap length grown in
+    omega (arith, few, long, length-append h es, own_is, before_is, after_is, small)

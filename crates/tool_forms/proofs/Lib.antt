@@ -1,7 +1,7 @@
 pub mod Replaying
-pub mod Seats
+pub mod Tags
 pub mod Growth
-pub mod Calls
+pub mod TagRunLemmas
 pub mod Soundness
 pub mod Entering
 pub mod TooLong

@@ -5,6 +5,7 @@ pub mod Turns
 pub mod Play
 pub mod Plays
 pub mod Sound
+pub mod TagRuns
 pub mod Replay
 pub mod Top
 pub mod Program

@@ -4,53 +4,58 @@ use Rattle.std.specs.Ordering.{nat_cmp}
 use Rattle.std.specs.Map.{lookup}
 use Rattle.std.specs.BTreeMap.{is_at, insert_entry}
 use Rattle.etp_capture.specs.Frames.{magic}
+use Rattle.etp_capture.specs.Capture.{frames_bytes}
 use Rattle.etp_capture.specs.declared.frame.Frame.{Frame}
 use Rattle.chan_defs.specs.declared.config.Config.{Config}
 use Rattle.store_machine.specs.Legal.{door}
 use Rattle.store_machine.specs.declared.journal.Entry.{Entry}
 use Rattle.tool_forms.specs.Turns.{Effect, effect_at}
-use Rattle.tool_forms.specs.declared.seat.Seat.{Seat}
-use Rattle.tool_forms.specs.declared.seat.Seat.TheVariants.{Over, Sits}
+use Rattle.tool_forms.specs.declared.tag.TagState.{TagState}
+use Rattle.tool_forms.specs.declared.tag.TagState.TheVariants.{Ended, Open}
 
--- the store's configuration and journal, and the seats of the sessions by their tags
+-- the store's configuration and journal, and the states of the tags that have come
 pub record World : Type 0 where
   pub config : Config
   pub journal : List Entry
-  pub seats : List (ℕ × Seat)
+  pub tags : List (ℕ × TagState)
 
+-- a new store, and no tag
 abbrev pub first_world : Config → World
-first_world c = record { config = c; journal = door ∷ []; seats = [] }
+first_world c = record { config = c; journal = door ∷ []; tags = [] }
 
--- the seat of a tag, which a new tag does not have
-abbrev pub seat_of : ℕ → List (ℕ × Seat) → Option Seat
-seat_of tag seats = lookup (is_at (nat_cmp tag)) seats
+-- the state of a tag, which a new tag does not have
+abbrev pub state_of : ℕ → List (ℕ × TagState) → Option TagState
+state_of tag tags = lookup (is_at (nat_cmp tag)) tags
 
--- a tag's seat is put among the others, in the order of tags
-abbrev pub with_seat : ℕ → Seat → List (ℕ × Seat) → List (ℕ × Seat)
-with_seat tag seat seats = insert_entry nat_cmp seats tag seat
+-- a tag's state is put among the others, in the order of tags
+abbrev pub with_tag : ℕ → TagState → List (ℕ × TagState) → List (ℕ × TagState)
+with_tag tag state tags = insert_entry nat_cmp tags tag state
 
--- a session that has ended, or that never entered
-abbrev pub is_over : Option Seat → Bool
-is_over None = false
-is_over (Some Over) = true
-is_over (Some (Sits s)) = false
+-- a session that has ended, or that could not enter
+abbrev pub has_ended : Option TagState → Bool
+has_ended None = false
+has_ended (Some Ended) = true
+has_ended (Some (Open s)) = false
 
 -- what a frame does
 abbrev pub effect : World → Frame → Effect
-effect w f = effect_at w.config w.journal f (seat_of f.tag w.seats)
+effect w f = effect_at w.config w.journal f (state_of f.tag w.tags)
 
 -- a frame that is refused: one of a server, or one that follows its session's end
 abbrev pub is_refused : World → Frame → Bool
-is_refused w f = f.kind == 17 || f.kind == 19 || is_over (seat_of f.tag w.seats)
+is_refused w f = f.kind == 17 || f.kind == 19 || has_ended (state_of f.tag w.tags)
 
+-- the world after what a frame of this tag did
 abbrev pub world_with : World → ℕ → Effect → World
-world_with w tag e = record { config = w.config; journal = e.journal; seats = with_seat tag e.seat w.seats }
+world_with w tag e = record { config = w.config; journal = e.journal; tags = with_tag tag e.tag w.tags }
 
+-- the world after a frame
 abbrev pub world_after : World → Frame → World
 world_after w f = world_with w f.tag (effect w f)
 
+-- the bytes of the frames that answer a frame
 abbrev pub bytes_after : World → Frame → List ℕ
-bytes_after w f = (effect w f).bytes
+bytes_after w f = frames_bytes (effect w f).answers
 
 -- a run so far: the offset behind the frames that were played, what was written, and the offset of the frame that was refused
 pub record Played : Type 0 where
@@ -59,6 +64,7 @@ pub record Played : Type 0 where
   pub bytes : List ℕ
   pub refused : Option ℕ
 
+-- a run over no frames
 abbrev pub first : Config → Played
 first c = record { world = first_world c; at = 8; bytes = magic; refused = None }
 
@@ -72,12 +78,15 @@ abbrev pub happens_to : Option ℕ → Played → Frame → Played
 happens_to (Some o) p f = p
 happens_to None p f = next_played p (is_refused p.world f) f
 
+-- one more frame
 abbrev pub happens : Played → Frame → Played
 happens p f = happens_to p.refused p f
 
+-- these frames, one after the other
 abbrev pub play_from : Played → List Frame → Played
 play_from p [] = p
 play_from p (f ∷ fs) = play_from (happens p f) fs
 
+-- the run of a whole capture
 abbrev pub play : Config → List Frame → Played
 play c fs = play_from (first c) fs

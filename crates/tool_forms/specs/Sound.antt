@@ -1,19 +1,25 @@
--- The seats of a run fit its journal.
-use Rattle.std.specs.Prelude.{◌≡◌, ℕ, List, Option, None, Some}
+-- The tags of a run fit its journal.
+use Rattle.std.specs.Prelude.{◌≡◌, ℕ, List, Option, None, Some, length}
 use Rattle.store_machine.specs.Legal.{IsNext}
 use Rattle.store_machine.specs.declared.journal.Entry.{Entry}
-use Rattle.tool_forms.specs.Play.{World, seat_of}
-use Rattle.tool_forms.specs.declared.seat.Seat.{Seat}
-use Rattle.tool_forms.specs.declared.seat.Seat.TheVariants.{Over, Sits}
-use Rattle.tool_forms.specs.declared.seat.Sitting.{Sitting}
+use Rattle.session_core.specs.Run.{Remembers}
+use Rattle.tool_forms.specs.Play.{World, state_of}
+use Rattle.tool_forms.specs.declared.tag.TagState.{TagState}
+use Rattle.tool_forms.specs.declared.tag.TagState.TheVariants.{Ended, Open}
+use Rattle.tool_forms.specs.declared.tag.OpenSession.{OpenSession}
 
--- a session that takes frames knows how many entries are its own
-abbrev pub FitsSeat : List Entry → Option Seat → Type 0
-FitsSeat h None = Unit {0}
-FitsSeat h (Some Over) = Unit {0}
-FitsSeat h (Some (Sits s)) = IsNext h s.number s.nth
+-- an open session knows how many entries are its own, and remembers no place past the journal
+pub record FitsOpen (h : List Entry) (s : OpenSession) : Type 0 where
+  pub next : IsNext h s.number s.entries
+  pub remembers : Remembers (length h) s.session
+
+-- a tag's session does so while it is open
+abbrev pub FitsTag : List Entry → Option TagState → Type 0
+FitsTag h None = Unit {0}
+FitsTag h (Some Ended) = Unit {0}
+FitsTag h (Some (Open s)) = FitsOpen h s
 
 -- so does each of them, and no two have one number
 pub record IsSound (w : World) : Type 0 where
-  pub fits : (tag : ℕ) → FitsSeat w.journal (seat_of tag w.seats)
-  pub apart : (tag other : ℕ) (s t : Sitting) → seat_of tag w.seats ≡ Some (Sits s) → seat_of other w.seats ≡ Some (Sits t) → s.number ≡ t.number → tag ≡ other
+  pub fits : (tag : ℕ) → FitsTag w.journal (state_of tag w.tags)
+  pub apart : (tag other : ℕ) (s t : OpenSession) → state_of tag w.tags ≡ Some (Open s) → state_of other w.tags ≡ Some (Open t) → s.number ≡ t.number → tag ≡ other

@@ -3,8 +3,11 @@ ghost use Rattle.chan_defs.specs.declared.config.Config.{Config};
 ghost use Rattle.capture_run.specs.Laws.{StopsOnce};
 ghost use Rattle.tool_forms.specs.Replay.{replay_plan};
 ghost use Rattle.capture_listing.specs.Listing.{show_plan, check_plan};
+ghost use Rattle.tool_forms.specs.TagRuns.{PlayIsRuns};
 
 use capture_run::run_stops_once;
+use session_core::runs;
+use store_machine::number_laws;
 
 /// An input makes a run of a form stop in one way at most, behind one list of frames.
 pub fn input_has_one_answer()
@@ -13,4 +16,14 @@ pub fn input_has_one_answer()
     ensures check { StopsOnce check_plan }
 {
     run_stops_once();
+}
+
+/// What a play writes to a tag is the run of the tag's session over the journal that the play leaves: the run's calls stand at
+/// the lengths of the journal at which the play asked the store, and its messages and its end are those of the frames that
+/// answer the tag.
+pub fn tags_are_runs()
+    ensures { PlayIsRuns }
+{
+    runs();
+    number_laws();
 }

@@ -20,9 +20,9 @@ mod player;
 mod program;
 mod replay;
 mod run;
-mod seat;
+mod tag;
 mod turns;
 
-pub use laws::input_has_one_answer;
+pub use laws::{input_has_one_answer, tags_are_runs};
 pub use program::{run_program, tell};
 pub use run::run_tool;

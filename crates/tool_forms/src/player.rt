@@ -1,26 +1,27 @@
 //! Plays frames: the sessions of a capture over one store.
 ghost use Rattle.std.specs.Prelude.{◌≡◌, IfOk, OnOk};
-ghost use Rattle.tool_forms.specs.Play.{first_world, seat_of, is_over};
+ghost use Rattle.tool_forms.specs.Play.{first_world, state_of, has_ended};
 ghost use Rattle.tool_forms.specs.Plays.{Plays};
 ghost use Rattle.tool_forms.specs.Sound.{IsSound};
 
-use crate::seat::Seat;
+use crate::tag::TagState;
 use crate::turns::play_at;
 use chan_defs::Config;
 use etp_capture::Frame;
 use etp_values::{Copied, NoMemory};
+use session_core::steps;
 use std::alloc::Global;
 use std::collections::BTreeMap;
 use std::marker::Model;
 use store_machine::{Store, number_laws};
 
-/// A store and the sessions of a capture, by their tags. The seats are kept in the order of tags, so that a look-up takes
-/// few steps however many tags a capture has.
+/// A store and the sessions of a capture, by their tags. The tags are kept in order, so that a look-up takes few steps
+/// however many a capture has.
 #[derive(Drop)]
 pub struct Player {
     config: Config,
     store: Store,
-    seats: BTreeMap<u32, Seat>,
+    tags: BTreeMap<u32, TagState>,
 }
 
 impl Model for Player {
@@ -29,7 +30,7 @@ impl Model for Player {
 
     ghost Value = { World };
 
-    ghost view = { λ p. record { config = p.config; journal = p.store.journal; seats = p.seats.entries } };
+    ghost view = { λ p. record { config = p.config; journal = p.store.journal; tags = p.tags.entries } };
 
     ghost invariant = { λ p. p.store.config ≡ p.config };
 }
@@ -44,7 +45,7 @@ impl Player {
         Ok(Player {
             config,
             store,
-            seats: BTreeMap::new(alloc),
+            tags: BTreeMap::new(alloc),
         })
     }
 
@@ -60,26 +61,28 @@ impl Player {
         ensures played { IfOk result (λ refused. Plays refused self.old frame.now self.new into.old.items into.new.items) }
         ensures sound { OnOk result (IsSound self.new) }
     {
-        if frame.kind == 17 || frame.kind == 19 || is_over(&self.seats, frame.tag) {
+        if frame.kind == 17 || frame.kind == 19 || has_ended(&self.tags, frame.tag) {
             return Ok(true);
         }
-        // Both are for the proof alone: no entry is of the number that the next session will have.
+        // These are for the proof alone: what the tags' sessions know stays right, and no entry is of the number that the
+        // next session will have.
         number_laws();
+        steps();
         let _entries = self.store.entries();
-        let seat = self.seats.insert(frame.tag, Seat::Over)?;
-        let seat = play_at(alloc, &self.config, &mut self.store, seat, frame, into)?;
-        self.seats.insert(frame.tag, seat)?;
+        let state = self.tags.insert(frame.tag, TagState::Ended)?;
+        let state = play_at(alloc, &self.config, &mut self.store, state, frame, into)?;
+        self.tags.insert(frame.tag, state)?;
         Ok(false)
     }
 }
 
-/// Whether the session of a tag is over.
-fn is_over(seats: &BTreeMap<u32, Seat>, tag: u32) -> bool
-    ensures { result ≡ is_over (seat_of tag seats.now.entries) }
+/// Whether the session of a tag has ended.
+fn has_ended(tags: &BTreeMap<u32, TagState>, tag: u32) -> bool
+    ensures { result ≡ has_ended (state_of tag tags.now.entries) }
 {
-    match seats.get(&tag) {
-        Some(Seat::Over) => true,
-        Some(Seat::Sits(_)) => false,
+    match tags.get(&tag) {
+        Some(TagState::Ended) => true,
+        Some(TagState::Open(_)) => false,
         None => false,
     }
 }

@@ -1,42 +1,44 @@
 //! One frame on its session and the store.
-ghost use Rattle.std.specs.Prelude.{◌≡◌, ◌++◌, ◌∷◌, [], IfOk, OnOk, List, ℕ, length};
+ghost use Rattle.std.specs.Prelude.{◌≡◌, ◌++◌, ◌∷◌, [], IfOk, IfSome, OnOk, List, ℕ, length};
 ghost use Rattle.std.specs.Int.{w32, to_be_bytes, cast_unsigned};
 ghost use Rattle.etp_capture.specs.Frames.{frame_bytes};
-ghost use Rattle.store_machine.specs.Legal.{IsNext, own};
+ghost use Rattle.etp_capture.specs.Capture.{frames_bytes};
+ghost use Rattle.store_machine.specs.Answers.{answered, added};
+ghost use Rattle.store_machine.specs.Legal.{IsNext, MayAsk, own};
 ghost use Rattle.store_machine.specs.declared.journal.Entry.{Entry};
-ghost use Rattle.session_core.specs.Run.{drained};
+ghost use Rattle.session_core.specs.Run.{takes, hears, drained, moment_of, Asks, Remembers};
 ghost use Rattle.session_core.specs.Session.{end_of};
-ghost use Rattle.tool_forms.specs.Turns.{takes, hears, turn, settled, seated, enters, place_in, effect_at, sent_frames, end_frame, answering, ending_bytes, session_end_bytes};
+ghost use Rattle.tool_forms.specs.Turns.{event_of, turn, effect_after, effect_open, effect_new, effect_at, place_in, messages, end_frame, answering, ending_bytes, session_end_bytes};
 ghost use Rattle.tool_forms.specs.Plays.{Meets};
-ghost use Rattle.tool_forms.specs.Sound.{FitsSeat};
+ghost use Rattle.tool_forms.specs.Sound.{FitsOpen, FitsTag};
 
-use crate::seat::{Ending, Seat, Sitting};
+use crate::tag::{Ending, OpenSession, TagState};
 use chan_defs::Config;
 use etp_capture::{Frame, push_frame};
-use etp_values::{Blob, Copied, NoMemory};
-use session_core::{End, Session};
+use etp_values::{Blob, Boxed, Copied, NoMemory};
+use session_core::{End, Session, steps};
 use std::alloc::Global;
-use store_machine::{Answer, Reply, Store, StoreCall};
+use store_machine::{Answer, Reply, Store, StoreCall, number_laws};
 
-/// A frame by the seat of its tag, which a new tag does not have.
+/// A frame by the state of its tag, which a new tag does not have.
 pub(crate) fn play_at(
     alloc: Global,
     config: &Config,
     store: &mut Store,
-    seat: Option<Seat>,
+    state: Option<TagState>,
     frame: &Frame,
     into: &mut Vec<u8>,
-) -> Result<Seat, NoMemory>
+) -> Result<TagState, NoMemory>
     requires same { store.old.config ≡ config.now }
     requires fresh { own (length store.old.journal) store.old.journal ≡ [] }
-    requires seat { FitsSeat store.old.journal seat }
+    requires tag { FitsTag store.old.journal state }
     ensures config { store.new.config ≡ store.old.config }
-    ensures effect { IfOk result (λ new. Meets (effect_at config.now store.old.journal frame.now seat) new store.new.journal into.old.items into.new.items) }
+    ensures effect { IfOk result (λ new. Meets (effect_at config.now store.old.journal frame.now state) new store.new.journal into.old.items into.new.items) }
 {
-    match seat {
+    match state {
         None => enter(alloc, config, store, frame, into),
-        Some(Seat::Sits(sitting)) => play_seated(alloc, store, sitting, frame, into),
-        Some(Seat::Over) => Ok(Seat::Over),
+        Some(TagState::Open(boxed)) => play_open(alloc, store, boxed.into_inner(), frame, into),
+        Some(TagState::Ended) => Ok(TagState::Ended),
     }
 }
 
@@ -47,24 +49,27 @@ fn enter(
     store: &mut Store,
     frame: &Frame,
     into: &mut Vec<u8>,
-) -> Result<Seat, NoMemory>
+) -> Result<TagState, NoMemory>
     requires same { store.old.config ≡ config.now }
     requires fresh { own (length store.old.journal) store.old.journal ≡ [] }
     ensures config { store.new.config ≡ store.old.config }
-    ensures effect { IfOk result (λ seat. Meets (enters config.now store.old.journal frame.now) seat store.new.journal into.old.items into.new.items) }
+    ensures effect { IfOk result (λ state. Meets (effect_new config.now store.old.journal frame.now) state store.new.journal into.old.items into.new.items) }
 {
-    let answer = store.ask(alloc, 0, 0, frame.moment, StoreCall::Enter)?;
+    // For the proof alone: a session that begins remembers no place.
+    steps();
+    let answer = ask(alloc, store, 0, 0, frame.moment, StoreCall::Enter)?;
     let Some(number) = place_in(answer.reply) else {
         push_end(alloc, into, frame, Ending::JournalFull)?;
-        return Ok(Seat::Over);
+        return Ok(TagState::Ended);
     };
-    let session = Session::new(alloc, config.copy(alloc)?, number, 1)?;
-    let sitting = Sitting {
+    let session_config = config.copy(alloc)?;
+    let session = Session::new(alloc, session_config, number, 1)?;
+    let open_session = OpenSession {
         number,
-        nth: 1,
+        entries: 1,
         session,
     };
-    play_seated(alloc, store, sitting, frame, into)
+    play_open(alloc, store, open_session, frame, into)
 }
 
 /// The place at which the store let a session in.
@@ -77,51 +82,43 @@ fn place_in(reply: Reply) -> Option<u64>
     }
 }
 
-/// A frame of a session that takes it.
-fn play_seated(
+/// A frame of an open session.
+fn play_open(
     alloc: Global,
     store: &mut Store,
-    sitting: Sitting,
+    open_session: OpenSession,
     frame: &Frame,
     into: &mut Vec<u8>,
-) -> Result<Seat, NoMemory>
-    requires { IsNext store.old.journal sitting.number sitting.nth }
+) -> Result<TagState, NoMemory>
+    requires { FitsOpen store.old.journal open_session }
     ensures config { store.new.config ≡ store.old.config }
-    ensures effect { IfOk result (λ seat. Meets (seated store.old.config store.old.journal sitting frame.now) seat store.new.journal into.old.items into.new.items) }
+    ensures effect { IfOk result (λ state. Meets (effect_open store.old.config store.old.journal open_session frame.now) state store.new.journal into.old.items into.new.items) }
 {
     if frame.kind == 3 {
         push_end(alloc, into, frame, Ending::PeerEnd)?;
-        return Ok(Seat::Over);
+        return Ok(TagState::Ended);
     }
-    let mut sitting = sitting;
-    make_turn(alloc, store, &mut sitting, frame)?;
-    settle(alloc, sitting, frame, into)
+    let mut open_session = open_session;
+    make_turn(alloc, store, &mut open_session, frame)?;
+    settle(alloc, open_session, frame, into)
 }
 
 /// What a session sends after a turn, and its end where it has ended.
 fn settle(
     alloc: Global,
-    sitting: Sitting,
+    open_session: OpenSession,
     frame: &Frame,
     into: &mut Vec<u8>,
-) -> Result<Seat, NoMemory>
-    ensures { IfOk result (λ seat. (j : List Entry) → Meets (settled frame.now (record { journal = j; sitting = sitting }) (end_of sitting.session.phase)) seat j into.old.items into.new.items) }
+) -> Result<TagState, NoMemory>
+    ensures { IfOk result (λ state. (j : List Entry) (marks : List ℕ) → Meets (effect_after frame.now (record { journal = j; session = open_session; marks = marks }) (end_of open_session.session.phase)) state j into.old.items into.new.items) }
 {
-    let Sitting {
-        number,
-        nth,
-        mut session,
-    } = sitting;
-    send_all(alloc, &mut session, frame, into)?;
-    match session.ended() {
-        None => Ok(Seat::Sits(Sitting {
-            number,
-            nth,
-            session,
-        })),
+    let mut open_session = open_session;
+    send_all(alloc, &mut open_session.session, frame, into)?;
+    match open_session.session.ended() {
+        None => Ok(TagState::Open(Boxed::new(alloc, open_session)?)),
         Some(end) => {
             push_end(alloc, into, frame, Ending::Session(end))?;
-            Ok(Seat::Over)
+            Ok(TagState::Ended)
         }
     }
 }
@@ -130,33 +127,42 @@ fn settle(
 fn make_turn(
     alloc: Global,
     store: &mut Store,
-    sitting: &mut Sitting,
+    open_session: &mut OpenSession,
     frame: &Frame,
 ) -> Result<(), NoMemory>
-    requires { IsNext store.old.journal sitting.old.number sitting.old.nth }
+    requires { FitsOpen store.old.journal open_session.old }
     ensures config { store.new.config ≡ store.old.config }
-    ensures journal { OnOk result (store.new.journal ≡ (turn store.old.config store.old.journal sitting.old frame.now).journal) }
-    ensures sitting { OnOk result (sitting.new ≡ (turn store.old.config store.old.journal sitting.old frame.now).sitting) }
+    ensures journal { OnOk result (store.new.journal ≡ (turn store.old.config store.old.journal open_session.old frame.now).journal) }
+    ensures session { OnOk result (open_session.new ≡ (turn store.old.config store.old.journal open_session.old frame.now).session) }
 {
-    let Some(call) = take_event(alloc, &mut sitting.session, frame, store.entries())? else {
+    // For the proof alone: whoever is next may make each of its calls.
+    number_laws();
+    let before = store.entries();
+    let Some(call) = take_event(alloc, &mut open_session.session, frame, before)? else {
         return Ok(());
     };
-    let before = store.entries();
-    let answer = store.ask(alloc, sitting.number, sitting.nth, frame.moment, call)?;
-    sitting.nth += store.entries() - before;
-    hear(alloc, &mut sitting.session, answer)
+    let answer = ask(
+        alloc,
+        store,
+        open_session.number,
+        open_session.entries,
+        moment_of(frame),
+        call,
+    )?;
+    open_session.entries += store.entries() - before;
+    open_session.session.give(alloc, answer)
 }
 
 /// What a frame is to a session: a message from its client, or one poll of a journal of that length.
-#[tactic(auto, unfolding(crate::specs::Turns::takes))]
 fn take_event(
     alloc: Global,
     session: &mut Session,
     frame: &Frame,
     front: u64,
 ) -> Result<Option<StoreCall>, NoMemory>
-    ensures call { IfOk result (λ call. (h : List Entry) → length h ≡ front → call ≡ (takes h session.old frame.now).call) }
-    ensures state { OnOk result ((h : List Entry) → length h ≡ front → session.new ≡ (takes h session.old frame.now).state) }
+    ensures call { IfOk result (λ call. (h : List Entry) → length h ≡ front → call ≡ (takes session.old (event_of h frame.now)).call) }
+    ensures state { OnOk result ((h : List Entry) → length h ≡ front → session.new ≡ (takes session.old (event_of h frame.now)).state) }
+    ensures asks { IfOk result (λ call. IfSome call (Asks session.old)) }
 {
     if frame.kind == 1 {
         return session.take(alloc, frame.bytes.as_bytes(), frame.moment);
@@ -164,12 +170,29 @@ fn take_event(
     session.poll(alloc, front)
 }
 
-/// The store's answer to the call of a frame's event.
-#[tactic(auto, unfolding(crate::specs::Turns::hears))]
-fn hear(alloc: Global, session: &mut Session, answer: Answer) -> Result<(), NoMemory>
-    ensures { OnOk result (session.new ≡ hears session.old answer) }
+/// The moment of a frame's event; a poll has none.
+fn moment_of(frame: &Frame) -> i64
+    ensures { (h : List Entry) → result ≡ moment_of (event_of h frame.now) }
 {
-    session.give(alloc, answer)
+    if frame.kind == 1 { frame.moment } else { 0 }
+}
+
+/// The store's answer to a call.
+#[tactic(auto, unfolding(store_machine::specs::Answers::answered, store_machine::specs::Answers::added))]
+fn ask(
+    alloc: Global,
+    store: &mut Store,
+    by: u64,
+    nth: u64,
+    at: i64,
+    call: StoreCall,
+) -> Result<Answer, NoMemory>
+    requires { MayAsk store.old.journal by nth call }
+    ensures config { store.new.config ≡ store.old.config }
+    ensures answer { IfOk result (λ a. a ≡ answered store.old.config store.old.journal call) }
+    ensures journal { OnOk result (store.new.journal ≡ store.old.journal ++ added store.old.config store.old.journal by nth at call) }
+{
+    store.ask(alloc, by, nth, at, call)
 }
 
 /// The messages that a session sends, as frames.
@@ -179,7 +202,7 @@ fn send_all(
     frame: &Frame,
     into: &mut Vec<u8>,
 ) -> Result<(), NoMemory>
-    ensures bytes { OnOk result (into.new.items ≡ into.old.items ++ sent_frames frame.now session.old.out) }
+    ensures bytes { OnOk result (into.new.items ≡ into.old.items ++ frames_bytes (messages frame.now session.old.out)) }
     ensures state { OnOk result (session.new ≡ drained session.old) }
 {
     while let Some(message) = session.next_out(alloc)? {
@@ -188,9 +211,9 @@ fn send_all(
     Ok(())
 }
 
-/// The frame that says that a session is over.
+/// The frame that says that a session has ended.
 fn push_end(alloc: Global, into: &mut Vec<u8>, frame: &Frame, why: Ending) -> Result<(), NoMemory>
-    ensures { OnOk result (into.new.items ≡ into.old.items ++ end_frame frame.now why) }
+    ensures { OnOk result (into.new.items ≡ into.old.items ++ frame_bytes (end_frame frame.now why)) }
 {
     let payload = ending_bytes(alloc, why)?;
     push_answer(into, 19, frame, payload)

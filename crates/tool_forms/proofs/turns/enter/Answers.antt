@@ -1,40 +1,46 @@
-use Rattle.std.proofs.Common.{◌≡◌, ◌++◌, ℕ, ℤ, List, ap, sym, ◌∙◌, subst, Some, None, rules, pos, w64, to_z, of_z}
+use Rattle.std.proofs.Common.{◌≡◌, ◌++◌, ℕ, ℤ, List, length, ap, sym, ◌∙◌, subst, Some, None, rules, pos, w64, to_z, of_z}
 use Rattle.std.proofs.lemmas.Int.{to_z-of_z}
 use Rattle.store_machine.specs.declared.call.StoreCall.TheVariants.{Enter}
-use Rattle.store_machine.specs.Answers.{entries_of}
+use Rattle.store_machine.specs.Answers.{added}
 use Rattle.store_machine.specs.Legal.{IsNext}
 use Rattle.store_machine.specs.declared.journal.Entry.{Entry}
 use Rattle.chan_defs.specs.declared.config.Config.{Config}
-use Rattle.session_core.specs.State.{first_state}
-use Rattle.tool_forms.proofs.Entering.{place_is, meets_enters, meets_full}
+use Rattle.session_core.specs.State.{State, first_state}
+use Rattle.session_core.specs.Run.{Remembers}
+use Rattle.tool_forms.specs.Turns.{entered_journal}
+use Rattle.tool_forms.specs.Sound.{FitsOpen}
+use Rattle.tool_forms.proofs.Entering.{place_is, meets_new, meets_full}
 use Rattle.tool_forms.proofs.Soundness.{enter_next}
 use Rattle.tool_forms.proofs.turns.enter.Goals as goal
 
-pub play_seated-requires : goal.play_seated-requires
-play_seated-requires c =
+pub play_open-requires : goal.play_open-requires
+play_open-requires c =
     let store = c.args.store.now in
     let moment : to_z w64 (of_z w64 c.args.frame.now.moment) ≡ c.args.frame.now.moment = to_z-of_z w64 c.args.frame.now.moment (search rules) in
-    let grown = c.in_ok-answer.ensures.journal ∙ ap (λ (m : ℤ). store.journal ++ entries_of store.config store.journal 0 0 m Enter) moment in
+    let grown = c.in_ok-answer.ensures.journal ∙ ap (λ (m : ℤ). store.journal ++ added store.config store.journal 0 0 m Enter) moment in
     let place = place_is store.config store.config store.journal c.in_ok-answer.answer c.place_in.result (Some c.in-Some.number) (λ i. store.config) c.in_ok-answer.ensures.answer c.place_in.ensures c.in-Some.is in
-    subst (λ (h : List Entry). IsNext h c.in-Some.number 1) (sym grown) (enter_next store.config store.journal c.args.frame.now.moment c.in-Some.number c.requires.fresh place)
+    record {
+      next = subst (λ (h : List Entry). IsNext h c.in-Some.number 1) (sym grown) (enter_next store.config store.journal c.args.frame.now c.in-Some.number c.requires.fresh place);
+      remembers = subst (λ (s : State). Remembers (length c.ask.new.store.journal) s) (sym c.in_ok-session.ensures) (c.steps.ensures.first c.in_ok-session_config.session_config c.in-Some.number (length c.ask.new.store.journal) (pos 1));
+    }
 
 pub returns-clause-effect : goal.returns-clause-effect
 returns-clause-effect c =
     let store = c.args.store.now in
     let moment : to_z w64 (of_z w64 c.args.frame.now.moment) ≡ c.args.frame.now.moment = to_z-of_z w64 c.args.frame.now.moment (search rules) in
-    let grown = c.in_ok-answer.ensures.journal ∙ ap (λ (m : ℤ). store.journal ++ entries_of store.config store.journal 0 0 m Enter) moment in
+    let grown = c.in_ok-answer.ensures.journal ∙ ap (λ (m : ℤ). store.journal ++ added store.config store.journal 0 0 m Enter) moment in
     let place = place_is store.config c.args.config.now store.journal c.in_ok-answer.answer c.place_in.result (Some c.in-Some.number) c.requires.same c.in_ok-answer.ensures.answer c.place_in.ensures c.in-Some.is in
-    let new = c.in_ok-session.ensures ∙ ap (λ (k : Config). first_state k c.in-Some.number (pos 1)) c.in_ok-copy.ensures in
-    meets_enters store.config c.args.config.now c.ask.new.self.config store.journal c.ask.new.self.journal c.args.frame.now c.in-Some.number c.in_ok-session.session c.play_seated.result
-    c.play_seated.new.store.journal c.args.into.now.items c.play_seated.new.into.items c.requires.same c.ask.ensures.config grown new place c.play_seated.ensures.effect
+    let new = c.in_ok-session.ensures ∙ ap (λ (k : Config). first_state k c.in-Some.number (pos 1)) c.in_ok-session_config.ensures in
+    meets_new store.config c.args.config.now c.ask.new.store.config store.journal c.ask.new.store.journal c.args.frame.now c.in-Some.number c.in_ok-session.session c.play_open.result
+    c.play_open.new.store.journal c.args.into.now.items c.play_open.new.into.items c.requires.same c.ask.ensures.config grown new place c.play_open.ensures.effect
 
 pub returns-in_default : goal.returns-in_default
 returns-in_default c =
     let store = c.args.store.now in
     let moment : to_z w64 (of_z w64 c.args.frame.now.moment) ≡ c.args.frame.now.moment = to_z-of_z w64 c.args.frame.now.moment (search rules) in
-    let grown = c.in_ok-answer.ensures.journal ∙ ap (λ (m : ℤ). store.journal ++ entries_of store.config store.journal 0 0 m Enter) moment in
+    let grown = c.in_ok-answer.ensures.journal ∙ ap (λ (m : ℤ). store.journal ++ added store.config store.journal 0 0 m Enter) moment in
     let place = place_is store.config c.args.config.now store.journal c.in_ok-answer.answer c.place_in.result None c.requires.same c.in_ok-answer.ensures.answer c.place_in.ensures c.in_default.is in
     record {
       config = c.ask.ensures.config;
-      effect = meets_full store.config c.args.config.now store.journal c.ask.new.self.journal c.args.frame.now c.args.into.now.items c.push_end.new.into.items c.requires.same grown place c.in_ok-push_end.ensures;
+      effect = meets_full store.config c.args.config.now store.journal c.ask.new.store.journal c.args.frame.now c.args.into.now.items c.push_end.new.into.items c.requires.same grown place c.in_ok-push_end.ensures;
     }

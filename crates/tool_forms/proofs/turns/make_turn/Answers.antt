@@ -1,16 +1,19 @@
-use Rattle.std.proofs.Common.{arith, ap, ◌∙◌, ◌≡◌, ◌≤◌, ◌+◌, length, length-append}
-use Rattle.store_machine.specs.Answers.{entries_of}
-use Rattle.store_machine.specs.Legal.{own}
-use Rattle.store_machine.proofs.Numbers.{may_ask}
-use Rattle.tool_forms.proofs.Growth.{own_few}
+use Rattle.std.proofs.Common.{arith, subst}
+use Rattle.std.specs.Prelude.{IfSome}
+use Rattle.std.specs.declared.option.Option.{Option}
+use Rattle.store_machine.specs.declared.call.StoreCall.{StoreCall}
+use Rattle.session_core.specs.Run.{Asks}
+use Rattle.tool_forms.proofs.Growth.{own_fits}
 use Rattle.tool_forms.proofs.turns.make_turn.Goals as goal
 
 -- the own entries are no more than all, and the journal's length is a number of the machine
-pub overflow_add-sitting : goal.overflow_add-sitting
-overflow_add-sitting c =
-    let few = own_few c.args.sitting.now.number c.args.store.now.journal in
-    let long = ap length c.in_ok-answer.ensures.journal in
-    omega (arith, few, long, c.requires.entries, c.entries-2.ensures.len, c.entries-before.ensures.len, length-append c.args.store.now.journal (entries_of c.args.store.now.config c.args.store.now.journal c.args.sitting.now.number c.args.sitting.now.nth c.args.frame.now.moment c.in-Some.call))
+pub overflow_add-open_session : goal.overflow_add-open_session
+overflow_add-open_session c =
+    let fits = own_fits c.args.open_session.now.number c.args.open_session.now.entries c.args.store.now.journal c.ask.new.store.journal c.entries-before.result c.entries.result _
+    c.in_ok-answer.ensures.journal c.requires.next.entries c.entries-before.ensures.len c.entries.ensures.len c.entries.type_inv in
+    omega (arith, fits)
 
 pub ask-requires : goal.ask-requires
-ask-requires c = may_ask c.args.store.now.journal c.args.sitting.now.number c.args.sitting.now.nth c.in-Some.call c.requires
+ask-requires c =
+    let asks : Asks c.args.open_session.now.session c.in-Some.call = subst (λ (o : Option StoreCall). IfSome o (Asks c.args.open_session.now.session)) c.in-Some.is c.in_ok-call.ensures.asks in
+    c.number_laws.ensures.may c.args.store.now.journal c.args.open_session.now.number c.args.open_session.now.entries c.in-Some.call c.requires.next (asks c.args.store.now.journal c.requires.remembers)

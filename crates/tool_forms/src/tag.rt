@@ -1,8 +1,9 @@
-//! The seats of a capture's sessions.
+//! What a capture's tags have: open sessions, and the marks of those that have ended.
 
+use etp_values::Boxed;
 use session_core::{End, Session};
 
-/// Why a session is over.
+/// Why a session has ended.
 #[derive(Clone, Copy, Debug, PartialEq, Eq)]
 pub enum Ending {
     /// It ended by its own rules.
@@ -13,21 +14,21 @@ pub enum Ending {
     JournalFull,
 }
 
-/// A session that takes frames.
+/// An open session: one that takes frames.
 #[derive(Debug, Drop)]
-pub struct Sitting {
-    /// The place of its entry in the journal.
+pub struct OpenSession {
+    /// The place of its entering in the journal.
     pub number: u64,
     /// How many entries are its own, the one of entering with them.
-    pub nth: u64,
+    pub entries: u64,
     pub session: Session,
 }
 
-/// What a tag has from its first frame on.
+/// What a tag has from its first frame on. An open session stands in a box, so that a tag that has ended keeps a few bytes.
 #[derive(Debug, Drop)]
-pub enum Seat {
-    /// A session that takes frames.
-    Sits(Sitting),
+pub enum TagState {
+    /// An open session.
+    Open(Boxed<OpenSession>),
     /// A session that has ended, or could not enter.
-    Over,
+    Ended,
 }
