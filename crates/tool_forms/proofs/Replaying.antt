@@ -42,11 +42,6 @@ plays_takes false old new f nothing answer before after plays nil is fs leads =
       ),
     )
 
--- a frame that is played leaves the configuration
-pub plays_config : (refused : Bool) (old new : World) (f : Frame) (before after : List ℕ) → Plays refused old f new before after → replay_plan new.config ≡ replay_plan old.config
-plays_config true old new f before after plays = ap (λ (w : World). replay_plan w.config) plays.1
-plays_config false old new f before after plays = ap (λ (w : World). replay_plan w.config) plays.1
-
 -- ---- a frame that is refused stays so
 
 refused_stays : (p : Played) (fs : List Frame) (o : ℕ) → p.refused ≡ Some o → (play_from p fs).refused ≡ Some o
