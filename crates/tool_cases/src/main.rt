@@ -10,7 +10,7 @@ use etp_outside::{DirHost, MemSink, MemSource, Status, StdSink};
 use etp_values::{Blob, List, NoMemory};
 use std::alloc::Global;
 use std::fs;
-use std::io::{self, BufReader, Write};
+use std::io::{self, BufRead, BufReader, Write};
 use tool_forms::{run_tool, tell};
 
 /// The faults of a case: the numbers of the read and of the write that fail.
