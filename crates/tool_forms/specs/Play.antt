@@ -5,6 +5,7 @@ use Rattle.std.specs.Map.{lookup}
 use Rattle.std.specs.BTreeMap.{is_at, insert_entry}
 use Rattle.etp_capture.specs.Frames.{magic}
 use Rattle.etp_capture.specs.Capture.{frames_bytes}
+use Rattle.etp_capture.specs.Kinds.{kind_out, kind_ended}
 use Rattle.etp_capture.specs.declared.frame.Frame.{Frame}
 use Rattle.chan_defs.specs.declared.config.Config.{Config}
 use Rattle.store_machine.specs.Legal.{door}
@@ -43,7 +44,7 @@ effect w f = effect_at w.config w.journal f (state_of f.tag w.tags)
 
 -- a frame that is refused: one of a server, or one that follows its session's end
 abbrev pub is_refused : World → Frame → Bool
-is_refused w f = f.kind == 17 || f.kind == 19 || has_ended (state_of f.tag w.tags)
+is_refused w f = f.kind == kind_out || f.kind == kind_ended || has_ended (state_of f.tag w.tags)
 
 -- the world after what a frame of this tag did
 abbrev pub world_with : World → ℕ → Effect → World

@@ -3,6 +3,7 @@ use Rattle.std.specs.Prelude.{◌≡◌, ◌⊎◌, ℕ, Bool, true, false, List
 use Rattle.std.specs.Option.{option_map}
 use Rattle.etp_capture.specs.Frames.{magic}
 use Rattle.etp_capture.specs.Capture.{frames_bytes}
+use Rattle.etp_capture.specs.Kinds.{kind_end, kind_out, kind_ended}
 use Rattle.etp_capture.specs.declared.frame.Frame.{Frame}
 use Rattle.chan_defs.specs.declared.config.Config.{Config}
 use Rattle.store_machine.specs.declared.journal.Entry.{Entry}
@@ -30,7 +31,7 @@ first_run n = record { number = n; events = []; places = [] }
 -- an open session takes a frame; its client's end is no event
 abbrev pub run_with : Config → List Entry → OpenSession → Frame → TagRun → TagRun
 run_with c h s f r =
-    if f.kind == 3 then r
+    if f.kind == kind_end then r
     else record { number = r.number; events = r.events ++ event_of h f ∷ []; places = r.places ++ (turn c h s f).marks }
 
 -- the first frame of a tag, after the store was asked to let its session in
@@ -78,7 +79,7 @@ follow tag w f = follow_to w.played.refused tag w f
 abbrev pub followed : Config → ℕ → List Frame → Followed
 followed c tag frames = fold (follow tag) (first_followed c) frames
 
--- the payloads of the frames of a kind that go to a tag: its messages are of kind 17, its end is of kind 19
+-- the payloads of the frames of a kind that go to a tag: its messages, or its end
 abbrev pub payloads_to : ℕ → ℕ → List Frame → List (List ℕ)
 payloads_to kind tag answers = map (λ f. f.bytes) (filter (λ f. f.kind == kind && f.tag == tag) answers)
 
@@ -117,7 +118,7 @@ IsSent c h messages endings (Some r) = IsRun c h messages r × IsEnd (end_of (ru
 pub record IsFollowed (c : Config) (tag : ℕ) (frames : List Frame) : Type 0 where
   pub played : (followed c tag frames).played ≡ play c frames
   pub bytes : (play c frames).bytes ≡ magic ++ frames_bytes (followed c tag frames).answers
-  pub sent : let w = followed c tag frames in IsSent c (play c frames).world.journal (payloads_to 17 tag w.answers) (payloads_to 19 tag w.answers) w.run
+  pub sent : let w = followed c tag frames in IsSent c (play c frames).world.journal (payloads_to kind_out tag w.answers) (payloads_to kind_ended tag w.answers) w.run
 
 -- the same of every play and every tag
 abbrev pub PlayIsRuns : Type 0

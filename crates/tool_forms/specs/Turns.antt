@@ -2,6 +2,7 @@
 use Rattle.std.specs.Prelude.{◌≡◌, ℕ, ◌+◌, ℤ, pos, Bool, true, false, List, [], ◌∷◌, ◌++◌, ◌==◌, nat_eq, if◌then◌else◌, length, map, Option, None, Some}
 use Rattle.std.specs.Int.{w32, to_be_bytes, cast_unsigned}
 use Rattle.etp_values.specs.Code.{number_of}
+use Rattle.etp_capture.specs.Kinds.{kind_in, kind_end, kind_out, kind_ended}
 use Rattle.etp_capture.specs.declared.frame.Frame.{Frame}
 use Rattle.chan_defs.specs.declared.config.Config.{Config}
 use Rattle.store_machine.specs.Answers.{answered, added}
@@ -41,15 +42,15 @@ answering kind f bytes = record { kind = kind; tag = f.tag; moment = f.moment; b
 
 -- the messages that a session sends, each as a frame
 abbrev pub messages : Frame → List Outgoing → List Frame
-messages f sent = map (λ o. answering 17 f (bytes_of o)) sent
+messages f sent = map (λ o. answering kind_out f (bytes_of o)) sent
 
 -- the frame that says that a session has ended
 abbrev pub end_frame : Frame → Ending → Frame
-end_frame f why = answering 19 f (ending_bytes why)
+end_frame f why = answering kind_ended f (ending_bytes why)
 
 -- a frame's event: a message, or one poll of the journal's length
 abbrev pub event_of : List Entry → Frame → Event
-event_of h f = if f.kind == 1 then Receives f.bytes f.moment else Polls (length h)
+event_of h f = if f.kind == kind_in then Receives f.bytes f.moment else Polls (length h)
 
 -- a session and the journal after an event was taken and its call answered
 pub record Turn : Type 0 where
@@ -91,7 +92,7 @@ effect_after f t (Some e) = record { journal = t.journal; tag = Ended; answers =
 -- a frame of an open session: its client's end, or an event
 abbrev pub effect_open : Config → List Entry → OpenSession → Frame → Effect
 effect_open c h s f =
-    if f.kind == 3 then record { journal = h; tag = Ended; answers = end_frame f PeerEnd ∷ [] }
+    if f.kind == kind_end then record { journal = h; tag = Ended; answers = end_frame f PeerEnd ∷ [] }
     else effect_after f (turn c h s f) (end_of (turn c h s f).session.session.phase)
 
 -- a session that entered at this place, whose one entry is that of entering

@@ -7,7 +7,7 @@ ghost use Rattle.tool_forms.specs.Sound.{IsSound};
 use crate::tag::TagState;
 use crate::turns::play_at;
 use chan_defs::Config;
-use etp_capture::Frame;
+use etp_capture::{Frame, kinds};
 use etp_values::{Copied, NoMemory};
 use session_core::steps;
 use std::alloc::Global;
@@ -61,7 +61,10 @@ impl Player {
         ensures played { IfOk result (λ refused. Plays refused self.old frame.now self.new into.old.items into.new.items) }
         ensures sound { OnOk result (IsSound self.new) }
     {
-        if frame.kind == 17 || frame.kind == 19 || has_ended(&self.tags, frame.tag) {
+        if frame.kind == kinds::OUT
+            || frame.kind == kinds::ENDED
+            || has_ended(&self.tags, frame.tag)
+        {
             return Ok(true);
         }
         // These are for the proof alone: what the tags' sessions know stays right, and no entry is of the number that the

@@ -14,7 +14,7 @@ ghost use Rattle.tool_forms.specs.Sound.{FitsOpen, FitsTag};
 
 use crate::tag::{Ending, OpenSession, TagState};
 use chan_defs::Config;
-use etp_capture::{Frame, push_frame};
+use etp_capture::{Frame, kinds, push_frame};
 use etp_values::{Blob, Boxed, Copied, NoMemory};
 use session_core::{End, Session, steps};
 use std::alloc::Global;
@@ -94,7 +94,7 @@ fn play_open(
     ensures config { store.new.config ≡ store.old.config }
     ensures effect { IfOk result (λ state. Meets (effect_open store.old.config store.old.journal open_session frame.now) state store.new.journal into.old.items into.new.items) }
 {
-    if frame.kind == 3 {
+    if frame.kind == kinds::END {
         push_end(alloc, into, frame, Ending::PeerEnd)?;
         return Ok(TagState::Ended);
     }
@@ -164,7 +164,7 @@ fn take_event(
     ensures state { OnOk result ((h : List Entry) → length h ≡ front → session.new ≡ (takes session.old (event_of h frame.now)).state) }
     ensures asks { IfOk result (λ call. IfSome call (Asks session.old)) }
 {
-    if frame.kind == 1 {
+    if frame.kind == kinds::IN {
         return session.take(alloc, frame.bytes.as_bytes(), frame.moment);
     }
     session.poll(alloc, front)
@@ -174,7 +174,11 @@ fn take_event(
 fn moment_of(frame: &Frame) -> i64
     ensures { (h : List Entry) → result ≡ moment_of (event_of h frame.now) }
 {
-    if frame.kind == 1 { frame.moment } else { 0 }
+    if frame.kind == kinds::IN {
+        frame.moment
+    } else {
+        0
+    }
 }
 
 /// The store's answer to a call.
@@ -206,7 +210,7 @@ fn send_all(
     ensures state { OnOk result (session.new ≡ drained session.old) }
 {
     while let Some(message) = session.next_out(alloc)? {
-        push_answer(into, 17, frame, message)?;
+        push_answer(into, kinds::OUT, frame, message)?;
     }
     Ok(())
 }
@@ -216,7 +220,7 @@ fn push_end(alloc: Global, into: &mut Vec<u8>, frame: &Frame, why: Ending) -> Re
     ensures { OnOk result (into.new.items ≡ into.old.items ++ frame_bytes (end_frame frame.now why)) }
 {
     let payload = ending_bytes(alloc, why)?;
-    push_answer(into, 19, frame, payload)
+    push_answer(into, kinds::ENDED, frame, payload)
 }
 
 /// A frame of the same session and moment.
