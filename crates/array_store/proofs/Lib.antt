@@ -1,3 +1,4 @@
+pub mod Applying
 pub mod Counts
 pub mod Keys
 pub mod Rows

@@ -1,4 +1,6 @@
 pub mod Arrays
+pub mod Codes
+pub mod Operations
 pub mod Refusals
 pub mod Region
 pub mod Shape

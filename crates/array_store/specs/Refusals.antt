@@ -68,6 +68,13 @@ first_refusal (Some e) later = Some e
 abbrev pub patch_refusal : ArrayRecord → List ℤ → List ℤ → AnyArray → Option ArrayError
 patch_refusal r ss cs values = first_refusal (region_refusal r.dims ss cs) (first_refusal (values_refusal r.values cs values) (weight_refusal (patch_of (sizes r.dims) (sizes ss) (sizes cs) r.values values)))
 
+-- why a slice of a record is refused, and why a patch is: what is no array has neither
+abbrev pub slice_refusal : ArrayRecord → List ℤ → List ℤ → Option ArrayError
+slice_refusal r ss cs = first_refusal (record_refusal r) (region_refusal r.dims ss cs)
+
+abbrev pub write_refusal : ArrayRecord → List ℤ → List ℤ → AnyArray → Option ArrayError
+write_refusal r ss cs values = first_refusal (record_refusal r) (patch_refusal r ss cs values)
+
 -- a call is done where it is not refused, and else answers the refusal; where it is not refused it can only want memory
 abbrev pub Refuses : {X : Type 0} → Result X ArrayError → Option ArrayError → Type 0
 Refuses result refusal = MatchResult result (λ _. refusal ≡ None) (λ e. e ≡ unwrap_or refusal NoMemory)

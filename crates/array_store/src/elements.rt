@@ -72,10 +72,11 @@ pub(crate) fn are_too_large(texts: &[Text]) -> bool
 pub(crate) fn is_same_kind(left: &AnyArray, right: &AnyArray) -> bool
     ensures { result ≡ is_same_kind left.now right.now }
 {
-    kind(left) == kind(right)
+    array_kind(left) == array_kind(right)
 }
 
-fn kind(values: &AnyArray) -> u32
+/// The place of an array's kind among the kinds: 0 for booleans, then ints, longs, floats, doubles, texts, and 6 for bytes.
+pub fn array_kind(values: &AnyArray) -> u32
     ensures { result ≡ kind values.now }
 {
     match values {

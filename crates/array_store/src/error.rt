@@ -1,5 +1,8 @@
 //! Why an array is refused.
-use etp_values::NoMemory;
+ghost use Rattle.std.specs.Prelude.{◌≡◌};
+ghost use Rattle.array_store.specs.Codes.{code_of};
+
+use etp_values::{ErrorCode, NoMemory};
 use thiserror::Error;
 
 /// Why an array, a region or values are refused. The variants stand in the order in which they are tested.
@@ -23,6 +26,23 @@ pub enum ArrayError {
     /// Memory was refused.
     #[error("out of memory")]
     NoMemory,
+}
+
+impl ArrayError {
+    /// The code by which a request for such an array, region or patch is refused. Want of memory is no refusal, and has a
+    /// code only so that each error has one.
+    pub fn code(self) -> ErrorCode
+        ensures { result ≡ code_of self }
+    {
+        match self {
+            ArrayError::Rank => ErrorCode::InvalidArgument,
+            ArrayError::Outside => ErrorCode::InvalidArgument,
+            ArrayError::Kind => ErrorCode::InvalidArgument,
+            ArrayError::Count => ErrorCode::InvalidArgument,
+            ArrayError::TooLarge => ErrorCode::SizeExceeded,
+            ArrayError::NoMemory => ErrorCode::InvalidArgument,
+        }
+    }
 }
 
 impl From<NoMemory> for ArrayError {

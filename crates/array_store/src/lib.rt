@@ -4,14 +4,16 @@
 //! dimensions that tell where each stands. A region of an array is read by [`ArrayStore::slice`] and written in place by
 //! [`ArrayStore::patch`]. [`dims`] tells how many elements given dimensions have, and whether an array may have them.
 //!
-//! [`ArrayStore::reserve`] takes the memory for further keys, so that whoever changes several tables at once can take all
-//! memory first.
+//! [`ArrayStore::reserve`] takes the memory for further keys, and [`ArrayStore::apply`] then does a list of [`ArrayOp`]s and
+//! can't fail. So whoever changes several tables at once can take all memory first. A record that stands in no store is read
+//! by [`read_slice`], written by [`write_patch`], and judged by [`record_refusal`].
 #![tactic(auto)]
 
 mod element;
 mod elements;
 mod error;
 mod key;
+mod op;
 mod patch;
 mod record;
 mod refusals;
@@ -21,9 +23,12 @@ mod store;
 mod table;
 mod window;
 
-pub use elements::{MAX_BYTES, array_bytes, element_count};
+pub use elements::{MAX_BYTES, array_bytes, array_kind, element_count};
 pub use error::ArrayError;
 pub use key::ArrayKey;
+pub use op::ArrayOp;
+pub use patch::{read_slice, write_patch};
 pub use record::ArrayRecord;
+pub use refusals::record_refusal;
 pub use shape::{MAX_ELEMENTS, MAX_RANK, dims};
 pub use store::ArrayStore;

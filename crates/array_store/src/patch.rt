@@ -2,16 +2,54 @@
 ghost use Rattle.std.specs.Prelude.{◌≡◌, Err, None, IfOk, OnOk, OnErr, true};
 ghost use Rattle.array_store.specs.Shape.{sizes};
 ghost use Rattle.array_store.specs.Arrays.{slice_of, is_bytes};
-ghost use Rattle.array_store.specs.Refusals.{record_refusal, region_refusal, patch_refusal, Refuses};
+ghost use Rattle.array_store.specs.Refusals.{record_refusal, region_refusal, patch_refusal, slice_refusal, write_refusal, Refuses};
 ghost use Rattle.array_store.specs.Table.{patch_array};
 
 use crate::error::ArrayError;
 use crate::record::ArrayRecord;
-use crate::refusals::{region_refusal, values_refusal};
+use crate::refusals::{record_refusal, region_refusal, values_refusal};
 use crate::window::{patch_values, slice_values};
-use etp_values::{AnyArray, Blob};
+use etp_values::{AnyArray, Blob, List};
 use std::alloc::Global;
 use std::mem;
+
+/// The elements of a region of any record, in row-major order.
+pub fn read_slice(
+    alloc: Global,
+    array: &ArrayRecord,
+    starts: &List<i64>,
+    counts: &List<i64>,
+) -> Result<AnyArray, ArrayError>
+    ensures done { Refuses result (slice_refusal array.now starts.now counts.now) }
+    ensures ok { IfOk result (λ r.
+        r ≡ slice_of (sizes array.now.dims) (sizes starts.now) (sizes counts.now) array.now.values) }
+{
+    if let Some(error) = record_refusal(array) {
+        return Err(error);
+    }
+    slice_record(alloc, array, starts.as_slice(), counts.as_slice())
+}
+
+/// Moves values into a region of any record. Only a patch of bytes takes memory, since others may read the bytes of a
+/// [`Blob`].
+pub fn write_patch(
+    alloc: Global,
+    array: &mut ArrayRecord,
+    starts: &List<i64>,
+    counts: &List<i64>,
+    values: AnyArray,
+) -> Result<(), ArrayError>
+    ensures done { Refuses result (write_refusal array.old starts.now counts.now values) }
+    ensures ok { OnOk result (array.new ≡ patch_array array.old starts.now counts.now values) }
+    ensures err { OnErr result (array.new ≡ array.old) }
+    ensures sound { OnOk result (record_refusal array.new ≡ None) }
+    ensures memory { result ≡ Err ArrayError.NoMemory → is_bytes array.old.values ≡ true }
+{
+    if let Some(error) = record_refusal(array) {
+        return Err(error);
+    }
+    patch_record(alloc, array, starts.as_slice(), counts.as_slice(), values)
+}
 
 /// The elements of a region.
 pub(crate) fn slice_record(

@@ -9,8 +9,8 @@ use crate::region::is_region;
 use crate::shape::{dims, volume};
 use etp_values::AnyArray;
 
-/// Why a record is no array.
-pub(crate) fn record_refusal(array: &ArrayRecord) -> Option<ArrayError>
+/// Why a record is no array, and a store refuses to put it.
+pub fn record_refusal(array: &ArrayRecord) -> Option<ArrayError>
     ensures { result ≡ record_refusal array.now }
 {
     match dims(&array.dims, Some(element_count(&array.values) as u64)) {

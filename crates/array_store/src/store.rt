@@ -1,9 +1,10 @@
 //! The store of arrays.
-ghost use Rattle.std.specs.Prelude.{◌≡◌, ◌<◌, ◌+◌, ◌≤◌, [], Err, None, IsSome, IsOk, IfOk, IfSome, OnOk, OnErr, true};
+ghost use Rattle.std.specs.Prelude.{◌≡◌, ◌<◌, ◌+◌, ◌≤◌, ◌∷◌, [], Err, None, IsSome, IsOk, IfOk, IfSome, OnOk, OnErr, true, length};
 ghost use Rattle.std.specs.Option.{option_copied};
 
 use crate::error::ArrayError;
 use crate::key::ArrayKey;
+use crate::op::ArrayOp;
 use crate::patch::slice_record;
 use crate::record::ArrayRecord;
 use crate::refusals::record_refusal;
@@ -35,6 +36,7 @@ impl ArrayStore {
     ghost use Rattle.array_store.specs.Arrays.{slice_of, is_bytes};
     ghost use Rattle.array_store.specs.Refusals.{record_refusal, region_refusal, patch_refusal, Refuses};
     ghost use Rattle.array_store.specs.Table.{array_in, put_array, patch_array, rewritten, Sets, Drops, is_of_object, is_in_space, how_many};
+    ghost use Rattle.array_store.specs.Operations.{Applies};
 
     /// A store without arrays.
     pub fn new(alloc: Global) -> ArrayStore
@@ -157,5 +159,35 @@ impl ArrayStore {
         ensures room { self.old.spare ≤ self.new.spare }
     {
         drop_space(&mut self.arrays, path)
+    }
+
+    /// Does one operation.
+    fn apply_one(&mut self, op: ArrayOp)
+        requires { 0 < self.old.spare }
+        ensures each { Applies (op ∷ []) self.old self.new }
+        ensures room { self.old.spare ≤ self.new.spare + 1 }
+    {
+        match op {
+            ArrayOp::SetArray(key, array) => {
+                let _ = self.put(key, array);
+            }
+            ArrayOp::DropArraysOf(uri) => {
+                self.drop_object(&uri);
+            }
+            ArrayOp::DropArraysIn(path) => {
+                self.drop_space(&path);
+            }
+        }
+    }
+
+    /// Does these operations in order. It takes no memory.
+    pub fn apply(&mut self, ops: List<ArrayOp>)
+        requires { length ops ≤ self.old.spare }
+        ensures each { Applies ops self.old self.new }
+        ensures room { self.old.spare ≤ self.new.spare + length ops }
+    {
+        for op in ops.into_vec() {
+            self.apply_one(op);
+        }
     }
 }
