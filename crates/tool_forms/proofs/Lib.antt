@@ -4,5 +4,4 @@ pub mod Growth
 pub mod TagRunLemmas
 pub mod Soundness
 pub mod Entering
-pub mod TooLong
 pub mod Telling

@@ -1,6 +1,5 @@
 pub mod Words
 pub mod Commands
-pub mod Settings
 pub mod Turns
 pub mod Play
 pub mod Plays

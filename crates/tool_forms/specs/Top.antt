@@ -6,7 +6,7 @@ use Rattle.etp_outside.specs.declared.status.Status.TheVariants.{Usage, NoMemory
 use Rattle.chan_defs.specs.Config.{defs}
 use Rattle.chan_defs.specs.declared.config.Config.{Config as Settings}
 use Rattle.tool_forms.specs.Words.{Command, Replay, Show, Check}
-use Rattle.tool_forms.specs.Settings.{IsNoConfig}
+use Rattle.config_file.specs.Settings.{IsNoConfig}
 use Rattle.capture_run.specs.Running.{Stream, Ran}
 use Rattle.tool_forms.specs.Replay.{replay_plan}
 use Rattle.capture_listing.specs.Listing.{show_plan, check_plan}

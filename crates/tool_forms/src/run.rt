@@ -4,7 +4,6 @@ ghost use Rattle.etp_outside.specs.Faults.{Rose};
 ghost use Rattle.etp_outside.specs.declared.status.Status.TheVariants.{Usage, ReadFault, WriteFault, NoMemory};
 ghost use Rattle.tool_forms.specs.Words.{command_in};
 ghost use Rattle.tool_forms.specs.Commands.{as_command};
-ghost use Rattle.tool_forms.specs.Settings.{refusal_status, unread_status, IsConfig};
 ghost use Rattle.capture_run.specs.Running.{between};
 ghost use Rattle.tool_forms.specs.Top.{Answers, Fulfils, ReplaysWith};
 
@@ -12,27 +11,10 @@ use crate::command::{Command, command_of};
 use crate::replay::Replay;
 use capture_listing::{Check, Show};
 use capture_run::run_form;
-use chan_defs::{Config, DefsError, MAX_DEFS_LEN, read_defs};
 use command_words::words_of;
-use etp_outside::{Host, Opened, Sink, Source, Status, Unread, read_all};
+use config_file::read_config;
+use etp_outside::{Host, Sink, Source, Status};
 use std::alloc::Global;
-
-/// Why a configuration is refused, by the number that its status has.
-mod causes {
-    pub const TOO_LONG: u8 = 1;
-
-    pub const TOML: u8 = 2;
-
-    pub const KEY: u8 = 3;
-
-    pub const TOO_MANY: u8 = 4;
-
-    pub const URI: u8 = 5;
-
-    pub const KIND: u8 = 6;
-
-    pub const DOUBLE_URI: u8 = 7;
-}
 
 /// Does what the words say, and answers how that ended. The forms are:
 ///
@@ -104,70 +86,5 @@ fn replay_with<H: Host, R: Source, W: Sink>(
     match Replay::new(alloc, config) {
         Ok(replay) => run_form(alloc, replay, input, out),
         Err(_) => Status::NoMemory,
-    }
-}
-
-/// The configuration that a file of the host has, or the status that says why there is none.
-fn read_config<H: Host>(alloc: Global, host: &mut H, name: &str) -> Result<Config, Status>
-    ensures config { IsConfig result (H.content host.old name.now) }
-    ensures cause { result ≡ Err ReadFault → Rose (H.faults host.old) (H.faults host.new) }
-{
-    let mut file = match host.open(alloc, name) {
-        Opened::File(file) => file,
-        Opened::Failed => return Err(Status::ReadFault),
-        Opened::NoMemory => return Err(Status::NoMemory),
-    };
-    let all = read_all(alloc, &mut file, MAX_DEFS_LEN);
-    host.close(file);
-    match all {
-        Ok(bytes) => config_in(alloc, bytes.as_slice()),
-        Err(error) => Err(unread_status(error)),
-    }
-}
-
-/// The status of a configuration that was not read whole.
-fn unread_status(error: Unread) -> Status
-    ensures { result ≡ unread_status error }
-{
-    match error {
-        Unread::TooLong => refusal_status(DefsError::TooLong),
-        Unread::Failed => Status::ReadFault,
-        Unread::NoMemory => Status::NoMemory,
-    }
-}
-
-fn config_in(alloc: Global, bytes: &[u8]) -> Result<Config, Status>
-    ensures config { IsConfig result (Some bytes.now) }
-    ensures cause { result ≢ Err ReadFault }
-{
-    match read_defs(alloc, bytes) {
-        Ok(config) => Ok(config),
-        Err(error) => Err(refusal_status(error)),
-    }
-}
-
-/// The status of a configuration's refusal.
-fn refusal_status(error: DefsError) -> Status
-    ensures { result ≡ refusal_status error }
-{
-    match error {
-        DefsError::TooLong => config_refused(causes::TOO_LONG, 0, 0),
-        DefsError::Toml => config_refused(causes::TOML, 0, 0),
-        DefsError::Key { channel, key } => config_refused(causes::KEY, channel, key),
-        DefsError::TooMany => config_refused(causes::TOO_MANY, 0, 0),
-        DefsError::Uri { channel } => config_refused(causes::URI, channel, 0),
-        DefsError::Kind { channel } => config_refused(causes::KIND, channel, 0),
-        DefsError::DoubleUri { channel } => config_refused(causes::DOUBLE_URI, channel, 0),
-        DefsError::NoMemory => Status::NoMemory,
-    }
-}
-
-fn config_refused(cause: u8, channel: u64, key: u8) -> Status
-    ensures { result ≡ Status.Config cause channel key }
-{
-    Status::Config {
-        cause,
-        channel,
-        key,
     }
 }

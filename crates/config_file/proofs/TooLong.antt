@@ -11,7 +11,7 @@ use Rattle.etp_outside.specs.Whole.{ReadsPart}
 use Rattle.etp_outside.specs.declared.whole.Unread.{Unread}
 use Rattle.etp_outside.specs.declared.whole.Unread.TheVariants.{TooLong, Failed, NoMemory}
 use Rattle.etp_outside.specs.declared.status.Status.{Status}
-use Rattle.tool_forms.specs.Settings.{refusal_status, unread_status, IsNoConfig}
+use Rattle.config_file.specs.Settings.{refusal_status, unread_status, IsNoConfig}
 
 is_long : (b : List ℕ) → 1048576 < length b → nat_lt 1048576 (length b) ≡ true
 is_long b long = grind (arith, nat_tests)
