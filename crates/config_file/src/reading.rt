@@ -1,5 +1,5 @@
 //! Reads the file of a name as a configuration.
-ghost use Rattle.std.specs.Prelude.{◌≡◌, ◌≢◌, Some, Err};
+ghost use Rattle.std.specs.Prelude.{◌≡◌, ◌≢◌, ◌≤◌, ℕ, List, Some, Err};
 ghost use Rattle.etp_outside.specs.Faults.{Rose};
 ghost use Rattle.etp_outside.specs.declared.status.Status.TheVariants.{ReadFault};
 ghost use Rattle.config_file.specs.Settings.{refusal_status, unread_status, IsConfig};
@@ -28,6 +28,8 @@ mod causes {
 /// The configuration that a file of the host has, or the status that says why there is none. The file is closed again.
 pub fn read_config<H: Host>(alloc: Global, host: &mut H, name: &str) -> Result<Config, Status>
     ensures config { IsConfig result (H.content host.old name.now) }
+    ensures same { (q : List ℕ) → H.content host.new q ≡ H.content host.old q }
+    ensures kept { H.faults host.old ≤ H.faults host.new }
     ensures cause { result ≡ Err ReadFault → Rose (H.faults host.old) (H.faults host.new) }
 {
     let mut file = match host.open(alloc, name) {

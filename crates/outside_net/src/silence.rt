@@ -1,0 +1,69 @@
+//! How long a peer may be silent.
+ghost use Rattle.std.specs.Prelude.{◌≡◌, ◌↔◌, ◌+◌, ◌<◌, ◌≤◌};
+ghost use Rattle.outside_net.specs.Silence.{lasts};
+
+/// After so many milliseconds in which nothing came the peer is sent a ping.
+pub const PING_AFTER: u64 = 30_000;
+
+/// After so many it counts as gone.
+pub const GONE_AFTER: u64 = 90_000;
+
+/// What a peer's silence calls for.
+#[derive(Clone, Copy, Debug, PartialEq, Eq)]
+pub enum Call {
+    Nothing,
+    Ping,
+    GiveUp,
+}
+
+/// A peer's silence: how many bytes had come when it began, and for how many milliseconds it has lasted. The time is the sum
+/// of the waits of reads, so that no clock is asked.
+#[derive(Clone, Copy, Debug)]
+pub struct Silence {
+    heard: u64,
+    lasted: u64,
+}
+
+impl Silence {
+    /// No silence yet.
+    pub fn new() -> Silence
+        ensures heard { result.heard ≡ 0 }
+        ensures lasted { result.lasted ≡ 0 }
+    {
+        Silence {
+            heard: 0,
+            lasted: 0,
+        }
+    }
+
+    /// After a read that waited so many milliseconds, when so many bytes have come in all. A ping is called for once in each
+    /// silence.
+    pub fn after(&mut self, heard: u64, wait: u64) -> Call
+        ensures heard { self.new.heard ≡ heard }
+        ensures lasted { self.new.lasted ≡ lasts self.old heard wait }
+        ensures gone { (result ≡ Call.GiveUp) ↔ (90000 ≤ self.new.lasted) }
+        ensures ping { (result ≡ Call.Ping) ↔ ((self.old.lasted < 30000) × (30000 ≤ self.new.lasted) × (self.new.lasted < 90000)) }
+    {
+        let before = self.lasted;
+        self.lasted = self.lasts(heard, wait);
+        self.heard = heard;
+        let lasted = self.lasted;
+        if lasted >= GONE_AFTER {
+            return Call::GiveUp;
+        }
+        if before < PING_AFTER && lasted >= PING_AFTER {
+            return Call::Ping;
+        }
+        Call::Nothing
+    }
+
+    fn lasts(&self, heard: u64, wait: u64) -> u64
+        ensures { result ≡ lasts self.now heard wait }
+    {
+        if heard == self.heard {
+            self.lasted.saturating_add(wait)
+        } else {
+            0
+        }
+    }
+}
