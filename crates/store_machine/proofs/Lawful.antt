@@ -1,6 +1,7 @@
 -- What a store keeps stays right through a further entry, and its journal legal.
 use Rattle.std.specs.Prelude.{ℕ, ℤ, pos, nat_lt, nat_le, Bool, true, false, List, [], ◌∷◌, ◌++◌, ◌≡◌, ◌+◌, ◌≤◌, ◌&&◌, Option, Some, None, length, filter, fold, map, refl, if◌then◌else◌}
 use Rattle.std.specs.List.{AllByRecursion}
+use Rattle.std.specs.Map.{values_of}
 use Rattle.std.proofs.lemmas.Bool.{false≢true}
 use Rattle.std.proofs.Common.{ap, sym, ◌∙◌, subst, append_assoc, append-nil, arith}
 use Rattle.chan_defs.specs.declared.config.Config.{Config}
@@ -16,11 +17,12 @@ use Rattle.etp_values.specs.declared.code.ErrorCode.TheVariants.{RequestDenied, 
 use Rattle.store_machine.specs.declared.call.Verdict.{Verdict}
 use Rattle.store_machine.specs.declared.call.Verdict.TheVariants.{Accepted, Refused}
 use Rattle.store_machine.specs.declared.call.Reply.TheVariants.{Spaces}
+use Rattle.store_machine.specs.declared.call.StoreCall.{StoreCall}
 use Rattle.store_machine.specs.declared.call.StoreCall.TheVariants as call
 use Rattle.store_machine.specs.Dataspaces.{is_newer}
 use Rattle.store_machine.specs.Counted.{counted_act, counted, is_room, bytes_with}
-use Rattle.store_machine.specs.Answers.{is_there, verdict, is_accepted, accepted, act_of, granted, has_room_for, entry, entered, answer}
-use Rattle.store_machine.specs.Legal.{IsNext, Follows, LegalFrom, Legal, door}
+use Rattle.store_machine.specs.Answers.{is_there, verdict, is_accepted, accepted, act_of, granted, has_room_for, entry, entered, entries_of, answer}
+use Rattle.store_machine.specs.Legal.{IsNext, MayAsk, Follows, LegalFrom, Legal, door}
 use Rattle.store_machine.specs.Kept.{Stands, Keeps, put_in, drop_in, put_record}
 use Rattle.store_machine.proofs.Values.{changes-push}
 use Rattle.store_machine.proofs.Standing.{stands-puts, stands-drops, stands-first, stands-is}
@@ -69,6 +71,42 @@ legal_from-push config earlier (x ∷ xs) e h f = (h.0, legal_from-push config (
 legal-push : (config : Config) (history : List Entry) (e : Entry) → Legal config history → Follows config history e → Legal config (history ++ e ∷ [])
 legal-push config [] e h f = absurd h
 legal-push config (x ∷ xs) e h f = (h.0, legal_from-push config (x ∷ []) xs e h.1 f)
+
+-- ---- the entry of a call
+
+-- an entry, where there is room for one that follows
+legal-one : (config : Config) (history : List Entry) (e : Entry) (room : Bool) → Legal config history → (room ≡ true → Follows config history e) → Legal config (history ++ (if room then e ∷ [] else []))
+legal-one config history e true legal follows = legal-push config history e legal (follows refl)
+legal-one config history e false legal follows = subst (Legal config) (sym (append-nil history)) legal
+
+-- the entry of the accepted items, where there are any
+legal-puts : (config : Config) (history : List Entry) (by nth : ℕ) (at : ℤ) (asked puts : List SpacePut) → Legal config history → IsNext history by nth
+    → puts ≡ accepted (set_space (pos 0)) (changes_of history) asked → Legal config (history ++ entered config history by nth at (act_of PutSpaces puts))
+legal-puts config history by nth at asked [] legal next same = subst (Legal config) (sym (append-nil history)) legal
+legal-puts config history by nth at asked (p ∷ ps) legal next same =
+    legal-one config history (record { by = by; nth = nth; at = at; act = PutSpaces (p ∷ ps) }) (has_room_for config history (PutSpaces (p ∷ ps))) legal
+    (λ room. record { same = ap (entered config history by nth at) again ∙ ap (λ b. if b then record { by = by; nth = nth; at = at; act = PutSpaces (p ∷ ps) } ∷ [] else []) room; may = next })
+  where
+    again : granted config history (PutSpaces (p ∷ ps)) ≡ PutSpaces (p ∷ ps) ∷ []
+    again = ap (act_of PutSpaces) (ap (accepted (set_space (pos 0)) (changes_of history)) same ∙ accepted-again (set_space (pos 0)) (changes_of history) asked ∙ sym same)
+
+legal-drops : (config : Config) (history : List Entry) (by nth : ℕ) (at : ℤ) (asked paths : List (List ℕ)) → Legal config history → IsNext history by nth
+    → paths ≡ accepted DropSpace (changes_of history) asked → Legal config (history ++ entered config history by nth at (act_of DropSpaces paths))
+legal-drops config history by nth at asked [] legal next same = subst (Legal config) (sym (append-nil history)) legal
+legal-drops config history by nth at asked (p ∷ ps) legal next same =
+    legal-one config history (record { by = by; nth = nth; at = at; act = DropSpaces (p ∷ ps) }) (has_room_for config history (DropSpaces (p ∷ ps))) legal
+    (λ room. record { same = ap (entered config history by nth at) again ∙ ap (λ b. if b then record { by = by; nth = nth; at = at; act = DropSpaces (p ∷ ps) } ∷ [] else []) room; may = next })
+  where
+    again : granted config history (DropSpaces (p ∷ ps)) ≡ DropSpaces (p ∷ ps) ∷ []
+    again = ap (act_of DropSpaces) (ap (accepted DropSpace (changes_of history)) same ∙ accepted-again DropSpace (changes_of history) asked ∙ sym same)
+
+pub legal-call : (config : Config) (history : List Entry) (by nth : ℕ) (at : ℤ) (c : StoreCall) → Legal config history → MayAsk history by nth c → Legal config (history ++ entries_of config history by nth at c)
+legal-call config history by nth at call.Enter legal may =
+    let e : Entry = entry history by nth at Enter in
+    legal-one config history e (has_room_for config history Enter) legal (λ room. record { same = ap (λ b. if b then e ∷ [] else []) room; may = tt })
+legal-call config history by nth at (call.Spaces newer) legal may = subst (Legal config) (sym (append-nil history)) legal
+legal-call config history by nth at (call.PutSpaces items) legal may = legal-puts config history by nth at (values_of items) (accepted (set_space (pos 0)) (changes_of history) (values_of items)) legal may refl
+legal-call config history by nth at (call.DropSpaces items) legal may = legal-drops config history by nth at (values_of items) (accepted DropSpace (changes_of history) (values_of items)) legal may refl
 
 -- ---- counted bytes
 

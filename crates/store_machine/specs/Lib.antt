@@ -5,3 +5,4 @@ pub mod Answers
 pub mod Legal
 pub mod Kept
 pub mod Laws
+pub mod Growth

@@ -3,6 +3,7 @@ ghost use Rattle.store_machine.specs.Laws.{ChangesLeaveOthers, EntriesLeaveOther
 ghost use Rattle.store_machine.specs.Laws.{DoorIsSession, NumbersStay, NextNumberIsFresh, EntersAreEnter};
 ghost use Rattle.store_machine.specs.Laws.{EntriesAreTheSessions, NextMayAsk, CallsStay, CallsAddOne};
 ghost use Rattle.store_machine.specs.Laws.{FullStaysFull};
+ghost use Rattle.store_machine.specs.Growth.{CallsKeepLegal};
 
 /// The value of a key depends on the changes that alter it alone, and that of the default dataspace on none. A table of
 /// dataspaces that does what the changes say has their values.
@@ -29,4 +30,9 @@ pub fn number_laws()
 /// A full journal stays full.
 pub fn room_laws()
     ensures full { FullStaysFull }
+{}
+
+/// A journal stays legal with what the call adds of someone who may make it.
+pub fn growth_laws()
+    ensures legal { CallsKeepLegal }
 {}

@@ -19,5 +19,5 @@ mod tests;
 pub use call::{Answer, Reply, SpacePut, StoreCall, Verdict};
 pub use counted::MAX_JOURNAL_BYTES;
 pub use journal::{Act, Entry};
-pub use laws::{number_laws, room_laws, state_laws};
+pub use laws::{growth_laws, number_laws, room_laws, state_laws};
 pub use store::Store;
