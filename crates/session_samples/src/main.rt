@@ -100,13 +100,11 @@ fn finish(
     }
 }
 
-#[tactic(auto, using(crate::proofs::CallLemmas::is_call))]
 fn take(alloc: Global, player: &mut Player, moment: i64, bytes: &[u8]) -> Result<(), NoMemory> {
     let call = player.session.take(alloc, bytes, moment)?;
     finish(alloc, player, moment, call)
 }
 
-#[tactic(auto, using(crate::proofs::CallLemmas::is_call))]
 fn poll(alloc: Global, player: &mut Player) -> Result<(), NoMemory> {
     let call = player.session.poll(alloc, 0)?;
     finish(alloc, player, 0, call)
