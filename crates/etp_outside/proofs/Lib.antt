@@ -1,3 +1,5 @@
 pub mod Parts
 pub mod ToldLemmas
 pub mod Decimals
+pub mod StepLemmas
+pub mod LinkLemmas

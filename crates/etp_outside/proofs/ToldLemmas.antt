@@ -15,3 +15,8 @@ told_trans None b c P Q R f p q = tt
 told_trans (Some x) None c P Q R f p q = absurd p
 told_trans (Some x) (Some y) None P Q R f p q = absurd q
 told_trans (Some x) (Some y) (Some z) P Q R f p q = f x y z p q
+
+-- no step
+pub told_self : {X : Type 0} (a : Option X) (P : X → X → Type 0) → ((x : X) → P x x) → Told a a P
+told_self None P f = tt
+told_self (Some x) P f = f x

@@ -1,5 +1,5 @@
 -- The calls of an object in memory.
-use Rattle.std.specs.Prelude.{ℕ, List, Bool, true, false, ◌==◌, if◌then◌else◌}
+use Rattle.std.specs.Prelude.{ℕ, List, Bool, ◌==◌, if◌then◌else◌}
 use Rattle.std.specs.List.{list_any}
 use Rattle.etp_outside.specs.Faults.{next_count}
 use Rattle.etp_outside.specs.declared.script.Script.{Script}

@@ -1,5 +1,5 @@
 -- What a host in memory is.
-use Rattle.std.specs.Prelude.{ℕ, List}
+use Rattle.std.specs.Prelude.{List}
 use Rattle.etp_outside.specs.declared.mem_host.MemFile.{MemFile}
 use Rattle.etp_outside.specs.declared.script.Script.{Script}
 

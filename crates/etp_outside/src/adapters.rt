@@ -1,13 +1,15 @@
-//! The system's files and streams. They are the trusted edge: what a file or a stream has, no clause says.
-ghost use Rattle.std.specs.Prelude.{◌≡◌, None};
+//! The system's files, streams and clock. They are the trusted edge: what a file or a stream has, and what time it is, no
+//! clause says.
+ghost use Rattle.std.specs.Prelude.{◌≡◌, None, true, refl};
 
+use crate::clock::Clock;
 use crate::host::{Host, Opened};
 use crate::sink::{Sink, WriteOutcome};
 use crate::source::{ReadOutcome, Source};
 use std::alloc::Global;
-use std::fs;
 use std::io::{ErrorKind, Read, Write};
 use std::rt::Files;
+use std::{fs, time};
 
 /// How often a call that a signal interrupts is made, before the interruption counts as a fault.
 const TRIES: u32 = 64;
@@ -132,6 +134,44 @@ impl<'a, R: Files> Host for DirHost<'a, R> {
     fn close(&mut self, file: StdSource<R::File>) {
         if file.faults > 0 {
             self.faults = self.faults.saturating_add(1);
+        }
+    }
+}
+
+/// The system's clock. It tells proofs nothing.
+#[derive(Drop)]
+pub struct WallClock<'a, R> {
+    rt: &'a R,
+    last: i64,
+}
+
+impl<'a, R: time::Clock> WallClock<'a, R> {
+    /// A clock that told nothing yet. Until the system's clock can be read it tells the moment 0.
+    pub fn new(rt: &'a R) -> WallClock<'a, R> {
+        WallClock { rt, last: 0 }
+    }
+}
+
+impl<'a, R: time::Clock + Sync> Clock for WallClock<'a, R> {
+    ghost told = { λ c. None };
+
+    ghost passes = { λ c moments. true };
+
+    ghost tested = { λ c moments. refl };
+
+    fn now(&mut self) -> i64 {
+        if let Ok(since) = self.rt.since_1970() {
+            if let Ok(moment) = i64::try_from(since.as_micros()) {
+                self.last = moment;
+            }
+        }
+        self.last
+    }
+
+    fn another(&self) -> WallClock<'a, R> {
+        WallClock {
+            rt: self.rt,
+            last: 0,
         }
     }
 }

@@ -1,35 +1,55 @@
-//! What a program meets outside itself: bytes that come, bytes that go, files by name, and the status it ends with.
+//! What a program meets outside itself: bytes that come, bytes that go, files by name, peers, the time, and the status it
+//! ends with.
 //!
-//! [`Source`], [`Sink`] and [`Host`] are traits, so that everything above them is proved over any outside. Each has a
-//! content in ghost form, which the forms in memory tell and the system's files and streams do not, and a count of its
-//! faults. The count never falls, and an answer `Failed` comes only in a call in which it rose: code that is generic over
-//! these traits cannot make up a fault.
+//! [`Source`], [`Sink`], [`Host`], [`Link`] and [`Listener`] are traits, so that everything above them is proved over any
+//! outside. Each has a content in ghost form, which the forms in memory tell and the system's files, streams and sockets do
+//! not, and a count of its faults. The count never falls, and an answer `Failed` comes only in a call in which it rose: code
+//! that is generic over these traits cannot make up a fault. A [`Clock`] may tell its moments, and a [`Gate`] is where a test
+//! holds a session up.
 //!
-//! [`MemSource`], [`MemSink`] and [`MemHost`] are the forms in memory, which fail at the calls that a list names.
-//! [`StdSource`], [`StdSink`] and [`DirHost`] are the adapters over the system, the trusted edge. [`fill`], [`write_all`]
-//! and [`read_all`] make whole buffers and files of single reads and writes. [`Status`] is what a program ends with.
+//! [`MemSource`], [`MemSink`], [`MemHost`], [`MemLink`] and [`MemDoor`] are the forms in memory, which fail at the calls that a
+//! list names; [`StepClock`] tells moments one step apart, and [`NoGate`] is always open. [`StdSource`], [`StdSink`],
+//! [`DirHost`] and [`WallClock`] are the adapters over the system, the trusted edge. [`fill`], [`write_all`] and [`read_all`]
+//! make whole buffers and files of single reads and writes. [`Status`] is what a program ends with.
 #![tactic(auto)]
 
 mod adapters;
+mod clock;
+mod gate;
 mod host;
+mod link;
+mod listener;
+mod mem_door;
 mod mem_host;
+mod mem_link;
 mod mem_sink;
 mod mem_source;
 mod script;
 mod sink;
 mod source;
 mod status;
+mod step_clock;
+mod tally;
 mod whole;
 
-pub use adapters::{DirHost, StdSink, StdSource};
+pub use adapters::{DirHost, StdSink, StdSource, WallClock};
+pub use clock::Clock;
+pub use gate::{Gate, NoGate};
 pub use host::{Host, Opened};
+pub use link::{Address, Item, Link, Recv, Sent};
+pub use listener::{Listened, Listener, Next};
+pub use mem_door::{MemDoor, Returned};
 pub use mem_host::{MemFile, MemHost};
+pub use mem_link::MemLink;
 pub use mem_sink::MemSink;
 pub use mem_source::MemSource;
 pub use sink::{Sink, WriteOutcome};
 pub use source::{ReadOutcome, Source};
 pub use status::{Status, one_numeral};
+pub use step_clock::StepClock;
 pub use whole::{Filled, Unread, Written, fill, read_all, write_all};
 
+#[cfg(test)]
+mod peer_tests;
 #[cfg(test)]
 mod tests;

@@ -26,6 +26,14 @@ impl Script {
         }
     }
 
+    /// Begins anew: as when no call was made.
+    pub(crate) fn renew(&mut self)
+        ensures { self.new ≡ new_script self.old.fails }
+    {
+        self.made = 0;
+        self.faults = 0;
+    }
+
     /// Whether the next call fails.
     pub(crate) fn fails_next(&self) -> bool
         ensures { result ≡ fails_next self.now }

@@ -1,4 +1,4 @@
-use Rattle.std.proofs.Common.{◌≡◌, ◌≤◌, ◌+◌, ◌∙◌, arith, drop, length, slice_range, ap, sym}
+use Rattle.std.proofs.Common.{◌≤◌, ◌+◌, ◌∙◌, arith, drop, length, slice_range, ap, sym}
 use Rattle.etp_outside.specs.Input.{Input}
 use Rattle.etp_outside.proofs.Parts.{read_part}
 use Rattle.etp_outside.proofs.mem_source.MemSourceSource.read.Goals as goal

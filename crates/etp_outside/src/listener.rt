@@ -1,0 +1,79 @@
+//! Where links come from.
+ghost use Rattle.std.specs.Prelude.{◌≡◌, ◌+◌, ◌≤◌, ◌||◌, ℕ, Bool, List, IfSome, IsSome, length};
+ghost use Rattle.std.specs.declared.option.Option.{Option};
+ghost use Rattle.etp_outside.specs.Faults.{Rose};
+ghost use Rattle.etp_outside.specs.Told.{Told};
+ghost use Rattle.etp_outside.specs.Doors.{Back, IfLink, IsAccepted, TakesBack, back_of, is_stop, links};
+
+use crate::link::Link;
+use std::alloc::Global;
+
+/// What listening gave.
+#[derive(Clone, Copy, Debug, PartialEq, Eq)]
+pub enum Listened {
+    /// Links can come.
+    Done,
+    /// The listener failed, or the address is none that it can listen at.
+    Failed,
+}
+
+/// What waiting for a link gave.
+#[derive(Debug, Drop)]
+pub enum Next<L> {
+    /// A link over which nothing came or went yet.
+    Link(L),
+    /// No further link comes.
+    Stop,
+    /// The listener failed.
+    Failed,
+    /// Memory was refused.
+    NoMemory,
+}
+
+/// Where peers connect. Whoever takes a link from it hands it back when it is done with.
+pub trait Listener {
+    /// A link that was accepted.
+    type Link: Link;
+
+    /// How often it failed. A count at the greatest `u64` stays there.
+    ghost faults: { Self → ℕ };
+
+    /// How many links it gave.
+    ghost given: { Self → ℕ };
+
+    /// Whether it has said that no further link comes.
+    ghost stopped: { Self → Bool };
+
+    /// The links that it took back, where it tells them.
+    ghost backs: { Self → Option (List Back) };
+
+    /// Begins to listen at an address.
+    fn listen(&mut self, address: &str) -> Listened
+        ensures given { given self.new ≡ given self.old }
+        ensures stopped { stopped self.new ≡ stopped self.old }
+        ensures backs { backs self.new ≡ backs self.old }
+        ensures kept { faults self.old ≤ faults self.new }
+        ensures cause { result ≡ Listened.Failed → Rose (faults self.old) (faults self.new) };
+
+    /// The next link. It stops before it has given more than a `u64` counts.
+    fn next(&mut self, alloc: Global) -> Next<Self::Link>
+        ensures link { IfLink result (λ l. IsAccepted (Self.Link.talk l) (Self.Link.faults l) (Self.Link.ended l)) }
+        ensures tells { IfLink result (λ l. IsSome (backs self.new) → IsSome (Self.Link.talk l)) }
+        ensures given { given self.new ≡ given self.old + links result }
+        ensures stopped { stopped self.new ≡ (stopped self.old || is_stop result) }
+        ensures backs { backs self.new ≡ backs self.old }
+        ensures kept { faults self.old ≤ faults self.new }
+        ensures cause { result ≡ Next.Failed → Rose (faults self.old) (faults self.new) };
+
+    /// Takes a link back, with the number of its session and how that ended. Where as many came back as it gave, a
+    /// further one is none of its own.
+    fn back(&mut self, link: Self::Link, number: u64, end: u8)
+        ensures back { Told (backs self.old) (backs self.new) (TakesBack (given self.old)
+            (back_of number end (Self.Link.faults link) (Self.Link.ended link) (Self.Link.talk link))) }
+        ensures given { given self.new ≡ given self.old }
+        ensures stopped { stopped self.new ≡ stopped self.old }
+        ensures kept { faults self.old ≤ faults self.new };
+
+    /// No more links came back than it gave.
+    ghost few: { (d : Self) → IfSome (backs d) (λ bs. length bs ≤ given d) };
+}
