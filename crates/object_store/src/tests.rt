@@ -58,17 +58,42 @@ fn change(alloc: Global, store: &mut ObjectStore, op: ObjectOp) -> Result<(), No
     Ok(())
 }
 
-/// Does two operations at once.
-fn change_both(
+/// The operations, and one more.
+fn with(ops: Vec<ObjectOp>, op: ObjectOp) -> Result<Vec<ObjectOp>, NoMemory> {
+    let mut ops = ops;
+    ops.push(op)?;
+    Ok(ops)
+}
+
+/// Drops a dataspace and puts an object in it, at once.
+fn drop_and_put(
     alloc: Global,
     store: &mut ObjectStore,
-    first: ObjectOp,
-    second: ObjectOp,
+    path: &str,
+    number: u8,
 ) -> Result<(), NoMemory> {
-    let ops = List::from_vec(vec![in alloc; first, second]?);
+    let ops = with(Vec::new(alloc), drop_of(alloc, path)?)?;
+    let ops = List::from_vec(with(ops, put_of(alloc, path, number, 6, b"2")?)?);
     store.reserve(&ops)?;
     store.apply(ops);
     Ok(())
+}
+
+/// The operation that puts the object of a number in a dataspace.
+fn put_of(
+    alloc: Global,
+    space: &str,
+    number: u8,
+    written: i64,
+    data: &[u8],
+) -> Result<ObjectOp, NoMemory> {
+    let record = object(alloc, uri(alloc, space, number)?, written, data)?;
+    Ok(ObjectOp::SetObject(KeyedObject::new(alloc, record)?))
+}
+
+/// The operation that drops a dataspace.
+fn drop_of(alloc: Global, path: &str) -> Result<ObjectOp, NoMemory> {
+    Ok(ObjectOp::DropSpace(Text::copy(alloc, path)?))
 }
 
 /// Puts the object of a number in a dataspace.
@@ -79,9 +104,7 @@ fn put(
     number: u8,
     written: i64,
 ) -> Result<(), NoMemory> {
-    let record = object(alloc, uri(alloc, space, number)?, written, b"")?;
-    let keyed = KeyedObject::new(alloc, record)?;
-    change(alloc, store, ObjectOp::SetObject(keyed))
+    change(alloc, store, put_of(alloc, space, number, written, b"")?)
 }
 
 /// Puts a dataspace.
@@ -98,8 +121,7 @@ fn remove(alloc: Global, store: &mut ObjectStore, space: &str, number: u8) -> Re
 
 /// Drops a dataspace.
 fn drop_space(alloc: Global, store: &mut ObjectStore, path: &str) -> Result<(), NoMemory> {
-    let path = Text::copy(alloc, path)?;
-    change(alloc, store, ObjectOp::DropSpace(path))
+    change(alloc, store, drop_of(alloc, path)?)
 }
 
 /// When the object of a number in a dataspace was made and written, and how long its data is.
@@ -178,10 +200,7 @@ fn operations_are_done_in_order(rt: HostRuntime) -> Result<(), Fail> {
     let alloc = rt.alloc();
     let mut store = ObjectStore::new(alloc)?;
     put(alloc, &mut store, "w", 1, 5)?;
-    let first = ObjectOp::DropSpace(Text::copy(alloc, "w")?);
-    let record = object(alloc, uri(alloc, "w", 2)?, 6, b"2")?;
-    let second = ObjectOp::SetObject(KeyedObject::new(alloc, record)?);
-    change_both(alloc, &mut store, first, second)?;
+    drop_and_put(alloc, &mut store, "w", 2)?;
     assert_eq!(rt; looked(alloc, &store, "w", 1)?, None);
     assert_eq!(rt; looked(alloc, &store, "w", 2)?, Some((6, 6, 1)));
     Ok(())
