@@ -1,8 +1,12 @@
 pub mod Views
 pub mod Groups
+pub mod GroupSteps
 pub mod NumberLaws
 pub mod Texts
 pub mod Steps
+pub mod AlongLemmas
+pub mod Passing
+pub mod Spanned
 pub mod Schemas
 pub mod NumberFaults
 pub mod TableTest

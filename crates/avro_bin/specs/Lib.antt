@@ -1,9 +1,11 @@
 pub mod Value
 pub mod View
 pub mod Number
+pub mod Groups
 pub mod Schema
 pub mod Ranges
 pub mod Reading
+pub mod Along
 pub mod Grammar
 pub mod Steps
 pub mod Failing
@@ -11,3 +13,4 @@ pub mod Refusing
 pub mod Plain
 pub mod Shape
 pub mod Laws
+pub mod Spanning

@@ -15,6 +15,7 @@ ghost use Rattle.avro_bin.specs.declared.fault.Fault.TheVariants.{Memory};
 ghost use Rattle.avro_bin.specs.declared.refusal.Refusal.{Refusal as Refused};
 ghost use Rattle.avro_bin.specs.declared.refusal.Refusal.TheVariants.{NoMemory as Unread};
 
+use crate::blocks::is_filled;
 use crate::fault::{Fault, Why};
 use crate::leaves::{blob, boolean, bytes_of, double, float, int, place, text};
 use crate::numbers::number;
@@ -177,13 +178,6 @@ fn array<'a>(
     }
     // Not reached: each block takes a byte.
     Err(Fault::At(Why::Limit, rest.len()))
-}
-
-/// Whether a block took exactly the bytes that it states: so many were left before its items, and so many after them.
-fn is_filled(before: usize, size: u64, after: usize) -> bool
-    ensures { result ≡ after + size == before }
-{
-    after as u128 + size as u128 == before as u128
 }
 
 /// The items of a block whose count is read, behind those that are there.

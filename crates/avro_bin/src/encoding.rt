@@ -13,7 +13,7 @@ use crate::tree::Tree;
 use etp_values::{Named, NoMemory, Text};
 
 /// Appends a length and the bytes.
-fn put_blob(out: &mut Vec<u8>, bytes: &[u8]) -> Result<(), NoMemory>
+pub fn put_blob(out: &mut Vec<u8>, bytes: &[u8]) -> Result<(), NoMemory>
     ensures { Writes (plain_blob bytes.now) out.old.items out.new.items result }
 {
     put_number(out, bytes.len() as i64)?;
@@ -23,7 +23,7 @@ fn put_blob(out: &mut Vec<u8>, bytes: &[u8]) -> Result<(), NoMemory>
 
 /// Appends a text.
 #[tactic(auto, using(crate::proofs::Texts::text_is))]
-fn put_text(out: &mut Vec<u8>, text: &Text) -> Result<(), NoMemory>
+pub fn put_text(out: &mut Vec<u8>, text: &Text) -> Result<(), NoMemory>
     ensures written { Writes (plain_blob text.now) out.old.items out.new.items result }
     ensures text { IsText text.now }
 {

@@ -4,30 +4,39 @@
 //! [`Tree`] is a value. [`decode`] reads the value of a node from the front of some bytes: it accepts each spelling that
 //! the encoding allows, in any blocks and with numbers of up to ten bytes, and refuses everything else with one
 //! [`Refusal`] at its offset. [`encode`] appends the one spelling that is written: shortest numbers, one block, and a
-//! map's names in byte order. [`size`] is that spelling's length.
+//! map's names in byte order. [`size`] is that spelling's length. [`span`] reads without a value: it answers how many bytes
+//! spell it.
+//!
+//! [`leaves`], [`numbers`] and [`blocks`] are the parts of reading, for types that are read without a tree. Each answers what
+//! stands at the front of the bytes and what stands behind it, or a [`Fault`], which counts the bytes that are left where the
+//! refused item begins.
 //!
 //! The grammar is the relation `Spells` of `specs/Grammar`, by recursion on the schema. [`one_spelling`],
 //! [`one_outcome`], [`reading_is_exact`] and [`reads_back`] carry its laws: bytes begin with at most one value, they are
 //! either read or refused in one way, and what was written is read again whatever follows it.
 #![tactic(auto)]
 
+pub mod blocks;
 mod decoding;
 mod encoding;
 mod fault;
 mod laws;
-mod leaves;
-mod numbers;
+pub mod leaves;
+pub mod numbers;
 mod refusal;
 mod schema;
 mod sizing;
+mod spanning;
 mod tree;
 
 pub use decoding::{NODE_LIMIT, decode};
-pub use encoding::encode;
+pub use encoding::{encode, put_blob, put_text};
+pub use fault::{Fault, Why};
 pub use laws::{one_outcome, one_spelling, reading_is_exact, reads_back, spelled_has_schema};
-pub use refusal::Refusal;
+pub use refusal::{Refusal, refusal_at};
 pub use schema::{Node, Table};
-pub use sizing::{TooLong, size};
+pub use sizing::{TooLong, blob_size, number_size, size};
+pub use spanning::span;
 pub use tree::Tree;
 
 #[cfg(test)]

@@ -1,39 +1,44 @@
 //! Numbers: zigzag, in groups of seven bits, the lowest group first. A set high bit says that a further group follows.
-ghost use Rattle.std.specs.Prelude.{◌≡◌, suc, ◌+◌, ◌*◌, ◌<◌, ◌≤◌};
-ghost use Rattle.avro_bin.specs.Number.{plain_number, shortest, top, unsigned, signed};
+ghost use Rattle.std.specs.Prelude.{◌≡◌, ◌<◌, ◌≤◌, ◌^◌, length, take};
+ghost use Rattle.avro_bin.specs.Number.{plain_number, unsigned, signed};
 ghost use Rattle.avro_bin.specs.Plain.{Writes};
 ghost use Rattle.avro_bin.specs.Reading.{Gives, groups_at, number_at, GivesWhy};
+ghost use Rattle.avro_bin.specs.Groups.{raised};
 
 use crate::fault::{Fault, Why};
 use etp_values::NoMemory;
 
-/// What the groups at the front make, of which there are at most `most`. A tenth group has one bit.
-#[tactic(auto, using(crate::proofs::Groups::groups_small))]
-fn groups(bytes: &[u8], most: u8) -> Result<(u64, &[u8]), Why>
-    requires some { 1 ≤ most }
-    requires few { most ≤ 10 }
-    ensures { GivesWhy (λ x. (x.0, x.1.now)) result (groups_at most bytes.now) }
+/// What a tenth group adds to nine others, which make `low`: it has one bit.
+fn tenth_group(low: u64, bytes: &[u8]) -> Result<(u64, &[u8]), Why>
+    requires { low < 2 ^ 63 }
+    ensures { GivesWhy (λ x. (x.0, x.1.now)) result (raised low (2 ^ 63) (groups_at 1 bytes.now)) }
 {
     match bytes {
         [] => Err(Why::Short),
-        [b, rest @ ..] => {
-            let low = *b as u64;
-            if most == 1 {
-                return if low < 2 {
-                    Ok((low, rest))
-                } else {
-                    Err(Why::Number)
-                };
-            }
-            if low < 128 {
-                return Ok((low, rest));
-            }
-            match groups(rest, most - 1) {
-                Ok((high, rest)) => Ok((low % 128 + 128 * high, rest)),
-                Err(why) => Err(why),
-            }
-        }
+        [0, rest @ ..] => Ok((low, rest)),
+        [1, rest @ ..] => Ok((low + (1 << 63), rest)),
+        _ => Err(Why::Number),
     }
+}
+
+/// What the groups at the front make.
+fn groups(bytes: &[u8]) -> Result<(u64, &[u8]), Why>
+    ensures { GivesWhy (λ x. (x.0, x.1.now)) result (groups_at 10 bytes.now) }
+{
+    let mut low = 0;
+    let mut weight = 1;
+    for i in 0..9 {
+        if bytes.len() <= i {
+            return Err(Why::Short);
+        }
+        let group = bytes[i] as u64;
+        if group < 128 {
+            return Ok((low + weight * group, &bytes[i + 1..]));
+        }
+        low += weight * (group % 128);
+        weight *= 128;
+    }
+    tenth_group(low, &bytes[9..])
 }
 
 /// 0, 1, 2, 3 stand for 0, -1, 1, -2.
@@ -52,9 +57,12 @@ fn signed_of(z: u64) -> i64
 pub fn number(bytes: &[u8]) -> Result<(i64, &[u8]), Fault>
     ensures { Gives (λ x. (x.0, x.1.now)) result (number_at bytes.now) }
 {
-    match groups(bytes, 10) {
-        Ok((z, rest)) => Ok((signed_of(z), rest)),
-        Err(why) => Err(Fault::At(why, bytes.len())),
+    match bytes {
+        [group, rest @ ..] if *group < 128 => Ok((signed_of(*group as u64), rest)),
+        _ => match groups(bytes) {
+            Ok((z, rest)) => Ok((signed_of(z), rest)),
+            Err(why) => Err(Fault::At(why, bytes.len())),
+        },
     }
 }
 
@@ -69,19 +77,23 @@ pub fn unsigned_of(x: i64) -> u64
     }
 }
 
-/// Appends the fewest groups that make a number, of which there are at most `most + 1`.
-#[tactic(auto, using(crate::proofs::Groups::shortest_more))]
-fn put_groups(out: &mut Vec<u8>, z: u64, most: u8) -> Result<(), NoMemory>
-    requires { z < top (suc most) }
-    ensures { Writes (shortest most z) out.old.items out.new.items result }
+/// The shortest groups of a number stand in front, and there are so many.
+fn groups_of(x: i64) -> ([u8; 10], usize)
+    ensures groups { take result.1 result.0 ≡ plain_number x }
+    ensures few { result.1 ≤ length result.0 }
 {
-    if most == 0 || z < 128 {
-        out.push(z as u8)?;
-        return Ok(());
+    let mut groups = [0; 10];
+    let mut left = unsigned_of(x);
+    for i in 0..9 {
+        if left < 128 {
+            groups[i] = left as u8;
+            return (groups, i + 1);
+        }
+        groups[i] = (left % 128 + 128) as u8;
+        left /= 128;
     }
-    out.push((z % 128 + 128) as u8)?;
-    put_groups(out, z / 128, most - 1)?;
-    Ok(())
+    groups[9] = left as u8;
+    (groups, 10)
 }
 
 /// Appends the shortest spelling of a number.
@@ -89,5 +101,19 @@ fn put_groups(out: &mut Vec<u8>, z: u64, most: u8) -> Result<(), NoMemory>
 pub fn put_number(out: &mut Vec<u8>, x: i64) -> Result<(), NoMemory>
     ensures { Writes (plain_number x) out.old.items out.new.items result }
 {
-    put_groups(out, unsigned_of(x), 9)
+    let z = unsigned_of(x);
+    if z < 128 {
+        out.push(z as u8)?;
+        return Ok(());
+    }
+    put_groups(out, x)
+}
+
+/// The same by several groups at once.
+fn put_groups(out: &mut Vec<u8>, x: i64) -> Result<(), NoMemory>
+    ensures { Writes (plain_number x) out.old.items out.new.items result }
+{
+    let (groups, count) = groups_of(x);
+    out.extend_from_slice(&groups[..count])?;
+    Ok(())
 }

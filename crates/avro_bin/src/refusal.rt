@@ -46,7 +46,7 @@ pub enum Refusal {
 }
 
 /// The refusal at an offset.
-pub(crate) fn refusal_at(why: Why, offset: usize) -> Refusal
+pub fn refusal_at(why: Why, offset: usize) -> Refusal
     ensures { result ≡ refusal why offset }
 {
     match why {

@@ -27,7 +27,7 @@ fn groups_size(z: u64, most: u8) -> u64
 
 /// How many bytes a number has.
 #[tactic(auto, unfolding(crate::specs::Number::plain_number))]
-fn number_size(x: i64) -> u64
+pub fn number_size(x: i64) -> u64
     ensures size { result ≡ length (plain_number x) }
     ensures few { result ≤ 10 }
 {
@@ -42,7 +42,7 @@ fn capped(a: u64, b: u64, c: u64) -> u64
 }
 
 /// The size of a length and the bytes.
-fn blob_size(bytes: &[u8]) -> u64
+pub fn blob_size(bytes: &[u8]) -> u64
     ensures { result ≡ min (length (plain_blob bytes.now)) (2 ^ 64 - 1) }
 {
     capped(number_size(bytes.len() as i64), bytes.len() as u64, 0)

@@ -55,10 +55,16 @@ fn read(alloc: Global, id: u32, bytes: &[u8]) -> Result<(Tree, usize), Refusal> 
     decode(alloc, &NODES, id % 18, bytes)
 }
 
+#[tactic(auto, using(crate::proofs::TableTest::table_is))]
+fn length(alloc: Global, id: u32, bytes: &[u8]) -> Result<usize, Refusal> {
+    span(alloc, &NODES, id % 18, bytes)
+}
+
 /// The bytes are read whole, and written again as `plain`.
 fn reads(rt: &impl Abort, alloc: Global, id: u32, bytes: &[u8], plain: &[u8]) -> Result<(), Fail> {
     let (tree, len) = read(alloc, id, bytes)?;
     assert_eq!(rt; len, bytes.len());
+    assert_eq!(rt; length(alloc, id, bytes), Ok(bytes.len()));
     let mut written = Vec::new(alloc);
     encode(&NODES, id, &tree, &mut written)?;
     assert_eq!(rt; written.as_slice(), plain);
@@ -66,8 +72,9 @@ fn reads(rt: &impl Abort, alloc: Global, id: u32, bytes: &[u8], plain: &[u8]) ->
     Ok(())
 }
 
-/// The bytes are refused so.
+/// The bytes are refused so, with a value and without one.
 fn refuses(rt: &impl Abort, alloc: Global, id: u32, bytes: &[u8], refusal: Refusal) {
+    assert_eq!(rt; length(alloc, id, bytes), Err(refusal));
     match read(alloc, id, bytes) {
         Ok(_) => assert!(rt; false, "{bytes:?}"),
         Err(found) => assert_eq!(rt; found, refusal, "{bytes:?}"),
