@@ -2,3 +2,4 @@ pub mod ArrivingLemmas
 pub mod RunLemmas
 pub mod SendingLemmas
 pub mod StepLemmas
+pub mod FittingLemmas

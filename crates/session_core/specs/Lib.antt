@@ -5,3 +5,4 @@ pub mod Sending
 pub mod Machine
 pub mod Session
 pub mod Run
+pub mod Fitting

@@ -1,6 +1,7 @@
 //! Laws of the machine.
 ghost use Rattle.session_core.specs.Run.{FirstRemembers, TakingRemembers, TakingAsks, HearingRemembers, MoreIsRemembered, DrainedRemembers, AnswersAreLast};
 ghost use Rattle.session_core.specs.Run.{PlayIsRun, RunGoesOn, RunIsSame};
+ghost use Rattle.session_core.specs.Fitting.{AnswersFit};
 
 /// A session remembers no place past the history that it was told of; each call that it makes is one that a session may make
 /// at a history with all these places, never the one by which it is entered; and no request is left when its answer was given.
@@ -21,4 +22,11 @@ pub fn runs()
     ensures same { RunIsSame }
     ensures play { PlayIsRun }
     ensures next { RunGoesOn }
+{}
+
+/// The store's own answer to a session's call says what the session kept for it needs: the dataspaces that it listed, or a
+/// verdict on each key that was granted and on no other, or that the journal is full. An event without a call leaves what was
+/// kept.
+pub fn answer_fits()
+    ensures { AnswersFit }
 {}

@@ -19,6 +19,6 @@ mod replies;
 mod session;
 mod state;
 
-pub use laws::{runs, steps};
+pub use laws::{answer_fits, runs, steps};
 pub use session::Session;
 pub use state::{Arrived, End, Live, Outgoing, Pending, Phase, Request, Transaction};
