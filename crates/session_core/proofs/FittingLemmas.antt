@@ -1,7 +1,7 @@
 -- The store's answer fits what a session kept for its call.
 use Rattle.std.specs.Prelude.{ℕ, ℤ, pos, Bool, true, false, cond, List, [], ◌∷◌, ◌≡◌, Option, Some, None, IsSomeAnd, MatchOption, is_some, refl}
 use Rattle.std.specs.Map.{keys_of}
-use Rattle.std.proofs.Common.{ap, sym, ◌∙◌}
+use Rattle.std.proofs.Common.{ap, ◌∙◌}
 use Rattle.chan_defs.specs.declared.config.Config.{Config}
 use Rattle.etp_values.specs.declared.code.ErrorCode.{ErrorCode}
 use Rattle.etp_frame.specs.declared.message.Message.{Message}
@@ -18,16 +18,13 @@ use Rattle.msg_core.specs.declared.dataspace_messages.DataspaceMessage.{Dataspac
 use Rattle.msg_core.specs.declared.dataspace_messages.DataspaceMessage.TheVariants as space
 use Rattle.session_rows.specs.Dataspaces.{DataspaceOutcome, change_refusal, changeable_path, checked_put, dataspace_outcome, delete_called, delete_response, put_called, put_response, unless_refused}
 use Rattle.session_rows.specs.Opening.{opening_of}
-use Rattle.session_rows.specs.declared.dataspaces.DataspacePending.{DataspacePending}
 use Rattle.session_rows.specs.declared.dataspaces.DataspacePending.TheVariants as keeps
 use Rattle.session_rows.specs.declared.opening.Opening.{Opening}
 use Rattle.session_rows.specs.declared.opening.Opening.TheVariants as opens
-use Rattle.store_machine.specs.Answers.{answer, answered, has_room, sofar_with, verdict, verdicts, wanted}
+use Rattle.store_machine.specs.Answers.{answer, answered, has_room, sofar_with, verdicts, wanted}
 use Rattle.store_machine.specs.History.{Change, DropSpace, changes_of, set_space}
-use Rattle.store_machine.specs.declared.call.Reply.{Reply}
 use Rattle.store_machine.specs.declared.call.Reply.TheVariants.{JournalFull, Verdicts}
 use Rattle.store_machine.specs.declared.call.SpacePut.{SpacePut}
-use Rattle.store_machine.specs.declared.call.StoreCall.{StoreCall}
 use Rattle.store_machine.specs.declared.call.StoreCall.TheVariants as call
 use Rattle.store_machine.specs.declared.journal.Entry.{Entry}
 use Rattle.session_core.specs.declared.state.Request.{Request}
@@ -38,7 +35,7 @@ use Rattle.session_core.specs.declared.state.Live.TheVariants as live
 use Rattle.session_core.specs.declared.state.Phase.{Phase}
 use Rattle.session_core.specs.declared.state.Phase.TheVariants as phase
 use Rattle.session_core.specs.State.{State}
-use Rattle.session_core.specs.Arriving.{Event, arrived}
+use Rattle.session_core.specs.Arriving.{arrived}
 use Rattle.session_core.specs.Fitting.{AnswersFit, Fits, FitsDataspaces}
 use Rattle.session_core.specs.Machine.{Taken, accepting, by_event, by_phase, on_core, on_dataspaces, on_message, on_ping, on_protocol, on_request_session, on_row, opened, protocol_refusal}
 use Rattle.session_core.specs.Run.{takes}

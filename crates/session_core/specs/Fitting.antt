@@ -1,5 +1,5 @@
 -- What a session keeps for the call that it makes, and that the store's own answers fit it.
-use Rattle.std.specs.Prelude.{ℕ, ◌≡◌, List, Option, Some, None, IsSomeAnd, MatchOption}
+use Rattle.std.specs.Prelude.{◌≡◌, List, IsSomeAnd, MatchOption}
 use Rattle.std.specs.Map.{keys_of}
 use Rattle.chan_defs.specs.declared.config.Config.{Config}
 use Rattle.keyed_requests.specs.Keyed.{granted}
