@@ -70,13 +70,16 @@ own_all n (e ∷ es) by = ap (λ b. cond b (e ∷ own n es) (own n es)) (eq-eqb 
 pub own_more : (m : ℕ) (h es : List Entry) → own m (h ++ es) ≡ own m h ++ own m es
 own_more m h es = filter-append (λ (e : Entry). e.by == m) h es
 
--- the entries of another session are as many as before
+-- the entries of another session are the same as before
+pub own_kept : (n m : ℕ) (h h' : List Entry) → Grows n h h' → m ≢ n → own m h' ≡ own m h
+own_kept n m h h' grows other = ap (own m) grows.is ∙ own_more m h grows.more ∙ ap (λ l. own m h ++ l) (own_other n m grows.more other grows.by) ∙ append-nil (own m h)
+
+-- and as many
 pub next_kept : NumbersStay → (n m k : ℕ) (h h' : List Entry) → Grows n h h' → m ≢ n → IsNext h m k → IsNext h' m k
 next_kept stay n m k h h' grows other next =
-    let same : own m h' ≡ own m h = ap (own m) grows.is ∙ own_more m h grows.more ∙ ap (λ l. own m h ++ l) (own_other n m grows.more other grows.by) ∙ append-nil (own m h) in
     record {
       session = subst (λ l. IsNumber l m) (sym grows.is) (stay h grows.more m next.session);
-      entries = next.entries ∙ ap length (sym same);
+      entries = next.entries ∙ ap length (sym (own_kept n m h h' grows other));
     }
 
 -- its own are more by those

@@ -45,7 +45,7 @@ pub record Laws : Type 0 where
   pub sent : DrainedRemembers
 
 -- a tag's state after a frame is that of the same session, and fits
-abbrev TagFits : ℕ → List Entry → TagState → Type 0
+abbrev pub TagFits : ℕ → List Entry → TagState → Type 0
 TagFits n h Ended = Unit {0}
 TagFits n h (Open s) = (s.number ≡ n) × FitsOpen h s
 
@@ -59,7 +59,7 @@ record TurnFits (n : ℕ) (h : List Entry) (t : Turn) : Type 0 where
   number : t.session.number ≡ n
   fits : FitsOpen t.journal t.session
 
-by_added : EntriesAreTheSessions → (c : Config) (h : List Entry) (n nth : ℕ) (at : ℤ) (x : StoreCall) → IsCallAt h x → By n (added c h n nth at x)
+pub by_added : EntriesAreTheSessions → (c : Config) (h : List Entry) (n nth : ℕ) (at : ℤ) (x : StoreCall) → IsCallAt h x → By n (added c h n nth at x)
 unfolding added
 by_added own_entries c h n nth at x is = by_of n nth at (added c h n nth at x) (own_entries c h n nth at x is)
 
@@ -68,16 +68,16 @@ by_kind n h true x y a b = a
 by_kind n h false x y a b = b
 
 -- the entries and the reply where there is room to enter, or none
-abbrev entering : List Entry → ℤ → Bool → List Entry
+abbrev pub entering : List Entry → ℤ → Bool → List Entry
 entering h at b = if b then record { by = length h; nth = 0; at = at; act = act.Enter } ∷ [] else []
 
-abbrev let_in : List Entry → Bool → Reply
+abbrev pub let_in : List Entry → Bool → Reply
 let_in h b = if b then reply.Entered (length h) else reply.JournalFull
 
 abbrev entered_by : Config → List Entry → Frame → Bool → Effect
 entered_by c h f b = effect_entered c (h ++ entering h f.moment b) f (place_in (let_in h b))
 
-next_entered : (h : List Entry) (e : Entry) → e.by ≡ length h → e.act ≡ act.Enter → own (length h) h ≡ [] → IsNext (h ++ e ∷ []) (length h) 1
+pub next_entered : (h : List Entry) (e : Entry) → e.by ≡ length h → e.act ≡ act.Enter → own (length h) h ≡ [] → IsNext (h ++ e ∷ []) (length h) 1
 next_entered h e by enters fresh =
     let all : own (length h) (h ++ e ∷ []) ≡ e ∷ [] = own_more (length h) h (e ∷ []) ∙ ap (λ l. l ++ own (length h) (e ∷ [])) fresh ∙ own_all (length h) (e ∷ []) (by, tt) in
     record {
@@ -98,13 +98,13 @@ unfolding answered added
 enter_next c h f n fresh is = entered_next h f.moment n (has_room c h (wanted c h call.Enter)) fresh is
 
 -- the number of the session that a frame is of
-abbrev number_in : List Entry → Option TagState → ℕ
+abbrev pub number_in : List Entry → Option TagState → ℕ
 number_in h None = length h
 number_in h (Some (Open s)) = s.number
 number_in h (Some Ended) = length h
 
 -- what a session asks is a call that it may make at the journal
-asked_at : (h : List Entry) (s : State) (o : Option StoreCall) → Remembers (length h) s → IfSome o (Asks s) → IfSome o (IsCallAt h)
+pub asked_at : (h : List Entry) (s : State) (o : Option StoreCall) → Remembers (length h) s → IfSome o (Asks s) → IfSome o (IsCallAt h)
 asked_at h s None remembers asks = tt
 asked_at h s (Some x) remembers asks = asks h remembers
 
@@ -169,10 +169,10 @@ module _ (laws : Laws) where
 -- ---- all tags
 
 -- a session of another tag has another number
-number_below : (h : List Entry) (r : OpenSession) → IsNext h r.number r.entries → r.number ≢ length h
+pub number_below : (h : List Entry) (r : OpenSession) → IsNext h r.number r.entries → r.number ≢ length h
 number_below h r next same = let below = entry_within h r.number (λ (e : Entry). e.act ≡ act.Enter) next.session in omega arith
 
-open_next : (w : World) (other : ℕ) (r : OpenSession) → IsSound w → state_of other w.tags ≡ Some (Open r) → IsNext w.journal r.number r.entries
+pub open_next : (w : World) (other : ℕ) (r : OpenSession) → IsSound w → state_of other w.tags ≡ Some (Open r) → IsNext w.journal r.number r.entries
 open_next w other r sound is = let fits : FitsOpen w.journal r = subst (λ (o : Option TagState). FitsTag w.journal o) is (sound.fits other) in fits.next
 
 numbers_differ : (w : World) (tag other : ℕ) (r : OpenSession) (o : Option TagState) → IsSound w → state_of tag w.tags ≡ o → state_of other w.tags ≡ Some (Open r) → (tag ≡ other → ⊥) → r.number ≢ number_in w.journal o
@@ -180,10 +180,10 @@ numbers_differ w tag other r None sound at there differ = number_below w.journal
 numbers_differ w tag other r (Some (Open s)) sound at there differ = λ same. differ (sound.apart tag other s r at there (sym same))
 numbers_differ w tag other r (Some Ended) sound at there differ = number_below w.journal r (open_next w other r sound there)
 
-tags_differ : (tag q : ℕ) → is_at (nat_cmp tag) q ≡ false → tag ≡ q → ⊥
+pub tags_differ : (tag q : ℕ) → is_at (nat_cmp tag) q ≡ false → tag ≡ q → ⊥
 tags_differ tag q other same = false≢true (sym other ∙ subst (λ (k : ℕ). is_at (nat_cmp tag) k ≡ true) same (at_self tag))
 
-by_test : {P : Type 0} (b : Bool) → (b ≡ true → P) → (b ≡ false → P) → P
+pub by_test : {P : Type 0} (b : Bool) → (b ≡ true → P) → (b ≡ false → P) → P
 by_test true yes_p no_p = yes_p refl
 by_test false yes_p no_p = no_p refl
 
@@ -201,7 +201,7 @@ fits_kept laws w tag q h (Some (Open r)) sound grows at differ fits =
       remembers = laws.more (length w.journal) (length h) r.session (grows_length n w.journal h grows) fits.remembers;
     }
 
-number_put : (n : ℕ) (h : List Entry) (state : TagState) (s : OpenSession) → TagFits n h state → Some state ≡ Some (Open s) → s.number ≡ n
+pub number_put : (n : ℕ) (h : List Entry) (state : TagState) (s : OpenSession) → TagFits n h state → Some state ≡ Some (Open s) → s.number ≡ n
 number_put n h state s fits is = open_number (Open s) s (subst (TagFits n h) same fits) refl
   where
     same : state ≡ Open s
@@ -214,7 +214,7 @@ number_put n h state s fits is = open_number (Open s) s (subst (TagFits n h) sam
         open_same : (r s : OpenSession) → Open r ≡ Open s → s ≡ r
         open_same r s is = cc
 
-sound_put : Laws → (w : World) (tag : ℕ) (h : List Entry) (state : TagState) (tags : List (ℕ × TagState)) → IsSound w → Grows (number_in w.journal (state_of tag w.tags)) w.journal h
+pub sound_put : Laws → (w : World) (tag : ℕ) (h : List Entry) (state : TagState) (tags : List (ℕ × TagState)) → IsSound w → Grows (number_in w.journal (state_of tag w.tags)) w.journal h
     → TagFits (number_in w.journal (state_of tag w.tags)) h state → IsPut tag state w.tags tags → IsSound (record { config = w.config; journal = h; tags = tags })
 sound_put laws w tag h state tags sound grows fits put =
     let n = number_in w.journal (state_of tag w.tags) in

@@ -1,12 +1,13 @@
 -- What a play is to one tag is a run.
-use Rattle.std.proofs.Common.{◌≡◌, ◌≢◌, ℕ, zero, suc, ℤ, ◌+◌, ◌≤◌, ◌==◌, ◌&&◌, Bool, true, false, cond, List, [], ◌∷◌, ◌++◌, length, map, filter, fold, take, None, Some, if◌then◌else◌, refl, ap, sym, ◌∙◌, subst, arith, append_assoc, append-nil, length-append, eqb, nat_eq, inl, inr}
-use Rattle.std.specs.Prelude.{slice_get}
+use Rattle.std.proofs.Common.{◌≡◌, ◌≢◌, ℕ, suc, ℤ, ◌+◌, ◌<◌, ◌≤◌, ◌==◌, ◌&&◌, ◌||◌, Bool, true, false, cond, List, [], ◌∷◌, ◌++◌, length, map, filter, fold, take, None, Some, if◌then◌else◌, refl, ap, sym, ◌∙◌, subst, arith, append_assoc, append-nil, length-append, eq-eqb, nat_eq, inl, inr, pos}
+use Rattle.std.specs.Prelude.{IfSome, slice_get}
+use Rattle.std.specs.Map.{values_of}
 use Rattle.std.specs.declared.option.Option.{Option}
-use Rattle.std.specs.Option.{option_map}
 use Rattle.std.specs.Ordering.{nat_cmp}
 use Rattle.std.specs.BTreeMap.{is_at}
 use Rattle.std.proofs.lemmas.List.{take_at}
 use Rattle.std.proofs.lemmas.List.Elements.{filter-append}
+use Rattle.std.proofs.lemmas.Bool.{false≢true}
 use Rattle.std.proofs.lemmas.Bool.Decides.{nat_tests}
 use mathlib.Core.List.{IsPrefix, prefix-append}
 use Rattle.etp_values.proofs.Prefixes.{prefix_self, prefix_trans, prefix_length, prefix_get}
@@ -17,25 +18,32 @@ use Rattle.chan_defs.specs.declared.config.Config.{Config}
 use Rattle.store_machine.specs.Answers.{answered, added, has_room, wanted}
 use Rattle.store_machine.specs.declared.journal.Act.TheVariants as act
 use Rattle.store_machine.specs.declared.call.Reply.TheVariants as reply
-use Rattle.store_machine.specs.Laws.{OneOrNone, CallsAddOne}
+use Rattle.store_machine.specs.Growth.{CallsKeepLegal}
+use Rattle.store_machine.specs.Laws.{OneOrNone, CallsAddOne, EntriesAreTheSessions, IsCallAt, NextMayAsk, NextNumberIsFresh}
+use Rattle.store_machine.specs.Legal.{Legal, own}
 use Rattle.store_machine.specs.declared.journal.Entry.{Entry}
 use Rattle.store_machine.specs.declared.call.StoreCall.{StoreCall}
 use Rattle.store_machine.specs.declared.call.StoreCall.TheVariants.{Enter}
 use Rattle.session_core.specs.Arriving.{Event, Receives, Polls}
 use Rattle.session_core.specs.State.{State}
-use Rattle.session_core.specs.Run.{takes, hears, drained, moment_of, at_place, Course, own_number, IsHeeded, asked, run, Heeds, AllWithin, RunIsSame, RunGoesOn}
+use Rattle.session_core.specs.Run.{Remembers, takes, hears, drained, moment_of, at_place, Course, own_number, IsHeeded, asked, run, AllWithin, RunIsSame, RunGoesOn}
 use Rattle.session_core.specs.Session.{bytes_of, end_of}
 use Rattle.session_core.specs.declared.state.Outgoing.{Outgoing}
 use Rattle.session_core.specs.declared.state.End.{End}
 use Rattle.tool_forms.specs.Turns.{ending_bytes, session_end_bytes, answering, messages, end_frame, event_of, Turn, turned, turn, Effect, effect_after, effect_open, first_open, entered_journal, entered_place, effect_entered, effect_new, effect_at, place_in}
-use Rattle.tool_forms.specs.Play.{World, Played, first, next_played, happens_to, happens, play_from, play, is_refused, state_of, with_tag, effect, world_after}
-use Rattle.tool_forms.specs.TagRuns.{TagRun, first_run, run_with, run_entered, run_after, Followed, first_followed, next_followed, follow_to, follow, followed, payloads_to, AllStand, run_of, IsRun, IsEnd, IsSent, IsFollowed, PlayIsRuns}
+use Rattle.tool_forms.specs.Play.{World, Played, first_world, has_ended, next_played, happens_to, play_from, play, is_refused, state_of, with_tag, effect}
+use Rattle.tool_forms.specs.Sound.{FitsTag, IsSound}
+use Rattle.tool_forms.specs.TagRuns.{TagRun, first_run, run_with, run_entered, run_after, Followed, first_followed, next_followed, follow_to, follow, followed, payloads_to, AllStand, Wrote, run_of, IsRun, IsEnd, IsSent, PlayIsRuns}
 use Rattle.tool_forms.specs.declared.tag.TagState.{TagState}
 use Rattle.tool_forms.specs.declared.tag.TagState.TheVariants.{Ended, Open}
 use Rattle.tool_forms.specs.declared.tag.OpenSession.{OpenSession}
 use Rattle.tool_forms.specs.declared.tag.Ending.{Ending}
 use Rattle.tool_forms.specs.declared.tag.Ending.TheVariants.{Session, PeerEnd, JournalFull}
 use Rattle.tool_forms.proofs.Entering.{bytes_both}
+use Rattle.tool_forms.proofs.Growth.{Grows, entry_within}
+use Rattle.tool_forms.proofs.LegalLemmas.{at_legal}
+use Rattle.tool_forms.proofs.OwnLemmas.{IsApart, IsBelow, OwnStays, entered-wrote, fall-higher, fall-turned, other_apart, own_apart, own_stays, values-placed, wrote-longer, wrote-more}
+use Rattle.tool_forms.proofs.Soundness.{Laws, TagFits, asked_at, by_added, effect_fits, number_in, sound_put}
 use Rattle.tool_forms.proofs.Tags.{put_found, at_other, at_self}
 
 -- ---- what goes to a tag
@@ -191,13 +199,14 @@ record Comes (h : List Entry) (t : Turn) (xs : List Outgoing) (made : List (ℕ 
   entries : t.session.entries ≡ own_number d.made
   reach : d.reach ≤ length t.journal
   stand : AllStand h made → AllStand t.journal d.made
+  wrote : Wrote h t.session.number made → Wrote t.journal t.session.number d.made
   marks : AllWithin (length t.journal) t.marks
 
-comes : CallsAddOne → (c : Config) (n : ℕ) (h : List Entry) (at : ℤ) (s : OpenSession) (xs : List Outgoing) (made : List (ℕ × Entry)) (reach : ℕ) → s.number ≡ n → s.entries ≡ own_number made → reach ≤ length h
-    → (st : State) (o : Option StoreCall) → let t = turned c h at s st o in Comes h t xs made (asked c n t.journal at (course s.session t.marks xs made reach) st o)
-comes one c n h at s xs made reach number entries seen st None =
-    record { state = refl; places = refl; sent = refl; short = refl; entries = entries; reach = seen; stand = λ all. all; marks = tt }
-comes one c n h at s xs made reach number entries seen st (Some call) =
+comes : CallsAddOne → EntriesAreTheSessions → (c : Config) (n : ℕ) (h : List Entry) (at : ℤ) (s : OpenSession) (xs : List Outgoing) (made : List (ℕ × Entry)) (reach : ℕ) → s.number ≡ n → s.entries ≡ own_number made → reach ≤ length h
+    → (st : State) (o : Option StoreCall) → IfSome o (IsCallAt h) → let t = turned c h at s st o in Comes h t xs made (asked c n t.journal at (course s.session t.marks xs made reach) st o)
+comes one own_entries c n h at s xs made reach number entries seen st None is =
+    record { state = refl; places = refl; sent = refl; short = refl; entries = entries; reach = seen; stand = λ all. all; wrote = λ w. w; marks = tt }
+comes one own_entries c n h at s xs made reach number entries seen st (Some call) is =
     let es : List Entry = added c h s.number s.entries at call in
     let front : take (length h) (h ++ es) ≡ h = take_at h es (length h) refl in
     let ds : List Entry = added c (take (length h) (h ++ es)) n (own_number made) at call in
@@ -214,6 +223,7 @@ comes one c n h at s xs made reach number entries seen st (Some call) =
       reach = omega (arith, long, ap length same);
       stand = λ all. stand_both (h ++ es) made (at_place (length h) ds) (stand_longer h (h ++ es) made (prefix-append h es) all)
           (subst (λ (x : List Entry). AllStand (h ++ es) (at_place (length h) x)) (sym same) (stand_added h es (one_added one c h s.number s.entries at call)));
+      wrote = wrote-more h es s.number made (at_place (length h) ds) (by_added own_entries c h s.number s.entries at call is) (values-placed (length h) ds ∙ same);
       marks = (omega (arith, long), tt);
     }
 
@@ -254,6 +264,25 @@ entered_within c h f n is = entered_reach h (record { by = length h; nth = 0; at
 same_tags : (a b : ℕ) → (a == b) ≡ true → a ≡ b
 same_tags a b is = grind (arith, nat_tests)
 
+other_tags : (a b : ℕ) → (a == b) ≡ false → b ≡ a → ⊥
+other_tags a b is same = false≢true (sym is ∙ eq-eqb a b (sym same))
+
+last_false : (a b c : Bool) → (a || b || c) ≡ false → c ≡ false
+last_false true b c is = absurd (false≢true (sym is))
+last_false false true c is = absurd (false≢true (sym is))
+last_false false false c is = is
+
+-- no tag has come yet
+first_sound : (c : Config) → IsSound (first_world c)
+first_sound c = record { fits = λ tag. tt; apart = λ tag other s t at_tag at_other same. absurd (none_open (state_of tag []) s refl at_tag) }
+  where
+    none_open : (o : Option TagState) (s : OpenSession) → o ≡ None → o ≡ Some (Open s) → ⊥
+    none_open o s none_is open_is = cc
+
+-- a session's own entry of entering stands in the journal
+wrote_below : (h : List Entry) (n : ℕ) (made : List (ℕ × Entry)) → Wrote h n made → n < length h
+wrote_below h n made is = entry_within h n (λ (e : Entry). (e.act ≡ act.Enter) × (own n h ≡ e ∷ values_of made)) is
+
 -- what is followed of a play is the play
 next_played_is : (tag : ℕ) (w : Followed) (b : Bool) (f : Frame) → (next_followed tag w b f).played ≡ next_played w.played b f
 next_played_is tag w true f = refl
@@ -271,29 +300,31 @@ all_played tag (f ∷ fs) w = all_played tag fs (follow tag w f) ∙ ap (λ (p :
 abbrev grown : TagRun → Event → List ℕ → TagRun
 grown r e marks = record { number = r.number; events = r.events ++ e ∷ []; places = r.places ++ marks }
 
-module _ (same : RunIsSame) (next : RunGoesOn) (one : CallsAddOne) where
+module _ (same : RunIsSame) (next : RunGoesOn) (one : CallsAddOne) (laws : Laws) (new_number : NextNumberIsFresh) (may : NextMayAsk) (keep : CallsKeepLegal) where
   run_longer : (c : Config) (old new : List Entry) (ms : List (List ℕ)) (r : TagRun) → IsPrefix old new → IsRun c old ms r → run_of c new r ≡ run_of c old r
   run_longer c old new ms r pre is = (same c r.number old new r.places r.events pre is.within).0
 
-  is_longer : (c : Config) (old new : List Entry) (ms : List (List ℕ)) (r : TagRun) → IsPrefix old new → IsRun c old ms r → IsRun c new ms r
-  is_longer c old new ms r pre is =
+  is_longer : (c : Config) (old new : List Entry) (ms : List (List ℕ)) (r : TagRun) → IsPrefix old new → own r.number new ≡ own r.number old → IsRun c old ms r → IsRun c new ms r
+  is_longer c old new ms r pre stays is =
       let eq : run_of c new r ≡ run_of c old r = run_longer c old new ms r pre is in
       record {
         sent = is.sent ∙ sym (ap (λ (d : Course). map bytes_of d.sent) eq);
         used = ap (λ (d : Course). d.places) eq ∙ is.used;
         fed = ap (λ (d : Course). d.short) eq ∙ is.fed;
         within = within_more (length old) (length new) r.places (prefix_length old new pre) is.within;
+        rise = fall-higher (r.number + 1) r.places (length old) (length new) (prefix_length old new pre) is.rise;
         heeds = (same c r.number old new r.places r.events pre is.within).1 is.heeds;
         made = subst (λ (d : Course). AllStand new d.made) (sym eq) (stand_longer old new (run_of c old r).made pre is.made);
+        wrote = subst (λ (d : Course). Wrote new r.number d.made) (sym eq) (wrote-longer old new r.number (run_of c old r).made pre stays is.wrote);
       }
 
-  goes_longer : (c : Config) (old new : List Entry) (ms : List (List ℕ)) (r : TagRun) (s : OpenSession) → IsPrefix old new → Goes c old ms r s → Goes c new ms r s
-  goes_longer c old new ms r s pre goes =
+  goes_longer : (c : Config) (old new : List Entry) (ms : List (List ℕ)) (r : TagRun) (s : OpenSession) → IsPrefix old new → own r.number new ≡ own r.number old → Goes c old ms r s → Goes c new ms r s
+  goes_longer c old new ms r s pre stays goes =
       let eq : run_of c new r ≡ run_of c old r = run_longer c old new ms r pre goes.is in
       let long : length old ≤ length new = prefix_length old new pre in
       let most : (run_of c old r).reach ≤ length new = let reach = goes.reach in omega arith in
       record {
-        is = is_longer c old new ms r pre goes.is;
+        is = is_longer c old new ms r pre stays goes.is;
         number = goes.number;
         entries = goes.entries ∙ ap (λ (d : Course). own_number d.made) (sym eq);
         state = ap (λ (d : Course). d.state) eq ∙ goes.state;
@@ -301,20 +332,20 @@ module _ (same : RunIsSame) (next : RunGoesOn) (one : CallsAddOne) where
       }
 
   -- what others do changes nothing of it
-  fits_longer : (c : Config) (old new : List Entry) (ms es : List (List ℕ)) (r : Option TagRun) (o : Option TagState) → IsPrefix old new → Fits c old ms es r o → Fits c new ms es r o
-  fits_longer c old new ms es None None pre fits = fits
-  fits_longer c old new ms es None (Some Ended) pre fits = fits
-  fits_longer c old new ms es None (Some (Open s)) pre fits = fits
-  fits_longer c old new ms es (Some r) None pre fits = fits
-  fits_longer c old new ms es (Some r) (Some Ended) pre fits =
-      (is_longer c old new ms r pre fits.0, subst (λ (d : Course). IsEnd (end_of d.state.phase) es) (sym (run_longer c old new ms r pre fits.0)) fits.1)
-  fits_longer c old new ms es (Some r) (Some (Open s)) pre fits = (goes_longer c old new ms r s pre fits.0, fits.1, fits.2)
+  fits_longer : (c : Config) (old new : List Entry) (ms es : List (List ℕ)) (r : Option TagRun) (o : Option TagState) → IsPrefix old new → OwnStays old new r → Fits c old ms es r o → Fits c new ms es r o
+  fits_longer c old new ms es None None pre stays fits = fits
+  fits_longer c old new ms es None (Some Ended) pre stays fits = fits
+  fits_longer c old new ms es None (Some (Open s)) pre stays fits = fits
+  fits_longer c old new ms es (Some r) None pre stays fits = fits
+  fits_longer c old new ms es (Some r) (Some Ended) pre stays fits =
+      (is_longer c old new ms r pre stays fits.0, subst (λ (d : Course). IsEnd (end_of d.state.phase) es) (sym (run_longer c old new ms r pre fits.0)) fits.1)
+  fits_longer c old new ms es (Some r) (Some (Open s)) pre stays fits = (goes_longer c old new ms r s pre stays fits.0, fits.1, fits.2)
 
   -- an event, before it is known whether the session has ended with it
-  goes_on : (c : Config) (h : List Entry) (ms : List (List ℕ)) (r : TagRun) (s : OpenSession) (e : Event) → Goes c h ms r s → IsHeeded (run_of c h r).reach e
+  goes_on : (c : Config) (h : List Entry) (ms : List (List ℕ)) (r : TagRun) (s : OpenSession) (e : Event) → IfSome (takes s.session e).call (IsCallAt h) → Goes c h ms r s → IsHeeded (run_of c h r).reach e
       → let t = turned c h (moment_of e) s (takes s.session e).state (takes s.session e).call in
       Goes c t.journal (ms ++ map bytes_of t.session.session.out) (grown r e t.marks) (record { number = t.session.number; entries = t.session.entries; session = drained t.session.session })
-  goes_on c h ms r s e goes heeded =
+  goes_on c h ms r s e asks goes heeded =
       let R : Course = run_of c h r in
       let t : Turn = turned c h (moment_of e) s (takes s.session e).state (takes s.session e).call in
       let pre : IsPrefix h t.journal = turned_prefix c h (moment_of e) s (takes s.session e).state (takes s.session e).call in
@@ -325,17 +356,21 @@ module _ (same : RunIsSame) (next : RunGoesOn) (one : CallsAddOne) where
       let step = next c r.number h t.journal r.places t.marks r.events e s.session R.sent R.made R.reach pre goes.is.within is in
       let d : Course = asked c r.number t.journal (moment_of e) (course s.session t.marks R.sent R.made R.reach) (takes s.session e).state (takes s.session e).call in
       let eq : run_of c t.journal (grown r e t.marks) ≡ d = step.0 in
-      let at : Comes h t R.sent R.made d = comes one c r.number h (moment_of e) s R.sent R.made R.reach goes.number goes.entries goes.reach (takes s.session e).state (takes s.session e).call in
+      let at : Comes h t R.sent R.made d = comes one laws.own_entries c r.number h (moment_of e) s R.sent R.made R.reach goes.number goes.entries goes.reach (takes s.session e).state (takes s.session e).call asks in
+      let number : t.session.number ≡ r.number = turned_number c h (moment_of e) s (takes s.session e).state (takes s.session e).call ∙ goes.number in
       record {
         is = record {
           sent = ap (λ l. l ++ map bytes_of t.session.session.out) goes.is.sent ∙ sym (map-append bytes_of R.sent t.session.session.out) ∙ ap (map bytes_of) (sym at.sent) ∙ sym (ap (λ (x : Course). map bytes_of x.sent) eq);
           used = ap (λ (x : Course). x.places) eq ∙ at.places;
           fed = ap (λ (x : Course). x.short) eq ∙ at.short;
           within = within_both (length t.journal) r.places t.marks (within_more (length h) (length t.journal) r.places (prefix_length h t.journal pre) goes.is.within) at.marks;
+          rise = fall-turned c h (moment_of e) s (takes s.session e).state (takes s.session e).call (r.number + 1) r.places goes.is.rise;
           heeds = step.1 goes.is.heeds heeded;
           made = subst (λ (x : Course). AllStand t.journal x.made) (sym eq) (at.stand goes.is.made);
+          wrote = subst (λ (x : Course). Wrote t.journal r.number x.made) (sym eq)
+              (subst (λ (k : ℕ). Wrote t.journal k d.made) number (at.wrote (subst (λ (k : ℕ). Wrote h k R.made) (sym number) goes.is.wrote)));
         };
-        number = turned_number c h (moment_of e) s (takes s.session e).state (takes s.session e).call ∙ goes.number;
+        number = number;
         entries = at.entries ∙ ap (λ (x : Course). own_number x.made) (sym eq);
         state = ap (λ (x : Course). x.state) eq ∙ at.state;
         reach = subst (λ (x : Course). x.reach ≤ length t.journal) (sym eq) at.reach;
@@ -383,45 +418,47 @@ module _ (same : RunIsSame) (next : RunGoesOn) (one : CallsAddOne) where
       )
 
   -- a frame of an open session
-  open_fits : (c : Config) (h : List Entry) (tag : ℕ) (f : Frame) (ms es : List (List ℕ)) (r : TagRun) (s : OpenSession) → (f.tag == tag) ≡ true → Goes c h ms r s → es ≡ [] → end_of s.session.phase ≡ None
+  open_fits : (c : Config) (h : List Entry) (tag : ℕ) (f : Frame) (ms es : List (List ℕ)) (r : TagRun) (s : OpenSession) → (f.tag == tag) ≡ true → Remembers (length h) s.session → Goes c h ms r s → es ≡ [] → end_of s.session.phase ≡ None
       → let e = effect_open c h s f in Fits c e.journal (ms ++ payloads_to 17 tag e.answers) (es ++ payloads_to 19 tag e.answers) (Some (run_with c h s f r)) (Some e.tag)
-  open_fits c h tag f ms es r s is goes none going =
+  open_fits c h tag f ms es r s is remembers goes none going =
+      let asks : IfSome (takes s.session (event_of h f)).call (IsCallAt h) = asked_at h s.session (takes s.session (event_of h f)).call remembers (laws.asks s.session (event_of h f)) in
       kind_fits c tag ms es (f.kind == 3) (record { journal = h; tag = Ended; answers = end_frame f PeerEnd ∷ [] }) (effect_after f (turn c h s f) (end_of (turn c h s f).session.session.phase))
       r (grown r (event_of h f) (turn c h s f).marks)
       (peer_ended c h tag f ms es r s is goes none going)
       (after_fits c tag f (turn c h s f) ms es (grown r (event_of h f) (turn c h s f).marks) (end_of (turn c h s f).session.session.phase) is refl none
-      (goes_on c h ms r s (event_of h f) goes (is_heeded h (run_of c h r).reach f (f.kind == 1) goes.reach)))
+      (goes_on c h ms r s (event_of h f) asks goes (is_heeded h (run_of c h r).reach f (f.kind == 1) goes.reach)))
 
   -- a session that has just entered
-  first_goes : (c : Config) (h : List Entry) (n : ℕ) → n + 1 ≤ length h → Goes c h [] (first_run n) (first_open c n)
-  first_goes c h n le = record {
-    is = record { sent = refl; used = refl; fed = refl; within = tt; heeds = tt; made = tt };
+  first_goes : (c : Config) (h : List Entry) (n : ℕ) → n + 1 ≤ length h → Wrote h n [] → Goes c h [] (first_run n) (first_open c n)
+  first_goes c h n le wrote = record {
+    is = record { sent = refl; used = refl; fed = refl; within = tt; rise = le; heeds = tt; made = tt; wrote = wrote };
     number = refl;
     entries = refl;
     state = refl;
     reach = le;
   }
 
-  entered_fits : (c : Config) (h : List Entry) (tag : ℕ) (f : Frame) (o : Option ℕ) → (f.tag == tag) ≡ true → ((n : ℕ) → o ≡ Some n → n + 1 ≤ length h)
+  entered_fits : (c : Config) (h : List Entry) (tag : ℕ) (f : Frame) (o : Option ℕ) → (f.tag == tag) ≡ true → ((n : ℕ) → o ≡ Some n → n + 1 ≤ length h) → ((n : ℕ) → o ≡ Some n → Wrote h n [])
       → let e = effect_entered c h f o in Fits c e.journal (payloads_to 17 tag e.answers) (payloads_to 19 tag e.answers) (run_entered c h f o) (Some e.tag)
-  entered_fits c h tag f None is within = (refl, own_end tag f JournalFull is)
-  entered_fits c h tag f (Some n) is within = open_fits c h tag f [] [] (first_run n) (first_open c n) is (first_goes c h n (within n refl)) refl refl
+  entered_fits c h tag f None is within wrote = (refl, own_end tag f JournalFull is)
+  entered_fits c h tag f (Some n) is within wrote =
+      open_fits c h tag f [] [] (first_run n) (first_open c n) is (laws.first c n (length h) (pos 1)) (first_goes c h n (within n refl) (wrote n refl)) refl refl
 
   -- a frame of this tag
-  at_fits : (c : Config) (h : List Entry) (tag : ℕ) (f : Frame) (ms es : List (List ℕ)) (r : Option TagRun) (o : Option TagState) → (f.tag == tag) ≡ true → Fits c h ms es r o
+  at_fits : (c : Config) (h : List Entry) (tag : ℕ) (f : Frame) (ms es : List (List ℕ)) (r : Option TagRun) (o : Option TagState) → (f.tag == tag) ≡ true → own (length h) h ≡ [] → FitsTag h o → Fits c h ms es r o
       → let e = effect_at c h f o in Fits c e.journal (ms ++ payloads_to 17 tag e.answers) (es ++ payloads_to 19 tag e.answers) (run_after c h f r o) (Some e.tag)
-  at_fits c h tag f ms es None None is fits =
+  at_fits c h tag f ms es None None is fresh sound fits =
       let e : Effect = effect_new c h f in
       let q : Option TagRun = run_entered c (entered_journal c h f) f (entered_place c h) in
       subst (λ l. Fits c e.journal (l ++ payloads_to 17 tag e.answers) (es ++ payloads_to 19 tag e.answers) q (Some e.tag)) (sym fits.0)
       (subst (λ l. Fits c e.journal (payloads_to 17 tag e.answers) (l ++ payloads_to 19 tag e.answers) q (Some e.tag)) (sym fits.1)
-      (entered_fits c (entered_journal c h f) tag f (entered_place c h) is (entered_within c h f)))
-  at_fits c h tag f ms es None (Some Ended) is fits = (append-nil ms ∙ fits.0, append-nil es ∙ fits.1)
-  at_fits c h tag f ms es None (Some (Open s)) is fits = absurd fits
-  at_fits c h tag f ms es (Some r) None is fits = absurd fits
-  at_fits c h tag f ms es (Some r) (Some Ended) is fits =
+      (entered_fits c (entered_journal c h f) tag f (entered_place c h) is (entered_within c h f) (λ n place. entered-wrote c h f n fresh place)))
+  at_fits c h tag f ms es None (Some Ended) is fresh sound fits = (append-nil ms ∙ fits.0, append-nil es ∙ fits.1)
+  at_fits c h tag f ms es None (Some (Open s)) is fresh sound fits = absurd fits
+  at_fits c h tag f ms es (Some r) None is fresh sound fits = absurd fits
+  at_fits c h tag f ms es (Some r) (Some Ended) is fresh sound fits =
       (subst (λ l. IsRun c h l r) (sym (append-nil ms)) fits.0, subst (λ l. IsEnd (end_of (run_of c h r).state.phase) l) (sym (append-nil es)) fits.1)
-  at_fits c h tag f ms es (Some r) (Some (Open s)) is fits = open_fits c h tag f ms es r s is fits.0 fits.1 fits.2
+  at_fits c h tag f ms es (Some r) (Some (Open s)) is fresh sound fits = open_fits c h tag f ms es r s is sound.remembers fits.0 fits.1 fits.2
 
   -- ---- a play
 
@@ -432,6 +469,9 @@ module _ (same : RunIsSame) (next : RunGoesOn) (one : CallsAddOne) where
   -- what is followed of a play fits it
   record Fine (c : Config) (tag : ℕ) (w : Followed) : Type 0 where
     config : w.played.world.config ≡ c
+    sound : IsSound w.played.world
+    legal : Legal c w.played.world.journal
+    apart : IsApart tag w.run w.played.world.tags
     bytes : w.played.bytes ≡ magic ++ frames_bytes w.answers
     fits : FitsAll c tag w.played.world.journal w.answers w.run (state_of tag w.played.world.tags)
 
@@ -443,17 +483,17 @@ module _ (same : RunIsSame) (next : RunGoesOn) (one : CallsAddOne) where
       (subst (λ l. Fits c h (payloads_to 17 tag answers ++ payloads_to 17 tag more) l r o) (sym (to_both 19 tag answers more)) fits)
 
   -- an accepted frame
-  world_fits : (c : Config) (tag : ℕ) (w : World) (f : Frame) (answers : List Frame) (r : Option TagRun) (b : Bool) → (f.tag == tag) ≡ b → w.config ≡ c
+  world_fits : (c : Config) (tag : ℕ) (w : World) (f : Frame) (answers : List Frame) (r : Option TagRun) (b : Bool) → (f.tag == tag) ≡ b → w.config ≡ c → IsSound w → own (length w.journal) w.journal ≡ [] → OwnStays w.journal (effect w f).journal (cond b None r)
       → FitsAll c tag w.journal answers r (state_of tag w.tags)
       → FitsAll c tag (effect w f).journal (answers ++ (effect w f).answers) (if b then run_after w.config w.journal f r (state_of tag w.tags) else r) (state_of tag (with_tag f.tag (effect w f).tag w.tags))
-  world_fits c tag w f answers r true is config fits =
+  world_fits c tag w f answers r true is config sound fresh stays fits =
       let tags : f.tag ≡ tag = same_tags f.tag tag is in
       let o : Option TagState = state_of tag w.tags in
       let state : state_of f.tag w.tags ≡ o = ap (λ (k : ℕ). state_of k w.tags) tags in
       let e : Effect = effect_at c w.journal f o in
       let effect_is : effect w f ≡ e = ap (λ (k : Config). effect_at k w.journal f (state_of f.tag w.tags)) config ∙ ap (effect_at c w.journal f) state in
       let here : Fits c e.journal (payloads_to 17 tag answers ++ payloads_to 17 tag e.answers) (payloads_to 19 tag answers ++ payloads_to 19 tag e.answers) (run_after c w.journal f r o) (Some e.tag) =
-      at_fits c w.journal tag f (payloads_to 17 tag answers) (payloads_to 19 tag answers) r o is fits in
+      at_fits c w.journal tag f (payloads_to 17 tag answers) (payloads_to 19 tag answers) r o is fresh (sound.fits tag) fits in
       let found : state_of tag (with_tag f.tag (effect w f).tag w.tags) ≡ Some (effect w f).tag =
       put_found f.tag (effect w f).tag tag w.tags ∙ ap (λ t. cond t (Some (effect w f).tag) o) (subst (λ (k : ℕ). is_at (nat_cmp f.tag) k ≡ true) tags (at_self f.tag)) in
       let moved : FitsAll c tag e.journal (answers ++ e.answers) (run_after w.config w.journal f r o) (Some e.tag) =
@@ -461,14 +501,14 @@ module _ (same : RunIsSame) (next : RunGoesOn) (one : CallsAddOne) where
       (joined c tag e.journal answers e.answers (run_after c w.journal f r o) (Some e.tag) here) in
       subst (λ (x : Option TagState). FitsAll c tag (effect w f).journal (answers ++ (effect w f).answers) (run_after w.config w.journal f r o) x) (sym found)
       (subst (λ (x : Effect). FitsAll c tag x.journal (answers ++ x.answers) (run_after w.config w.journal f r o) (Some x.tag)) (sym effect_is) moved)
-  world_fits c tag w f answers r false is config fits =
+  world_fits c tag w f answers r false is config sound fresh stays fits =
       let o : Option TagState = state_of tag w.tags in
       let found : state_of tag (with_tag f.tag (effect w f).tag w.tags) ≡ o =
       put_found f.tag (effect w f).tag tag w.tags ∙ ap (λ t. cond t (Some (effect w f).tag) o) (at_other f.tag tag is) in
       let no_more = at_others w.config w.journal f tag (state_of f.tag w.tags) is in
       let more : List Frame = (effect w f).answers in
       let longer : Fits c (effect w f).journal (payloads_to 17 tag answers) (payloads_to 19 tag answers) r o =
-      fits_longer c w.journal (effect w f).journal (payloads_to 17 tag answers) (payloads_to 19 tag answers) r o (at_prefix w.config w.journal f (state_of f.tag w.tags)) fits in
+      fits_longer c w.journal (effect w f).journal (payloads_to 17 tag answers) (payloads_to 19 tag answers) r o (at_prefix w.config w.journal f (state_of f.tag w.tags)) stays fits in
       let sent : payloads_to 17 tag answers ++ payloads_to 17 tag more ≡ payloads_to 17 tag answers = ap (λ l. payloads_to 17 tag answers ++ l) no_more.0 ∙ append-nil (payloads_to 17 tag answers) in
       let ends : payloads_to 19 tag answers ++ payloads_to 19 tag more ≡ payloads_to 19 tag answers = ap (λ l. payloads_to 19 tag answers ++ l) no_more.1 ∙ append-nil (payloads_to 19 tag answers) in
       subst (λ (x : Option TagState). FitsAll c tag (effect w f).journal (answers ++ more) r x) (sym found)
@@ -476,19 +516,55 @@ module _ (same : RunIsSame) (next : RunGoesOn) (one : CallsAddOne) where
       (subst (λ l. Fits c (effect w f).journal l (payloads_to 19 tag answers ++ payloads_to 19 tag more) r o) (sym sent)
       (subst (λ l. Fits c (effect w f).journal (payloads_to 17 tag answers) l r o) (sym ends) longer)))
 
-  next_fine : (c : Config) (tag : ℕ) (w : Followed) (b : Bool) (f : Frame) → Fine c tag w → Fine c tag (next_followed tag w b f)
-  next_fine c tag w true f fine = record { config = fine.config; bytes = fine.bytes; fits = fine.fits }
-  next_fine c tag w false f fine =
-      let more : List Frame = (effect w.played.world f).answers in
+  -- the number of the tag's session is below the journal's length
+  run_below : (c : Config) (h : List Entry) (ms es : List (List ℕ)) (r : Option TagRun) (o : Option TagState) → Fits c h ms es r o → IsBelow (length h) r
+  run_below c h ms es None o fits = tt
+  run_below c h ms es (Some r) None fits = absurd fits
+  run_below c h ms es (Some r) (Some Ended) fits = wrote_below h r.number (run_of c h r).made fits.0.wrote
+  run_below c h ms es (Some r) (Some (Open s)) fits = let goes : Goes c h ms r s = fits.0 in wrote_below h r.number (run_of c h r).made goes.is.wrote
+
+  -- the tag's session stays apart from the others
+  world_apart : (tag : ℕ) (w : World) (f : Frame) (r : Option TagRun) (b : Bool) → (f.tag == tag) ≡ b → IsSound w → IsBelow (length w.journal) r → IsApart tag r w.tags
+      → TagFits (number_in w.journal (state_of f.tag w.tags)) (effect w f).journal (effect w f).tag
+      → IsApart tag (if b then run_after w.config w.journal f r (state_of tag w.tags) else r) (with_tag f.tag (effect w f).tag w.tags)
+  world_apart tag w f r true is sound below apart fits =
+      let tags : f.tag ≡ tag = same_tags f.tag tag is in
+      let at_tag : TagFits (number_in w.journal (state_of tag w.tags)) (effect w f).journal (effect w f).tag =
+      subst (λ (k : ℕ). TagFits (number_in w.journal (state_of k w.tags)) (effect w f).journal (effect w f).tag) tags fits in
+      subst (λ (k : ℕ). IsApart tag (run_after w.config w.journal f r (state_of tag w.tags)) (with_tag k (effect w f).tag w.tags)) (sym tags)
+      (own_apart tag w f r (state_of tag w.tags) (effect w f).journal (effect w f).tag sound below at_tag apart)
+  world_apart tag w f r false is sound below apart fits = other_apart tag w f.tag r (effect w f).journal (effect w f).tag below fits apart
+
+  -- a frame of another tag writes nothing of this one's session
+  world_stays : (tag : ℕ) (w : World) (f : Frame) (r : Option TagRun) (b : Bool) → (f.tag == tag) ≡ b → IsBelow (length w.journal) r → IsApart tag r w.tags
+      → Grows (number_in w.journal (state_of f.tag w.tags)) w.journal (effect w f).journal → OwnStays w.journal (effect w f).journal (cond b None r)
+  world_stays tag w f r true is below apart grows = tt
+  world_stays tag w f r false is below apart grows = own_stays tag f.tag w.journal (effect w f).journal w.tags r (other_tags f.tag tag is) below grows apart
+
+  next_fine : (c : Config) (tag : ℕ) (w : Followed) (b : Bool) (f : Frame) → is_refused w.played.world f ≡ b → Fine c tag w → Fine c tag (next_followed tag w b f)
+  next_fine c tag w true f is fine = record { config = fine.config; sound = fine.sound; legal = fine.legal; apart = fine.apart; bytes = fine.bytes; fits = fine.fits }
+  next_fine c tag w false f is fine =
+      let v : World = w.played.world in
+      let e : Effect = effect v f in
+      let more : List Frame = e.answers in
+      let fresh : own (length v.journal) v.journal ≡ [] = new_number c v.journal fine.legal in
+      let here : has_ended (state_of f.tag v.tags) ≡ false = last_false (f.kind == 17) (f.kind == 19) (has_ended (state_of f.tag v.tags)) is in
+      let effect_is = effect_fits laws v.config v.journal f (state_of f.tag v.tags) fresh here (fine.sound.fits f.tag) in
+      let below : IsBelow (length v.journal) w.run = run_below c v.journal (payloads_to 17 tag w.answers) (payloads_to 19 tag w.answers) w.run (state_of tag v.tags) fine.fits in
+      let stays : OwnStays v.journal e.journal (cond (f.tag == tag) None w.run) = world_stays tag v f w.run (f.tag == tag) refl below fine.apart effect_is.grows in
       record {
         config = fine.config;
+        sound = sound_put laws v f.tag e.journal e.tag (with_tag f.tag e.tag v.tags) fine.sound effect_is.grows effect_is.tag (λ q. put_found f.tag e.tag q v.tags);
+        legal = subst (λ (k : Config). Legal k e.journal) fine.config
+            (at_legal laws may keep v.config v.journal f (state_of f.tag v.tags) fresh (fine.sound.fits f.tag) (subst (λ (k : Config). Legal k v.journal) (sym fine.config) fine.legal));
+        apart = world_apart tag v f w.run (f.tag == tag) refl fine.sound below fine.apart effect_is.tag;
         bytes = ap (λ l. l ++ frames_bytes more) fine.bytes ∙ append_assoc magic (frames_bytes w.answers) (frames_bytes more) ∙ ap (λ l. magic ++ l) (sym (bytes_both w.answers more));
-        fits = world_fits c tag w.played.world f w.answers w.run (f.tag == tag) refl fine.config fine.fits;
+        fits = world_fits c tag v f w.answers w.run (f.tag == tag) refl fine.config fine.sound fresh stays fine.fits;
       }
 
   follow_fine : (c : Config) (tag : ℕ) (w : Followed) (o : Option ℕ) (f : Frame) → Fine c tag w → Fine c tag (follow_to o tag w f)
   follow_fine c tag w (Some at) f fine = fine
-  follow_fine c tag w None f fine = next_fine c tag w (is_refused w.played.world f) f fine
+  follow_fine c tag w None f fine = next_fine c tag w (is_refused w.played.world f) f refl fine
 
   all_fine : (c : Config) (tag : ℕ) (frames : List Frame) (w : Followed) → Fine c tag w → Fine c tag (fold (follow tag) w frames)
   all_fine c tag [] w fine = fine
@@ -508,12 +584,13 @@ module _ (same : RunIsSame) (next : RunGoesOn) (one : CallsAddOne) where
   pub play_is_runs : PlayIsRuns
   play_is_runs c tag frames =
       let w : Followed = followed c tag frames in
-      let fine = all_fine c tag frames (first_followed c) (record { config = refl; bytes = sym (append-nil magic); fits = (refl, refl) }) in
+      let fine = all_fine c tag frames (first_followed c) (record { config = refl; sound = first_sound c; legal = (refl, tt); apart = tt; bytes = sym (append-nil magic); fits = (refl, refl) }) in
       let played : w.played ≡ play c frames = all_played tag frames (first_followed c) in
       let ms : List (List ℕ) = payloads_to 17 tag w.answers in
       let es : List (List ℕ) = payloads_to 19 tag w.answers in
       record {
         played = played;
+        legal = subst (λ (p : Played). Legal c p.world.journal) played fine.legal;
         bytes = sym (ap (λ (p : Played). p.bytes) played) ∙ fine.bytes;
         sent = subst (λ (p : Played). IsSent c p.world.journal ms es w.run) played (sent_of c w.played.world.journal ms es w.run (state_of tag w.played.world.tags) fine.fits);
       }

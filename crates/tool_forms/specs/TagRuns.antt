@@ -1,12 +1,15 @@
 -- What a play is to one tag: the run of the tag's session over the journal.
-use Rattle.std.specs.Prelude.{◌≡◌, ◌⊎◌, ℕ, Bool, true, false, List, [], ◌∷◌, ◌++◌, ◌==◌, ◌&&◌, nat_eq, if◌then◌else◌, length, map, filter, fold, slice_get, Option, None, Some}
+use Rattle.std.specs.Prelude.{◌≡◌, ◌⊎◌, ℕ, ◌+◌, ◌≤◌, Bool, true, false, List, [], ◌∷◌, ◌++◌, ◌==◌, ◌&&◌, nat_eq, if◌then◌else◌, length, map, filter, fold, slice_get, Option, None, Some, IsSomeAnd}
 use Rattle.std.specs.Option.{option_map}
+use Rattle.std.specs.Map.{values_of}
 use Rattle.etp_capture.specs.Frames.{magic}
 use Rattle.etp_capture.specs.Capture.{frames_bytes}
 use Rattle.etp_capture.specs.Kinds.{kind_end, kind_out, kind_ended}
 use Rattle.etp_capture.specs.declared.frame.Frame.{Frame}
 use Rattle.chan_defs.specs.declared.config.Config.{Config}
+use Rattle.store_machine.specs.declared.journal.Act.TheVariants.{Enter}
 use Rattle.store_machine.specs.declared.journal.Entry.{Entry}
+use Rattle.store_machine.specs.Legal.{Legal, own}
 use Rattle.session_core.specs.Arriving.{Event}
 use Rattle.session_core.specs.Run.{Course, run, Heeds, AllWithin}
 use Rattle.session_core.specs.Session.{bytes_of, end_of}
@@ -88,19 +91,31 @@ abbrev pub AllStand : List Entry → List (ℕ × Entry) → Type 0
 AllStand h [] = Unit {0}
 AllStand h (x ∷ xs) = (slice_get h x.0 ≡ Some x.1) × AllStand h xs
 
+-- these lengths never fall, from this one to that
+abbrev pub NeverFall : ℕ → List ℕ → ℕ → Type 0
+NeverFall low [] high = low ≤ high
+NeverFall low (p ∷ ps) high = (low ≤ p) × NeverFall p ps high
+
+-- all that a session wrote: the entry of its entering, which stands at its number, and then these
+abbrev pub Wrote : List Entry → ℕ → List (ℕ × Entry) → Type 0
+Wrote h n made = IsSomeAnd (slice_get h n) (λ (e : Entry). (e.act ≡ Enter) × (own n h ≡ e ∷ values_of made))
+
 -- the run of a tag's session over a journal
 abbrev pub run_of : Config → List Entry → TagRun → Course
 run_of c h r = run c r.number h r.places r.events
 
--- the messages are what the run sends. Each call has its place, no place is left, and none is past the journal; each poll
--- tells of no less than was seen; and the entries that the run makes stand at their places
+-- the messages are what the run sends. Each call has its place, no place is left, and none is past the journal; the places
+-- never fall, from the session's entering on; each poll tells of no less than was seen; and the entries that the run makes
+-- stand at their places and are all that the session wrote
 pub record IsRun (c : Config) (h : List Entry) (messages : List (List ℕ)) (r : TagRun) : Type 0 where
   pub sent : messages ≡ map bytes_of (run_of c h r).sent
   pub used : (run_of c h r).places ≡ []
   pub fed : (run_of c h r).short ≡ false
   pub within : AllWithin (length h) r.places
+  pub rise : NeverFall (r.number + 1) r.places (length h)
   pub heeds : Heeds c r.number h r.places r.events
   pub made : AllStand h (run_of c h r).made
+  pub wrote : Wrote h r.number (run_of c h r).made
 
 -- the end frames of a tag, by the end of its session's run: a session that has not ended by its own rules may have been ended
 -- by its client
@@ -113,10 +128,11 @@ abbrev pub IsSent : Config → List Entry → List (List ℕ) → List (List ℕ
 IsSent c h messages endings None = (messages ≡ []) × ((endings ≡ []) ⊎ (endings ≡ ending_bytes JournalFull ∷ []))
 IsSent c h messages endings (Some r) = IsRun c h messages r × IsEnd (end_of (run_of c h r).state.phase) endings
 
--- a play's bytes are those of the frames that answer it, and those among them that go to a tag are the messages and the end
--- of the run of the tag's session over the journal
+-- a play's journal is legal. Its bytes are those of the frames that answer it, and those among them that go to a tag are the
+-- messages and the end of the run of the tag's session over the journal
 pub record IsFollowed (c : Config) (tag : ℕ) (frames : List Frame) : Type 0 where
   pub played : (followed c tag frames).played ≡ play c frames
+  pub legal : Legal c (play c frames).world.journal
   pub bytes : (play c frames).bytes ≡ magic ++ frames_bytes (followed c tag frames).answers
   pub sent : let w = followed c tag frames in IsSent c (play c frames).world.journal (payloads_to kind_out tag w.answers) (payloads_to kind_ended tag w.answers) w.run
 

@@ -6,8 +6,8 @@ ghost use Rattle.capture_listing.specs.Listing.{show_plan, check_plan};
 ghost use Rattle.tool_forms.specs.TagRuns.{PlayIsRuns};
 
 use capture_run::run_stops_once;
-use session_core::runs;
-use store_machine::number_laws;
+use session_core::{runs, steps};
+use store_machine::{growth_laws, number_laws};
 
 /// An input makes a run of a form stop in one way at most, behind one list of frames.
 pub fn input_has_one_answer()
@@ -18,12 +18,14 @@ pub fn input_has_one_answer()
     run_stops_once();
 }
 
-/// What a play writes to a tag is the run of the tag's session over the journal that the play leaves: the run's calls stand at
-/// the lengths of the journal at which the play asked the store, and its messages and its end are those of the frames that
-/// answer the tag.
+/// What a play writes to a tag is the run of the tag's session over the journal that the play leaves, which is legal: the run's
+/// calls stand at the lengths of the journal at which the play asked the store, which never fall; its messages and its end are
+/// those of the frames that answer the tag; and its entries are all that the journal has of the session.
 pub fn tags_are_runs()
     ensures { PlayIsRuns }
 {
     runs();
+    steps();
     number_laws();
+    growth_laws();
 }

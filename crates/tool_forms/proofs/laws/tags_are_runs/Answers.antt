@@ -1,5 +1,19 @@
+use Rattle.tool_forms.proofs.Soundness.{Laws}
 use Rattle.tool_forms.proofs.TagRunLemmas.{play_is_runs}
 use Rattle.tool_forms.proofs.laws.tags_are_runs.Goals as goal
 
 pub returns : goal.returns
-returns c = play_is_runs c.runs.ensures.same c.runs.ensures.next c.number_laws.ensures.one
+returns c =
+    let numbers = c.number_laws.ensures in
+    let steps = c.steps.ensures in
+    let laws : Laws = record {
+      stay = numbers.stay;
+      own_entries = numbers.own;
+      first = steps.first;
+      taken = steps.taken;
+      asks = steps.asks;
+      given = steps.given;
+      more = steps.more;
+      sent = steps.drained;
+    } in
+    play_is_runs c.runs.ensures.same c.runs.ensures.next numbers.one laws numbers.fresh numbers.may c.growth_laws.ensures.legal
