@@ -108,11 +108,11 @@ module _ (config : Config) (h : List Entry) where
   dataspaces (space.PutDataspaces x) b =
       let items = checked (λ s d. (s, checked_put d)) nothing x.dataspaces in
       unless (change_refusal b x.dataspaces) (put_called (plain_outcome checked_put put_response x.dataspaces))
-          (put (kept (λ put. nothing) items) (sent (λ put. put) items) (keys-sent (λ put. nothing) (λ put. put) items))
+      (put (kept (λ put. nothing) items) (sent (λ put. put) items) (keys-sent (λ put. nothing) (λ put. put) items))
   dataspaces (space.DeleteDataspaces x) b =
       let items = checked (λ s uri. (s, changeable_path uri)) nothing x.uris in
       unless (change_refusal b x.uris) (delete_called (plain_outcome changeable_path delete_response x.uris))
-          (delete (kept (λ path. nothing) items) (sent (λ path. path) items) (keys-sent (λ path. nothing) (λ path. path) items))
+      (delete (kept (λ path. nothing) items) (sent (λ path. path) items) (keys-sent (λ path. nothing) (λ path. path) items))
   dataspaces (space.GetDataspacesResponse x) b = tt
   dataspaces (space.PutDataspacesResponse x) b = tt
   dataspaces (space.DeleteDataspacesResponse x) b = tt
