@@ -1,6 +1,7 @@
 //! A listener over TCP.
 ghost use Rattle.std.specs.Prelude.{◌≡◌, ◌≤◌, None, false, IfSome};
 ghost use Rattle.etp_outside.specs.Faults.{Rose};
+ghost use Rattle.etp_outside.specs.Doors.{IsAccepted};
 
 use crate::handshake::shake_hands;
 use crate::link::WsLink;
@@ -65,8 +66,7 @@ impl<'a, R: Net<Listener = TcpListener, Stream = TcpStream>> TcpDoor<'a, R> {
 
     /// The next connection whose handshake is done. None where the listener failed.
     fn next_link(&self, alloc: Global) -> Option<ServerLink>
-        ensures faults { IfSome result (λ l. ⟦<ServerLink as Link>⟧.faults l ≡ 0) }
-        ensures ended { IfSome result (λ l. ⟦<ServerLink as Link>⟧.ended l ≡ false) }
+        ensures { IfSome result (λ l. IsAccepted (⟦<ServerLink as Link>⟧.talk l) (⟦<ServerLink as Link>⟧.faults l) (⟦<ServerLink as Link>⟧.ended l)) }
     {
         let Some(listener) = &self.listener else {
             return None;
@@ -113,8 +113,7 @@ fn is_of_one_connection(kind: ErrorKind) -> bool {
 
 /// The link over a connection, if its handshake is done.
 fn welcome(alloc: Global, stream: TcpStream) -> Option<ServerLink>
-    ensures faults { IfSome result (λ l. ⟦<ServerLink as Link>⟧.faults l ≡ 0) }
-    ensures ended { IfSome result (λ l. ⟦<ServerLink as Link>⟧.ended l ≡ false) }
+    ensures { IfSome result (λ l. IsAccepted (⟦<ServerLink as Link>⟧.talk l) (⟦<ServerLink as Link>⟧.faults l) (⟦<ServerLink as Link>⟧.ended l)) }
 {
     match shake_hands(alloc, stream) {
         Some(socket) => WsLink::new(socket),
@@ -132,6 +131,8 @@ impl<'a, R: Net<Listener = TcpListener, Stream = TcpStream>> Listener for TcpDoo
     ghost stopped = { λ d. d.stopped };
 
     ghost backs = { λ d. None };
+
+    ghost few = { λ d. tt };
 
     fn listen(&mut self, address: &str) -> Listened {
         match TcpListener::bind(self.rt, address) {

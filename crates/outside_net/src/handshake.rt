@@ -1,4 +1,7 @@
 //! The opening handshake of a server.
+ghost use Rattle.std.specs.Prelude.{IfSome};
+ghost use Rattle.tungstenite.specs.Heads.{Serves};
+
 use crate::metered::Metered;
 use http::{HeaderName, HeaderValue, Request, Response};
 use std::alloc::Global;
@@ -37,7 +40,7 @@ impl Callback for Choose {
             .any(|value| offers(value.as_bytes()));
         if offered {
             let name = HeaderName::from_static("sec-websocket-protocol");
-            let value = HeaderValue::from_static("etp12.energistics.org");
+            let value = HeaderValue::from_static(SUBPROTOCOL);
             // Without memory for the line the client sees that nothing was chosen, and decides.
             let _ = response.headers_mut().insert(name, value);
         }
@@ -60,11 +63,14 @@ fn limits() -> WebSocketConfig {
         .read_buffer_size(READ_BUFFER)
 }
 
-/// The WebSocket of a connection that was accepted. None where the handshake fails, or a read of it waits too long twice.
+/// The WebSocket of a connection that was accepted: its client has asked for one with a valid key. None where the handshake
+/// fails, or a read of it waits too long twice.
 pub fn shake_hands(
     alloc: Global,
     stream: TcpStream,
-) -> Option<WebSocket<Metered<TcpStream>, NoMask>> {
+) -> Option<WebSocket<Metered<TcpStream>, NoMask>>
+    ensures { IfSome result Serves }
+{
     if stream.set_nodelay(true).is_err() {
         return None;
     }
@@ -78,7 +84,10 @@ pub fn shake_hands(
     let begun = server::start(alloc, Metered::new(stream), Choose, Some(limits()));
     match begun.handshake() {
         Ok(socket) => Some(socket),
-        Err(HandshakeError::Interrupted(half)) => half.handshake().ok(),
+        Err(HandshakeError::Interrupted(half)) => match half.handshake() {
+            Ok(socket) => Some(socket),
+            Err(_) => None,
+        },
         Err(HandshakeError::Failure(_)) => None,
     }
 }

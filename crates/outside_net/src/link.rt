@@ -2,6 +2,7 @@
 ghost use Rattle.std.specs.Prelude.{◌≡◌, ◌≤◌, ◌||◌, None, IfSome};
 ghost use Rattle.etp_outside.specs.Faults.{Rose};
 ghost use Rattle.etp_outside.specs.Talk.{is_end};
+ghost use Rattle.etp_outside.specs.Doors.{IsAccepted};
 
 use crate::arrival::{Arrival, receive};
 use crate::metered::Metered;
@@ -48,8 +49,7 @@ impl<S: Read + Write + OpenStream + Drop + Send, K: MaskKeys + Drop + Send> WsLi
     /// A link over a WebSocket whose handshake is done. None where the stream takes no limits of time: a read or a write of it
     /// could wait for ever.
     pub fn new(socket: WebSocket<Metered<S>, K>) -> Option<WsLink<S, K>>
-        ensures faults { IfSome result (λ l. ⟦<WsLink<S, K> as Link>⟧.faults l ≡ 0) }
-        ensures ended { IfSome result (λ l. ⟦<WsLink<S, K> as Link>⟧.ended l ≡ false) }
+        ensures { IfSome result (λ l. IsAccepted (⟦<WsLink<S, K> as Link>⟧.talk l) (⟦<WsLink<S, K> as Link>⟧.faults l) (⟦<WsLink<S, K> as Link>⟧.ended l)) }
     {
         let limits = limit(socket.get_ref().stream());
         if limits.is_err() {
@@ -65,7 +65,9 @@ impl<S: Read + Write + OpenStream + Drop + Send, K: MaskKeys + Drop + Send> WsLi
             silence: Silence::new(),
         })
     }
+}
 
+impl<S: Read + Write + OpenStream + Drop, K: MaskKeys + Drop> WsLink<S, K> {
     /// Has reads wait so many milliseconds from now on.
     fn pace(&mut self, wait: u64)
         ensures faults { self.new.faults ≡ self.old.faults }
@@ -75,7 +77,13 @@ impl<S: Read + Write + OpenStream + Drop + Send, K: MaskKeys + Drop + Send> WsLi
             return;
         }
         let limit = Some(Duration::from_millis(wait));
-        if self.socket.get_ref().stream().set_read_timeout(limit).is_ok() {
+        if self
+            .socket
+            .get_ref()
+            .stream()
+            .set_read_timeout(limit)
+            .is_ok()
+        {
             self.wait = wait;
         }
     }

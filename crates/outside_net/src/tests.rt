@@ -10,7 +10,8 @@ use std::process::Abort;
 use std::test::Fail;
 
 /// A request, which offers the subprotocol in its second line of offers.
-const REQUEST: &[u8] = b"GET /chat HTTP/1.1\r\nHost: server.example.com\r\nUpgrade: websocket\r\nConnection: Upgrade\r\nSec-WebSocket-Key: dGhlIHNhbXBsZSBub25jZQ==\r\nSec-WebSocket-Version: 13\r\nSec-WebSocket-Protocol: chat, superchat\r\nSec-WebSocket-Protocol: etp12.energistics.org\r\n\r\n";
+const REQUEST: &[u8] =
+    b"GET /chat HTTP/1.1\r\nHost: server.example.com\r\nUpgrade: websocket\r\nConnection: Upgrade\r\nSec-WebSocket-Key: dGhlIHNhbXBsZSBub25jZQ==\r\nSec-WebSocket-Version: 13\r\nSec-WebSocket-Protocol: chat, superchat\r\nSec-WebSocket-Protocol: etp12.energistics.org\r\n\r\n";
 
 /// "Hello", masked.
 const HELLO: &[u8] = &[
@@ -51,10 +52,10 @@ fn client<R: Net<Listener = TcpListener, Stream = TcpStream>>(
 fn welcomed<R: Net<Listener = TcpListener, Stream = TcpStream>>(
     alloc: Global,
     door: &mut TcpDoor<R>,
-) -> Result<ServerLink, Fail> {
+) -> Result<ServerLink, &'static str> {
     match door.next(alloc) {
         Next::Link(link) => Ok(link),
-        Next::Stop | Next::Failed | Next::NoMemory => Err(Fail::from("no link")),
+        Next::Stop | Next::Failed | Next::NoMemory => Err("no link"),
     }
 }
 
@@ -98,6 +99,7 @@ fn is_answered(rt: &impl Abort, alloc: Global, client: &mut TcpStream) -> Result
         }
     }
     let text = String::from_utf8(head)?;
+    let text = text.as_str();
     assert!(rt; text.starts_with("HTTP/1.1 101 "));
     assert!(rt; text.contains("\r\nsec-websocket-accept: s3pPLMBiTxaQ9kYGzzhZRbK+xOo=\r\n"));
     assert!(rt; text.contains("\r\nsec-websocket-protocol: etp12.energistics.org\r\n"));
