@@ -1,0 +1,5 @@
+use Rattle.store_hub.proofs.Reading.{reads}
+use Rattle.store_hub.proofs.laws.answers_read.Goals as goal
+
+pub returns : goal.returns
+returns c = reads

@@ -1,0 +1,5 @@
+use Rattle.store_hub.proofs.Reading.{fresh_entered}
+use Rattle.store_hub.proofs.laws.pass_laws.Goals as goal
+
+pub returns : goal.returns
+returns c = record { fresh = fresh_entered }

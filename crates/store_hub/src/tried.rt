@@ -1,0 +1,11 @@
+//! What comes of an attempt.
+use store_machine::{Answer, StoreCall};
+
+/// What comes of asking without waiting.
+#[derive(Debug, Drop, PartialEq, Eq)]
+pub enum Tried {
+    /// The store was free, and answered.
+    Done(Answer),
+    /// Another session had the store at that moment. The call is as it was given.
+    Busy(StoreCall),
+}
