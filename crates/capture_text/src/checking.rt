@@ -1,17 +1,16 @@
 //! The line of a message that is refused.
-ghost use Rattle.std.specs.Prelude.{◌++◌, codes, Some};
+ghost use Rattle.std.specs.Prelude.{◌≢◌, ◌++◌, codes, Some, Err, OnOk};
 ghost use Rattle.std.specs.Fmt.{decimal};
-ghost use Rattle.capture_text.specs.Faults.{fault_text};
-ghost use Rattle.capture_text.specs.Lines.{line_of, found_of, checked_line, checked_of};
-ghost use Rattle.capture_text.specs.Parts.{seen, WritesAs};
 ghost use Rattle.avro_bin.specs.Plain.{Writes};
+ghost use Rattle.capture_text.specs.Faults.{fault_text};
+ghost use Rattle.capture_text.specs.Lines.{line_of, checked_line, checked_of};
+ghost use Rattle.capture_text.specs.Parts.{WritesAs};
 
 use crate::faults::put_fault;
 use crate::pieces::{put, put_number};
-use crate::showing::{sender_of, wants_memory};
-use avro_bin::Tree;
+use crate::showing::sender_of;
 use etp_capture::Frame;
-use etp_frame::{FrameError, Header, read_tree};
+use etp_frame::{FrameError, check_message};
 use etp_values::NoMemory;
 use std::alloc::Global;
 
@@ -37,17 +36,14 @@ fn put_line(into: &mut Vec<u8>, offset: u64, error: &FrameError) -> Result<(), N
     put(into, b"\n")
 }
 
-/// Appends the line of a message that is refused, and nothing for one that was read.
-fn check_read(
-    offset: u64,
-    read: &Result<(Header, u32, Tree), FrameError>,
-    into: &mut Vec<u8>,
-) -> Result<Checked, NoMemory>
-    ensures { WritesAs (found_of (Some (seen read.now))) (line_of offset (Some (seen read.now))) into.old.items into.new.items result }
+/// Appends the line of a message that is refused, unless memory was refused in place of an answer.
+fn refuse(into: &mut Vec<u8>, offset: u64, error: &FrameError) -> Result<Checked, NoMemory>
+    ensures line { WritesAs Checked.Refused (line_of offset (Some (Err error.now))) into.old.items into.new.items result }
+    ensures cause { OnOk result (error.now ≢ FrameError.NoMemory) }
 {
-    match read {
-        Ok(_) => Ok(Checked::Taken),
-        Err(error) => {
+    match error {
+        FrameError::NoMemory => Err(NoMemory),
+        _ => {
             put_line(into, offset, error)?;
             Ok(Checked::Refused)
         }
@@ -67,9 +63,8 @@ pub fn check_frame(
     let Some(sender) = sender_of(frame.kind) else {
         return Ok(Checked::NoMessage);
     };
-    let read = read_tree(alloc, frame.bytes.as_bytes(), sender);
-    if wants_memory(&read) {
-        return Err(NoMemory);
+    match check_message(alloc, frame.bytes.as_bytes(), sender) {
+        Ok(_) => Ok(Checked::Taken),
+        Err(error) => refuse(into, offset, &error),
     }
-    check_read(offset, &read, into)
 }

@@ -33,7 +33,7 @@ pub(crate) fn sender_of(kind: u8) -> Option<Side>
 }
 
 /// Whether memory was refused in place of an answer.
-pub(crate) fn wants_memory(read: &Result<(Header, u32, Tree), FrameError>) -> bool
+fn wants_memory(read: &Result<(Header, u32, Tree), FrameError>) -> bool
     ensures { result ≡ wants_memory read.now }
 {
     match read {

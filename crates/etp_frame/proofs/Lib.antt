@@ -2,4 +2,5 @@ pub mod KindLemmas
 pub mod FoundLemmas
 pub mod RowLemmas
 pub mod ReadingLemmas
+pub mod CheckLemmas
 pub mod WireLemmas

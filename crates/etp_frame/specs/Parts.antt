@@ -1,11 +1,13 @@
 -- What the parts of reading a message answer.
-use Rattle.std.specs.Prelude.{◌≡◌, ◌≢◌, ℕ, Result, Ok, Err}
+use Rattle.std.specs.Prelude.{◌≡◌, ◌≢◌, ℕ, List, Some, Result, Ok, Err}
 use Rattle.avro_bin.specs.Value.{Value}
 use Rattle.avro_bin.specs.View.{value_of}
 use Rattle.avro_bin.specs.declared.refusal.Refusal.{Refusal}
 use Rattle.avro_bin.specs.declared.refusal.Refusal.TheVariants as r
 use Rattle.avro_bin.specs.declared.tree.Tree.{Tree}
-use Rattle.etp_frame.specs.Reading.{shifted}
+use Rattle.etp_schema.specs.Bodies.{body_place}
+use Rattle.etp_schema.specs.declared.body.Side.{Side}
+use Rattle.etp_frame.specs.Reading.{shifted, header_in, admitted}
 use Rattle.etp_frame.specs.declared.header.Header.{Header}
 use Rattle.etp_frame.specs.declared.error.FrameError.{FrameError}
 use Rattle.etp_frame.specs.declared.error.FrameError.TheVariants as f
@@ -43,3 +45,20 @@ GivesValue (Err e) expected = e ≢ f.NoMemory → expected ≡ Err e
 abbrev pub GivesTree : Result (Header × ℕ × Tree) FrameError → Result (Header × (ℕ × Value)) FrameError → Type 0
 GivesTree (Ok r) expected = expected ≡ Ok (r.0, (r.1, value_of r.2))
 GivesTree (Err e) expected = e ≢ f.NoMemory → expected ≡ Err e
+
+-- what stands in front of a body: the header of so many bytes, which refuses nothing, and the place of the schema of the body that
+-- the side sends with it
+pub record IsFront (side : Side) (h : Header) (size place : ℕ) (bytes : List ℕ) : Type 0 where
+  pub header : header_in bytes ≡ Ok (h, size)
+  pub plain : admitted h ≡ Ok tt
+  pub sent : body_place h.protocol h.kind side ≡ Some place
+
+-- some value is expected, or that error, unless memory ran out
+abbrev pub ChecksBody : Result (Unit {0}) FrameError → Result Value FrameError → Type 0
+ChecksBody (Ok u) expected = (v : Value) × (expected ≡ Ok v)
+ChecksBody (Err e) expected = e ≢ f.NoMemory → expected ≡ Err e
+
+-- the header is expected with some body, or that error, unless memory ran out
+abbrev pub ChecksMessage : Result Header FrameError → Result (Header × (ℕ × Value)) FrameError → Type 0
+ChecksMessage (Ok h) expected = (body : ℕ × Value) × (expected ≡ Ok (h, body))
+ChecksMessage (Err e) expected = e ≢ f.NoMemory → expected ≡ Err e

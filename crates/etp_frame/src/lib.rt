@@ -3,8 +3,9 @@
 //! [`read_message`] reads the bytes of one message: a [`Header`], and then the body that the header's protocol and number
 //! name for the side that sends it, as a [`Message`] of the protocol's own enum. It accepts exactly the wire form,
 //! `IsMessage` of `specs/Wire`, and else answers the one [`FrameError`] that `read_of` of `specs/Reading` names.
-//! [`read_tree`] stops before the message and answers the body's tree, for whoever shows or checks a body of any kind; it
-//! refuses the same bytes by the same causes ([`same_refusals`]).
+//! [`read_tree`] stops before the message and answers the body's tree, for whoever shows a body of any kind, and
+//! [`check_message`] answers the header alone and makes no value of the body; both refuse the same bytes by the same causes
+//! ([`same_refusals`]).
 //! [`write_message`] writes the one spelling that is written, `message_bytes`. The laws between them stand on
 //! [`wire_form_is_read`], [`one_reading`], [`tree_is_body`], [`rows_are_typed`] and [`written_is_read`].
 //!
@@ -12,6 +13,7 @@
 //! header says under which protocol such a message goes.
 #![tactic(auto)]
 
+mod checking;
 mod error;
 pub mod flags;
 mod header;
@@ -20,6 +22,7 @@ mod message;
 mod reading;
 mod writing;
 
+pub use checking::check_message;
 pub use error::FrameError;
 pub use header::Header;
 pub use laws::{

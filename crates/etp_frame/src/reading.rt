@@ -1,5 +1,5 @@
 //! Reading whole messages.
-ghost use Rattle.std.specs.Prelude.{◌≡◌, ◌<◌, ◌≤◌, ◌+◌, ◌^◌, length, IfOk};
+ghost use Rattle.std.specs.Prelude.{◌≡◌, ◌≢◌, ◌<◌, ◌≤◌, ◌+◌, ◌^◌, length, Err, IfOk, IfErr};
 ghost use Rattle.etp_values.specs.Gives.{Gives};
 ghost use Rattle.avro_bin.specs.Value.{nodes};
 ghost use Rattle.avro_bin.specs.Shape.{HasSchema};
@@ -7,7 +7,7 @@ ghost use Rattle.avro_bin.specs.View.{value_of};
 ghost use Rattle.etp_schema.specs.Bodies.{body_place};
 ghost use Rattle.etp_schema.specs.Shapes.{shape_at, table_size};
 ghost use Rattle.etp_frame.specs.Reading.{node_limit, tree_of, read_of, header_in, admitted, body_in};
-ghost use Rattle.etp_frame.specs.Parts.{offset_in, as_header_error, as_body_error, GivesValue, GivesTree};
+ghost use Rattle.etp_frame.specs.Parts.{offset_in, as_header_error, as_body_error, GivesValue, GivesTree, IsFront};
 ghost use Rattle.etp_frame.specs.Wire.{IsMessage};
 ghost use Rattle.etp_frame.specs.declared.error.FrameError.TheVariants as f;
 
@@ -52,6 +52,27 @@ pub fn read_tree(
     ensures typed { IfOk result (λ r. HasSchema (shape_at r.1) (value_of r.2)) }
     ensures few { IfOk result (λ r. nodes (value_of r.2) ≤ node_limit) }
 {
+    let (header, length, place) = match read_front(alloc, bytes, sender) {
+        Ok(front) => front,
+        Err(error) => return Err(error),
+    };
+    match read_body(alloc, header, place, length, bytes) {
+        Ok(tree) => Ok((header, place, tree)),
+        Err(error) => Err(error),
+    }
+}
+
+/// What is read in front of a body: the header, how many of the bytes spell it, and the place of the body's schema.
+pub(crate) fn read_front(
+    alloc: Global,
+    bytes: &[u8],
+    sender: Side,
+) -> Result<(Header, usize, u32), FrameError>
+    ensures front { IfOk result (λ r. IsFront sender r.0 r.1 r.2 bytes.now) }
+    ensures within { IfOk result (λ r. r.1 ≤ length bytes.now) }
+    ensures place { IfOk result (λ r. r.2 < table_size) }
+    ensures refused { IfErr result (λ e. e ≢ f.NoMemory → tree_of sender bytes.now ≡ Err e) }
+{
     let (header, length) = match read_header(alloc, bytes) {
         Ok(front) => front,
         Err(error) => return Err(error),
@@ -62,10 +83,7 @@ pub fn read_tree(
     let Some(place) = body_place(&header, sender) else {
         return Err(FrameError::UnknownKind(header));
     };
-    match read_body(alloc, header, place, length, bytes) {
-        Ok(tree) => Ok((header, place, tree)),
-        Err(error) => Err(error),
-    }
+    Ok((header, length, place))
 }
 
 /// The header at the front of the bytes, and how many of them spell it.
@@ -140,7 +158,8 @@ fn read_body(
     }
 }
 
-fn body_error(header: Header, front: usize, refusal: Refusal) -> FrameError
+/// Why the body behind so many bytes is refused.
+pub(crate) fn body_error(header: Header, front: usize, refusal: Refusal) -> FrameError
     requires { front + offset_in refusal < 2 ^ 64 }
     ensures { result ≡ as_body_error header front refusal }
 {
