@@ -1,11 +1,9 @@
 -- A configuration that is too long.
-use Rattle.std.proofs.Common.{◌≡◌, ℕ, ◌+◌, ◌<◌, Bool, true, List, ◌++◌, length, refl, ap, sym, ◌∙◌, subst, arith, length-append, None, Some, Result, Err, nat_lt, if◌then◌else◌}
+use Rattle.std.proofs.Common.{◌≡◌, ℕ, ◌<◌, Bool, true, List, ◌++◌, length, refl, ap, sym, subst, arith, length-append, None, Some, Err, nat_lt, if◌then◌else◌}
 use Rattle.std.specs.declared.option.Option.{Option}
 use Rattle.std.specs.Io.KnownBytes.{Keeps}
 use Rattle.std.proofs.lemmas.Bool.Decides.{nat_tests}
 use Rattle.chan_defs.specs.Config.{defs, next, or_else, table_of, config_of}
-use Rattle.chan_defs.specs.declared.config.Config.{Config as Settings}
-use Rattle.chan_defs.specs.declared.error.DefsError.{DefsError}
 use Rattle.chan_defs.specs.declared.error.DefsError.TheVariants as defs_error
 use Rattle.etp_outside.specs.Whole.{ReadsPart}
 use Rattle.etp_outside.specs.declared.whole.Unread.{Unread}

@@ -1,5 +1,5 @@
 -- What reading a configuration comes to.
-use Rattle.std.specs.Prelude.{◌≡◌, ℕ, List, Option, None, Some, IfSome, Result, Ok, Err}
+use Rattle.std.specs.Prelude.{◌≡◌, ℕ, List, Option, IfSome, Result, Ok, Err}
 use Rattle.chan_defs.specs.Config.{defs}
 use Rattle.chan_defs.specs.declared.config.Config.{Config as Settings}
 use Rattle.chan_defs.specs.declared.error.DefsError.{DefsError}

@@ -167,8 +167,10 @@ fn a_link_tells_an_end_from_a_fault(rt: HostRuntime) -> Result<(), Fail> {
     let hello = Blob::copy(alloc, b"Hello")?;
     assert!(rt; link.send(alloc, &hello) == Sent::Failed);
     link.close();
-    let peer = client(&rt, &door, REQUEST)?;
+    let mut peer = client(&rt, &door, REQUEST)?;
     let mut link = welcomed(alloc, &mut door)?;
+    // A peer that leaves something unread resets the connection.
+    is_answered(&rt, alloc, &mut peer)?;
     drop(peer);
     match item(alloc, &mut link) {
         Recv::End => {}
