@@ -12,7 +12,7 @@ use store_machine::{Answer, Store, StoreCall, number_laws};
 
 /// A store of which all entries are the door's.
 #[derive(Drop)]
-pub struct Door {
+pub(crate) struct Door {
     store: Store,
 }
 
@@ -30,7 +30,7 @@ impl Model for Door {
 
 impl Door {
     /// A store in which nothing has happened.
-    pub fn new(alloc: Global, config: Config) -> Result<Door, NoMemory>
+    pub(crate) fn new(alloc: Global, config: Config) -> Result<Door, NoMemory>
         ensures { IfOk result (λ d. d ≡ record { config = config; journal = door ∷ [] }) }
     {
         let store = Store::new(alloc, config)?;
@@ -38,7 +38,7 @@ impl Door {
     }
 
     /// Has the store answer a session's call.
-    pub fn answer(
+    pub(crate) fn answer(
         &mut self,
         alloc: Global,
         moment: i64,

@@ -4,7 +4,7 @@ use std::alloc::{AllocError, Global};
 
 /// An event.
 #[derive(Drop)]
-pub enum Line {
+pub(crate) enum Line {
     Store {
         journal: u64,
         types: Option<List<Text>>,
@@ -77,7 +77,7 @@ fn zeros(alloc: Global, words: &[&str]) -> Result<Option<Line>, AllocError> {
 }
 
 /// The event of a line, if it is one.
-pub fn read_line(alloc: Global, line: &str) -> Result<Option<Line>, AllocError> {
+pub(crate) fn read_line(alloc: Global, line: &str) -> Result<Option<Line>, AllocError> {
     let words: Vec<&str> = line.split_whitespace().collect(alloc)?;
     match words.as_slice() {
         ["store", rest @ ..] => store(alloc, rest),
