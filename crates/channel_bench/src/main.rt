@@ -2,8 +2,8 @@
 //!
 //! With no word it takes one channel through a thousand changes of a fixed sequence, beside a plain list of its points, and prints
 //! how many changes of each kind there were, what is left, whether both were the same after each change, and how many points a range
-//! gives that were appended at once. With `points` and a count it appends that many points one by one, reads them by ranges of a
-//! thousand, and prints the time that a point took.
+//! gives that were appended at once. With `points`, a count and how many at once it appends that many points so, reads them by ranges of
+//! a thousand, and prints the time that a point took.
 #![tactic(auto)]
 
 mod changes;
@@ -23,10 +23,15 @@ fn main(rt: HostRuntime) -> io::Result<()> {
     let Some(kind) = words.next() else {
         return run(&rt);
     };
-    match words.next() {
-        Some(count) if kind.as_str() == "points" => {
-            measure(&rt, count.as_str().parse::<u32>().unwrap_or(0))
-        }
-        _ => println!(rt; "no word, or points and a count"),
+    let Some(count) = words.next() else {
+        return println!(rt; "no word, or points, a count, and how many at once");
+    };
+    if kind.as_str() != "points" {
+        return println!(rt; "no word, or points, a count, and how many at once");
     }
+    let at_once = match words.next() {
+        Some(at_once) => at_once.as_str().parse::<u32>().unwrap_or(1),
+        None => 1,
+    };
+    measure(&rt, count.as_str().parse::<u32>().unwrap_or(0), at_once)
 }

@@ -1,6 +1,7 @@
 //! The time that appending and reading take.
 use crate::error::FeedError;
 use crate::feed::Feed;
+use std::alloc::Global;
 use std::io;
 use std::time::{Duration, Instant};
 
@@ -12,11 +13,17 @@ fn each(time: Duration, count: u32) -> u128 {
     time.as_nanos() / (count as u128).max(1)
 }
 
-fn append(feed: &mut Feed, count: u32) -> Result<(), FeedError> {
+/// Appends them, `at_once` by each call.
+fn append(alloc: Global, feed: &mut Feed, count: u32, at_once: u32) -> Result<(), FeedError> {
+    let mut points = Vec::new(alloc);
     for index in 0..count {
-        feed.append(&[(index as i64, index as i64)])?;
+        points.push((index as i64, index as i64))?;
+        if points.len() >= at_once as usize {
+            feed.append(points.as_slice())?;
+            points.clear();
+        }
     }
-    Ok(())
+    feed.append(points.as_slice())
 }
 
 /// Reads them all, and says how many there were.
@@ -30,12 +37,12 @@ fn read(feed: &Feed, count: u32) -> Result<u64, FeedError> {
     Ok(found)
 }
 
-pub(crate) fn measure(rt: &HostRuntime, count: u32) -> io::Result<()> {
+pub(crate) fn measure(rt: &HostRuntime, count: u32, at_once: u32) -> io::Result<()> {
     let Ok(mut feed) = Feed::new(rt.alloc()) else {
         return println!(rt; "no memory for the store");
     };
     let start = Instant::now(rt)?;
-    let appended = append(&mut feed, count);
+    let appended = append(rt.alloc(), &mut feed, count, at_once);
     let appending = start.elapsed(rt)?;
     if let Err(error) = appended {
         return println!(rt; "{error:?}");

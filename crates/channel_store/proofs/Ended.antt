@@ -18,7 +18,7 @@ use Rattle.channel_store.specs.Rows.{Row, plain, done, done_by, Due}
 use Rattle.channel_store.specs.Refusals.{int_eq, channel_at, points_at, points_of, is_listed, or_else, first_refusal, unless, verdict, in_range, suits, item_refusal, disorder, append_refusal, channels_refusal, interval_refusal, inside_refusal, replace_refusal, cut_refusal, truncate_refusal}
 use Rattle.channel_store.specs.Store.{by_number, happens, changed, append_some, appended, replaced, truncated, IsNewPlace}
 use Rattle.channel_store.specs.Sweeps.{EndsAs, shown_of, IsIdle, row_at, next_rows, steps, append_item, add_item, opened, open_channel, open_cut, unless_refused, shown_in, is_staged, item_refusal_in, inside_refusal_in, staged_by, outcome, all_done, ids_of, AllDue}
-use Rattle.channel_store.proofs.Ordered.{all-map, all-push}
+use Rattle.channel_points.proofs.Ordered.{all-map, all-push}
 use Rattle.channel_store.proofs.Numbered.{by_number-same, by_number-map, get-by_number, get-none, by_number-after, map-by_number}
 use Rattle.channel_store.proofs.Staged.{int_eq-refl, step_at-ok, step_at-err, step_at-absent, append-steps, open-steps, add-steps, IsInside}
 
@@ -117,7 +117,7 @@ plain-staged cs = sym (by_number-map plain 0 cs)
 
 -- ---- the tests of items
 
-row_at-staged : (what : ℤ → Option What) (cs : List Channel) (id : ℤ) (o : Option Channel) → channel_at cs id ≡ o → row_at (staged_by what cs) id ≡ option_map (λ c. record { shown = c; staged = what id }) o
+pub row_at-staged : (what : ℤ → Option What) (cs : List Channel) (id : ℤ) (o : Option Channel) → channel_at cs id ≡ o → row_at (staged_by what cs) id ≡ option_map (λ c. record { shown = c; staged = what id }) o
 row_at-staged what cs (pos k) None h = get-none (λ n c. record { shown = c; staged = what (pos n) }) 0 k cs h
 row_at-staged what cs (pos k) (Some c) h = get-by_number (λ n c. record { shown = c; staged = what (pos n) }) 0 k k cs c (zero-add k) h
 row_at-staged what cs (negsuc k) None h = refl
@@ -143,11 +143,11 @@ first_refusal-same : {X : Type 0} (f g : X → Option ChannelError) (xs : List X
 first_refusal-same f g [] h = refl
 first_refusal-same f g (x ∷ xs) h = (λ j. or_else (h x j) (first_refusal-same f g xs h j))
 
-first-none : (o later : Option ChannelError) → or_else o later ≡ None → (o ≡ None) × (later ≡ None)
+pub first-none : (o later : Option ChannelError) → or_else o later ≡ None → (o ≡ None) × (later ≡ None)
 first-none None later h = (refl, h)
 first-none (Some e) later h = cc
 
-none-refused : {X : Type 0} (f : X → Option ChannelError) (xs : List X) → first_refusal f xs ≡ None → AllByRecursion (λ x. f x ≡ None) xs
+pub none-refused : {X : Type 0} (f : X → Option ChannelError) (xs : List X) → first_refusal f xs ≡ None → AllByRecursion (λ x. f x ≡ None) xs
 none-refused f [] h = tt
 none-refused f (x ∷ xs) h =
     let parts = first-none (f x) (first_refusal f xs) h in
@@ -161,7 +161,7 @@ unless-holds : (b : Bool) (e : ChannelError) → unless b e ≡ None → b ≡ t
 unless-holds true e h = refl
 unless-holds false e h = cc
 
-inside-facts : (b : Bool) (o : Option Channel) (from to : ℤ) (i : ChannelPoint) → inside_refusal b o from to i ≡ None → (b ≡ true) × (is_some o ≡ true) × (is_within from to i.point.index ≡ true)
+pub inside-facts : (b : Bool) (o : Option Channel) (from to : ℤ) (i : ChannelPoint) → inside_refusal b o from to i ≡ None → (b ≡ true) × (is_some o ≡ true) × (is_within from to i.point.index ≡ true)
 inside-facts false o from to i h = cc
 inside-facts true None from to i h = cc
 inside-facts true (Some c) from to i h =

@@ -1,10 +1,11 @@
+pub mod Accepted
 pub mod CallLemmas
 pub mod ChangeLemmas
 pub mod Copies
 pub mod Ended
+pub mod GivenLemmas
 pub mod Looks
 pub mod Numbered
-pub mod Ordered
 pub mod PointLemmas
 pub mod RowLemmas
 pub mod Staged

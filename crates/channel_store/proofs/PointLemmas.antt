@@ -11,16 +11,14 @@ use Rattle.channel_store.specs.declared.change.ChannelChange.{ChannelChange}
 use Rattle.channel_store.specs.declared.error.ChannelError.TheVariants.{Order, Outside}
 use Rattle.channel_store.specs.Points.{at_most, is_within, put_below, outside, inside, after, Rises, last_of, follows}
 use Rattle.channel_store.specs.Channels.{Channel, whats_of, happened, IsKept, IsPastAll}
-use Rattle.channel_store.specs.declared.draft.Way.{Way}
-use Rattle.channel_store.specs.declared.draft.Way.TheVariants.{Behind, Between, UpTo}
-use Rattle.channel_store.specs.Rows.{Fits, takes, with_point, what_by, before_next, joins}
+use Rattle.std.proofs.lemmas.Bool.{false≢true}
+use Rattle.channel_store.specs.Rows.{Fits, takes, before_next, joins}
+use Rattle.channel_store.specs.Told.{told_by, with_point}
 use Rattle.channel_store.specs.Splits.{IsSplit}
-use Rattle.channel_store.proofs.Ordered.{all-map, all-push, all-append, all-filter, filter-all, all-cross, rises-push, rises-append, rises-filter, none-pass, all-fail}
+use Rattle.etp_values.proofs.Each.{all-append}
+use Rattle.channel_points.proofs.Ordered.{all-map, all-push, all-filter, filter-all, all-cross, rises-push, rises-append, rises-filter, none-pass, all-fail, lt_before}
 
 -- ---- tests on indexes
-
-pub lt_before : (i x y : ℤ) → int_lt x y ≡ true → int_lt y i ≡ true → int_lt x i ≡ true
-lt_before i x y h k = grind (arith, ints)
 
 pub at_most_before : (i x y : ℤ) → int_lt x y ≡ true → at_most y i ≡ true → at_most x i ≡ true
 at_most_before i x y h k = grind (arith, ints)
@@ -195,16 +193,18 @@ kept-happened place id at c w kept fits past = record {
   placed = rises-push _ c.changes (record { place = place; channel = id; at = at; what = w }) kept.placed past;
 }
 
-pub with_point-by : (way : Way) (points more : List Point) (p : Point) → more ≡ points ++ p ∷ [] → with_point p (what_by way points) ≡ what_by way more
-with_point-by Behind points more p e = ap Append (sym e)
-with_point-by (Between from to) points more p e = ap (Replace from to) (sym e)
-with_point-by (UpTo end) points more p e = refl
+pub told_by-with_point : (w : What) (p : Point) → takes w p ≡ true → told_by (with_point p w) ≡ told_by w ++ p ∷ []
+told_by-with_point (Append points) p h = refl
+told_by-with_point (Replace from to points) p h = refl
+told_by-with_point (Truncate end) p h = absurd (false≢true h)
 
 pub joins-ok : (id : ℤ) (points : List Point) (w : What) (p : Point) → takes w p ≡ true → follows (before_next points w) p.index ≡ true → joins id points w p ≡ Ok (with_point p w)
 joins-ok id points w p h k =
     ap (λ b. cond b (cond (follows (before_next points w) p.index) (Ok (with_point p w)) (Err (Order id))) (Err (Outside id))) h
     ∙ ap (λ b. cond b (Ok (with_point p w)) (Err (Order id))) k
 
--- what the next point of a draft has to follow
-pub last-behind : (points told : List Point) (way : Way) → way ≡ Behind → or_last (last_of told) (last_of points) ≡ last_of (before_next points (what_by way told))
-last-behind points told way h = sym (last_of-append points told) ∙ ap (λ w. last_of (before_next points (what_by w told))) (sym h)
+-- what the next point of an append has to follow
+pub last-behind : (points told more : List Point) (w : What) → told ≡ told_by w → w ≡ Append more → or_last (last_of told) (last_of points) ≡ last_of (before_next points w)
+last-behind points told more w e h =
+    let same : told ≡ more = e ∙ ap told_by h in
+    ap (λ l. or_last (last_of l) (last_of points)) same ∙ sym (last_of-append points more) ∙ ap (λ v. last_of (before_next points v)) (sym h)

@@ -4,6 +4,7 @@ use Rattle.std.specs.Prelude.{ℤ, pos, negsuc, slice_get, slice_set, Result, na
 use Rattle.std.proofs.Math.IntN.{nat_abs}
 use Rattle.std.proofs.lemmas.Int.{ints}
 use Rattle.std.proofs.lemmas.List.{take_all}
+use Rattle.std.proofs.lemmas.Option.{slice_get_past}
 use Rattle.std.proofs.lemmas.Bool.{false≢true}
 use Rattle.std.proofs.lemmas.Bool.Decides.{nat_tests}
 use Rattle.channel_store.specs.declared.error.ChannelError.{ChannelError}
@@ -15,7 +16,7 @@ use Rattle.channel_store.specs.Refusals.{int_eq, is_listed, or_else, first_refus
 use Rattle.channel_store.specs.Store.{by_number}
 use Rattle.channel_store.specs.Sweeps.{shown_of, place_in, row_at, step_row, step_at, before_rows, with_row, modify, modify_at, all_done, AllDue, next_rows, steps}
 use Rattle.channel_store.proofs.Ended.{verdict-ok, verdict-err}
-use Rattle.channel_store.proofs.Ordered.{all-at}
+use Rattle.channel_points.proofs.Ordered.{all-at}
 use Rattle.channel_store.proofs.Numbered.{by_number-same, by_number-modify, step_row-set, step_row-fails, step_row-beyond, shown-set, modify-set, modify-beyond}
 use Rattle.channel_store.proofs.Staged.{int_eq-refl, apart, apart_neg}
 
@@ -32,11 +33,6 @@ place-some len (pos n) k h = by (nat_lt n len) refl h
     by false e g = cc
 place-some len (negsuc n) k h = cc
 
-get-beyond : {X : Type 0} (xs : List X) (k : ℕ) → length xs ≤ k → slice_get xs k ≡ None
-get-beyond [] k h = refl
-get-beyond (x ∷ xs) zero h = absurd (omega arith)
-get-beyond (x ∷ xs) (suc k) h = get-beyond xs k (omega arith)
-
 beyond : (len n : ℕ) → cond (nat_lt n len) (Some n) None ≡ None → len ≤ n
 beyond len n h = by (nat_lt n len) refl h
   where
@@ -49,7 +45,7 @@ step-absent rows (pos n) f h = step_row-beyond f (NoChannel (pos n)) n rows (bey
 step-absent rows (negsuc n) f h = refl
 
 pub row-absent : (rows : List Row) (id : ℤ) → place_in (length rows) id ≡ None → row_at rows id ≡ None
-row-absent rows (pos n) h = get-beyond rows n (beyond (length rows) n h)
+row-absent rows (pos n) h = slice_get_past rows n (beyond (length rows) n h)
 row-absent rows (negsuc n) h = refl
 
 pub modify-absent : (rows : List Row) (id : ℤ) (f : Row → Row) → place_in (length rows) id ≡ None → modify_at id f rows ≡ rows

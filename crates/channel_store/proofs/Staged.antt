@@ -51,7 +51,7 @@ step_at-absent (negsuc k) f what cs there = refl
 
 -- ---- points among items
 
-points_of-push : (id : ℤ) (items : List ChannelPoint) (i : ChannelPoint) → points_of id (items ++ i ∷ []) ≡ points_of id items ++ cond (int_eq id i.channel) (i.point ∷ []) []
+pub points_of-push : (id : ℤ) (items : List ChannelPoint) (i : ChannelPoint) → points_of id (items ++ i ∷ []) ≡ points_of id items ++ cond (int_eq id i.channel) (i.point ∷ []) []
 points_of-push id [] i = refl
 points_of-push id (x ∷ xs) i = by (int_eq id x.channel) (points_of-push id xs i)
   where
@@ -60,10 +60,10 @@ points_of-push id (x ∷ xs) i = by (int_eq id x.channel) (points_of-push id xs 
     by true e = ap (λ l. x.point ∷ l) e
     by false e = e
 
-points_of-own : (items : List ChannelPoint) (i : ChannelPoint) → points_of i.channel (items ++ i ∷ []) ≡ points_of i.channel items ++ i.point ∷ []
+pub points_of-own : (items : List ChannelPoint) (i : ChannelPoint) → points_of i.channel (items ++ i ∷ []) ≡ points_of i.channel items ++ i.point ∷ []
 points_of-own items i = points_of-push i.channel items i ∙ ap (λ b. points_of i.channel items ++ cond b (i.point ∷ []) []) (int_eq-refl i.channel)
 
-points_of-other : (id : ℤ) (items : List ChannelPoint) (i : ChannelPoint) → int_eq id i.channel ≡ false → points_of id items ≡ points_of id (items ++ i ∷ [])
+pub points_of-other : (id : ℤ) (items : List ChannelPoint) (i : ChannelPoint) → int_eq id i.channel ≡ false → points_of id items ≡ points_of id (items ++ i ∷ [])
 points_of-other id items i h = sym (points_of-push id items i ∙ ap (λ b. points_of id items ++ cond b (i.point ∷ []) []) h ∙ append-nil (points_of id items))
 
 -- ---- append

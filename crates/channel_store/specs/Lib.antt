@@ -1,9 +1,11 @@
 pub mod Channels
 pub mod Drafts
+pub mod Laws
 pub mod Points
 pub mod Refusals
 pub mod Rows
 pub mod Splits
 pub mod Store
 pub mod Sweeps
+pub mod Told
 pub mod Tracks

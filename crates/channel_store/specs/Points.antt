@@ -1,9 +1,9 @@
 -- The points of a channel, and what a subscriber is told of its changes.
-use Rattle.std.specs.Prelude.{ℤ, pos, ◌-ℤ◌, int_lt, Bool, true, false, List, [], ◌∷◌, ◌++◌, ◌≡◌, fold, filter, not, ◌&&◌, if◌then◌else◌, Option, Some, None}
+use Rattle.std.specs.Prelude.{ℕ, ℤ, pos, ◌-ℤ◌, int_lt, Bool, true, false, List, [], ◌∷◌, ◌++◌, ◌≡◌, fold, filter, not, ◌&&◌, if◌then◌else◌, Option, Some, None, option_map, nat_lt, length, slice_get, ◌-◌}
 use Rattle.std.specs.Int.{int_max}
 use Rattle.std.specs.List.{flat_map, AllByRecursion}
 use Rattle.etp_values.specs.declared.point.Point.{Point}
-use Rattle.channel_store.specs.Splits.{RisesBy}
+pub use Rattle.channel_points.specs.Order.{Rises}
 use Rattle.channel_store.specs.declared.change.What.{What}
 use Rattle.channel_store.specs.declared.change.What.TheVariants.{Append, Replace, Truncate}
 
@@ -79,9 +79,14 @@ CopyIsPoints = (start : ℤ) (earlier later : List What) → AllByRecursion IsWi
 
 -- ---- points in order
 
--- each index is below those after it
-abbrev pub Rises : List Point → Type 0
-Rises xs = RisesBy (λ x y. int_lt x.index y.index ≡ true) xs
+-- the index of the first point
+abbrev pub first_of : List Point → Option ℤ
+first_of [] = None
+first_of (x ∷ xs) = Some x.index
+
+-- the index of a point by its number from the end, the last being 1
+abbrev pub index_from_end : ℕ → List Point → Option ℤ
+index_from_end count xs = if nat_lt (length xs) count then None else option_map (λ x. x.index) (slice_get xs (length xs - count))
 
 -- the index of the last point
 abbrev pub last_of : List Point → Option ℤ

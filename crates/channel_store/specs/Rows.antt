@@ -10,6 +10,7 @@ use Rattle.channel_store.specs.declared.draft.Way.{Way}
 use Rattle.channel_store.specs.declared.draft.Way.TheVariants.{Behind, Between, UpTo}
 use Rattle.channel_store.specs.Points.{is_within, follows, Rises}
 use Rattle.channel_store.specs.Channels.{Channel, happened, IsPastAll}
+use Rattle.channel_store.specs.Told.{with_point}
 
 -- a channel, and what is about to happen to it
 pub record Row : Type 0 where
@@ -29,12 +30,6 @@ abbrev pub what_by : Way → List Point → What
 what_by Behind points = Append points
 what_by (Between from to) points = Replace from to points
 what_by (UpTo end) points = Truncate end
-
--- a change with one more point; a truncation has none
-abbrev pub with_point : Point → What → What
-with_point p (Append points) = Append (points ++ p ∷ [])
-with_point p (Replace from to points) = Replace from to (points ++ p ∷ [])
-with_point p (Truncate end) = Truncate end
 
 -- an append begins, where nothing has begun
 abbrev pub begun : Option What → What

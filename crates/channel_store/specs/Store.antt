@@ -9,7 +9,8 @@ use Rattle.channel_store.specs.declared.change.What.{What}
 use Rattle.channel_store.specs.declared.change.What.TheVariants.{Append, Replace, Truncate}
 use Rattle.channel_store.specs.declared.change.ChannelChange.{ChannelChange}
 use Rattle.channel_store.specs.declared.error.ChannelError.{ChannelError}
-use Rattle.channel_store.specs.Points.{inside}
+use Rattle.channel_store.specs.declared.error.ChannelError.TheVariants.{NoChannel}
+use Rattle.channel_store.specs.Points.{inside, past}
 use Rattle.channel_store.specs.Channels.{Channel, happened, IsPastAll}
 use Rattle.channel_store.specs.Refusals.{int_eq, is_listed, points_of, points_at, channel_at, range_refusal}
 
@@ -70,6 +71,15 @@ range_in (Some e) points = Err e
 -- the same for the channel of an id
 abbrev pub range_of : List Channel → ℤ → ℤ → ℤ → Result (List Point) ChannelError
 range_of cs id from to = range_in (range_refusal (channel_at cs id) id from to) (inside from to (points_at cs id))
+
+-- the points of a channel at or past `start`, where there is one
+abbrev pub tail_in : Option Channel → ℤ → ℤ → Result (List Point) ChannelError
+tail_in None id start = Err (NoChannel id)
+tail_in (Some c) id start = Ok (past start c.points)
+
+-- the same for the channel of an id
+abbrev pub tail_of : List Channel → ℤ → ℤ → Result (List Point) ChannelError
+tail_of cs id start = tail_in (channel_at cs id) id start
 
 -- the changes of a channel, where there is one
 abbrev pub changes_in : Option Channel → List ChannelChange

@@ -1,6 +1,7 @@
 -- Steps over the rows of a store during a call.
-use Rattle.std.specs.Prelude.{ℕ, zero, suc, ℤ, pos, negsuc, ◌≡◌, ◌≢◌, Bool, false, List, [], ◌∷◌, map, Option, Some, None, is_some, Result, Ok, Err, if◌then◌else◌, slice_get, nat_lt}
+use Rattle.std.specs.Prelude.{ℕ, zero, suc, ℤ, pos, negsuc, ◌≡◌, ◌≢◌, Bool, false, List, [], ◌∷◌, map, Option, Some, None, is_some, option_map, Result, Ok, Err, if◌then◌else◌, slice_get, nat_lt}
 use Rattle.std.specs.List.{AllByRecursion}
+use Rattle.etp_values.specs.declared.point.Point.{Point}
 use Rattle.etp_values.specs.declared.point.ChannelPoint.{ChannelPoint}
 use Rattle.channel_store.specs.declared.change.What.{What}
 use Rattle.channel_store.specs.declared.draft.Way.{Way}
@@ -11,6 +12,7 @@ use Rattle.channel_store.specs.Channels.{Channel}
 use Rattle.channel_store.specs.Rows.{Row, plain, what_by, begun, added, done, IsDue}
 use Rattle.channel_store.specs.Refusals.{in_range, is_listed, item_refusal, inside_refusal}
 use Rattle.channel_store.specs.Store.{by_number}
+use Rattle.channel_store.specs.Told.{told_by, IfGiven}
 
 -- the channels that rows show
 abbrev pub shown_of : List Row → List Channel
@@ -157,3 +159,14 @@ AllDue place rows = AllByRecursion (IsDue place) rows
 abbrev pub EndsAs : Result (Unit {0}) ChannelError → List Row → List Row → Option ChannelError → List Channel → Type 0
 EndsAs (Ok _) old new refusal expected = (refusal ≡ None) × (new ≡ map plain expected)
 EndsAs (Err e) old new refusal expected = (e ≢ NoMemory → refusal ≡ Some e) × (new ≡ old)
+
+-- ---- what a call was given
+
+-- the points of what is about to happen to the row of an id, where there is a row and something is
+abbrev pub told_at : Option Row → Option (List Point)
+told_at None = None
+told_at (Some r) = option_map told_by r.staged
+
+-- where something is about to happen, it has these points
+abbrev pub Tells : Option Row → List Point → Type 0
+Tells o points = IfGiven (told_at o) (λ xs. xs ≡ points)

@@ -17,11 +17,11 @@ abbrev pub row_of : Inside → Row
 row_of t = record { shown = channel_of t; staged = option_map what_of t.draft }
 
 -- where something is about to happen, it is ready, and there is room for one change
-abbrev pub IsDrafted : List Point → ℕ → ℕ → ℕ → ℕ → Option Draft → Type 0
-IsDrafted points len cap changes_len changes_cap None = Unit {0}
-IsDrafted points len cap changes_len changes_cap (Some d) = IsReady points len cap d × (changes_len < changes_cap)
+abbrev pub IsDrafted : List Point → ℕ → ℕ → ℕ → Option Draft → Type 0
+IsDrafted points len cap room None = Unit {0}
+IsDrafted points len cap room (Some d) = IsReady points len cap d × (0 < room)
 
 -- what holds of each channel that is kept
 pub record IsTrack (t : Inside) : Type 0 where
   pub kept : IsKept (channel_of t)
-  pub drafted : IsDrafted t.points.items (vec_len t.points) (vec_capacity t.points) (vec_len t.changes) (vec_capacity t.changes) t.draft
+  pub drafted : IsDrafted t.points.items (vec_len t.points) (vec_capacity t.points) t.changes.room t.draft

@@ -1,17 +1,20 @@
 //! The calls that change the channels: tests first, then all memory, and then the change, which nothing can stop.
-ghost use Rattle.std.specs.Prelude.{◌≡◌, [], length, zip};
-ghost use Rattle.channel_store.specs.Refusals.{append_refusal, first_refusal, interval_refusal, replace_refusal, truncate_refusal};
+ghost use Rattle.std.specs.Prelude.{◌≡◌, [], IfOk, length, zip};
+ghost use Rattle.channel_store.specs.Refusals.{Refuses, append_refusal, first_refusal, interval_refusal, replace_refusal, truncate_refusal};
 ghost use Rattle.channel_store.specs.Rows.{Becomes};
 ghost use Rattle.channel_store.specs.Store.{IsNewPlace, appended, changed, replaced, truncated};
 ghost use Rattle.channel_store.specs.Sweeps.{EndsAs, IsIdle, add_item, inside_refusal_in, outcome, shown_of, staged_by, steps, unless_refused};
+ghost use Rattle.channel_store.specs.Told.{ending};
 
 use crate::checks::{check_all_inside, check_interval, check_items};
 use crate::draft::Way;
 use crate::error::ChannelError;
+use crate::given::hand_out;
 use crate::rows::{
     add_items, append_items, clear_all, commit_channels, commit_items, open_channels, open_cuts,
 };
 use crate::track::Track;
+use channel_points::ChannelPoints;
 use etp_values::ChannelPoint;
 use std::alloc::Global;
 
@@ -33,6 +36,40 @@ fn prepare_append(
     }
 }
 
+/// Tests an append, and changes nothing.
+pub fn test_append(
+    alloc: Global,
+    tracks: &mut Vec<Track>,
+    items: &[ChannelPoint],
+) -> Result<(), ChannelError>
+    requires { IsIdle tracks.old.items }
+    ensures answer { Refuses result (append_refusal (shown_of tracks.old.items) items.now) }
+    ensures same { tracks.new.items ≡ tracks.old.items }
+{
+    let result = prepare_append(alloc, tracks, items);
+    clear_all(tracks);
+    result
+}
+
+/// Begins an append of all items or of none, and hands them out for the journal.
+fn ready_append(
+    alloc: Global,
+    tracks: &mut Vec<Track>,
+    items: &[ChannelPoint],
+) -> Result<ChannelPoints, ChannelError>
+    requires { IsIdle tracks.old.items }
+    ensures answer { Becomes (ending result) tracks.new.items
+        (outcome (append_refusal (shown_of tracks.old.items) items.now)
+        (staged_by (appended items.now) (shown_of tracks.old.items))) }
+    ensures kept { shown_of tracks.new.items ≡ shown_of tracks.old.items }
+    ensures items { IfOk result (λ r. r ≡ items.now) }
+{
+    if let Err(error) = prepare_append(alloc, tracks, items) {
+        return Err(error);
+    }
+    hand_out(alloc, tracks, items)
+}
+
 /// Appends all items or none.
 pub fn append_all(
     alloc: Global,
@@ -40,19 +77,24 @@ pub fn append_all(
     place: u64,
     at: i64,
     items: &[ChannelPoint],
-) -> Result<(), ChannelError>
+) -> Result<ChannelPoints, ChannelError>
     requires idle { IsIdle tracks.old.items }
     requires new { IsNewPlace place (shown_of tracks.old.items) }
-    ensures { EndsAs result tracks.old.items tracks.new.items
+    ensures ends { EndsAs (ending result) tracks.old.items tracks.new.items
         (append_refusal (shown_of tracks.old.items) items.now)
         (changed place at (appended items.now) (shown_of tracks.old.items)) }
+    ensures items { IfOk result (λ r. r ≡ items.now) }
 {
-    if let Err(error) = prepare_append(alloc, tracks, items) {
-        clear_all(tracks);
-        return Err(error);
+    match ready_append(alloc, tracks, items) {
+        Err(error) => {
+            clear_all(tracks);
+            Err(error)
+        }
+        Ok(given) => {
+            commit_items(tracks, place, at, items);
+            Ok(given)
+        }
     }
-    commit_items(tracks, place, at, items);
-    Ok(())
 }
 
 /// The items join a replacement that has begun, where all lie inside.
@@ -115,6 +157,47 @@ fn prepare_replace(
     }
 }
 
+/// Tests a replacement, and changes nothing.
+pub fn test_replace(
+    alloc: Global,
+    tracks: &mut Vec<Track>,
+    channels: &[i64],
+    from: i64,
+    to: i64,
+    items: &[ChannelPoint],
+) -> Result<(), ChannelError>
+    requires { IsIdle tracks.old.items }
+    ensures answer { Refuses result
+        (replace_refusal (shown_of tracks.old.items) channels.now from to items.now) }
+    ensures same { tracks.new.items ≡ tracks.old.items }
+{
+    let result = prepare_replace(alloc, tracks, channels, from, to, items);
+    clear_all(tracks);
+    result
+}
+
+/// Begins a replacement in all channels or in none, and hands its items out for the journal.
+fn ready_replace(
+    alloc: Global,
+    tracks: &mut Vec<Track>,
+    channels: &[i64],
+    from: i64,
+    to: i64,
+    items: &[ChannelPoint],
+) -> Result<ChannelPoints, ChannelError>
+    requires { IsIdle tracks.old.items }
+    ensures answer { Becomes (ending result) tracks.new.items
+        (outcome (replace_refusal (shown_of tracks.old.items) channels.now from to items.now)
+        (staged_by (replaced channels.now from to items.now) (shown_of tracks.old.items))) }
+    ensures kept { shown_of tracks.new.items ≡ shown_of tracks.old.items }
+    ensures items { IfOk result (λ r. r ≡ items.now) }
+{
+    if let Err(error) = prepare_replace(alloc, tracks, channels, from, to, items) {
+        return Err(error);
+    }
+    hand_out(alloc, tracks, items)
+}
+
 /// Replaces in all channels or in none.
 pub fn replace_all(
     alloc: Global,
@@ -125,19 +208,24 @@ pub fn replace_all(
     from: i64,
     to: i64,
     items: &[ChannelPoint],
-) -> Result<(), ChannelError>
+) -> Result<ChannelPoints, ChannelError>
     requires idle { IsIdle tracks.old.items }
     requires new { IsNewPlace place (shown_of tracks.old.items) }
-    ensures { EndsAs result tracks.old.items tracks.new.items
+    ensures ends { EndsAs (ending result) tracks.old.items tracks.new.items
         (replace_refusal (shown_of tracks.old.items) channels.now from to items.now)
         (changed place at (replaced channels.now from to items.now) (shown_of tracks.old.items)) }
+    ensures items { IfOk result (λ r. r ≡ items.now) }
 {
-    if let Err(error) = prepare_replace(alloc, tracks, channels, from, to, items) {
-        clear_all(tracks);
-        return Err(error);
+    match ready_replace(alloc, tracks, channels, from, to, items) {
+        Err(error) => {
+            clear_all(tracks);
+            Err(error)
+        }
+        Ok(given) => {
+            commit_channels(tracks, place, at, channels);
+            Ok(given)
+        }
     }
-    commit_channels(tracks, place, at, channels);
-    Ok(())
 }
 
 /// Truncates all channels or none.

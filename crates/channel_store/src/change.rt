@@ -1,21 +1,23 @@
 //! Changes of a channel.
-ghost use Rattle.std.specs.Prelude.{◌≡◌, ◌==◌, find, nat_lt};
-ghost use Rattle.std.specs.Option.{option_copied};
-ghost use Rattle.channel_store.specs.Channels.{PlacesRise};
+ghost use Rattle.std.specs.Prelude.{◌≡◌, IfOk, OnErr, OnOk};
+ghost use Rattle.etp_values.specs.Weight.{capped, weigh};
+ghost use Rattle.channel_points.specs.Bytes.{point_bytes};
+ghost use Rattle.channel_store.specs.Told.{change_bytes, told_by, with_point};
 
-use etp_values::{Copied, List, NoMemory, Point};
+use channel_points::{BoxedPoints, Points};
+use etp_values::{Copied, NoMemory, Point};
 use std::alloc::Global;
 
 /// What happened to the points of a channel.
 #[derive(Debug, Drop, PartialEq, Eq)]
 pub enum What {
     /// These points were added behind the last one.
-    Append(List<Point>),
+    Append(Points),
     /// The points from `from` to `to` gave way to these, which lie there too.
     Replace {
         from: i64,
         to: i64,
-        points: List<Point>,
+        points: BoxedPoints,
     },
     /// The points above `end` went.
     Truncate {
@@ -57,23 +59,60 @@ impl Copied for ChannelChange {
     }
 }
 
-/// The change whose entry stands at a place of the journal.
-pub fn change_at(changes: &[ChannelChange], place: u64) -> Option<&ChannelChange>
-    requires { PlacesRise changes.now }
-    ensures { option_copied result ≡ find (λ x. x.place == place) changes.now }
+impl What {
+    /// Adds a point behind the last one. A truncation has none.
+    pub(crate) fn push(&mut self, alloc: Global, point: Point) -> Result<(), NoMemory>
+        ensures ok { OnOk result (self.new ≡ with_point point self.old) }
+        ensures err { OnErr result (self.new ≡ self.old) }
+    {
+        match self {
+            What::Append(points) => points.push(alloc, point),
+            What::Replace { points, .. } => points.push(alloc, point),
+            What::Truncate { .. } => Ok(()),
+        }
+    }
+
+    /// The same change, kept so that a copy shares its points.
+    pub(crate) fn sealed(self, alloc: Global) -> Result<What, NoMemory>
+        ensures { IfOk result (λ w. w ≡ self) }
+    {
+        match self {
+            What::Append(points) => Ok(What::Append(points.sealed(alloc)?)),
+            What::Replace { from, to, points } => Ok(What::Replace {
+                from,
+                to,
+                points: points.sealed(alloc)?,
+            }),
+            What::Truncate { end } => Ok(What::Truncate { end }),
+        }
+    }
+
+    /// The points of the change.
+    pub(crate) fn told(&self, alloc: Global) -> Result<Points, NoMemory>
+        ensures { IfOk result (λ r. r ≡ told_by self.now) }
+    {
+        match self {
+            What::Append(points) => points.copy(alloc),
+            What::Replace { points, .. } => points.get().copy(alloc),
+            What::Truncate { .. } => Ok(Points::none()),
+        }
+    }
+
+    /// What the points of the change count.
+    fn bytes(&self) -> u64
+        ensures { result ≡ capped (weigh point_bytes (told_by self.now)) }
+    {
+        match self {
+            What::Append(points) => points.bytes(),
+            What::Replace { points, .. } => points.get().bytes(),
+            What::Truncate { .. } => 0,
+        }
+    }
+}
+
+/// What the points of a change count towards the limit of an answer.
+pub fn change_bytes(change: &ChannelChange) -> u64
+    ensures { result ≡ capped (change_bytes change.now) }
 {
-    let count = changes.partition_point(
-        |x: &ChannelChange| -> bool
-            ensures { result ≡ nat_lt x.now.place place }
-        { x.place < place },
-    );
-    if count >= changes.len() {
-        return None;
-    }
-    let change = &changes[count];
-    if change.place == place {
-        Some(change)
-    } else {
-        None
-    }
+    change.what.bytes()
 }

@@ -1,8 +1,8 @@
 //! Tests on the items of a call, before anything is made.
 ghost use Rattle.std.specs.Prelude.{◌≡◌};
 ghost use Rattle.std.specs.Option.{option_copied};
-ghost use Rattle.channel_store.specs.Refusals.{first_refusal, in_range, interval_refusal, is_kind, suits, verdict};
-ghost use Rattle.channel_store.specs.Sweeps.{inside_refusal_in, item_refusal_in, place_in, row_at};
+ghost use Rattle.channel_store.specs.Refusals.{cut_refusal, first_refusal, in_range, interval_refusal, is_kind, is_listed, suits, verdict};
+ghost use Rattle.channel_store.specs.Sweeps.{inside_refusal_in, item_refusal_in, place_in, row_at, shown_of};
 
 use crate::error::ChannelError;
 use crate::track::Track;
@@ -136,6 +136,39 @@ pub fn check_all_inside(
         if let Err(error) = check_inside(tracks, from, to, item) {
             return Err(error);
         }
+    }
+    Ok(())
+}
+
+/// Whether an id is among these.
+fn is_listed(ids: &[i64], id: i64) -> bool
+    ensures { result ≡ is_listed ids.now id }
+{
+    for other in ids {
+        if *other == id {
+            return true;
+        }
+    }
+    false
+}
+
+/// Why a channel does not get this end, where these were cut before.
+pub fn check_cut(
+    tracks: &[Track],
+    earlier: &[i64],
+    channel: i64,
+    end: i64,
+) -> Result<(), ChannelError>
+    ensures { result ≡ verdict (cut_refusal (shown_of tracks.now) earlier.now (channel, end)) }
+{
+    let Some(_track) = track_at(tracks, channel) else {
+        return Err(ChannelError::NoChannel(channel));
+    };
+    if !in_range(end) {
+        return Err(ChannelError::Index(channel));
+    }
+    if is_listed(earlier, channel) {
+        return Err(ChannelError::Doubled(channel));
     }
     Ok(())
 }

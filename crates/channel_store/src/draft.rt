@@ -1,14 +1,16 @@
 //! What is about to happen to a channel, with all the memory that it takes.
-ghost use Rattle.std.specs.Prelude.{◌≡◌, []};
+ghost use Rattle.std.specs.Prelude.{◌≡◌, [], IfOk};
 ghost use Rattle.std.specs.Vec.{vec_len, vec_capacity};
 ghost use Rattle.channel_store.specs.Points.{last_of, lies_past};
+ghost use Rattle.channel_store.specs.Told.{told_by};
 ghost use Rattle.channel_store.specs.Rows.{Becomes, before_next, joins, takes, what_by};
-ghost use Rattle.channel_store.specs.Drafts.{IsReady, what_of};
+ghost use Rattle.channel_store.specs.Drafts.{IsReady};
 
 use crate::change::What;
 use crate::error::ChannelError;
 use crate::points::last_index;
-use etp_values::{Copied, List, Point};
+use channel_points::{BoxedPoints, Points};
+use etp_values::{Copied, NoMemory, Point};
 use std::alloc::Global;
 
 /// How a channel changes.
@@ -19,66 +21,64 @@ pub enum Way {
     UpTo { end: i64 },
 }
 
-/// The points of a change, once for the channel and once for the change.
+/// A change that is not done yet, and its points once more for the channel.
 #[derive(Drop)]
 pub struct Draft {
-    pub way: Way,
     pub points: Vec<Point>,
-    pub told: Vec<Point>,
+    pub what: What,
 }
 
 impl Way {
-    /// The change with these points.
-    pub fn what(self, points: Vec<Point>) -> What
-        ensures { result ≡ what_by self points.items }
+    /// The change without points.
+    fn begin(self, alloc: Global) -> Result<What, NoMemory>
+        ensures { IfOk result (λ w. w ≡ what_by self []) }
     {
         match self {
-            Way::Behind => What::Append(List::from_vec(points)),
-            Way::Between { from, to } => What::Replace {
+            Way::Behind => Ok(What::Append(Points::none())),
+            Way::Between { from, to } => Ok(What::Replace {
                 from,
                 to,
-                points: List::from_vec(points),
-            },
-            Way::UpTo { end } => What::Truncate { end },
+                points: BoxedPoints::new(alloc, Points::none())?,
+            }),
+            Way::UpTo { end } => Ok(What::Truncate { end }),
         }
     }
 }
 
 impl Draft {
-    pub fn new(alloc: Global, way: Way) -> Draft
-        ensures way { result.way ≡ way }
-        ensures points { result.points.items ≡ [] }
-        ensures told { result.told.items ≡ [] }
+    pub fn new(alloc: Global, way: Way) -> Result<Draft, NoMemory>
+        ensures what { IfOk result (λ d. d.what ≡ what_by way []) }
+        ensures points { IfOk result (λ d. d.points.items ≡ []) }
     {
-        Draft {
-            way,
+        Ok(Draft {
             points: Vec::new(alloc),
-            told: Vec::new(alloc),
-        }
+            what: way.begin(alloc)?,
+        })
     }
 
     /// The index that the next point has to lie past, in a channel that has these points.
     pub fn last(&self, points: &[Point]) -> Option<i64>
-        ensures { result ≡ last_of (before_next points.now (what_of self.now)) }
+        requires { self.now.points.items ≡ told_by self.now.what }
+        ensures { result ≡ last_of (before_next points.now self.now.what) }
     {
-        match self.way {
-            Way::Behind => match last_index(self.told.as_slice()) {
+        match &self.what {
+            What::Append(_) => match last_index(self.points.as_slice()) {
                 Some(index) => Some(index),
                 None => last_index(points),
             },
-            Way::Between { .. } => last_index(self.told.as_slice()),
-            Way::UpTo { .. } => None,
+            What::Replace { .. } => last_index(self.points.as_slice()),
+            What::Truncate { .. } => None,
         }
     }
 
     /// Whether the change may have such a point.
     fn takes(&self, point: &Point) -> bool
-        ensures { result ≡ takes (what_of self.now) point.now }
+        ensures { result ≡ takes self.now.what point.now }
     {
-        match self.way {
-            Way::Behind => true,
-            Way::Between { from, to } => from <= point.index && point.index <= to,
-            Way::UpTo { .. } => false,
+        match &self.what {
+            What::Append(_) => true,
+            What::Replace { from, to, .. } => *from <= point.index && point.index <= *to,
+            What::Truncate { .. } => false,
         }
     }
 
@@ -91,8 +91,8 @@ impl Draft {
         point: &Point,
     ) -> Result<(), ChannelError>
         requires { IsReady points.old.items (vec_len points.old) (vec_capacity points.old) self.old }
-        ensures answer { Becomes result (what_of self.new)
-            (joins channel points.old.items (what_of self.old) point.now) }
+        ensures answer { Becomes result self.new.what
+            (joins channel points.old.items self.old.what point.now) }
         ensures ready { IsReady points.new.items (vec_len points.new) (vec_capacity points.new) self.new }
         ensures points { points.new.items ≡ points.old.items }
     {
@@ -106,10 +106,20 @@ impl Draft {
         let second = point.copy(alloc)?;
         points.reserve(self.points.len() + 1)?;
         self.points.reserve(1)?;
-        self.told.reserve(1)?;
+        self.what.push(alloc, second)?;
         self.points.push_reserved(first);
-        self.told.push_reserved(second);
         Ok(())
+    }
+
+    /// The same, kept so that a copy of the change shares its points.
+    pub fn sealed(self, alloc: Global) -> Result<Draft, NoMemory>
+        ensures { IfOk result (λ d. d ≡ self) }
+    {
+        let Draft { points, what } = self;
+        Ok(Draft {
+            points,
+            what: what.sealed(alloc)?,
+        })
     }
 }
 

@@ -1,25 +1,14 @@
 //! A channel's points, kept in the order of their indexes.
 ghost use Rattle.std.specs.Prelude.{◌≡◌, ◌≤◌, ◌+◌, ◌++◌, length, take, drop, int_lt, IfOk};
 ghost use Rattle.std.specs.Vec.{vec_len, vec_capacity};
-ghost use Rattle.channel_store.specs.Points.{Rises, after, at_most, inside, last_of, outside, put_below, up_to};
-ghost use Rattle.channel_store.specs.Rows.{what_by};
+ghost use Rattle.channel_store.specs.Points.{Rises, after, at_most, first_of, index_from_end, inside, last_of, outside, past, put_below, up_to};
 ghost use Rattle.channel_store.specs.Splits.{IsSplit};
+ghost use Rattle.channel_store.specs.Told.{size_of, told_by};
 
-use crate::draft::Way;
+use crate::change::What;
+use channel_points::{count_below, points_bytes};
 use etp_values::{Copied, List, NoMemory, Point};
 use std::alloc::Global;
-
-/// How many points lie below an index.
-fn count_below(points: &[Point], index: i64) -> usize
-    requires { Rises points.now }
-    ensures { IsSplit (λ x. int_lt x.index index) points.now result }
-{
-    points.partition_point(
-        |x: &Point| -> bool
-            ensures { result ≡ int_lt x.now.index index }
-        { x.index < index },
-    )
-}
 
 /// How many points lie at or below an index.
 fn count_to(points: &[Point], index: i64) -> usize
@@ -41,6 +30,53 @@ pub fn last_index(points: &[Point]) -> Option<i64>
         Some(point) => Some(point.index),
         None => None,
     }
+}
+
+/// The index of the first point.
+pub fn first_index(points: &[Point]) -> Option<i64>
+    ensures { result ≡ first_of points.now }
+{
+    match points.first() {
+        Some(point) => Some(point.index),
+        None => None,
+    }
+}
+
+/// The index of a point by its number from the end, the last being 1.
+pub fn index_from_end(points: &[Point], count: u64) -> Option<i64>
+    ensures { result ≡ index_from_end count points.now }
+{
+    if count > points.len() as u64 {
+        return None;
+    }
+    match points.get(points.len() - count as usize) {
+        Some(point) => Some(point.index),
+        None => None,
+    }
+}
+
+/// How many points there are, and what they count towards the limit of an answer.
+#[derive(Clone, Copy, Debug, PartialEq, Eq)]
+pub struct PointSize {
+    pub points: u64,
+    pub bytes: u64,
+}
+
+fn size_of(points: &[Point]) -> PointSize
+    ensures { result ≡ size_of points.now }
+{
+    PointSize {
+        points: points.len() as u64,
+        bytes: points_bytes(points),
+    }
+}
+
+/// The size of `count` points behind the first `place`.
+fn size_behind(points: &[Point], place: usize, count: usize) -> PointSize
+    requires { place + count ≤ length points.now }
+    ensures { result ≡ size_of (take count (drop place points.now)) }
+{
+    size_of(&points[place..place + count])
 }
 
 /// How many points lie below an interval, and how many in it.
@@ -66,6 +102,33 @@ pub fn copy_inside(
 {
     let (start, count) = place_inside(points, from, to);
     copy_behind(alloc, points, start, count)
+}
+
+/// The size of the points from `from` to `to`.
+pub fn size_inside(points: &[Point], from: i64, to: i64) -> PointSize
+    requires { Rises points.now }
+    ensures { result ≡ size_of (inside from to points.now) }
+{
+    let (start, count) = place_inside(points, from, to);
+    size_behind(points, start, count)
+}
+
+/// Copies of the points at or past `start`.
+pub fn copy_past(alloc: Global, points: &[Point], start: i64) -> Result<List<Point>, NoMemory>
+    requires { Rises points.now }
+    ensures { IfOk result (λ r. r ≡ past start points.now) }
+{
+    let place = count_below(points, start);
+    copy_all(alloc, &points[place..])
+}
+
+/// The size of the points at or past `start`.
+pub fn size_past(points: &[Point], start: i64) -> PointSize
+    requires { Rises points.now }
+    ensures { result ≡ size_of (past start points.now) }
+{
+    let place = count_below(points, start);
+    size_of(&points[place..])
 }
 
 /// Copies of `count` points behind the first `place`.
@@ -160,17 +223,18 @@ fn put_between(points: &mut Vec<Point>, from: i64, to: i64, more: Vec<Point>)
     put_at(points, place, more);
 }
 
-/// Does to the points what is to happen.
-pub fn apply(points: &mut Vec<Point>, way: Way, mut more: Vec<Point>)
+/// Does to the points what is to happen, whose own points are `more`.
+pub fn apply(points: &mut Vec<Point>, what: &What, mut more: Vec<Point>)
     requires rising { Rises points.old.items }
     requires room { vec_len points.old + vec_len more ≤ vec_capacity points.old }
-    ensures { points.new.items ≡ after points.old.items (what_by way more.items) }
+    requires same { more.items ≡ told_by what.now }
+    ensures { points.new.items ≡ after points.old.items what.now }
 {
-    match way {
-        Way::Behind => {
+    match what {
+        What::Append(_) => {
             let _ = points.append(&mut more);
         }
-        Way::Between { from, to } => put_between(points, from, to, more),
-        Way::UpTo { end } => cut(points, end),
+        What::Replace { from, to, .. } => put_between(points, *from, *to, more),
+        What::Truncate { end } => cut(points, *end),
     }
 }

@@ -1,19 +1,22 @@
 //! The store of the channels.
-ghost use Rattle.std.specs.Prelude.{◌≡◌, ◌<◌, ◌==◌, [], ℕ, IfOk, find, length, map, zip};
+ghost use Rattle.std.specs.Prelude.{◌≡◌, ◌<◌, ◌==◌, [], ℕ, IfOk, find, length, map, nat_le, option_map, zip};
 ghost use Rattle.std.specs.Option.{option_copied};
 ghost use Rattle.etp_values.specs.Gives.{Gives};
 ghost use Rattle.channel_store.specs.Channels.{fresh};
-ghost use Rattle.channel_store.specs.Refusals.{Refuses, append_refusal, points_at, replace_refusal, truncate_refusal};
-ghost use Rattle.channel_store.specs.Points.{last_of};
-ghost use Rattle.channel_store.specs.Store.{Changes, IsNewPlace, appended, changes_at, id_of, range_of, replaced, truncated};
+ghost use Rattle.channel_store.specs.Refusals.{Refuses, append_refusal, cut_refusal, points_at, replace_refusal, truncate_refusal, verdict};
+ghost use Rattle.channel_store.specs.Points.{Rises, first_of, index_from_end, last_of};
+ghost use Rattle.channel_store.specs.Store.{Changes, IsNewPlace, appended, changes_at, id_of, range_of, replaced, tail_of, truncated};
+ghost use Rattle.channel_store.specs.Told.{ending, sized};
 
-use crate::calls::{append_all, replace_all, truncate_all};
+use crate::calls::{append_all, replace_all, test_append, test_replace, truncate_all};
 use crate::change::ChannelChange;
-use crate::checks::track_at;
+use crate::checks::{check_cut, track_at};
 use crate::error::ChannelError;
+use crate::points::PointSize;
 use crate::track::Track;
 use crate::tracks::{channel_of, fresh_tracks};
 use chan_defs::Config;
+use channel_points::ChannelPoints;
 use etp_values::{ChannelPoint, List, NoMemory, Point, StoreUri};
 use std::alloc::Global;
 use std::marker::Model;
@@ -73,7 +76,34 @@ impl ChannelStore {
         ensures store { Changes result place at (appended items.now) self.old self.new }
         ensures places { (later : ℕ) → place < later → IsNewPlace later self.new }
     {
+        match self.take_append(place, at, items) {
+            Ok(_) => Ok(()),
+            Err(error) => Err(error),
+        }
+    }
+
+    /// As [`append`](ChannelStore::append), with the items as the entry keeps them, which share the memory of the changes.
+    pub fn take_append(
+        &mut self,
+        place: u64,
+        at: i64,
+        items: &List<ChannelPoint>,
+    ) -> Result<ChannelPoints, ChannelError>
+        requires { IsNewPlace place self.old }
+        ensures answer { Refuses (ending result) (append_refusal self.old items.now) }
+        ensures store { Changes (ending result) place at (appended items.now) self.old self.new }
+        ensures places { (later : ℕ) → place < later → IsNewPlace later self.new }
+        ensures items { IfOk result (λ r. r ≡ items.now) }
+    {
         append_all(self.alloc, &mut self.tracks, place, at, items.as_slice())
+    }
+
+    /// Whether an append of these items would be refused. Takes the memory that it would take, and changes nothing.
+    pub fn test_append(&mut self, items: &List<ChannelPoint>) -> Result<(), ChannelError>
+        ensures answer { Refuses result (append_refusal self.old items.now) }
+        ensures same { self.new ≡ self.old }
+    {
+        test_append(self.alloc, &mut self.tracks, items.as_slice())
     }
 
     /// Puts points in the place of those from `from` to `to`, in each of the channels, as the changes of the entry at `place`.
@@ -92,11 +122,56 @@ impl ChannelStore {
             (replaced channels.now from to items.now) self.old self.new }
         ensures places { (later : ℕ) → place < later → IsNewPlace later self.new }
     {
+        match self.take_replace(place, at, channels, from, to, items) {
+            Ok(_) => Ok(()),
+            Err(error) => Err(error),
+        }
+    }
+
+    /// As [`replace`](ChannelStore::replace), with the items as the entry keeps them, which share the memory of the changes.
+    pub fn take_replace(
+        &mut self,
+        place: u64,
+        at: i64,
+        channels: &List<i64>,
+        from: i64,
+        to: i64,
+        items: &List<ChannelPoint>,
+    ) -> Result<ChannelPoints, ChannelError>
+        requires { IsNewPlace place self.old }
+        ensures answer { Refuses (ending result)
+            (replace_refusal self.old channels.now from to items.now) }
+        ensures store { Changes (ending result) place at
+            (replaced channels.now from to items.now) self.old self.new }
+        ensures places { (later : ℕ) → place < later → IsNewPlace later self.new }
+        ensures items { IfOk result (λ r. r ≡ items.now) }
+    {
         replace_all(
             self.alloc,
             &mut self.tracks,
             place,
             at,
+            channels.as_slice(),
+            from,
+            to,
+            items.as_slice(),
+        )
+    }
+
+    /// Whether a replacement would be refused. Takes the memory that it would take, and changes nothing.
+    pub fn test_replace(
+        &mut self,
+        channels: &List<i64>,
+        from: i64,
+        to: i64,
+        items: &List<ChannelPoint>,
+    ) -> Result<(), ChannelError>
+        ensures answer { Refuses result (replace_refusal self.old channels.now from to items.now) }
+        ensures same { self.new ≡ self.old }
+    {
+        test_replace(
+            self.alloc,
+            &mut self.tracks,
             channels.as_slice(),
             from,
             to,
@@ -129,6 +204,13 @@ impl ChannelStore {
         )
     }
 
+    /// Whether a channel would be refused this end, where these channels stand before it in the call.
+    pub fn test_cut(&self, earlier: &[i64], channel: i64, end: i64) -> Result<(), ChannelError>
+        ensures { result ≡ verdict (cut_refusal self.now earlier.now (channel, end)) }
+    {
+        check_cut(self.tracks.as_slice(), earlier, channel, end)
+    }
+
     /// Copies of a channel's points from `from` to `to`.
     pub fn range(&self, channel: i64, from: i64, to: i64) -> Result<List<Point>, ChannelError>
         ensures { Gives ChannelError.NoMemory result (range_of self.now channel from to) }
@@ -142,14 +224,79 @@ impl ChannelStore {
         Ok(track.range(self.alloc, from, to)?)
     }
 
+    /// How many points a channel has from `from` to `to`, and what they count.
+    pub fn range_size(&self, channel: i64, from: i64, to: i64) -> Result<PointSize, ChannelError>
+        ensures { result ≡ sized (range_of self.now channel from to) }
+    {
+        let Some(track) = track_at(self.tracks.as_slice(), channel) else {
+            return Err(ChannelError::NoChannel(channel));
+        };
+        if from > to {
+            return Err(ChannelError::Interval);
+        }
+        Ok(track.range_size(from, to))
+    }
+
+    /// Copies of a channel's points at or past `start`.
+    pub fn tail(&self, channel: i64, start: i64) -> Result<List<Point>, ChannelError>
+        ensures { Gives ChannelError.NoMemory result (tail_of self.now channel start) }
+    {
+        let Some(track) = track_at(self.tracks.as_slice(), channel) else {
+            return Err(ChannelError::NoChannel(channel));
+        };
+        Ok(track.tail(self.alloc, start)?)
+    }
+
+    /// How many points a channel has at or past `start`, and what they count.
+    pub fn tail_size(&self, channel: i64, start: i64) -> Result<PointSize, ChannelError>
+        ensures { result ≡ sized (tail_of self.now channel start) }
+    {
+        let Some(track) = track_at(self.tracks.as_slice(), channel) else {
+            return Err(ChannelError::NoChannel(channel));
+        };
+        Ok(track.tail_size(start))
+    }
+
+    /// The index of a channel's first point.
+    pub fn first_index(&self, channel: i64) -> Option<i64>
+        ensures { result ≡ first_of (points_at self.now channel) }
+    {
+        let Some(track) = track_at(self.tracks.as_slice(), channel) else {
+            return None;
+        };
+        track.first_index()
+    }
+
     /// The index of a channel's last point.
     pub fn last_index(&self, channel: i64) -> Option<i64>
-        ensures { result ≡ last_of (points_at self.now channel) }
+        ensures value { result ≡ last_of (points_at self.now channel) }
+        ensures rises { Rises (points_at self.now channel) }
     {
         let Some(track) = track_at(self.tracks.as_slice(), channel) else {
             return None;
         };
         track.last_index()
+    }
+
+    /// The index of a channel's point by its number from the end, the last being 1.
+    pub fn index_from_end(&self, channel: i64, count: u64) -> Option<i64>
+        ensures { result ≡ index_from_end count (points_at self.now channel) }
+    {
+        let Some(track) = track_at(self.tracks.as_slice(), channel) else {
+            return None;
+        };
+        track.index_from_end(count)
+    }
+
+    /// The place of a channel's first change whose entry stands at or past a place of the journal.
+    pub fn next_place(&self, channel: i64, place: u64) -> Option<u64>
+        ensures { result ≡ option_map (λ x. x.place)
+            (find (λ x. nat_le place x.place) (changes_at self.now channel)) }
+    {
+        let Some(track) = track_at(self.tracks.as_slice(), channel) else {
+            return None;
+        };
+        track.next_place(place)
     }
 
     /// The change of a channel whose entry stands at a place of the journal.

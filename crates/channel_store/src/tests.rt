@@ -198,3 +198,62 @@ fn refuses_intervals_and_what_lies_outside(rt: HostRuntime) -> Result<(), Fail> 
     assert!(rt; range.is_err());
     Ok(())
 }
+
+/// Takes what may be moved to another thread.
+fn crossing<T: Send>(value: T) -> T {
+    value
+}
+
+#[test]
+fn hands_out_what_it_took(rt: HostRuntime) -> Result<(), Fail> {
+    let alloc = rt.alloc();
+    let mut store = crossing(two_channels(alloc)?);
+    let one = items(alloc, &[(0, 100, 1), (0, 200, 2)])?;
+    assert!(rt; store.take_append(0, 10, &one)?.to_list(alloc)? == one);
+    let both = items(alloc, &[(0, 300, 3), (1, 50, 4)])?;
+    assert!(rt; store.take_append(1, 20, &both)?.to_list(alloc)? == both);
+    let inside = items(alloc, &[(0, 150, 5)])?;
+    let given = store.take_replace(2, 30, &ids(alloc, &[0])?, 120, 180, &inside)?;
+    assert!(rt; given.to_list(alloc)? == inside);
+    check(&rt, &store, 0, 1000, &[100, 150, 200, 300])
+}
+
+#[test]
+fn tests_without_a_change(rt: HostRuntime) -> Result<(), Fail> {
+    let alloc = rt.alloc();
+    let mut store = two_channels(alloc)?;
+    store.append(0, 10, &items(alloc, &[(0, 100, 1)])?)?;
+    let again = items(alloc, &[(0, 100, 1)])?;
+    assert_eq!(rt; store.test_append(&again), Err(ChannelError::Order(0)));
+    assert_eq!(rt;
+        store.test_replace(&ids(alloc, &[0])?, 100, 200, &again),
+        Ok(())
+    );
+    assert_eq!(rt; store.test_cut(&[1], 0, 100), Ok(()));
+    assert_eq!(rt; store.test_cut(&[1], 1, 100), Err(ChannelError::Doubled(1)));
+    check(&rt, &store, 0, 1000, &[100])
+}
+
+/// Each point counts 24.
+#[test]
+fn finds_indexes_places_and_sizes(rt: HostRuntime) -> Result<(), Fail> {
+    let alloc = rt.alloc();
+    let mut store = two_channels(alloc)?;
+    store.append(3, 10, &items(alloc, &[(0, 100, 1), (0, 200, 2)])?)?;
+    store.append(7, 20, &items(alloc, &[(0, 300, 3)])?)?;
+    assert_eq!(rt; store.first_index(0), Some(100));
+    assert_eq!(rt; store.index_from_end(0, 2), Some(200));
+    assert_eq!(rt; store.index_from_end(0, 4), None);
+    assert_eq!(rt; store.next_place(0, 4), Some(7));
+    assert_eq!(rt; store.next_place(0, 8), None);
+    let size = PointSize {
+        points: 2,
+        bytes: 48,
+    };
+    assert_eq!(rt; store.tail_size(0, 101), Ok(size));
+    assert_eq!(rt; store.range_size(0, 100, 200), Ok(size));
+    assert_eq!(rt; store.tail(0, 101)?.len(), 2);
+    let change = store.change_at(0, 3).ok_or("a change at 3")?;
+    assert_eq!(rt; change_bytes(change), 48);
+    Ok(())
+}

@@ -1,15 +1,21 @@
 //! One channel: its points, its changes, and what is about to happen to it.
-ghost use Rattle.std.specs.Prelude.{◌≡◌, ◌==◌, [], IfOk, OnOk, Some, find, is_some};
+ghost use Rattle.std.specs.Prelude.{◌≡◌, ◌==◌, [], IfOk, OnOk, Some, find, is_some, nat_le, option_map};
 ghost use Rattle.std.specs.Option.{option_copied};
 ghost use Rattle.channel_store.specs.Channels.{fresh, IsKept};
-ghost use Rattle.channel_store.specs.Points.{inside, last_of};
+ghost use Rattle.channel_store.specs.Points.{Rises, first_of, index_from_end, inside, last_of, past};
+ghost use Rattle.channel_store.specs.Told.{size_of, told_by};
 ghost use Rattle.channel_store.specs.Rows.{Becomes, IsDue, added, begun, cleared, done, plain, what_by};
 
-use crate::change::{ChannelChange, change_at};
+use crate::change::ChannelChange;
 use crate::draft::{Draft, Way};
 use crate::error::ChannelError;
-use crate::points::{apply, copy_inside, last_index};
+use crate::places::{change_at, next_place};
+use crate::points::{
+    PointSize, apply, copy_inside, copy_past, first_index, index_from_end, last_index, size_inside,
+    size_past,
+};
 use chan_defs::{ChannelDef, ValueKind};
+use channel_points::{Points, Rows};
 use etp_values::{Copied, List, NoMemory, Point, StoreUri};
 use std::alloc::Global;
 use std::marker::Model;
@@ -19,7 +25,7 @@ pub struct Track {
     uri: StoreUri,
     kind: ValueKind,
     points: Vec<Point>,
-    changes: Vec<ChannelChange>,
+    changes: Rows<ChannelChange>,
     draft: Option<Draft>,
 }
 
@@ -43,7 +49,7 @@ impl Track {
             uri: def.uri.copy(alloc)?,
             kind: def.kind,
             points: Vec::new(alloc),
-            changes: Vec::new(alloc),
+            changes: Rows::new(alloc),
             draft: None,
         })
     }
@@ -63,9 +69,45 @@ impl Track {
 
     /// The index of the last point.
     pub fn last_index(&self) -> Option<i64>
-        ensures { result ≡ last_of self.now.shown.points }
+        ensures value { result ≡ last_of self.now.shown.points }
+        ensures rises { Rises self.now.shown.points }
     {
         last_index(self.points.as_slice())
+    }
+
+    /// The index of the first point.
+    pub fn first_index(&self) -> Option<i64>
+        ensures { result ≡ first_of self.now.shown.points }
+    {
+        first_index(self.points.as_slice())
+    }
+
+    /// The index of a point by its number from the end.
+    pub fn index_from_end(&self, count: u64) -> Option<i64>
+        ensures { result ≡ index_from_end count self.now.shown.points }
+    {
+        index_from_end(self.points.as_slice(), count)
+    }
+
+    /// Copies of the points at or past `start`.
+    pub fn tail(&self, alloc: Global, start: i64) -> Result<List<Point>, NoMemory>
+        ensures { IfOk result (λ r. r ≡ past start self.now.shown.points) }
+    {
+        copy_past(alloc, self.points.as_slice(), start)
+    }
+
+    /// How many points lie from `from` to `to`, and what they count.
+    pub fn range_size(&self, from: i64, to: i64) -> PointSize
+        ensures { result ≡ size_of (inside from to self.now.shown.points) }
+    {
+        size_inside(self.points.as_slice(), from, to)
+    }
+
+    /// How many points lie at or past `start`, and what they count.
+    pub fn tail_size(&self, start: i64) -> PointSize
+        ensures { result ≡ size_of (past start self.now.shown.points) }
+    {
+        size_past(self.points.as_slice(), start)
     }
 
     /// Copies of the points from `from` to `to`.
@@ -79,7 +121,15 @@ impl Track {
     pub fn change_at(&self, place: u64) -> Option<&ChannelChange>
         ensures { option_copied result ≡ find (λ x. x.place == place) self.now.shown.changes }
     {
-        change_at(self.changes.as_slice(), place)
+        change_at(&self.changes, place)
+    }
+
+    /// The place of the first change whose entry stands at or past a place of the journal.
+    pub fn next_place(&self, place: u64) -> Option<u64>
+        ensures { result ≡ option_map (λ x. x.place)
+            (find (λ x. nat_le place x.place) self.now.shown.changes) }
+    {
+        next_place(&self.changes, place)
     }
 
     /// Whether something is about to happen.
@@ -94,8 +144,10 @@ impl Track {
         ensures ok { OnOk result (self.new ≡ record self.old { staged = Some (what_by way []) }) }
         ensures kept { self.new.shown ≡ self.old.shown }
     {
-        self.changes.reserve(1)?;
-        self.draft = Some(Draft::new(alloc, way));
+        let draft = Draft::new(alloc, way)?;
+        drop(self.draft.take());
+        self.changes.reserve()?;
+        drop(self.draft.replace(draft));
         Ok(())
     }
 
@@ -122,6 +174,28 @@ impl Track {
         draft.add(alloc, &mut self.points, channel, point)
     }
 
+    /// What is about to happen is kept so that a copy of it shares its points. After an error nothing is about to happen.
+    pub fn seal(&mut self, alloc: Global) -> Result<(), NoMemory>
+        ensures ok { OnOk result (self.new ≡ self.old) }
+        ensures kept { self.new.shown ≡ self.old.shown }
+    {
+        let Some(draft) = self.draft.take() else {
+            return Ok(());
+        };
+        self.draft = Some(draft.sealed(alloc)?);
+        Ok(())
+    }
+
+    /// The points of what is about to happen.
+    pub fn told(&self, alloc: Global) -> Result<Option<Points>, NoMemory>
+        ensures { IfOk result (λ r. r ≡ option_map told_by self.now.staged) }
+    {
+        match &self.draft {
+            Some(draft) => Ok(Some(draft.what.told(alloc)?)),
+            None => Ok(None),
+        }
+    }
+
     /// Nothing is about to happen any more.
     pub fn clear(&mut self)
         ensures { self.new ≡ cleared self.old }
@@ -137,9 +211,8 @@ impl Track {
         let Some(draft) = self.draft.take() else {
             return;
         };
-        let Draft { way, points, told } = draft;
-        let what = way.what(told);
-        apply(&mut self.points, way, points);
+        let Draft { points, what } = draft;
+        apply(&mut self.points, &what, points);
         self.changes.push_reserved(ChannelChange {
             place,
             channel,

@@ -1,0 +1,21 @@
+//! Points of channels, kept so that a change, an entry of the journal and a subscriber share their memory.
+//!
+//! [`Points`] are the points of one channel, and [`ChannelPoints`] those of several in the order of a message. Contracts see them
+//! as plain lists. [`Rows`] is a list that grows by blocks, so that no push moves what is there.
+#![tactic(auto)]
+
+mod boxed;
+mod bytes;
+mod items;
+mod points;
+mod rows;
+mod search;
+#[cfg(test)]
+mod tests;
+
+pub use boxed::BoxedPoints;
+pub use bytes::{point_bytes, points_bytes};
+pub use items::{ChannelPoints, only_channel};
+pub use points::Points;
+pub use rows::Rows;
+pub use search::count_below;

@@ -1,0 +1,16 @@
+use Rattle.std.proofs.Common.{subst, ◌∙◌, ◌≡◌, ◌-◌, length, take, drop}
+use Rattle.std.specs.Prelude.{IfOk}
+use mir.Syntax.{w64}
+use mir.Val.{to_z, of_z}
+use Rattle.std.proofs.lemmas.Int.{to_z-of_z}
+use Rattle.channel_store.specs.Points.{past}
+use Rattle.channel_store.proofs.PointLemmas.{rest-is}
+use Rattle.channel_store.proofs.points.copy_past.Goals as goal
+
+pub returns : goal.returns
+returns c =
+    let xs = c.args.points.now in
+    let n = c.count_below-place.result in
+    let start : to_z w64 (of_z w64 c.args.start) ≡ c.args.start = to_z-of_z w64 c.args.start c.ranges.start in
+    let rest : take (length xs - n) (drop n xs) ≡ past (to_z w64 (of_z w64 c.args.start)) xs = rest-is n xs ∙ c.count_below-place.ensures.back in
+    subst (λ l. IfOk c.copy_all.result (λ r. r ≡ l)) (rest ∙ (λ j. past (start j) xs)) c.copy_all.ensures

@@ -1,0 +1,49 @@
+-- What a change tells, and what that counts.
+use Rattle.std.specs.Prelude.{ℕ, ℤ, Bool, false, List, [], ◌∷◌, ◌++◌, length, Option, Some, None, Result, Ok, Err, nat_lt}
+use Rattle.etp_values.specs.declared.point.Point.{Point}
+use Rattle.etp_values.specs.Weight.{capped, weigh}
+use Rattle.channel_points.specs.Bytes.{point_bytes}
+use Rattle.channel_store.specs.declared.change.What.{What}
+use Rattle.channel_store.specs.declared.change.What.TheVariants.{Append, Replace, Truncate}
+use Rattle.channel_store.specs.declared.change.ChannelChange.{ChannelChange}
+use Rattle.channel_store.specs.declared.points.PointSize.{PointSize}
+
+-- the points of a change; a truncation has none
+abbrev pub told_by : What → List Point
+told_by (Append points) = points
+told_by (Replace from to points) = points
+told_by (Truncate end) = []
+
+-- a change with one more point; a truncation has none
+abbrev pub with_point : Point → What → What
+with_point p (Append points) = Append (points ++ p ∷ [])
+with_point p (Replace from to points) = Replace from to (points ++ p ∷ [])
+with_point p (Truncate end) = Truncate end
+
+-- what the points of a change count
+abbrev pub change_bytes : ChannelChange → ℕ
+change_bytes x = weigh point_bytes (told_by x.what)
+
+-- a change, where there is one, stands before a place
+abbrev pub stands_before : ℕ → Option ChannelChange → Bool
+stands_before place None = false
+stands_before place (Some x) = nat_lt x.place place
+
+-- how many points there are, and what they count
+abbrev pub size_of : List Point → PointSize
+size_of xs = record { points = length xs; bytes = capped (weigh point_bytes xs) }
+
+-- the same of an answer with points, or the refusal
+abbrev pub sized : {E : Type 0} → Result (List Point) E → Result PointSize E
+sized (Ok xs) = Ok (size_of xs)
+sized (Err e) = Err e
+
+-- how a call ended, without what it gave
+abbrev pub ending : {A E : Type 0} → Result A E → Result (Unit {0}) E
+ending (Ok x) = Ok tt
+ending (Err e) = Err e
+
+-- points that were given have this property
+abbrev pub IfGiven : Option (List Point) → (List Point → Type 0) → Type 0
+IfGiven None P = Unit {0}
+IfGiven (Some xs) P = P xs
