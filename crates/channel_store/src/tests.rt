@@ -205,17 +205,31 @@ fn crossing<T: Send>(value: T) -> T {
 }
 
 #[test]
-fn hands_out_what_it_took(rt: HostRuntime) -> Result<(), Fail> {
+fn stores_cross_threads(rt: HostRuntime) -> Result<(), Fail> {
+    let store = crossing(two_channels(rt.alloc())?);
+    assert_eq!(rt; store.last_index(0), None);
+    Ok(())
+}
+
+#[test]
+fn hands_out_what_it_appended(rt: HostRuntime) -> Result<(), Fail> {
     let alloc = rt.alloc();
-    let mut store = crossing(two_channels(alloc)?);
+    let mut store = two_channels(alloc)?;
     let one = items(alloc, &[(0, 100, 1), (0, 200, 2)])?;
     assert!(rt; store.take_append(0, 10, &one)?.to_list(alloc)? == one);
     let both = items(alloc, &[(0, 300, 3), (1, 50, 4)])?;
     assert!(rt; store.take_append(1, 20, &both)?.to_list(alloc)? == both);
+    Ok(())
+}
+
+#[test]
+fn hands_out_what_it_put(rt: HostRuntime) -> Result<(), Fail> {
+    let alloc = rt.alloc();
+    let mut store = two_channels(alloc)?;
     let inside = items(alloc, &[(0, 150, 5)])?;
-    let given = store.take_replace(2, 30, &ids(alloc, &[0])?, 120, 180, &inside)?;
+    let given = store.take_replace(0, 10, &ids(alloc, &[0])?, 120, 180, &inside)?;
     assert!(rt; given.to_list(alloc)? == inside);
-    check(&rt, &store, 0, 1000, &[100, 150, 200, 300])
+    check(&rt, &store, 0, 1000, &[150])
 }
 
 #[test]
