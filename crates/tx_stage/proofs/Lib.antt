@@ -1,0 +1,5 @@
+pub mod LookLemmas
+pub mod OverlayLemmas
+pub mod PlanLemmas
+pub mod RefusedLemmas
+pub mod StandingLemmas

@@ -1,0 +1,9 @@
+pub mod Counted
+pub mod Keys
+pub mod Laws
+pub mod Looks
+pub mod Ops
+pub mod Overlay
+pub mod Standing
+pub mod State
+pub mod Values

@@ -1,0 +1,319 @@
+//! The dataspaces, objects and arrays of a store, and how operations on them are judged, planned and done.
+ghost use Rattle.std.specs.Prelude.{◌≡◌, ◌≤◌, IfOk, IsSome, OnOk, OnErr, is_some, fold};
+ghost use Rattle.std.specs.Option.{option_copied, option_map};
+ghost use Rattle.array_store.specs.Table.{array_in};
+ghost use Rattle.object_store.specs.Tables.{ListsSpaces};
+ghost use Rattle.tx_stage.specs.Looks.{given, key_of, looks, seen_of};
+ghost use Rattle.tx_stage.specs.Overlay.{misfit, needed, op_refusal};
+ghost use Rattle.tx_stage.specs.Keys.{owner};
+ghost use Rattle.tx_stage.specs.Standing.{array_given};
+ghost use Rattle.tx_stage.specs.State.{state_in, state_now, first, Advances, PlansUnless};
+ghost use Rattle.tx_stage.specs.declared.key.Key.{Key as AKey};
+ghost use Rattle.tx_stage.specs.declared.key.Key.TheVariants as keyed;
+ghost use Rattle.tx_stage.specs.declared.op.OpWhat.TheVariants as done;
+ghost use Rattle.tx_stage.specs.declared.value.Value.TheVariants as value;
+
+use crate::key::Key;
+use crate::look::{
+    Looked, MAX_PAYLOAD, Want, give_array, give_object, give_slice, payload_of, see_known,
+    see_shape, see_space,
+};
+use crate::op::{Op, OpWhat};
+use crate::plan::Plan;
+use crate::standing::{array_after, object_after, space_after};
+use crate::value::patch_array;
+use array_store::{ArrayKey, ArrayRecord, ArrayStore};
+use etp_values::{AnyArray, Copied, ErrorCode, List, NoMemory, StoreUri, Text};
+use object_store::{ObjectRecord, ObjectStore, SpaceRecord};
+use std::alloc::Global;
+
+/// Dataspaces, objects and arrays.
+#[derive(Drop)]
+pub struct Contents {
+    objects: ObjectStore,
+    arrays: ArrayStore,
+}
+
+impl Contents {
+    /// The default dataspace, and nothing else.
+    pub fn new(alloc: Global) -> Result<Contents, NoMemory>
+        ensures { IfOk result (λ t. (key : AKey) → state_in t key ≡ first key) }
+    {
+        Ok(Contents {
+            objects: ObjectStore::new(alloc)?,
+            arrays: ArrayStore::new(alloc),
+        })
+    }
+
+    /// The dataspace of a path.
+    pub fn space(&self, path: &Text) -> Option<&SpaceRecord>
+        ensures { option_map value.Space (option_copied result) ≡ state_in self.now (keyed.Space path.now) }
+    {
+        self.objects.space(path)
+    }
+
+    /// The object of a URI.
+    pub fn object(&self, uri: &StoreUri) -> Option<&ObjectRecord>
+        ensures { option_map value.Object (option_copied result) ≡ state_in self.now (keyed.Object uri.now) }
+    {
+        self.objects.look(uri)
+    }
+
+    /// The array of a key.
+    pub fn array(&self, key: &ArrayKey) -> Option<&ArrayRecord>
+        ensures { option_map value.Array (option_copied result) ≡ state_in self.now (keyed.Array key.now) }
+    {
+        self.arrays.get(key)
+    }
+
+    /// The dataspaces, in no order that is promised.
+    pub fn spaces(&self) -> &[SpaceRecord]
+        ensures { ListsSpaces self.now.objects result.now }
+    {
+        self.objects.spaces()
+    }
+
+    /// Whether the dataspace of a path will stand once a plan is done.
+    pub fn has_space(&self, plan: &Plan, path: &Text) -> bool
+        ensures { result ≡ is_some (state_now self.now plan.now (keyed.Space path.now)) }
+    {
+        space_after(
+            plan.objects.as_slice(),
+            path,
+            self.objects.space(path).is_some(),
+        )
+    }
+
+    /// Whether the object of a URI will.
+    fn has_object(&self, plan: &Plan, uri: &StoreUri) -> bool
+        ensures { result ≡ is_some (state_now self.now plan.now (keyed.Object uri.now)) }
+    {
+        object_after(
+            plan.objects.as_slice(),
+            uri,
+            self.objects.look(uri).is_some(),
+        )
+    }
+
+    /// The array of a key as a plan has it, so not yet with the moment when it was made.
+    fn planned_array<'a>(&'a self, plan: &'a Plan, key: &ArrayKey) -> Option<&'a ArrayRecord>
+        ensures { option_copied result
+            ≡ fold (array_given key.now) (array_in self.now.arrays key.now) plan.now.arrays.items }
+    {
+        array_after(self.arrays.get(key), plan.arrays.as_slice(), key)
+    }
+
+    /// Whether what an operation needs will stand once a plan is done.
+    fn has_needed(&self, plan: &Plan, op: &Op) -> bool
+        ensures { result ≡ is_some (state_now self.now plan.now (needed op.now.key op.now.what)) }
+    {
+        match &op.what {
+            OpWhat::SetObject(_) => self.has_owner(plan, &op.key),
+            OpWhat::SetArray(_) => self.has_owner(plan, &op.key),
+            OpWhat::Patch { .. } => self.has(plan, &op.key),
+            OpWhat::Gone => self.has(plan, &op.key),
+        }
+    }
+
+    /// Whether something will stand at a key.
+    fn has(&self, plan: &Plan, key: &Key) -> bool
+        ensures { result ≡ is_some (state_now self.now plan.now key.now) }
+    {
+        match key {
+            Key::Space(path) => self.has_space(plan, path),
+            Key::Object(uri) => self.has_object(plan, uri),
+            Key::Array(array) => self.planned_array(plan, array).is_some(),
+        }
+    }
+
+    /// Whether what a key stands in will stand.
+    fn has_owner(&self, plan: &Plan, key: &Key) -> bool
+        ensures { result ≡ is_some (state_now self.now plan.now (owner key.now)) }
+    {
+        match key {
+            Key::Space(path) => self.has_space(plan, path),
+            Key::Object(uri) => self.has_space(plan, &uri.space),
+            Key::Array(array) => self.has_object(plan, &array.uri),
+        }
+    }
+
+    /// Judges an operation by what will stand once a plan is done, and plans it where it is not refused.
+    pub fn judge(
+        &self,
+        alloc: Global,
+        plan: &mut Plan,
+        op: &Op,
+    ) -> Result<Option<ErrorCode>, NoMemory>
+        ensures verdict { IfOk result (λ r. r ≡ op_refusal (state_now self.now plan.old) op.now) }
+        ensures plan { IfOk result (λ r.
+            PlansUnless r self.now plan.old plan.new op.now.key op.now.what op.now.at) }
+    {
+        if !op.suits() {
+            return Ok(Some(ErrorCode::InvalidArgument));
+        }
+        if !self.has_needed(plan, op) {
+            return Ok(Some(ErrorCode::NotFound));
+        }
+        self.add(alloc, plan, op)
+    }
+
+    /// Plans an operation, whatever stands.
+    pub fn plan(&self, alloc: Global, plan: &mut Plan, op: &Op) -> Result<(), NoMemory>
+        ensures { OnOk result (Advances self.now plan.old plan.new op.now.key op.now.what op.now.at) }
+    {
+        self.add(alloc, plan, op)?;
+        Ok(())
+    }
+
+    /// Plans an operation; a patch that does not fit is not planned.
+    fn add(&self, alloc: Global, plan: &mut Plan, op: &Op) -> Result<Option<ErrorCode>, NoMemory>
+        ensures code { IfOk result (λ r. r ≡ misfit op.now.what (state_now self.now plan.old op.now.key)) }
+        ensures plan { OnOk result (Advances self.now plan.old plan.new op.now.key op.now.what op.now.at) }
+        ensures same { IfOk result (λ r. IsSome r → plan.new ≡ plan.old) }
+    {
+        match &op.key {
+            Key::Space(_) => Ok(None),
+            Key::Object(uri) => self.add_object(alloc, plan, uri, &op.what, op.at),
+            Key::Array(key) => self.add_array(alloc, plan, key, &op.what, op.at),
+        }
+    }
+
+    /// Plans what is done at an object's key.
+    fn add_object(
+        &self,
+        alloc: Global,
+        plan: &mut Plan,
+        uri: &StoreUri,
+        what: &OpWhat,
+        at: i64,
+    ) -> Result<Option<ErrorCode>, NoMemory>
+        ensures code { IfOk result (λ r. r ≡ misfit what.now (state_now self.now plan.old (keyed.Object uri.now))) }
+        ensures plan { OnOk result (Advances self.now plan.old plan.new (keyed.Object uri.now) what.now at) }
+        ensures same { IfOk result (λ r. IsSome r → plan.new ≡ plan.old) }
+    {
+        plan.add_object(alloc, uri, what, at)?;
+        Ok(None)
+    }
+
+    /// Plans to set an array.
+    fn add_set(
+        &self,
+        alloc: Global,
+        plan: &mut Plan,
+        key: &ArrayKey,
+        array: &ArrayRecord,
+        at: i64,
+    ) -> Result<Option<ErrorCode>, NoMemory>
+        ensures code { IfOk result (λ r.
+            r ≡ misfit (done.SetArray array.now) (state_now self.now plan.old (keyed.Array key.now))) }
+        ensures plan { OnOk result (
+            Advances self.now plan.old plan.new (keyed.Array key.now) (done.SetArray array.now) at) }
+        ensures same { IfOk result (λ r. IsSome r → plan.new ≡ plan.old) }
+    {
+        plan.set_array(alloc, key, array, at)?;
+        Ok(None)
+    }
+
+    /// Plans what is done at an array's key; what does not go with the key alters nothing.
+    fn add_array(
+        &self,
+        alloc: Global,
+        plan: &mut Plan,
+        key: &ArrayKey,
+        what: &OpWhat,
+        at: i64,
+    ) -> Result<Option<ErrorCode>, NoMemory>
+        ensures code { IfOk result (λ r. r ≡ misfit what.now (state_now self.now plan.old (keyed.Array key.now))) }
+        ensures plan { OnOk result (Advances self.now plan.old plan.new (keyed.Array key.now) what.now at) }
+        ensures same { IfOk result (λ r. IsSome r → plan.new ≡ plan.old) }
+    {
+        match what {
+            OpWhat::SetObject(_) => Ok(None),
+            OpWhat::SetArray(array) => self.add_set(alloc, plan, key, array, at),
+            OpWhat::Patch {
+                starts,
+                counts,
+                values,
+            } => self.add_patch(alloc, plan, key, at, starts, counts, values),
+            OpWhat::Gone => Ok(None),
+        }
+    }
+
+    /// Plans a patch, where there is an array that it fits.
+    fn add_patch(
+        &self,
+        alloc: Global,
+        plan: &mut Plan,
+        key: &ArrayKey,
+        at: i64,
+        starts: &List<i64>,
+        counts: &List<i64>,
+        values: &AnyArray,
+    ) -> Result<Option<ErrorCode>, NoMemory>
+        ensures code { IfOk result (λ r.
+            r ≡ misfit (done.Patch starts.now counts.now values.now)
+            (state_now self.now plan.old (keyed.Array key.now))) }
+        ensures plan { OnOk result (Advances self.now plan.old plan.new (keyed.Array key.now)
+            (done.Patch starts.now counts.now values.now) at) }
+        ensures same { IfOk result (λ r. IsSome r → plan.new ≡ plan.old) }
+    {
+        let Some(array) = self.planned_array(plan, key) else {
+            return Ok(None);
+        };
+        let array = array.copy(alloc)?;
+        let (array, refusal) = patch_array(alloc, array, at, starts, counts, values)?;
+        if refusal.is_some() {
+            return Ok(refusal);
+        }
+        plan.push_array(alloc, key, array)?;
+        Ok(None)
+    }
+
+    /// Does a plan. All memory is taken before anything changes.
+    pub fn apply(&mut self, plan: Plan) -> Result<(), NoMemory>
+        ensures ok { OnOk result ((key : AKey) → state_in self.new key ≡ state_now self.old plan key) }
+        ensures err { OnErr result ((key : AKey) → state_in self.new key ≡ state_in self.old key) }
+    {
+        let Plan { objects, arrays } = plan;
+        let objects = List::from_vec(objects);
+        let arrays = List::from_vec(arrays);
+        self.objects.reserve(&objects)?;
+        self.arrays.reserve(arrays.len() as u64)?;
+        self.objects.apply(objects);
+        self.arrays.apply(arrays);
+        Ok(())
+    }
+
+    /// What is seen of the keys that are looked at, in order.
+    pub fn look(&self, alloc: Global, wants: &List<Want>) -> Result<List<Looked>, NoMemory>
+        ensures { IfOk result (λ l. l ≡ looks (state_in self.now) wants.now) }
+    {
+        let mut room = MAX_PAYLOAD;
+        let mut seen = Vec::new(alloc);
+        for want in wants.as_slice() {
+            let looked = self.look_within(alloc, want, room)?;
+            room -= payload_of(&looked);
+            seen.push(looked)?;
+        }
+        Ok(List::from_vec(seen))
+    }
+
+    /// What is seen of one, where so many bytes of payload are left to give.
+    fn look_within(&self, alloc: Global, want: &Want, room: u64) -> Result<Looked, NoMemory>
+        requires { room ≤ MAX_PAYLOAD }
+        ensures { IfOk result (λ l. l ≡ given room (seen_of want.now (state_in self.now (key_of want.now)))) }
+    {
+        match want {
+            Want::Space(path) => see_space(alloc, self.objects.space(path)),
+            Want::Known(uri) => Ok(see_known(self.objects.look(uri))),
+            Want::Object(uri) => give_object(alloc, self.objects.look(uri), room),
+            Want::Array(key) => give_array(alloc, self.arrays.get(key), room),
+            Want::Slice {
+                key,
+                starts,
+                counts,
+            } => give_slice(alloc, self.arrays.get(key), starts, counts, room),
+            Want::Shape(key) => see_shape(alloc, self.arrays.get(key)),
+        }
+    }
+}
