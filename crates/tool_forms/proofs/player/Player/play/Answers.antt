@@ -25,7 +25,7 @@ returns-clause-played c =
     let played = world_played w f c.in_ok-state.state c.play_at.new.store.journal c.in_ok-state-2.state c.insert.new.self.entries c.insert-2.new.self.entries c.args.into.now.items c.play_at.new.into.items
     c.in_ok-state.ensures.old c.in_ok-state-2.ensures.effect c.in_ok-state.ensures.entries c.in_ok-insert.ensures.entries in
     let here : has_ended (state_of f.tag w.tags) ≡ false = sym c.has_ended.ensures ∙ c.if-has_ended.false in
-    let passes = not_refused f.kind (has_ended (state_of f.tag w.tags)) c.if-frame-eq17.false c.if-frame-eq19.false here in
+    let passes = not_refused f.kind (has_ended (state_of f.tag w.tags)) c.if-frame-eq-OUT.false c.if-frame-eq-ENDED.false here in
     subst (λ (x : World). (is_refused x f ≡ false) × (after ≡ world_after x f) × (c.play_at.new.into.items ≡ c.args.into.now.items ++ bytes_after x f)) (sym view) (passes, played.0, played.1)
 
 pub returns-clause-sound : goal.returns-clause-sound
