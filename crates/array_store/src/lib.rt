@@ -21,8 +21,6 @@ mod region;
 mod shape;
 mod store;
 mod table;
-#[cfg(test)]
-mod tests;
 mod window;
 
 pub use elements::{MAX_BYTES, array_bytes, array_kind, element_count};

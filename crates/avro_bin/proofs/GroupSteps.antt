@@ -1,7 +1,7 @@
 -- The groups of a number, one after another, as loops read and write them.
-use Rattle.std.proofs.Common.{◌≡◌, ℕ, ℤ, zero, suc, ◌+◌, ◌-◌, ◌*◌, ◌/◌, ◌%◌, ◌^◌, ◌<◌, ◌≤◌, List, [], ◌∷◌, ◌++◌, Ok, Err, length, get_or, take, drop, set, Result, refl, sym, ap, subst, ◌∙◌, arith, append_assoc, add-one}
+use Rattle.std.proofs.Common.{◌≡◌, ℕ, ℤ, suc, ◌+◌, ◌-◌, ◌*◌, ◌/◌, ◌%◌, ◌^◌, ◌<◌, ◌≤◌, List, [], ◌∷◌, ◌++◌, Ok, Err, length, get_or, take, drop, set, Result, refl, sym, ap, subst, ◌∙◌, arith, append_assoc, add-one}
 use Rattle.std.proofs.Math.Nat.{mul-add, mul_assoc, pow-suc, pow-le-pow_right, mul-le-mul_left}
-use Rattle.std.proofs.lemmas.List.{drop_more, drop_all, take_more_set, take_all, length-drop}
+use Rattle.std.proofs.lemmas.List.{drop_more, take_more_set, take_all, length-drop}
 use Rattle.std.proofs.lemmas.Bool.{le-ltb, lt-ltb}
 use Rattle.avro_bin.specs.declared.fault.Why.{Why}
 use Rattle.avro_bin.specs.declared.fault.Why.TheVariants as why
@@ -21,12 +21,6 @@ group_fits i low weight group lt is below small =
     let w : 128 ^ i ≤ 128 ^ 8 = pow-le-pow_right {n = 128} (omega arith) {i = i} {j = 8} (omega arith) in
     let p : weight * group ≤ weight * 127 = mul-le-mul_left {m = group} {n = 127} weight (omega arith) in
     record { product = omega arith; sum = omega arith; next = omega arith }
-
-pub raised_none : (r : Groups) → r ≡ raised 0 1 r
-raised_none (Ok x) =
-    let e : x.0 ≡ 0 + 1 * x.0 = omega arith in
-    ap (λ (z : ℕ). Ok (z, x.1)) e
-raised_none (Err w) = refl
 
 raised_more : (low weight b : ℕ) (r : Groups) → raised low weight (more_groups b r) ≡ raised (low + weight * (b % 128)) (weight * 128) r
 raised_more low weight b (Err w) = refl
@@ -63,12 +57,6 @@ groups_last i low weight bytes total lt there small so_far =
     so_far
     ∙ ap (λ (b : List ℕ). raised low weight (groups_at (10 - i) b)) (drop_more bytes i 0 there)
     ∙ ap (raised low weight) (groups_ends i (get_or bytes i 0) (drop (i + 1) bytes) lt small)
-
--- no byte more
-pub groups_short : (i low weight : ℕ) (bytes : List ℕ) (total : Groups) → i < 9 → length bytes ≤ i → total ≡ raised low weight (groups_at (10 - i) (drop i bytes)) → total ≡ Err why.Short
-groups_short i low weight bytes total lt end so_far =
-    let k : 10 - i ≡ suc (9 - i) = omega arith in
-    so_far ∙ rw (k, drop_all i bytes end) refl
 
 pub put_begin : (x : ℤ) (z : ℕ) → z ≡ unsigned x → plain_number x ≡ shortest 9 z
 unfolding plain_number

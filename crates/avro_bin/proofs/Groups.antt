@@ -1,6 +1,5 @@
-use Rattle.std.proofs.Common.{◌≡◌, ℕ, zero, suc, ◌+◌, ◌-◌, ◌*◌, ◌/◌, ◌%◌, ◌<◌, ◌≤◌, Bool, true, false, List, [], ◌∷◌, Result, Ok, Err, ltb, cond, length, get_or, take, drop, refl, sym, ap, arith, ◌⊎◌, inl, inr}
+use Rattle.std.proofs.Common.{◌≡◌, ℕ, zero, suc, ◌+◌, ◌-◌, ◌*◌, ◌/◌, ◌%◌, ◌<◌, ◌≤◌, Bool, true, false, List, [], ◌∷◌, Result, Ok, Err, ltb, cond, refl, sym, ap, arith, ◌⊎◌, inl, inr}
 use Rattle.std.proofs.lemmas.Bool.{ltb-true, le-ltb}
-use Rattle.std.proofs.lemmas.List.{take_all}
 use Rattle.avro_bin.specs.declared.fault.Why.{Why}
 use Rattle.avro_bin.specs.declared.fault.Why.TheVariants as why
 use Rattle.avro_bin.specs.Number.{top, shortest}
@@ -55,13 +54,3 @@ shortest_more zero z h le = absurd (omega arith)
 shortest_more (suc k) z h le =
     let e : k ≡ suc k - 1 = omega arith in
     rw (le-ltb z 128 le) (ap (λ (j : ℕ). (z % 128 + 128) ∷ shortest j (z / 128)) e)
-
--- a byte that isn't the last
-pub groups_more : (k : ℕ) (bytes : List ℕ) → 1 < k → 1 ≤ length bytes → 128 ≤ get_or bytes 0 0 → groups_at k bytes ≡ more_groups (get_or bytes 0 0) (groups_at (k - 1) (take (length bytes - 1) (drop 1 bytes)))
-groups_more zero bytes h len le = absurd (omega arith)
-groups_more (suc zero) bytes h len le = absurd (omega arith)
-groups_more (suc (suc k)) [] h len le = absurd (omega arith)
-groups_more (suc (suc k)) (b ∷ bytes) h len le =
-    let e : suc k ≡ suc (suc k) - 1 = omega arith in
-    let r : bytes ≡ take (length (b ∷ bytes) - 1) bytes = sym (take_all (length (b ∷ bytes) - 1) bytes (omega arith)) in
-    rw (le-ltb b 128 le) (cc)

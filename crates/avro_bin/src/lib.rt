@@ -38,6 +38,3 @@ pub use schema::{Node, Table};
 pub use sizing::{TooLong, blob_size, number_size, size};
 pub use spanning::span;
 pub use tree::Tree;
-
-#[cfg(test)]
-mod tests;

@@ -16,11 +16,10 @@ mod laws;
 mod names;
 mod pieces;
 mod showing;
-#[cfg(test)]
-mod tests;
 mod values;
 
 pub use checking::{Checked, check_frame};
 pub use counting::{Counts, write_counts};
+pub use faults::put_fault;
 pub use laws::{names_fit, one_piece, one_text};
 pub use showing::show_frame;

@@ -24,8 +24,6 @@ mod config;
 mod error;
 mod keys;
 mod reading;
-#[cfg(test)]
-mod tests;
 
 pub use config::{ChannelDef, Config, ValueKind};
 pub use error::DefsError;

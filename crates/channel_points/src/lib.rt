@@ -10,8 +10,6 @@ mod items;
 mod points;
 mod rows;
 mod search;
-#[cfg(test)]
-mod tests;
 
 pub use boxed::BoxedPoints;
 pub use bytes::{point_bytes, points_bytes};

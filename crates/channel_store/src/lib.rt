@@ -19,8 +19,6 @@ mod places;
 mod points;
 mod rows;
 mod store;
-#[cfg(test)]
-mod tests;
 mod track;
 mod tracks;
 

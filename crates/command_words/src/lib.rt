@@ -6,8 +6,6 @@
 #![tactic(auto)]
 
 mod parsing;
-#[cfg(test)]
-mod tests;
 mod words;
 
 pub use words::words_of;

@@ -5,7 +5,5 @@
 #![tactic(auto)]
 
 mod reading;
-#[cfg(test)]
-mod tests;
 
 pub use reading::read_config;

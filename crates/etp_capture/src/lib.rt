@@ -28,6 +28,3 @@ pub use frame::{Frame, push_frame, push_magic};
 pub use laws::{capture_has_one_reading, each_input_has_an_answer, frame_is_read_back};
 pub use reader::{CaptureError, CaptureReader};
 pub use writer::{CaptureWriter, PutError};
-
-#[cfg(test)]
-mod tests;

@@ -48,8 +48,3 @@ pub use source::{ReadOutcome, Source};
 pub use status::{Status, one_numeral};
 pub use step_clock::StepClock;
 pub use whole::{Filled, Unread, Written, fill, read_all, write_all};
-
-#[cfg(test)]
-mod peer_tests;
-#[cfg(test)]
-mod tests;

@@ -33,8 +33,6 @@ pub mod protocols;
 mod size;
 mod status;
 mod table;
-#[cfg(test)]
-mod tests;
 
 pub use body::{Side, body_of, is_protocol};
 pub use choices::{branch_of, branch_record};

@@ -23,8 +23,6 @@ mod named;
 mod point;
 mod same;
 mod shared;
-#[cfg(test)]
-mod tests;
 mod text;
 mod uri;
 mod weight;

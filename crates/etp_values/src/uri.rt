@@ -19,8 +19,6 @@ use thiserror::Error;
 
 mod laws;
 mod reading;
-#[cfg(test)]
-mod tests;
 mod writing;
 
 pub use laws::{id_texts, uri_equality, uri_texts};

@@ -9,8 +9,8 @@ use crate::named::Named;
 use crate::text::Text;
 
 impl DataValue {
-    /// 8 for each null, boolean, number and list in the value, and 8 plus its length for each text or bytes value. A
-    /// sum above `u64::MAX` is `u64::MAX`.
+    /// How much the value counts towards a limit: a text or a bytes value 8 more than its length, and whatever else it
+    /// is made of, a list as such included, 8 apiece. A sum above `u64::MAX` is `u64::MAX`.
     pub fn weight(&self) -> u64
         ensures { result ≡ capped (value_weight self.now) }
     {

@@ -13,8 +13,6 @@ mod op;
 mod records;
 mod store;
 mod tables;
-#[cfg(test)]
-mod tests;
 
 pub use keyed::{KeyedObject, KeyedSpace};
 pub use op::ObjectOp;

@@ -12,8 +12,6 @@ mod handshake;
 mod link;
 mod metered;
 mod silence;
-#[cfg(test)]
-mod tests;
 
 pub use door::{ServerLink, TcpDoor};
 pub use handshake::SUBPROTOCOL;

@@ -13,8 +13,6 @@ mod draft;
 mod journal;
 mod laws;
 mod store;
-#[cfg(test)]
-mod tests;
 
 pub use call::{Answer, Reply, SpacePut, StoreCall, Verdict};
 pub use counted::MAX_JOURNAL_BYTES;

@@ -13,8 +13,6 @@ mod book;
 mod law;
 mod rule;
 mod seat;
-#[cfg(test)]
-mod tests;
 mod turn;
 mod view;
 

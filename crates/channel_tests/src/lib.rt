@@ -1,0 +1,7 @@
+//! Tests of channels and their points.
+#![tactic(auto)]
+
+#[cfg(test)]
+mod channels;
+#[cfg(test)]
+mod points;

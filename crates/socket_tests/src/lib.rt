@@ -1,0 +1,5 @@
+//! Tests of links and doors over sockets.
+#![tactic(auto)]
+
+#[cfg(test)]
+mod sockets;

@@ -1,0 +1,9 @@
+//! Tests of the tables and of the store over them.
+#![tactic(auto)]
+
+#[cfg(test)]
+mod arrays;
+#[cfg(test)]
+mod calls;
+#[cfg(test)]
+mod objects;
