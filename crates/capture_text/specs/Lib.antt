@@ -5,4 +5,5 @@ pub mod Values
 pub mod Faults
 pub mod Lines
 pub mod Parts
+pub mod Points
 pub mod Laws

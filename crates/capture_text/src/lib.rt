@@ -15,6 +15,7 @@ mod faults;
 mod laws;
 mod names;
 mod pieces;
+mod points;
 mod showing;
 mod values;
 
@@ -22,4 +23,5 @@ pub use checking::{Checked, check_frame};
 pub use counting::{Counts, write_counts};
 pub use faults::put_fault;
 pub use laws::{names_fit, one_piece, one_text};
+pub use points::put_point;
 pub use showing::show_frame;

@@ -6,4 +6,6 @@ mod binary;
 #[cfg(test)]
 mod lines;
 #[cfg(test)]
+mod points;
+#[cfg(test)]
 mod schemas;

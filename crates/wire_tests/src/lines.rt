@@ -1,8 +1,7 @@
 //! What the programs `message_samples` and `hostile_messages` do not show: they compare the lines of every message, and of
 //! each cause but one, with those of a reader from outside.
 use avro_bin::Refusal;
-use capture_text::put_fault;
-use capture_text::{Checked, Counts, check_frame, show_frame, write_counts};
+use capture_text::{Checked, Counts, check_frame, put_fault, show_frame, write_counts};
 use etp_capture::Frame;
 use etp_frame::FrameError;
 use etp_values::Blob;
