@@ -4,3 +4,7 @@ pub mod RowLemmas
 pub mod ReadingLemmas
 pub mod CheckLemmas
 pub mod WireLemmas
+pub mod PieceLemmas
+pub mod PlaceLemmas
+pub mod KeptLemmas
+pub mod JoinLemmas

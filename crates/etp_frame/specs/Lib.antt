@@ -4,3 +4,7 @@ pub mod Reading
 pub mod Parts
 pub mod Wire
 pub mod Laws
+pub mod Joining
+pub mod Kept
+pub mod Whole
+pub mod JoinLaws

@@ -9,22 +9,29 @@
 //! [`write_message`] writes the one spelling that is written, `message_bytes`. The laws between them stand on
 //! [`wire_form_is_read`], [`one_reading`], [`tree_is_body`], [`rows_are_typed`] and [`written_is_read`].
 //!
+//! [`Joiner`] puts the chunks of objects' data in the objects' place, as `joins` of `specs/Joining` says, so that a message with
+//! objects is whole before anybody looks at it ([`joins_whole`]).
+//!
 //! ProtocolException and Acknowledge are messages of every protocol and stand in Core's enum for all of them, so that the
 //! header says under which protocol such a message goes.
 #![tactic(auto)]
 
+mod awaiting;
 mod checking;
 mod error;
 pub mod flags;
 mod header;
+mod joining;
 mod laws;
 mod message;
 mod reading;
 mod writing;
 
+pub use awaiting::Carrier;
 pub use checking::check_message;
 pub use error::FrameError;
 pub use header::Header;
+pub use joining::{JoinError, Joined, Joiner, joins_whole};
 pub use laws::{
     one_reading, rows_are_typed, same_refusals, tree_is_body, wire_form_is_read, written_is_read,
 };
