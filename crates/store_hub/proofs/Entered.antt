@@ -76,4 +76,5 @@ module _ (v f u w x : Known) (log : List Entry) where
         before = prefix;
         least = subst (λ (y : Known). length y.seen ≤ m.front) at m.least;
         view = at;
+        sound = m.sound;
       }

@@ -70,6 +70,7 @@ pub record SeesMore (log : List Entry) (v w : Known) : Type 0 where
   pub before : IsPrefix v.seen log
   pub least : length log ≤ front
   pub view : w ≡ hearing front (record v { seen = log; olds = v.seen ∷ log ∷ [] })
+  pub sound : Sound by_of enters_of w
 
 -- no session was let in, and the pass has seen the journal of that moment
 abbrev pub Widens : Known → Known → Type 0
