@@ -1,0 +1,18 @@
+-- The laws of the crates below that the proofs of this one rest on.
+use Rattle.session_core.specs.Run.{RunIsSame, RunGoesOn, FirstRemembers, TakingRemembers, HearingRemembers, MoreIsRemembered, DrainedRemembers}
+use Rattle.store_machine.specs.Laws.{EntriesAreTheSessions, CallsAddOne, CallsStay}
+
+pub record Laws : Type 0 where
+  -- runs
+  pub same : RunIsSame
+  pub next : RunGoesOn
+  -- what a session remembers of places
+  pub first : FirstRemembers
+  pub taken : TakingRemembers
+  pub given : HearingRemembers
+  pub more : MoreIsRemembered
+  pub drained : DrainedRemembers
+  -- the entries of a session's calls
+  pub mine : EntriesAreTheSessions
+  pub one : CallsAddOne
+  pub stay : CallsStay

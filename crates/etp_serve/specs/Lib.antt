@@ -1,0 +1,6 @@
+pub mod Ends
+pub mod Events
+pub mod Talks
+pub mod Steps
+pub mod Laws
+pub mod Served

@@ -1,0 +1,116 @@
+-- What a session was served.
+use Rattle.std.specs.Prelude.{◌≡◌, ◌≤◌, ◌⊎◌, ◌+◌, ℕ, ℤ, true, false, List, [], ◌∷◌, ◌++◌, length, map, Option, None}
+use Rattle.chan_defs.specs.declared.config.Config.{Config}
+use Rattle.store_machine.specs.declared.journal.Entry.{Entry}
+use Rattle.etp_outside.specs.Told.{Told}
+use Rattle.etp_outside.specs.Talk.{Talk}
+use Rattle.etp_outside.specs.declared.link.Item.{Item}
+use Rattle.turn_book.specs.Lists.{own, Rises}
+use Rattle.store_hub.specs.Words.{Known, by_of, enters_of}
+use Rattle.session_core.specs.Arriving.{Event}
+use Rattle.session_core.specs.Run.{run, Heeds}
+use Rattle.session_core.specs.Session.{bytes_of, end_of}
+use Rattle.session_core.specs.State.{State}
+use Rattle.session_core.specs.declared.state.Outgoing.{Outgoing}
+use Rattle.etp_serve.specs.Ends.{EndsAs}
+use Rattle.etp_serve.specs.Events.{events, event_of, Matched, HasMoment, Turned, AllOpen}
+use Rattle.etp_serve.specs.Talks.{Talked, IsSent}
+use Rattle.etp_serve.specs.declared.ended.Ended.{Ended}
+use Rattle.etp_serve.specs.declared.ended.Ended.TheVariants.{Closed, Refused, IdsSpent, PeerEnd, LinkFault, NoMemory}
+
+-- ---- the session's own entries
+
+-- the entry by which the session was let in, at its number, and then these
+pub record IsEnterAnd (n : ℕ) (mine made : List (ℕ × Entry)) : Type 0 where
+  pub entry : Entry
+  pub enters : enters_of entry ≡ true
+  pub all : mine ≡ (n, entry) ∷ made
+
+-- the same without the last of these, at the last place
+pub record LacksLast (n : ℕ) (mine : List (ℕ × Entry)) (places : List ℕ) (made : List (ℕ × Entry)) : Type 0 where
+  pub kept : List (ℕ × Entry)
+  pub lost : Entry
+  pub place : ℕ
+  pub before : List ℕ
+  pub made_are : made ≡ kept ++ (place, lost) ∷ []
+  pub places_are : places ≡ before ++ place ∷ []
+  pub rest : IsEnterAnd n mine kept
+
+-- where memory was refused, the last entry may be missing
+abbrev pub Owns : Ended → ℕ → List (ℕ × Entry) → List ℕ → List (ℕ × Entry) → Type 0
+Owns Closed n mine places made = IsEnterAnd n mine made
+Owns (Refused code) n mine places made = IsEnterAnd n mine made
+Owns IdsSpent n mine places made = IsEnterAnd n mine made
+Owns PeerEnd n mine places made = IsEnterAnd n mine made
+Owns LinkFault n mine places made = IsEnterAnd n mine made
+Owns NoMemory n mine places made = IsEnterAnd n mine made ⊎ LacksLast n mine places made
+
+-- ---- the session as a whole
+
+-- The session of this number was served over a history, with its calls answered at these places, the items that its link
+-- gave, the moments that its clock told, and the lengths of the journal that its polls found. Its own entries are those
+-- of the run; the run ended so, and used all places, which never fall; each poll found no less than was seen before; and
+-- no event came after the session's end
+pub record IsServed (end : Ended) (config : Config) (n : ℕ) (h : List Entry) (places : List ℕ) (moments : List ℤ) (fronts : List ℕ) (taken : List Item) : Type 0 where
+  pub own : Owns end n (own by_of n h) places (run config n h places (events taken moments fronts)).made
+  pub ends : EndsAs end (run config n h places (events taken moments fronts))
+  pub used : (run config n h places (events taken moments fronts)).places ≡ []
+  pub rises : Rises (n + 1) places (length h)
+  pub turns : Turned end taken moments fronts
+  pub before_end : AllOpen config n h places (events taken moments fronts)
+  pub heeds : Heeds config n h places (events taken moments fronts)
+
+-- what the link was told to do: the items were taken, and the messages of the run sent, all or a part of them
+abbrev pub Serving : Ended → List Item → List Outgoing → Talk → Talk → Type 0
+Serving end taken said x y = (messages : List (List ℕ)) × Talked taken messages x y × IsSent end (map bytes_of said) messages
+
+-- A session of this number, with what its pass knows then, and what its link and its clock told before and after, was
+-- served so
+pub record Serves (end : Ended) (config : Config) (n : ℕ) (v : Known) (a0 a : Option Talk) (c0 c : Option (List ℤ)) : Type 0 where
+  pub taken : List Item
+  pub moments : List ℤ
+  pub places : List ℕ
+  pub places_are : v.places ≡ n ∷ places
+  pub link : Told a0 a (Serving end taken (run config n v.seen places (events taken moments v.heard)).sent)
+  pub clock : Told c0 c (λ x y. y ≡ x ++ moments)
+  pub served : IsServed end config n v.seen places moments v.heard taken
+
+-- ---- up to a turn
+
+-- these events were all run before the session's end, with a place for each call and no place besides
+pub record Ran (config : Config) (n : ℕ) (v : Known) (es : List Event) (s : State) (said : List Outgoing) : Type 0 where
+  pub places : List ℕ
+  pub made : List (ℕ × Entry)
+  pub reach : ℕ
+  pub places_are : v.places ≡ n ∷ places
+  pub run : run config n v.seen places es ≡ record { state = s; places = []; sent = said; made = made; short = false; reach = reach }
+  pub own : IsEnterAnd n (own by_of n v.seen) made
+  pub rises : Rises (n + 1) places (length v.seen)
+  pub before_end : AllOpen config n v.seen places es
+  pub heeds : Heeds config n v.seen places es
+  pub within : reach ≤ length v.seen
+
+-- before a turn
+pub record IsBeforeTurn (config : Config) (n : ℕ) (a0 : Option Talk) (c0 : Option (List ℤ)) (v : Known) (s : State) (a : Option Talk) (c : Option (List ℤ)) : Type 0 where
+  pub taken : List Item
+  pub moments : List ℤ
+  pub said : List Outgoing
+  pub ran : Ran config n v (events taken moments v.heard) s said
+  pub going : end_of s.phase ≡ None
+  pub matched : Matched taken moments v.heard
+  pub link : Told a0 a (Talked taken (map bytes_of said))
+  pub clock : Told c0 c (λ x y. y ≡ x ++ moments)
+
+-- within a turn: an item was taken, and its message answered, if it is one
+pub record IsWithinTurn (config : Config) (n : ℕ) (a0 : Option Talk) (c0 : Option (List ℤ)) (v : Known) (s : State) (a : Option Talk) (c : Option (List ℤ)) : Type 0 where
+  pub taken : List Item
+  pub moments : List ℤ
+  pub said : List Outgoing
+  pub item : Item
+  pub moment : List ℤ
+  pub ran : Ran config n v (events taken moments v.heard ++ event_of item moment) s said
+  pub going : end_of s.phase ≡ None
+  pub matched : Matched taken moments v.heard
+  pub moment_is : HasMoment item moment
+  pub link : Told a0 a (Talked (taken ++ item ∷ []) (map bytes_of said))
+  pub clock : Told c0 c (λ x y. y ≡ x ++ (moments ++ moment))

@@ -1,0 +1,7 @@
+//! Tests of `etp_serve`: sessions and links in memory.
+#![tactic(auto)]
+
+#[cfg(test)]
+mod samples;
+#[cfg(test)]
+mod sessions;
