@@ -19,6 +19,7 @@ mod places;
 mod points;
 mod rows;
 mod store;
+mod subscription;
 mod track;
 mod tracks;
 
@@ -29,3 +30,4 @@ pub use error::ChannelError;
 pub use laws::{accepted_calls, copy_is_points};
 pub use points::PointSize;
 pub use store::ChannelStore;
+pub use subscription::Sub;

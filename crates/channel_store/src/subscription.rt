@@ -1,0 +1,10 @@
+//! Subscriptions to channels.
+
+/// A subscription that stands: the index that it starts at, and the place of the journal from which on it is told of changes.
+#[derive(Clone, Copy, Debug, Drop, PartialEq, Eq)]
+pub struct Sub {
+    pub channel: i64,
+    pub start: i64,
+    pub from: u64,
+    pub all: bool,
+}

@@ -1,0 +1,4 @@
+pub mod PointLemmas
+pub mod SubLemmas
+pub mod CallLemmas
+pub mod StreamLemmas

@@ -1,0 +1,4 @@
+pub mod Views
+pub mod Subscriptions
+pub mod Calls
+pub mod Streams

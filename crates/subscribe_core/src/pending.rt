@@ -1,0 +1,90 @@
+//! The changes that are left to tell.
+ghost use Rattle.std.specs.Prelude.{◌≡◌, ◌<◌, ◌≤◌, ◌+◌, ◌-◌, ◌++◌, ◌∷◌, [], drop, length, option_map, slice_get, IfOk, IfSome};
+ghost use Rattle.std.specs.List.{flat_map};
+ghost use Rattle.subscribe_core.specs.Views.{IsExact, shown, told};
+
+use crate::outgoing::{Outgoing, told};
+use channel_store::{ChannelChange, Sub};
+use circular_buffer::HeapCircularBuffer;
+use etp_values::NoMemory;
+use std::alloc::Global;
+use std::marker::Model;
+
+/// The most changes that can be pending.
+pub const MAX_PENDING: u32 = 256;
+
+/// Changes to be told, first change first, in a ring whose room is made at once. A contract sees them as they are told.
+#[derive(Drop)]
+pub(crate) struct Pending {
+    ring: HeapCircularBuffer<Outgoing>,
+}
+
+impl Model for Pending {
+    ghost use Rattle.std.specs.Prelude.{List, map};
+    ghost use Rattle.channel_store.specs.declared.change.ChannelChange.{ChannelChange};
+
+    ghost Value = { List ChannelChange };
+
+    ghost use Rattle.subscribe_core.specs.Views.{shown, IsPending};
+
+    ghost view = { λ p. map shown p.ring.items };
+
+    ghost invariant = { λ p. IsPending p.ring.items p.ring.capacity };
+}
+
+impl Pending {
+    /// No changes, and room for 256.
+    pub(crate) fn new(alloc: Global) -> Result<Pending, NoMemory>
+        ensures { IfOk result (λ p. p ≡ []) }
+    {
+        Ok(Pending {
+            ring: HeapCircularBuffer::with_capacity(alloc, MAX_PENDING as usize)?,
+        })
+    }
+
+    /// How many more changes there is room for.
+    pub(crate) fn room(&self) -> u32
+        ensures value { result ≡ 256 - length self.now }
+        ensures within { length self.now ≤ 256 }
+    {
+        MAX_PENDING - self.ring.len() as u32
+    }
+
+    /// Takes the first change out.
+    pub(crate) fn pop(&mut self) -> Option<Outgoing>
+        ensures first { option_map shown result ≡ slice_get self.old 0 }
+        ensures rest { self.new ≡ drop 1 self.old }
+        ensures exact { IfSome result IsExact }
+    {
+        self.ring.pop_front()
+    }
+
+    fn push(&mut self, outgoing: Outgoing)
+        requires room { length self.old < 256 }
+        requires exact { IsExact outgoing }
+        ensures { self.new ≡ self.old ++ shown outgoing ∷ [] }
+    {
+        let _ = self.ring.push_back(outgoing);
+    }
+
+    /// Adds a change as it is told.
+    fn tell(&mut self, subs: &[Sub], change: ChannelChange)
+        requires { length self.old < 256 }
+        ensures told { self.new ≡ self.old ++ told subs.now change }
+        ensures within { length self.new ≤ length self.old + 1 }
+    {
+        if let Some(outgoing) = told(subs, change) {
+            self.push(outgoing);
+        }
+    }
+
+    /// Adds changes as they are told. Takes no memory.
+    pub(crate) fn tell_all(&mut self, subs: &[Sub], changes: Vec<ChannelChange>)
+        requires { length self.old + length changes.items ≤ 256 }
+        ensures { self.new ≡ self.old ++ flat_map (told subs.now) changes.items }
+    {
+        for change in changes {
+            self.tell(subs, change);
+        }
+    }
+}

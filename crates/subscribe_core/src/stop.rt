@@ -1,0 +1,22 @@
+//! Why subscriptions end.
+ghost use Rattle.std.specs.Prelude.{◌≡◌, None, Some, if◌then◌else◌, nat_lt};
+ghost use Rattle.subscribe_core.specs.declared.stop.StopCause.TheVariants.{Lagged};
+
+/// Why a subscription ended while its session went on.
+#[derive(Clone, Copy, Debug, Drop, PartialEq, Eq)]
+pub enum StopCause {
+    /// Its client ended it.
+    Unsubscribed,
+    /// This many entries were left of which the session's subscriptions had not been told, more than the server allows.
+    Lagged(u64),
+}
+
+/// Whether a session's subscriptions end because of the entries of which they have not been told, of which `limit` are allowed.
+pub fn stop_cause(lag: u64, limit: u64) -> Option<StopCause>
+    ensures { result ≡ (if nat_lt limit lag then Some (Lagged lag) else None) }
+{
+    if lag > limit {
+        return Some(StopCause::Lagged(lag));
+    }
+    None
+}
