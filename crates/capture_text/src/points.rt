@@ -1,4 +1,6 @@
 //! Points of channels.
+ghost use Rattle.std.specs.Prelude.{◌++◌, codes};
+ghost use Rattle.std.specs.Fmt.{signed_decimal};
 ghost use Rattle.avro_bin.specs.Plain.{Writes};
 ghost use Rattle.capture_text.specs.Points.{point_line, value_alone};
 
@@ -22,13 +24,26 @@ fn put_alone(alloc: Global, value: &DataValue, into: &mut Vec<u8>) -> Result<(),
     )
 }
 
+/// Appends an index and a value as a line.
+#[tactic(auto, using(crate::proofs::Writing::writes_after))]
+fn put_line(
+    alloc: Global,
+    index: i64,
+    value: &DataValue,
+    into: &mut Vec<u8>,
+) -> Result<(), NoMemory>
+    ensures { Writes (signed_decimal index ++ codes " " ++ value_alone value.now ++ codes "\n") into.old.items into.new.items result }
+{
+    put_signed(into, index)?;
+    put(into, b" ")?;
+    put_alone(alloc, value, into)?;
+    put(into, b"\n")
+}
+
 /// Appends the line of a point, `INDEX VALUE`. Where memory is refused, a front of the line may have been appended.
-#[tactic(auto, using(crate::proofs::Writing::writes_after), unfolding(crate::specs::Points::point_line))]
+#[tactic(auto, unfolding(crate::specs::Points::point_line))]
 pub fn put_point(alloc: Global, point: &Point, into: &mut Vec<u8>) -> Result<(), NoMemory>
     ensures { Writes (point_line point.now) into.old.items into.new.items result }
 {
-    put_signed(into, point.index)?;
-    put(into, b" ")?;
-    put_alone(alloc, &point.value, into)?;
-    put(into, b"\n")
+    put_line(alloc, point.index, &point.value, into)
 }
