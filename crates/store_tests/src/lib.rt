@@ -7,3 +7,5 @@ mod arrays;
 mod calls;
 #[cfg(test)]
 mod objects;
+#[cfg(test)]
+mod stages;

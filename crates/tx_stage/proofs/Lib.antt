@@ -2,4 +2,5 @@ pub mod LookLemmas
 pub mod OverlayLemmas
 pub mod PlanLemmas
 pub mod RefusedLemmas
+pub mod StageLemmas
 pub mod StandingLemmas

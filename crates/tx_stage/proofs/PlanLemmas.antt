@@ -44,7 +44,6 @@ use Rattle.tx_stage.specs.Ops.{suits, made_at, patched_at, patched_value, unless
 use Rattle.tx_stage.specs.Overlay.{misfit, needed, op_refusal}
 use Rattle.tx_stage.specs.Standing.{array_given}
 use Rattle.tx_stage.specs.State.{state_now, Advances, PutsSpace, DropsSpace, PlansUnless}
-use Rattle.tx_stage.specs.Values.{as_array}
 
 -- ---- the three kinds of keys, one operation later
 
@@ -208,10 +207,6 @@ none-alike (Some r) same = absurd cc
 -- an array is refused a patch whenever it was made
 pub write-alike : (s b : ArrayRecord) (ss cs : List ℤ) (vs : AnyArray) → undated (Some s) ≡ undated (Some b) → write_refusal s ss cs vs ≡ write_refusal b ss cs vs
 write-alike s b ss cs vs same = ap (λ r. write_refusal r ss cs vs) (dated s b same)
-
-as_array-map : (y : Option ArrayRecord) → as_array (option_map value.Array y) ≡ y
-as_array-map None = refl
-as_array-map (Some r) = refl
 
 pub patch-misfit : (y : Option ArrayRecord) (b : ArrayRecord) (ss cs : List ℤ) (vs : AnyArray) → undated (Some b) ≡ undated y
     → option_map code_of (write_refusal b ss cs vs) ≡ misfit (Patch ss cs vs) (option_map value.Array y)

@@ -1,9 +1,12 @@
 pub mod Counted
+pub mod Kept
 pub mod Keys
 pub mod Laws
 pub mod Looks
 pub mod Ops
 pub mod Overlay
+pub mod SameKey
+pub mod Staging
 pub mod Standing
 pub mod State
 pub mod Values

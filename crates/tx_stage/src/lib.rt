@@ -11,23 +11,30 @@
 
 mod contents;
 mod counted;
+mod error;
 mod key;
 mod laws;
+mod limits;
 mod look;
 mod op;
 mod overlaying;
 mod plan;
+mod spaces;
+mod stage;
 mod standing;
 mod touch;
 mod value;
 
 pub use contents::Contents;
 pub use counted::{key_bytes, op_bytes, ops_bytes, touched_bytes};
+pub use error::StageError;
 pub use key::Key;
 pub use laws::{look_laws, overlay_laws};
+pub use limits::{MAX_OPERATIONS, MAX_STAGED_BYTES, MAX_TOUCHED};
 pub use look::{Looked, MAX_PAYLOAD, Want, payload_of, see};
 pub use op::{Op, OpWhat};
 pub use overlaying::{overlay, there};
 pub use plan::Plan;
+pub use stage::Stage;
 pub use touch::{Staged, Touch};
 pub use value::{Value, left};

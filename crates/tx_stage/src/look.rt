@@ -35,7 +35,7 @@ pub enum Want {
 }
 
 /// What is seen.
-#[derive(Debug, Drop, PartialEq, Eq)]
+#[derive(Drop)]
 pub enum Looked {
     /// Nothing stands there.
     Missing,

@@ -13,7 +13,7 @@ use object_store::{ObjectRecord, SpaceRecord};
 use std::alloc::Global;
 
 /// A dataspace, an object or an array.
-#[derive(Debug, Drop, PartialEq, Eq)]
+#[derive(Drop)]
 pub enum Value {
     Space(SpaceRecord),
     Object(ObjectRecord),

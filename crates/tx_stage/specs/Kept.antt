@@ -1,0 +1,14 @@
+-- What a transaction keeps beside what is seen of it.
+use Rattle.std.specs.Prelude.{ℕ, ◌≡◌, ◌≤◌, List, map}
+use Rattle.etp_values.specs.Weight.{weigh}
+use Rattle.tx_stage.specs.declared.key.Key.{Key}
+use Rattle.tx_stage.specs.declared.limits.TheConstants.{MAX_STAGED_BYTES}
+use Rattle.tx_stage.specs.declared.op.Op.{Op}
+use Rattle.tx_stage.specs.declared.touch.Touch.{Touch}
+use Rattle.tx_stage.specs.Counted.{op_bytes}
+
+-- what the operations count together, and the touched keys to be found
+pub record KeepsStage (ops : List Op) (bytes : ℕ) (touched : List Touch) (keys : List Key) : Type 0 where
+  pub counted : bytes ≡ weigh op_bytes ops
+  pub limit : bytes ≤ MAX_STAGED_BYTES
+  pub listed : keys ≡ map (λ (t : Touch). t.key) touched

@@ -1,0 +1,188 @@
+//! A transaction in the making.
+ghost use Rattle.std.specs.Prelude.{◌≡◌, ◌≢◌, ◌+◌, ◌≤◌, [], IfOk, IfErr, OnOk, OnErr, Some, None, MatchResult, false};
+
+use crate::counted::op_bytes;
+use crate::error::StageError;
+use crate::key::Key;
+use crate::limits::{MAX_OPERATIONS, MAX_STAGED_BYTES, MAX_TOUCHED};
+use crate::op::Op;
+use crate::overlaying::{overlay, there};
+use crate::spaces::{has_space, no_space};
+use crate::touch::{Staged, Touch};
+use crate::value::Value;
+use etp_values::{Copied, Id16, List, NoMemory, Text};
+use indexmap::IndexSet;
+use std::alloc::Global;
+use std::marker::Model;
+
+/// A transaction: what it was started for, its operations, and the keys that it touched. A contract sees these.
+#[derive(Drop)]
+pub struct Stage {
+    alloc: Global,
+    id: Id16,
+    read_only: bool,
+    spaces: List<Text>,
+    ops: Vec<Op>,
+    /// What the operations count together.
+    bytes: u64,
+    touched: Vec<Touch>,
+    /// The touched keys, to be found.
+    noted: IndexSet<Key>,
+}
+
+impl Model for Stage {
+    ghost use Rattle.tx_stage.specs.Staging.{Transaction};
+    ghost use Rattle.tx_stage.specs.Kept.{KeepsStage};
+
+    ghost Value = { Transaction };
+
+    ghost view = { λ s. record { id = s.id; read_only = s.read_only; spaces = s.spaces; ops = s.ops.items; touched = s.touched.items } };
+
+    ghost invariant = { λ s. KeepsStage s.ops.items s.bytes s.touched.items s.noted.keys };
+}
+
+impl Stage {
+    ghost use Rattle.etp_values.specs.Gives.{Gives};
+    ghost use Rattle.etp_values.specs.Weight.{weigh};
+    ghost use Rattle.tx_stage.specs.Counted.{op_bytes};
+    ghost use Rattle.tx_stage.specs.Overlay.{overlay, there};
+    ghost use Rattle.tx_stage.specs.Staging.{has_space, is_touched, note_refusal, noted, put_refusal, staged, unless};
+
+    /// A transaction that may touch these dataspaces; none means the default one alone.
+    pub fn begin(alloc: Global, id: Id16, read_only: bool, spaces: List<Text>) -> Stage
+        ensures { result ≡ record { id = id; read_only = read_only; spaces = spaces; ops = []; touched = [] } }
+    {
+        Stage {
+            alloc,
+            id,
+            read_only,
+            spaces,
+            ops: Vec::new(alloc),
+            bytes: 0,
+            touched: Vec::new(alloc),
+            noted: IndexSet::new(alloc),
+        }
+    }
+
+    /// What the transaction is called.
+    pub fn id(&self) -> Id16
+        ensures { result ≡ self.now.id }
+    {
+        self.id
+    }
+
+    /// Whether it only reads.
+    pub fn read_only(&self) -> bool
+        ensures { result ≡ self.now.read_only }
+    {
+        self.read_only
+    }
+
+    /// Whether it may touch the dataspace of a path.
+    pub fn has_space(&self, path: &Text) -> bool
+        ensures { result ≡ has_space self.now.spaces path.now }
+    {
+        has_space(self.spaces.as_slice(), path)
+    }
+
+    /// Notes that a key is read or written, where the journal is so long. The first such length is kept.
+    pub fn note_look(&mut self, key: &Key, mark: u64) -> Result<(), StageError>
+        ensures answer { Gives StageError.NoMemory result (unless (note_refusal self.old key.now)) }
+        ensures stage { MatchResult result (λ _. self.new ≡ noted mark self.old key.now) (λ _. self.new ≡ self.old) }
+    {
+        if !self.has_space(key.space()) {
+            return Err(no_space(self.alloc, key.space()));
+        }
+        if self.noted.contains(key) {
+            return Ok(());
+        }
+        if self.touched.len() >= MAX_TOUCHED {
+            return Err(StageError::Keys);
+        }
+        match self.note(key, mark) {
+            Ok(()) => Ok(()),
+            Err(_) => Err(StageError::NoMemory),
+        }
+    }
+
+    /// Notes a key that is not noted yet.
+    fn note(&mut self, key: &Key, mark: u64) -> Result<(), NoMemory>
+        requires { is_touched self.old.touched key.now ≡ false }
+        ensures ok { OnOk result (self.new ≡ noted mark self.old key.now) }
+        ensures err { OnErr result (self.new ≡ self.old) }
+    {
+        let touch = Touch {
+            key: key.copy(self.alloc)?,
+            mark,
+        };
+        let key = key.copy(self.alloc)?;
+        self.touched.reserve(1)?;
+        self.noted.insert(key)?;
+        let _ = self.touched.push(touch);
+        Ok(())
+    }
+
+    /// Stages an operation. That its keys were noted is for the caller.
+    pub fn put(&mut self, op: Op) -> Result<(), StageError>
+        ensures answer { Gives StageError.NoMemory result (unless (put_refusal self.old op)) }
+        ensures stage { MatchResult result (λ _. self.new ≡ staged self.old op) (λ _. self.new ≡ self.old) }
+    {
+        let bytes = match self.bytes_with(&op) {
+            Ok(bytes) => bytes,
+            Err(error) => return Err(error),
+        };
+        match self.ops.push(op) {
+            Ok(()) => {
+                self.bytes = bytes;
+                Ok(())
+            }
+            Err(_) => Err(StageError::NoMemory),
+        }
+    }
+
+    /// What the operations count with a further one, or why that is refused.
+    fn bytes_with(&self, op: &Op) -> Result<u64, StageError>
+        ensures ok { IfOk result (λ n. (put_refusal self.now op.now ≡ None) × (n ≡ weigh op_bytes self.now.ops + op_bytes op.now) × (n ≤ MAX_STAGED_BYTES)) }
+        ensures err { IfErr result (λ e. e ≢ StageError.NoMemory → put_refusal self.now op.now ≡ Some e) }
+    {
+        if self.read_only {
+            return Err(StageError::ReadOnly);
+        }
+        if !self.has_space(op.key.space()) {
+            return Err(no_space(self.alloc, op.key.space()));
+        }
+        if self.ops.len() >= MAX_OPERATIONS {
+            return Err(StageError::Operations);
+        }
+        let bytes = self.bytes.saturating_add(op_bytes(op));
+        if bytes > MAX_STAGED_BYTES {
+            return Err(StageError::Bytes);
+        }
+        Ok(bytes)
+    }
+
+    /// What stands at a key: the operations over what stands in the store.
+    pub fn overlay(&self, key: &Key, base: Option<Value>) -> Result<Option<Value>, NoMemory>
+        ensures { IfOk result (λ v. v ≡ overlay self.now.ops key.now base) }
+    {
+        overlay(self.alloc, self.ops.as_slice(), key, base)
+    }
+
+    /// Whether something stands at a key, by whether something does in the store.
+    pub fn there(&self, key: &Key, base: bool) -> bool
+        ensures { result ≡ there self.now.ops key.now base }
+    {
+        there(self.ops.as_slice(), key, base)
+    }
+
+    /// What is to be committed.
+    pub fn finish(self) -> Staged
+        ensures { result ≡ record { ops = self.ops; touched = self.touched } }
+    {
+        let Stage { ops, touched, .. } = self;
+        Staged {
+            ops: List::from_vec(ops),
+            touched: List::from_vec(touched),
+        }
+    }
+}
