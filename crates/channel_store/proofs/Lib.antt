@@ -3,6 +3,7 @@ pub mod CallLemmas
 pub mod ChangeLemmas
 pub mod Copies
 pub mod Ended
+pub mod FrontLemmas
 pub mod GivenLemmas
 pub mod Looks
 pub mod Numbered

@@ -1,4 +1,5 @@
 pub mod Channels
+pub mod Copies
 pub mod Drafts
 pub mod Laws
 pub mod Points

@@ -5,12 +5,13 @@
 //! added points behind the last one, replaced those of an interval, or dropped those above an end.
 //!
 //! A call is tested first, then made ready in memory, and then done, which nothing can stop: so it changes all channels or none.
-//! [`copy_is_points`] is the law for those who are told of the changes one by one.
+//! Whoever is told of the changes one by one keeps a [`ChannelCopy`]; [`copy_is_points`] is the law for them.
 #![tactic(auto)]
 
 mod calls;
 mod change;
 mod checks;
+mod copy;
 mod draft;
 mod error;
 mod given;
@@ -26,6 +27,7 @@ mod tracks;
 pub use change::{ChannelChange, What, change_bytes};
 pub use channel_points::{point_bytes, points_bytes};
 pub use checks::{MAX_INDEX, MIN_INDEX};
+pub use copy::{ChangeMsg, ChannelCopy};
 pub use error::ChannelError;
 pub use laws::{accepted_calls, copy_is_points};
 pub use points::PointSize;

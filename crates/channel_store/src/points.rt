@@ -201,7 +201,7 @@ fn drop_behind(points: &mut Vec<Point>, place: usize, count: usize)
 }
 
 /// Puts points behind the first `place`.
-fn put_at(points: &mut Vec<Point>, place: usize, mut more: Vec<Point>)
+pub fn put_at(points: &mut Vec<Point>, place: usize, mut more: Vec<Point>)
     requires within { place ≤ vec_len points.old }
     requires room { vec_len points.old + vec_len more ≤ vec_capacity points.old }
     ensures { points.new.items ≡ take place points.old.items

@@ -4,4 +4,6 @@
 #[cfg(test)]
 mod channels;
 #[cfg(test)]
+mod copies;
+#[cfg(test)]
 mod points;

@@ -1,0 +1,3 @@
+pub mod BoardLemmas
+pub mod PointLemmas
+pub mod Texts
