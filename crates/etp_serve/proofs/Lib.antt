@@ -6,3 +6,4 @@ pub mod Rans
 pub mod Settling
 pub mod Turns
 pub mod Tails
+pub mod AcceptLemmas

@@ -1,0 +1,4 @@
+pub mod Chains
+pub mod Index
+pub mod Steps
+pub mod Where
