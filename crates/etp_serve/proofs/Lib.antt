@@ -6,4 +6,3 @@ pub mod Rans
 pub mod Settling
 pub mod Turns
 pub mod Tails
-pub mod AcceptLemmas

@@ -4,4 +4,3 @@ pub mod Talks
 pub mod Steps
 pub mod Laws
 pub mod Served
-pub mod Accepted
