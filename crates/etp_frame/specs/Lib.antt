@@ -8,3 +8,6 @@ pub mod Joining
 pub mod Kept
 pub mod Whole
 pub mod JoinLaws
+pub mod Grouping
+pub mod Grouped
+pub mod Splitting

@@ -1,0 +1,15 @@
+//! The parts of the messages of each protocol.
+mod channel_data_load;
+mod channel_subscribe;
+mod copies;
+mod core;
+mod data_array;
+mod dataspace;
+mod store;
+
+pub(crate) use channel_data_load::channel_data_load_parts;
+pub(crate) use channel_subscribe::channel_subscribe_parts;
+pub(crate) use core::core_parts;
+pub(crate) use data_array::data_array_parts;
+pub(crate) use dataspace::dataspace_parts;
+pub(crate) use store::{store_delete_data_objects_response, store_put_data_objects_response};
