@@ -1,0 +1,5 @@
+//! Tests of a client.
+#![tactic(auto)]
+
+#[cfg(test)]
+mod notices;
