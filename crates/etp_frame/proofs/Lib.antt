@@ -8,7 +8,3 @@ pub mod PieceLemmas
 pub mod PlaceLemmas
 pub mod KeptLemmas
 pub mod JoinLemmas
-pub mod GroupLemmas
-pub mod ChunkLemmas
-pub mod SplitLemmas
-pub mod WholeLemmas

@@ -230,7 +230,7 @@ fn filled(
 }
 
 /// The message that brings these objects.
-pub(crate) fn carried(carrier: Carrier, objects: Named<DataObject>) -> Message
+fn carried(carrier: Carrier, objects: Named<DataObject>) -> Message
     ensures { result ≡ carried carrier objects }
 {
     match carrier {

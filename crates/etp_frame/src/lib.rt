@@ -20,15 +20,11 @@ mod awaiting;
 mod checking;
 mod error;
 pub mod flags;
-mod grouping;
 mod header;
 mod joining;
 mod laws;
 mod message;
-mod parting;
-mod parts;
 mod reading;
-mod splitting;
 mod writing;
 
 pub use awaiting::Carrier;
@@ -41,5 +37,4 @@ pub use laws::{
 };
 pub use message::Message;
 pub use reading::{read_message, read_tree};
-pub use splitting::{blobs_in, split};
 pub use writing::write_message;

@@ -1,5 +1,0 @@
-//! Tests of a client.
-#![tactic(auto)]
-
-#[cfg(test)]
-mod notices;
