@@ -7,5 +7,3 @@ mod arrays;
 mod calls;
 #[cfg(test)]
 mod objects;
-#[cfg(test)]
-mod stages;
