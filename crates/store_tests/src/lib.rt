@@ -2,8 +2,4 @@
 #![tactic(auto)]
 
 #[cfg(test)]
-mod arrays;
-#[cfg(test)]
 mod calls;
-#[cfg(test)]
-mod objects;
