@@ -1,0 +1,19 @@
+use Rattle.std.proofs.lemmas.Result.{err_from_is_err_and}
+use Rattle.etp_schema.specs.Form.{boolean_form, done, ◌&◌}
+use Rattle.msg_channel.specs.ChannelRecords.{channel_metadata_record_form}
+use Rattle.etp_schema.proofs.WritingLemmas.{grown}
+use Rattle.msg_channel.proofs.Records.{piece, last_piece}
+use Rattle.msg_channel.proofs.channel_data_load_on_wire.OpenChannelInfoOnWire.write.Goals as goal
+
+pub returns-in_err-write-2-clause-written : goal.returns-in_err-write-2-clause-written
+returns-in_err-write-2-clause-written c =
+    let p = err_from_is_err_and c.from_residual-in_err-write-2.result c.from_residual-in_err-write-2.ensures.1 in
+    rw p.1 (grown _ _ _ _ c.in_ok-write.ensures.written c.in_err-write-2.ensures.written)
+
+pub returns-in_err-write-3-clause-written : goal.returns-in_err-write-3-clause-written
+returns-in_err-write-3-clause-written c =
+    let p = err_from_is_err_and c.from_residual-in_err-write-3.result c.from_residual-in_err-write-3.ensures.1 in
+    rw p.1 (grown _ _ _ _ c.in_ok-write.ensures.written (grown _ _ _ _ c.in_ok-write-2.ensures.written c.in_err-write-3.ensures.written))
+
+pub returns-clause-written : goal.returns-clause-written
+returns-clause-written c = piece channel_metadata_record_form (boolean_form & boolean_form & done) c.args.self.now.metadata (c.args.self.now.prefer_realtime, (c.args.self.now.data_changes, tt)) _ _ _ c.in_ok-write.ensures.written (piece boolean_form (boolean_form & done) c.args.self.now.prefer_realtime (c.args.self.now.data_changes, tt) _ _ _ c.in_ok-write-2.ensures.written (last_piece boolean_form c.args.self.now.data_changes _ _ c.in_ok-write-3.ensures.written))

@@ -1,0 +1,46 @@
+use Rattle.std.proofs.lemmas.Result.{err_from_is_err_and}
+use Rattle.etp_schema.specs.Form.{boolean_form, text_form, done, ◌&◌}
+use Rattle.msg_channel.specs.ChannelRecords.{channel_index_kind_form, index_direction_form, index_interval_form}
+use Rattle.msg_channel.specs.declared.channel_records.IndexMetadataRecord.{IndexMetadataRecord}
+use Rattle.msg_channel.proofs.Records.{here, later, record_fails}
+use Rattle.msg_channel.proofs.channel_records_on_wire.IndexMetadataRecordOnWire.read.Goals as goal
+
+pub returns-in_err-take : goal.returns-in_err-take
+returns-in_err-take c =
+    let p = err_from_is_err_and c.from_residual-in_err-take.result c.from_residual-in_err-take.ensures.1 in
+    rw (p.1, p.2) (record_fails {B = IndexMetadataRecord} (channel_index_kind_form & index_interval_form & index_direction_form & text_form & text_form & text_form & text_form & boolean_form & done) (λ p. record { index_kind = p.0; interval = p.1.0; direction = p.1.1.0; name = p.1.1.1.0; uom = p.1.1.1.1.0; depth_datum = p.1.1.1.1.1.0; index_property_kind_uri = p.1.1.1.1.1.1.0; filterable = p.1.1.1.1.1.1.1.0 }) _ _ _ _ c.in_ok-node.ensures.0 c.in_ok-node.ensures.1 c.in_err-take.field-0.0 (here channel_index_kind_form (index_interval_form & index_direction_form & text_form & text_form & text_form & text_form & boolean_form & done) _ _ c.in_err-take.field-0.0 c.in_err-take.ensures))
+
+pub returns-in_err-take-2 : goal.returns-in_err-take-2
+returns-in_err-take-2 c =
+    let p = err_from_is_err_and c.from_residual-in_err-take-2.result c.from_residual-in_err-take-2.ensures.1 in
+    rw (p.1, p.2) (record_fails {B = IndexMetadataRecord} (channel_index_kind_form & index_interval_form & index_direction_form & text_form & text_form & text_form & text_form & boolean_form & done) (λ p. record { index_kind = p.0; interval = p.1.0; direction = p.1.1.0; name = p.1.1.1.0; uom = p.1.1.1.1.0; depth_datum = p.1.1.1.1.1.0; index_property_kind_uri = p.1.1.1.1.1.1.0; filterable = p.1.1.1.1.1.1.1.0 }) _ _ _ _ c.in_ok-node.ensures.0 c.in_ok-node.ensures.1 c.in_err-take-2.field-0.0 (later channel_index_kind_form (index_interval_form & index_direction_form & text_form & text_form & text_form & text_form & boolean_form & done) _ _ _ _ _ c.in_ok-take.ensures c.in_err-take-2.field-0.0 (here index_interval_form (index_direction_form & text_form & text_form & text_form & text_form & boolean_form & done) _ _ c.in_err-take-2.field-0.0 c.in_err-take-2.ensures)))
+
+pub returns-in_err-take-3 : goal.returns-in_err-take-3
+returns-in_err-take-3 c =
+    let p = err_from_is_err_and c.from_residual-in_err-take-3.result c.from_residual-in_err-take-3.ensures.1 in
+    rw (p.1, p.2) (record_fails {B = IndexMetadataRecord} (channel_index_kind_form & index_interval_form & index_direction_form & text_form & text_form & text_form & text_form & boolean_form & done) (λ p. record { index_kind = p.0; interval = p.1.0; direction = p.1.1.0; name = p.1.1.1.0; uom = p.1.1.1.1.0; depth_datum = p.1.1.1.1.1.0; index_property_kind_uri = p.1.1.1.1.1.1.0; filterable = p.1.1.1.1.1.1.1.0 }) _ _ _ _ c.in_ok-node.ensures.0 c.in_ok-node.ensures.1 c.in_err-take-3.field-0.0 (later channel_index_kind_form (index_interval_form & index_direction_form & text_form & text_form & text_form & text_form & boolean_form & done) _ _ _ _ _ c.in_ok-take.ensures c.in_err-take-3.field-0.0 (later index_interval_form (index_direction_form & text_form & text_form & text_form & text_form & boolean_form & done) _ _ _ _ _ c.in_ok-take-2.ensures c.in_err-take-3.field-0.0 (here index_direction_form (text_form & text_form & text_form & text_form & boolean_form & done) _ _ c.in_err-take-3.field-0.0 c.in_err-take-3.ensures))))
+
+pub returns-in_err-take-4 : goal.returns-in_err-take-4
+returns-in_err-take-4 c =
+    let p = err_from_is_err_and c.from_residual-in_err-take-4.result c.from_residual-in_err-take-4.ensures.1 in
+    rw (p.1, p.2) (record_fails {B = IndexMetadataRecord} (channel_index_kind_form & index_interval_form & index_direction_form & text_form & text_form & text_form & text_form & boolean_form & done) (λ p. record { index_kind = p.0; interval = p.1.0; direction = p.1.1.0; name = p.1.1.1.0; uom = p.1.1.1.1.0; depth_datum = p.1.1.1.1.1.0; index_property_kind_uri = p.1.1.1.1.1.1.0; filterable = p.1.1.1.1.1.1.1.0 }) _ _ _ _ c.in_ok-node.ensures.0 c.in_ok-node.ensures.1 c.in_err-take-4.field-0.0 (later channel_index_kind_form (index_interval_form & index_direction_form & text_form & text_form & text_form & text_form & boolean_form & done) _ _ _ _ _ c.in_ok-take.ensures c.in_err-take-4.field-0.0 (later index_interval_form (index_direction_form & text_form & text_form & text_form & text_form & boolean_form & done) _ _ _ _ _ c.in_ok-take-2.ensures c.in_err-take-4.field-0.0 (later index_direction_form (text_form & text_form & text_form & text_form & boolean_form & done) _ _ _ _ _ c.in_ok-take-3.ensures c.in_err-take-4.field-0.0 (here text_form (text_form & text_form & text_form & boolean_form & done) _ _ c.in_err-take-4.field-0.0 c.in_err-take-4.ensures)))))
+
+pub returns-in_err-take-5 : goal.returns-in_err-take-5
+returns-in_err-take-5 c =
+    let p = err_from_is_err_and c.from_residual-in_err-take-5.result c.from_residual-in_err-take-5.ensures.1 in
+    rw (p.1, p.2) (record_fails {B = IndexMetadataRecord} (channel_index_kind_form & index_interval_form & index_direction_form & text_form & text_form & text_form & text_form & boolean_form & done) (λ p. record { index_kind = p.0; interval = p.1.0; direction = p.1.1.0; name = p.1.1.1.0; uom = p.1.1.1.1.0; depth_datum = p.1.1.1.1.1.0; index_property_kind_uri = p.1.1.1.1.1.1.0; filterable = p.1.1.1.1.1.1.1.0 }) _ _ _ _ c.in_ok-node.ensures.0 c.in_ok-node.ensures.1 c.in_err-take-5.field-0.0 (later channel_index_kind_form (index_interval_form & index_direction_form & text_form & text_form & text_form & text_form & boolean_form & done) _ _ _ _ _ c.in_ok-take.ensures c.in_err-take-5.field-0.0 (later index_interval_form (index_direction_form & text_form & text_form & text_form & text_form & boolean_form & done) _ _ _ _ _ c.in_ok-take-2.ensures c.in_err-take-5.field-0.0 (later index_direction_form (text_form & text_form & text_form & text_form & boolean_form & done) _ _ _ _ _ c.in_ok-take-3.ensures c.in_err-take-5.field-0.0 (later text_form (text_form & text_form & text_form & boolean_form & done) _ _ _ _ _ c.in_ok-take-4.ensures c.in_err-take-5.field-0.0 (here text_form (text_form & text_form & boolean_form & done) _ _ c.in_err-take-5.field-0.0 c.in_err-take-5.ensures))))))
+
+pub returns-in_err-take-6 : goal.returns-in_err-take-6
+returns-in_err-take-6 c =
+    let p = err_from_is_err_and c.from_residual-in_err-take-6.result c.from_residual-in_err-take-6.ensures.1 in
+    rw (p.1, p.2) (record_fails {B = IndexMetadataRecord} (channel_index_kind_form & index_interval_form & index_direction_form & text_form & text_form & text_form & text_form & boolean_form & done) (λ p. record { index_kind = p.0; interval = p.1.0; direction = p.1.1.0; name = p.1.1.1.0; uom = p.1.1.1.1.0; depth_datum = p.1.1.1.1.1.0; index_property_kind_uri = p.1.1.1.1.1.1.0; filterable = p.1.1.1.1.1.1.1.0 }) _ _ _ _ c.in_ok-node.ensures.0 c.in_ok-node.ensures.1 c.in_err-take-6.field-0.0 (later channel_index_kind_form (index_interval_form & index_direction_form & text_form & text_form & text_form & text_form & boolean_form & done) _ _ _ _ _ c.in_ok-take.ensures c.in_err-take-6.field-0.0 (later index_interval_form (index_direction_form & text_form & text_form & text_form & text_form & boolean_form & done) _ _ _ _ _ c.in_ok-take-2.ensures c.in_err-take-6.field-0.0 (later index_direction_form (text_form & text_form & text_form & text_form & boolean_form & done) _ _ _ _ _ c.in_ok-take-3.ensures c.in_err-take-6.field-0.0 (later text_form (text_form & text_form & text_form & boolean_form & done) _ _ _ _ _ c.in_ok-take-4.ensures c.in_err-take-6.field-0.0 (later text_form (text_form & text_form & boolean_form & done) _ _ _ _ _ c.in_ok-take-5.ensures c.in_err-take-6.field-0.0 (here text_form (text_form & boolean_form & done) _ _ c.in_err-take-6.field-0.0 c.in_err-take-6.ensures)))))))
+
+pub returns-in_err-take-7 : goal.returns-in_err-take-7
+returns-in_err-take-7 c =
+    let p = err_from_is_err_and c.from_residual-in_err-take-7.result c.from_residual-in_err-take-7.ensures.1 in
+    rw (p.1, p.2) (record_fails {B = IndexMetadataRecord} (channel_index_kind_form & index_interval_form & index_direction_form & text_form & text_form & text_form & text_form & boolean_form & done) (λ p. record { index_kind = p.0; interval = p.1.0; direction = p.1.1.0; name = p.1.1.1.0; uom = p.1.1.1.1.0; depth_datum = p.1.1.1.1.1.0; index_property_kind_uri = p.1.1.1.1.1.1.0; filterable = p.1.1.1.1.1.1.1.0 }) _ _ _ _ c.in_ok-node.ensures.0 c.in_ok-node.ensures.1 c.in_err-take-7.field-0.0 (later channel_index_kind_form (index_interval_form & index_direction_form & text_form & text_form & text_form & text_form & boolean_form & done) _ _ _ _ _ c.in_ok-take.ensures c.in_err-take-7.field-0.0 (later index_interval_form (index_direction_form & text_form & text_form & text_form & text_form & boolean_form & done) _ _ _ _ _ c.in_ok-take-2.ensures c.in_err-take-7.field-0.0 (later index_direction_form (text_form & text_form & text_form & text_form & boolean_form & done) _ _ _ _ _ c.in_ok-take-3.ensures c.in_err-take-7.field-0.0 (later text_form (text_form & text_form & text_form & boolean_form & done) _ _ _ _ _ c.in_ok-take-4.ensures c.in_err-take-7.field-0.0 (later text_form (text_form & text_form & boolean_form & done) _ _ _ _ _ c.in_ok-take-5.ensures c.in_err-take-7.field-0.0 (later text_form (text_form & boolean_form & done) _ _ _ _ _ c.in_ok-take-6.ensures c.in_err-take-7.field-0.0 (here text_form (boolean_form & done) _ _ c.in_err-take-7.field-0.0 c.in_err-take-7.ensures))))))))
+
+pub returns-in_err-take-8 : goal.returns-in_err-take-8
+returns-in_err-take-8 c =
+    let p = err_from_is_err_and c.from_residual-in_err-take-8.result c.from_residual-in_err-take-8.ensures.1 in
+    rw (p.1, p.2) (record_fails {B = IndexMetadataRecord} (channel_index_kind_form & index_interval_form & index_direction_form & text_form & text_form & text_form & text_form & boolean_form & done) (λ p. record { index_kind = p.0; interval = p.1.0; direction = p.1.1.0; name = p.1.1.1.0; uom = p.1.1.1.1.0; depth_datum = p.1.1.1.1.1.0; index_property_kind_uri = p.1.1.1.1.1.1.0; filterable = p.1.1.1.1.1.1.1.0 }) _ _ _ _ c.in_ok-node.ensures.0 c.in_ok-node.ensures.1 c.in_err-take-8.field-0.0 (later channel_index_kind_form (index_interval_form & index_direction_form & text_form & text_form & text_form & text_form & boolean_form & done) _ _ _ _ _ c.in_ok-take.ensures c.in_err-take-8.field-0.0 (later index_interval_form (index_direction_form & text_form & text_form & text_form & text_form & boolean_form & done) _ _ _ _ _ c.in_ok-take-2.ensures c.in_err-take-8.field-0.0 (later index_direction_form (text_form & text_form & text_form & text_form & boolean_form & done) _ _ _ _ _ c.in_ok-take-3.ensures c.in_err-take-8.field-0.0 (later text_form (text_form & text_form & text_form & boolean_form & done) _ _ _ _ _ c.in_ok-take-4.ensures c.in_err-take-8.field-0.0 (later text_form (text_form & text_form & boolean_form & done) _ _ _ _ _ c.in_ok-take-5.ensures c.in_err-take-8.field-0.0 (later text_form (text_form & boolean_form & done) _ _ _ _ _ c.in_ok-take-6.ensures c.in_err-take-8.field-0.0 (later text_form (boolean_form & done) _ _ _ _ _ c.in_ok-take-7.ensures c.in_err-take-8.field-0.0 (here boolean_form done _ _ c.in_err-take-8.field-0.0 c.in_err-take-8.ensures)))))))))

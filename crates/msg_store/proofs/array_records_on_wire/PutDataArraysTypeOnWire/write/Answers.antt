@@ -1,0 +1,20 @@
+use Rattle.std.proofs.lemmas.Result.{err_from_is_err_and}
+use Rattle.etp_schema.specs.DataValue.{data_value_form}
+use Rattle.etp_schema.specs.Form.{named_form, done, ◌&◌}
+use Rattle.msg_store.specs.ArrayRecords.{data_array_form, data_array_identifier_form}
+use Rattle.etp_schema.proofs.WritingLemmas.{grown}
+use Rattle.msg_store.proofs.Records.{piece, last_piece}
+use Rattle.msg_store.proofs.array_records_on_wire.PutDataArraysTypeOnWire.write.Goals as goal
+
+pub returns-in_err-write-2-clause-written : goal.returns-in_err-write-2-clause-written
+returns-in_err-write-2-clause-written c =
+    let p = err_from_is_err_and c.from_residual-in_err-write-2.result c.from_residual-in_err-write-2.ensures.1 in
+    rw p.1 (grown _ _ _ _ c.in_ok-write.ensures.written c.in_err-write-2.ensures.written)
+
+pub returns-in_err-write-3-clause-written : goal.returns-in_err-write-3-clause-written
+returns-in_err-write-3-clause-written c =
+    let p = err_from_is_err_and c.from_residual-in_err-write-3.result c.from_residual-in_err-write-3.ensures.1 in
+    rw p.1 (grown _ _ _ _ c.in_ok-write.ensures.written (grown _ _ _ _ c.in_ok-write-2.ensures.written c.in_err-write-3.ensures.written))
+
+pub returns-clause-written : goal.returns-clause-written
+returns-clause-written c = piece data_array_identifier_form (data_array_form & (named_form data_value_form) & done) c.args.self.now.uid (c.args.self.now.array, (c.args.self.now.custom_data, tt)) _ _ _ c.in_ok-write.ensures.written (piece data_array_form ((named_form data_value_form) & done) c.args.self.now.array (c.args.self.now.custom_data, tt) _ _ _ c.in_ok-write-2.ensures.written (last_piece (named_form data_value_form) c.args.self.now.custom_data _ _ c.in_ok-write-3.ensures.written))

@@ -1,0 +1,25 @@
+use Rattle.std.proofs.lemmas.Result.{err_from_is_err_and}
+use Rattle.etp_schema.specs.AnyArray.{any_array_form}
+use Rattle.etp_schema.specs.Form.{list_form, long_form, done, ◌&◌}
+use Rattle.msg_store.specs.ArrayRecords.{data_array_identifier_form}
+use Rattle.etp_schema.proofs.WritingLemmas.{grown}
+use Rattle.msg_store.proofs.Records.{piece, last_piece}
+use Rattle.msg_store.proofs.array_records_on_wire.PutDataSubarraysTypeOnWire.write.Goals as goal
+
+pub returns-in_err-write-2-clause-written : goal.returns-in_err-write-2-clause-written
+returns-in_err-write-2-clause-written c =
+    let p = err_from_is_err_and c.from_residual-in_err-write-2.result c.from_residual-in_err-write-2.ensures.1 in
+    rw p.1 (grown _ _ _ _ c.in_ok-write.ensures.written c.in_err-write-2.ensures.written)
+
+pub returns-in_err-write-3-clause-written : goal.returns-in_err-write-3-clause-written
+returns-in_err-write-3-clause-written c =
+    let p = err_from_is_err_and c.from_residual-in_err-write-3.result c.from_residual-in_err-write-3.ensures.1 in
+    rw p.1 (grown _ _ _ _ c.in_ok-write.ensures.written (grown _ _ _ _ c.in_ok-write-2.ensures.written c.in_err-write-3.ensures.written))
+
+pub returns-in_err-write-4-clause-written : goal.returns-in_err-write-4-clause-written
+returns-in_err-write-4-clause-written c =
+    let p = err_from_is_err_and c.from_residual-in_err-write-4.result c.from_residual-in_err-write-4.ensures.1 in
+    rw p.1 (grown _ _ _ _ c.in_ok-write.ensures.written (grown _ _ _ _ c.in_ok-write-2.ensures.written (grown _ _ _ _ c.in_ok-write-3.ensures.written c.in_err-write-4.ensures.written)))
+
+pub returns-clause-written : goal.returns-clause-written
+returns-clause-written c = piece data_array_identifier_form (any_array_form & (list_form long_form) & (list_form long_form) & done) c.args.self.now.uid (c.args.self.now.payload, (c.args.self.now.starts, (c.args.self.now.counts, tt))) _ _ _ c.in_ok-write.ensures.written (piece any_array_form ((list_form long_form) & (list_form long_form) & done) c.args.self.now.payload (c.args.self.now.starts, (c.args.self.now.counts, tt)) _ _ _ c.in_ok-write-2.ensures.written (piece (list_form long_form) ((list_form long_form) & done) c.args.self.now.starts (c.args.self.now.counts, tt) _ _ _ c.in_ok-write-3.ensures.written (last_piece (list_form long_form) c.args.self.now.counts _ _ c.in_ok-write-4.ensures.written)))

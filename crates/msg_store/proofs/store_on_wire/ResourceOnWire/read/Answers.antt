@@ -1,0 +1,57 @@
+use Rattle.std.proofs.lemmas.Result.{err_from_is_err_and}
+use Rattle.etp_schema.specs.DataValue.{data_value_form}
+use Rattle.etp_schema.specs.Form.{int_form, list_form, long_form, named_form, option_form, text_form, done, ◌&◌}
+use Rattle.etp_schema.specs.Status.{active_status_kind_form}
+use Rattle.msg_store.specs.declared.store_messages.Resource.{Resource}
+use Rattle.msg_store.proofs.Records.{here, later, record_fails}
+use Rattle.msg_store.proofs.store_on_wire.ResourceOnWire.read.Goals as goal
+
+pub returns-in_err-take : goal.returns-in_err-take
+returns-in_err-take c =
+    let p = err_from_is_err_and c.from_residual-in_err-take.result c.from_residual-in_err-take.ensures.1 in
+    rw (p.1, p.2) (record_fails {B = Resource} (text_form & (list_form text_form) & text_form & (option_form int_form) & (option_form int_form) & long_form & long_form & long_form & active_status_kind_form & (named_form data_value_form) & done) (λ p. record { uri = p.0; alternate_uris = p.1.0; name = p.1.1.0; source_count = p.1.1.1.0; target_count = p.1.1.1.1.0; last_changed = p.1.1.1.1.1.0; store_last_write = p.1.1.1.1.1.1.0; store_created = p.1.1.1.1.1.1.1.0; active_status = p.1.1.1.1.1.1.1.1.0; custom_data = p.1.1.1.1.1.1.1.1.1.0 }) _ _ _ _ c.in_ok-node.ensures.0 c.in_ok-node.ensures.1 c.in_err-take.field-0.0 (here text_form ((list_form text_form) & text_form & (option_form int_form) & (option_form int_form) & long_form & long_form & long_form & active_status_kind_form & (named_form data_value_form) & done) _ _ c.in_err-take.field-0.0 c.in_err-take.ensures))
+
+pub returns-in_err-take-2 : goal.returns-in_err-take-2
+returns-in_err-take-2 c =
+    let p = err_from_is_err_and c.from_residual-in_err-take-2.result c.from_residual-in_err-take-2.ensures.1 in
+    rw (p.1, p.2) (record_fails {B = Resource} (text_form & (list_form text_form) & text_form & (option_form int_form) & (option_form int_form) & long_form & long_form & long_form & active_status_kind_form & (named_form data_value_form) & done) (λ p. record { uri = p.0; alternate_uris = p.1.0; name = p.1.1.0; source_count = p.1.1.1.0; target_count = p.1.1.1.1.0; last_changed = p.1.1.1.1.1.0; store_last_write = p.1.1.1.1.1.1.0; store_created = p.1.1.1.1.1.1.1.0; active_status = p.1.1.1.1.1.1.1.1.0; custom_data = p.1.1.1.1.1.1.1.1.1.0 }) _ _ _ _ c.in_ok-node.ensures.0 c.in_ok-node.ensures.1 c.in_err-take-2.field-0.0 (later text_form ((list_form text_form) & text_form & (option_form int_form) & (option_form int_form) & long_form & long_form & long_form & active_status_kind_form & (named_form data_value_form) & done) _ _ _ _ _ c.in_ok-take.ensures c.in_err-take-2.field-0.0 (here (list_form text_form) (text_form & (option_form int_form) & (option_form int_form) & long_form & long_form & long_form & active_status_kind_form & (named_form data_value_form) & done) _ _ c.in_err-take-2.field-0.0 c.in_err-take-2.ensures)))
+
+pub returns-in_err-take-3 : goal.returns-in_err-take-3
+returns-in_err-take-3 c =
+    let p = err_from_is_err_and c.from_residual-in_err-take-3.result c.from_residual-in_err-take-3.ensures.1 in
+    rw (p.1, p.2) (record_fails {B = Resource} (text_form & (list_form text_form) & text_form & (option_form int_form) & (option_form int_form) & long_form & long_form & long_form & active_status_kind_form & (named_form data_value_form) & done) (λ p. record { uri = p.0; alternate_uris = p.1.0; name = p.1.1.0; source_count = p.1.1.1.0; target_count = p.1.1.1.1.0; last_changed = p.1.1.1.1.1.0; store_last_write = p.1.1.1.1.1.1.0; store_created = p.1.1.1.1.1.1.1.0; active_status = p.1.1.1.1.1.1.1.1.0; custom_data = p.1.1.1.1.1.1.1.1.1.0 }) _ _ _ _ c.in_ok-node.ensures.0 c.in_ok-node.ensures.1 c.in_err-take-3.field-0.0 (later text_form ((list_form text_form) & text_form & (option_form int_form) & (option_form int_form) & long_form & long_form & long_form & active_status_kind_form & (named_form data_value_form) & done) _ _ _ _ _ c.in_ok-take.ensures c.in_err-take-3.field-0.0 (later (list_form text_form) (text_form & (option_form int_form) & (option_form int_form) & long_form & long_form & long_form & active_status_kind_form & (named_form data_value_form) & done) _ _ _ _ _ c.in_ok-take-2.ensures c.in_err-take-3.field-0.0 (here text_form ((option_form int_form) & (option_form int_form) & long_form & long_form & long_form & active_status_kind_form & (named_form data_value_form) & done) _ _ c.in_err-take-3.field-0.0 c.in_err-take-3.ensures))))
+
+pub returns-in_err-take-4 : goal.returns-in_err-take-4
+returns-in_err-take-4 c =
+    let p = err_from_is_err_and c.from_residual-in_err-take-4.result c.from_residual-in_err-take-4.ensures.1 in
+    rw (p.1, p.2) (record_fails {B = Resource} (text_form & (list_form text_form) & text_form & (option_form int_form) & (option_form int_form) & long_form & long_form & long_form & active_status_kind_form & (named_form data_value_form) & done) (λ p. record { uri = p.0; alternate_uris = p.1.0; name = p.1.1.0; source_count = p.1.1.1.0; target_count = p.1.1.1.1.0; last_changed = p.1.1.1.1.1.0; store_last_write = p.1.1.1.1.1.1.0; store_created = p.1.1.1.1.1.1.1.0; active_status = p.1.1.1.1.1.1.1.1.0; custom_data = p.1.1.1.1.1.1.1.1.1.0 }) _ _ _ _ c.in_ok-node.ensures.0 c.in_ok-node.ensures.1 c.in_err-take-4.field-0.0 (later text_form ((list_form text_form) & text_form & (option_form int_form) & (option_form int_form) & long_form & long_form & long_form & active_status_kind_form & (named_form data_value_form) & done) _ _ _ _ _ c.in_ok-take.ensures c.in_err-take-4.field-0.0 (later (list_form text_form) (text_form & (option_form int_form) & (option_form int_form) & long_form & long_form & long_form & active_status_kind_form & (named_form data_value_form) & done) _ _ _ _ _ c.in_ok-take-2.ensures c.in_err-take-4.field-0.0 (later text_form ((option_form int_form) & (option_form int_form) & long_form & long_form & long_form & active_status_kind_form & (named_form data_value_form) & done) _ _ _ _ _ c.in_ok-take-3.ensures c.in_err-take-4.field-0.0 (here (option_form int_form) ((option_form int_form) & long_form & long_form & long_form & active_status_kind_form & (named_form data_value_form) & done) _ _ c.in_err-take-4.field-0.0 c.in_err-take-4.ensures)))))
+
+pub returns-in_err-take-5 : goal.returns-in_err-take-5
+returns-in_err-take-5 c =
+    let p = err_from_is_err_and c.from_residual-in_err-take-5.result c.from_residual-in_err-take-5.ensures.1 in
+    rw (p.1, p.2) (record_fails {B = Resource} (text_form & (list_form text_form) & text_form & (option_form int_form) & (option_form int_form) & long_form & long_form & long_form & active_status_kind_form & (named_form data_value_form) & done) (λ p. record { uri = p.0; alternate_uris = p.1.0; name = p.1.1.0; source_count = p.1.1.1.0; target_count = p.1.1.1.1.0; last_changed = p.1.1.1.1.1.0; store_last_write = p.1.1.1.1.1.1.0; store_created = p.1.1.1.1.1.1.1.0; active_status = p.1.1.1.1.1.1.1.1.0; custom_data = p.1.1.1.1.1.1.1.1.1.0 }) _ _ _ _ c.in_ok-node.ensures.0 c.in_ok-node.ensures.1 c.in_err-take-5.field-0.0 (later text_form ((list_form text_form) & text_form & (option_form int_form) & (option_form int_form) & long_form & long_form & long_form & active_status_kind_form & (named_form data_value_form) & done) _ _ _ _ _ c.in_ok-take.ensures c.in_err-take-5.field-0.0 (later (list_form text_form) (text_form & (option_form int_form) & (option_form int_form) & long_form & long_form & long_form & active_status_kind_form & (named_form data_value_form) & done) _ _ _ _ _ c.in_ok-take-2.ensures c.in_err-take-5.field-0.0 (later text_form ((option_form int_form) & (option_form int_form) & long_form & long_form & long_form & active_status_kind_form & (named_form data_value_form) & done) _ _ _ _ _ c.in_ok-take-3.ensures c.in_err-take-5.field-0.0 (later (option_form int_form) ((option_form int_form) & long_form & long_form & long_form & active_status_kind_form & (named_form data_value_form) & done) _ _ _ _ _ c.in_ok-take-4.ensures c.in_err-take-5.field-0.0 (here (option_form int_form) (long_form & long_form & long_form & active_status_kind_form & (named_form data_value_form) & done) _ _ c.in_err-take-5.field-0.0 c.in_err-take-5.ensures))))))
+
+pub returns-in_err-take-6 : goal.returns-in_err-take-6
+returns-in_err-take-6 c =
+    let p = err_from_is_err_and c.from_residual-in_err-take-6.result c.from_residual-in_err-take-6.ensures.1 in
+    rw (p.1, p.2) (record_fails {B = Resource} (text_form & (list_form text_form) & text_form & (option_form int_form) & (option_form int_form) & long_form & long_form & long_form & active_status_kind_form & (named_form data_value_form) & done) (λ p. record { uri = p.0; alternate_uris = p.1.0; name = p.1.1.0; source_count = p.1.1.1.0; target_count = p.1.1.1.1.0; last_changed = p.1.1.1.1.1.0; store_last_write = p.1.1.1.1.1.1.0; store_created = p.1.1.1.1.1.1.1.0; active_status = p.1.1.1.1.1.1.1.1.0; custom_data = p.1.1.1.1.1.1.1.1.1.0 }) _ _ _ _ c.in_ok-node.ensures.0 c.in_ok-node.ensures.1 c.in_err-take-6.field-0.0 (later text_form ((list_form text_form) & text_form & (option_form int_form) & (option_form int_form) & long_form & long_form & long_form & active_status_kind_form & (named_form data_value_form) & done) _ _ _ _ _ c.in_ok-take.ensures c.in_err-take-6.field-0.0 (later (list_form text_form) (text_form & (option_form int_form) & (option_form int_form) & long_form & long_form & long_form & active_status_kind_form & (named_form data_value_form) & done) _ _ _ _ _ c.in_ok-take-2.ensures c.in_err-take-6.field-0.0 (later text_form ((option_form int_form) & (option_form int_form) & long_form & long_form & long_form & active_status_kind_form & (named_form data_value_form) & done) _ _ _ _ _ c.in_ok-take-3.ensures c.in_err-take-6.field-0.0 (later (option_form int_form) ((option_form int_form) & long_form & long_form & long_form & active_status_kind_form & (named_form data_value_form) & done) _ _ _ _ _ c.in_ok-take-4.ensures c.in_err-take-6.field-0.0 (later (option_form int_form) (long_form & long_form & long_form & active_status_kind_form & (named_form data_value_form) & done) _ _ _ _ _ c.in_ok-take-5.ensures c.in_err-take-6.field-0.0 (here long_form (long_form & long_form & active_status_kind_form & (named_form data_value_form) & done) _ _ c.in_err-take-6.field-0.0 c.in_err-take-6.ensures)))))))
+
+pub returns-in_err-take-7 : goal.returns-in_err-take-7
+returns-in_err-take-7 c =
+    let p = err_from_is_err_and c.from_residual-in_err-take-7.result c.from_residual-in_err-take-7.ensures.1 in
+    rw (p.1, p.2) (record_fails {B = Resource} (text_form & (list_form text_form) & text_form & (option_form int_form) & (option_form int_form) & long_form & long_form & long_form & active_status_kind_form & (named_form data_value_form) & done) (λ p. record { uri = p.0; alternate_uris = p.1.0; name = p.1.1.0; source_count = p.1.1.1.0; target_count = p.1.1.1.1.0; last_changed = p.1.1.1.1.1.0; store_last_write = p.1.1.1.1.1.1.0; store_created = p.1.1.1.1.1.1.1.0; active_status = p.1.1.1.1.1.1.1.1.0; custom_data = p.1.1.1.1.1.1.1.1.1.0 }) _ _ _ _ c.in_ok-node.ensures.0 c.in_ok-node.ensures.1 c.in_err-take-7.field-0.0 (later text_form ((list_form text_form) & text_form & (option_form int_form) & (option_form int_form) & long_form & long_form & long_form & active_status_kind_form & (named_form data_value_form) & done) _ _ _ _ _ c.in_ok-take.ensures c.in_err-take-7.field-0.0 (later (list_form text_form) (text_form & (option_form int_form) & (option_form int_form) & long_form & long_form & long_form & active_status_kind_form & (named_form data_value_form) & done) _ _ _ _ _ c.in_ok-take-2.ensures c.in_err-take-7.field-0.0 (later text_form ((option_form int_form) & (option_form int_form) & long_form & long_form & long_form & active_status_kind_form & (named_form data_value_form) & done) _ _ _ _ _ c.in_ok-take-3.ensures c.in_err-take-7.field-0.0 (later (option_form int_form) ((option_form int_form) & long_form & long_form & long_form & active_status_kind_form & (named_form data_value_form) & done) _ _ _ _ _ c.in_ok-take-4.ensures c.in_err-take-7.field-0.0 (later (option_form int_form) (long_form & long_form & long_form & active_status_kind_form & (named_form data_value_form) & done) _ _ _ _ _ c.in_ok-take-5.ensures c.in_err-take-7.field-0.0 (later long_form (long_form & long_form & active_status_kind_form & (named_form data_value_form) & done) _ _ _ _ _ c.in_ok-take-6.ensures c.in_err-take-7.field-0.0 (here long_form (long_form & active_status_kind_form & (named_form data_value_form) & done) _ _ c.in_err-take-7.field-0.0 c.in_err-take-7.ensures))))))))
+
+pub returns-in_err-take-8 : goal.returns-in_err-take-8
+returns-in_err-take-8 c =
+    let p = err_from_is_err_and c.from_residual-in_err-take-8.result c.from_residual-in_err-take-8.ensures.1 in
+    rw (p.1, p.2) (record_fails {B = Resource} (text_form & (list_form text_form) & text_form & (option_form int_form) & (option_form int_form) & long_form & long_form & long_form & active_status_kind_form & (named_form data_value_form) & done) (λ p. record { uri = p.0; alternate_uris = p.1.0; name = p.1.1.0; source_count = p.1.1.1.0; target_count = p.1.1.1.1.0; last_changed = p.1.1.1.1.1.0; store_last_write = p.1.1.1.1.1.1.0; store_created = p.1.1.1.1.1.1.1.0; active_status = p.1.1.1.1.1.1.1.1.0; custom_data = p.1.1.1.1.1.1.1.1.1.0 }) _ _ _ _ c.in_ok-node.ensures.0 c.in_ok-node.ensures.1 c.in_err-take-8.field-0.0 (later text_form ((list_form text_form) & text_form & (option_form int_form) & (option_form int_form) & long_form & long_form & long_form & active_status_kind_form & (named_form data_value_form) & done) _ _ _ _ _ c.in_ok-take.ensures c.in_err-take-8.field-0.0 (later (list_form text_form) (text_form & (option_form int_form) & (option_form int_form) & long_form & long_form & long_form & active_status_kind_form & (named_form data_value_form) & done) _ _ _ _ _ c.in_ok-take-2.ensures c.in_err-take-8.field-0.0 (later text_form ((option_form int_form) & (option_form int_form) & long_form & long_form & long_form & active_status_kind_form & (named_form data_value_form) & done) _ _ _ _ _ c.in_ok-take-3.ensures c.in_err-take-8.field-0.0 (later (option_form int_form) ((option_form int_form) & long_form & long_form & long_form & active_status_kind_form & (named_form data_value_form) & done) _ _ _ _ _ c.in_ok-take-4.ensures c.in_err-take-8.field-0.0 (later (option_form int_form) (long_form & long_form & long_form & active_status_kind_form & (named_form data_value_form) & done) _ _ _ _ _ c.in_ok-take-5.ensures c.in_err-take-8.field-0.0 (later long_form (long_form & long_form & active_status_kind_form & (named_form data_value_form) & done) _ _ _ _ _ c.in_ok-take-6.ensures c.in_err-take-8.field-0.0 (later long_form (long_form & active_status_kind_form & (named_form data_value_form) & done) _ _ _ _ _ c.in_ok-take-7.ensures c.in_err-take-8.field-0.0 (here long_form (active_status_kind_form & (named_form data_value_form) & done) _ _ c.in_err-take-8.field-0.0 c.in_err-take-8.ensures)))))))))
+
+pub returns-in_err-take-9 : goal.returns-in_err-take-9
+returns-in_err-take-9 c =
+    let p = err_from_is_err_and c.from_residual-in_err-take-9.result c.from_residual-in_err-take-9.ensures.1 in
+    rw (p.1, p.2) (record_fails {B = Resource} (text_form & (list_form text_form) & text_form & (option_form int_form) & (option_form int_form) & long_form & long_form & long_form & active_status_kind_form & (named_form data_value_form) & done) (λ p. record { uri = p.0; alternate_uris = p.1.0; name = p.1.1.0; source_count = p.1.1.1.0; target_count = p.1.1.1.1.0; last_changed = p.1.1.1.1.1.0; store_last_write = p.1.1.1.1.1.1.0; store_created = p.1.1.1.1.1.1.1.0; active_status = p.1.1.1.1.1.1.1.1.0; custom_data = p.1.1.1.1.1.1.1.1.1.0 }) _ _ _ _ c.in_ok-node.ensures.0 c.in_ok-node.ensures.1 c.in_err-take-9.field-0.0 (later text_form ((list_form text_form) & text_form & (option_form int_form) & (option_form int_form) & long_form & long_form & long_form & active_status_kind_form & (named_form data_value_form) & done) _ _ _ _ _ c.in_ok-take.ensures c.in_err-take-9.field-0.0 (later (list_form text_form) (text_form & (option_form int_form) & (option_form int_form) & long_form & long_form & long_form & active_status_kind_form & (named_form data_value_form) & done) _ _ _ _ _ c.in_ok-take-2.ensures c.in_err-take-9.field-0.0 (later text_form ((option_form int_form) & (option_form int_form) & long_form & long_form & long_form & active_status_kind_form & (named_form data_value_form) & done) _ _ _ _ _ c.in_ok-take-3.ensures c.in_err-take-9.field-0.0 (later (option_form int_form) ((option_form int_form) & long_form & long_form & long_form & active_status_kind_form & (named_form data_value_form) & done) _ _ _ _ _ c.in_ok-take-4.ensures c.in_err-take-9.field-0.0 (later (option_form int_form) (long_form & long_form & long_form & active_status_kind_form & (named_form data_value_form) & done) _ _ _ _ _ c.in_ok-take-5.ensures c.in_err-take-9.field-0.0 (later long_form (long_form & long_form & active_status_kind_form & (named_form data_value_form) & done) _ _ _ _ _ c.in_ok-take-6.ensures c.in_err-take-9.field-0.0 (later long_form (long_form & active_status_kind_form & (named_form data_value_form) & done) _ _ _ _ _ c.in_ok-take-7.ensures c.in_err-take-9.field-0.0 (later long_form (active_status_kind_form & (named_form data_value_form) & done) _ _ _ _ _ c.in_ok-take-8.ensures c.in_err-take-9.field-0.0 (here active_status_kind_form ((named_form data_value_form) & done) _ _ c.in_err-take-9.field-0.0 c.in_err-take-9.ensures))))))))))
+
+pub returns-in_err-take-10 : goal.returns-in_err-take-10
+returns-in_err-take-10 c =
+    let p = err_from_is_err_and c.from_residual-in_err-take-10.result c.from_residual-in_err-take-10.ensures.1 in
+    rw (p.1, p.2) (record_fails {B = Resource} (text_form & (list_form text_form) & text_form & (option_form int_form) & (option_form int_form) & long_form & long_form & long_form & active_status_kind_form & (named_form data_value_form) & done) (λ p. record { uri = p.0; alternate_uris = p.1.0; name = p.1.1.0; source_count = p.1.1.1.0; target_count = p.1.1.1.1.0; last_changed = p.1.1.1.1.1.0; store_last_write = p.1.1.1.1.1.1.0; store_created = p.1.1.1.1.1.1.1.0; active_status = p.1.1.1.1.1.1.1.1.0; custom_data = p.1.1.1.1.1.1.1.1.1.0 }) _ _ _ _ c.in_ok-node.ensures.0 c.in_ok-node.ensures.1 c.in_err-take-10.field-0.0 (later text_form ((list_form text_form) & text_form & (option_form int_form) & (option_form int_form) & long_form & long_form & long_form & active_status_kind_form & (named_form data_value_form) & done) _ _ _ _ _ c.in_ok-take.ensures c.in_err-take-10.field-0.0 (later (list_form text_form) (text_form & (option_form int_form) & (option_form int_form) & long_form & long_form & long_form & active_status_kind_form & (named_form data_value_form) & done) _ _ _ _ _ c.in_ok-take-2.ensures c.in_err-take-10.field-0.0 (later text_form ((option_form int_form) & (option_form int_form) & long_form & long_form & long_form & active_status_kind_form & (named_form data_value_form) & done) _ _ _ _ _ c.in_ok-take-3.ensures c.in_err-take-10.field-0.0 (later (option_form int_form) ((option_form int_form) & long_form & long_form & long_form & active_status_kind_form & (named_form data_value_form) & done) _ _ _ _ _ c.in_ok-take-4.ensures c.in_err-take-10.field-0.0 (later (option_form int_form) (long_form & long_form & long_form & active_status_kind_form & (named_form data_value_form) & done) _ _ _ _ _ c.in_ok-take-5.ensures c.in_err-take-10.field-0.0 (later long_form (long_form & long_form & active_status_kind_form & (named_form data_value_form) & done) _ _ _ _ _ c.in_ok-take-6.ensures c.in_err-take-10.field-0.0 (later long_form (long_form & active_status_kind_form & (named_form data_value_form) & done) _ _ _ _ _ c.in_ok-take-7.ensures c.in_err-take-10.field-0.0 (later long_form (active_status_kind_form & (named_form data_value_form) & done) _ _ _ _ _ c.in_ok-take-8.ensures c.in_err-take-10.field-0.0 (later active_status_kind_form ((named_form data_value_form) & done) _ _ _ _ _ c.in_ok-take-9.ensures c.in_err-take-10.field-0.0 (here (named_form data_value_form) done _ _ c.in_err-take-10.field-0.0 c.in_err-take-10.ensures)))))))))))
