@@ -23,7 +23,7 @@ use msg_core::{CoreMessage, DataspaceMessage, TransactionMessage};
 use msg_store::{DataArrayMessage, StoreMessage};
 
 /// A message of any protocol. ProtocolException and Acknowledge stand in Core's enum under every protocol.
-#[derive(Debug, Drop)]
+#[derive(Debug, Drop, PartialEq, Eq)]
 pub enum Message {
     Core(CoreMessage),
     Transaction(TransactionMessage),
@@ -150,10 +150,10 @@ fn is_common(kind: i32) -> bool
 fn read_common(from: &mut Reader<'_>, kind: i32) -> Result<Option<Message>, Fault>
     ensures { Reads (kind_at (kind_in common_kinds kind) from.old.left from.old.rest.now) result from.new }
 {
-    if is_common(kind) {
-        return read_core(from, kind);
+    if !is_common(kind) {
+        return Ok(None);
     }
-    Ok(None)
+    read_core(from, kind)
 }
 
 fn read_core(from: &mut Reader<'_>, kind: i32) -> Result<Option<Message>, Fault>

@@ -1,14 +1,12 @@
 //! Reading whole messages.
-ghost use Rattle.std.specs.Prelude.{◌≡◌, ◌≢◌, ◌<◌, ◌≤◌, ◌+◌, ◌-◌, ◌^◌, ◌==◌, if◌then◌else◌, length, Some, Ok, Err, IfOk, IfErr};
+ghost use Rattle.std.specs.Prelude.{◌≡◌, ◌≢◌, ◌<◌, ◌≤◌, ◌+◌, ◌^◌, ◌==◌, if◌then◌else◌, length, Some, Ok, Err, IfOk, IfErr};
 ghost use Rattle.etp_values.specs.Gives.{Gives};
-ghost use Rattle.avro_bin.specs.Laws.{read_value};
-ghost use Rattle.avro_bin.specs.Refusing.{refusal};
 ghost use Rattle.avro_bin.specs.Value.{nodes};
 ghost use Rattle.avro_bin.specs.Shape.{HasSchema};
 ghost use Rattle.avro_bin.specs.View.{value_of};
 ghost use Rattle.etp_schema.specs.Bodies.{body_place};
 ghost use Rattle.etp_schema.specs.Shapes.{shape_at, table_size};
-ghost use Rattle.etp_frame.specs.Reading.{node_limit, tree_of, read_of, header_in, admitted, as_body, body_in};
+ghost use Rattle.etp_frame.specs.Reading.{node_limit, tree_of, read_of, header_in, admitted, body_in};
 ghost use Rattle.etp_schema.specs.Family.{Kind};
 ghost use Rattle.etp_frame.specs.Message.{typed_kind};
 ghost use Rattle.etp_frame.specs.Parts.{offset_in, as_header_error, as_body_error, GivesValue, GivesMessage, GivesTree, IsFront};
@@ -20,7 +18,7 @@ use crate::error::FrameError;
 use crate::flags;
 use crate::header::Header;
 use crate::message::Message;
-use avro_bin::{Fault, NODE_LIMIT, Refusal, Tree, Why, decode, refusal_at};
+use avro_bin::{Fault, NODE_LIMIT, Refusal, Tree, decode, refusal_at};
 use etp_schema::{Reader, Side, body_of, is_protocol, read_body, schema_table};
 use std::alloc::Global;
 
@@ -38,23 +36,23 @@ pub fn read_message(
         Ok(front) => front,
         Err(error) => return Err(error),
     };
-    match read_typed(alloc, header, length, &bytes[length..]) {
+    match read_typed(alloc, header, length, bytes) {
         Ok(message) => Ok((header, message)),
         Err(error) => Err(error),
     }
 }
 
-/// The message of the body that stands behind so many bytes, where it ends with the rest of them.
+/// The message of the body behind so many bytes, where it ends with them.
 fn read_typed(
     alloc: Global,
     header: Header,
     front: usize,
-    rest: &[u8],
+    bytes: &[u8],
 ) -> Result<Message, FrameError>
-    requires { front + length rest.now < 2 ^ 64 }
-    ensures { (k : Kind AnyMessage) → typed_kind header.protocol header.kind ≡ Some k
-        → GivesMessage k result (as_body header front (length rest.now) (read_value k.schema node_limit rest.now)) }
+    requires { front ≤ length bytes.now }
+    ensures { (k : Kind AnyMessage) → typed_kind header.protocol header.kind ≡ Some k → GivesMessage k result (body_in header k.schema front bytes.now) }
 {
+    let rest = &bytes[front..];
     let mut from = Reader::new(alloc, rest, NODE_LIMIT);
     match Message::read(&mut from, header.protocol, header.kind) {
         Ok(Some(message)) => {
@@ -62,17 +60,13 @@ fn read_typed(
             ended(header, message, front, length, rest.len())
         }
         Ok(None) => Err(FrameError::UnknownKind(header)),
-        Err(Fault::At(why, left)) => Err(fault_error(header, front, rest.len(), why, left)),
+        Err(Fault::At(why, left)) => Err(body_error(
+            header,
+            front,
+            refusal_at(why, rest.len().saturating_sub(left)),
+        )),
         Err(Fault::Memory) => Err(FrameError::NoMemory),
     }
-}
-
-/// Why a body of `size` bytes, which stands behind `front` others, is refused: the refused item begins with `left` of them left.
-fn fault_error(header: Header, front: usize, size: usize, why: Why, left: usize) -> FrameError
-    requires { front + size < 2 ^ 64 }
-    ensures { result ≡ as_body_error header front (refusal why (size - left)) }
-{
-    body_error(header, front, refusal_at(why, size.saturating_sub(left)))
 }
 
 /// The message, where its body behind so many bytes is as long as what stands there.
@@ -87,7 +81,6 @@ fn ended(
     ensures { result ≡ (if length == size then Ok message else Err (f.Rest header (front + length))) }
 {
     if length != size {
-        drop(message);
         return Err(FrameError::Rest(header, front + length));
     }
     Ok(message)

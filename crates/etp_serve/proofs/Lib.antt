@@ -7,5 +7,3 @@ pub mod Settling
 pub mod Turns
 pub mod Tails
 pub mod AcceptLemmas
-pub mod CloseLemmas
-pub mod EnteredLemmas

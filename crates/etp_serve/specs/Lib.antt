@@ -5,4 +5,3 @@ pub mod Steps
 pub mod Laws
 pub mod Served
 pub mod Accepted
-pub mod Closing

@@ -19,9 +19,8 @@ mod store;
 
 pub use call::{
     Answer, Cutting, MetaReply, RangeAsk, Reply, SpacePut, Start, StartAsk, StartReply, StoreCall,
-    Verdict,
+    Sub, Verdict,
 };
-pub use channel_store::Sub;
 pub use counted::MAX_JOURNAL_BYTES;
 pub use journal::{Act, Entry};
 pub use laws::{growth_laws, number_laws, room_laws, state_laws};

@@ -1,4 +1,4 @@
-//! Tests of the store.
+//! Tests of the tables and of the store over them.
 #![tactic(auto)]
 
 #[cfg(test)]

@@ -8,14 +8,17 @@ use Rattle.etp_frame.proofs.message.read_core.Goals as goal
 pub returns-in-Ok-Some : goal.returns-in-Ok-Some
 returns-in-Ok-Some c =
     let k : FitsSigned w32 c.args.kind = search rules in
-    under_read m.Core core_kinds c.args.kind c.args.from.now.left c.args.from.now.rest.now (to_z-of_z w32 c.args.kind k) (Some c.in-Ok-Some.message) _ _ c.in-Ok-Some.field-0-is c.in-Ok-Some.ensures
+    let is = rw (c.in-Ok-Some.field-0-is, to_z-of_z w32 c.args.kind k) at c.in-Ok-Some.ensures in
+    under_read m.Core core_kinds c.args.kind c.args.from.now.left c.args.from.now.rest.now (Some c.in-Ok-Some.message) _ _ is
 
 pub returns-in-Ok-None : goal.returns-in-Ok-None
 returns-in-Ok-None c =
     let k : FitsSigned w32 c.args.kind = search rules in
-    under_read m.Core core_kinds c.args.kind c.args.from.now.left c.args.from.now.rest.now (to_z-of_z w32 c.args.kind k) None _ _ c.in-Ok-None.field-0-is c.in-Ok-None.ensures
+    let is = rw (c.in-Ok-None.field-0-is, to_z-of_z w32 c.args.kind k) at c.in-Ok-None.ensures in
+    under_read m.Core core_kinds c.args.kind c.args.from.now.left c.args.from.now.rest.now None _ _ is
 
 pub returns-in-Err : goal.returns-in-Err
 returns-in-Err c =
     let k : FitsSigned w32 c.args.kind = search rules in
-    under_fails m.Core core_kinds c.args.kind c.args.from.now.left c.args.from.now.rest.now (to_z-of_z w32 c.args.kind k) c.in-Err.fault c.in-Err.ensures
+    let is = rw (to_z-of_z w32 c.args.kind k) at c.in-Err.ensures in
+    under_fails m.Core core_kinds c.args.kind c.args.from.now.left c.args.from.now.rest.now c.in-Err.fault is

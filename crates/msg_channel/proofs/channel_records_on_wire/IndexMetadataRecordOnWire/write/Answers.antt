@@ -1,8 +1,7 @@
+use Rattle.std.proofs.Common.{append_assoc}
+use Rattle.std.proofs.lemmas.List.{append-nil}
 use Rattle.std.proofs.lemmas.Result.{err_from_is_err_and}
-use Rattle.etp_schema.specs.Form.{boolean_form, text_form, done, ◌&◌}
-use Rattle.msg_channel.specs.ChannelRecords.{channel_index_kind_form, index_direction_form, index_interval_form, index_metadata_record_holds}
 use Rattle.etp_schema.proofs.WritingLemmas.{grown}
-use Rattle.msg_channel.proofs.Records.{piece, last_piece}
 use Rattle.msg_channel.proofs.channel_records_on_wire.IndexMetadataRecordOnWire.write.Goals as goal
 
 pub returns-in_err-write-2-clause-written : goal.returns-in_err-write-2-clause-written
@@ -41,10 +40,4 @@ returns-in_err-write-8-clause-written c =
     rw p.1 (grown _ _ _ _ c.in_ok-write.ensures.written (grown _ _ _ _ c.in_ok-write-2.ensures.written (grown _ _ _ _ c.in_ok-write-3.ensures.written (grown _ _ _ _ c.in_ok-write-4.ensures.written (grown _ _ _ _ c.in_ok-write-5.ensures.written (grown _ _ _ _ c.in_ok-write-6.ensures.written (grown _ _ _ _ c.in_ok-write-7.ensures.written c.in_err-write-8.ensures.written)))))))
 
 pub returns-clause-written : goal.returns-clause-written
-returns-clause-written c = piece channel_index_kind_form (index_interval_form & index_direction_form & text_form & text_form & text_form & text_form & boolean_form & done) c.args.self.now.index_kind (c.args.self.now.interval, (c.args.self.now.direction, (c.args.self.now.name, (c.args.self.now.uom, (c.args.self.now.depth_datum, (c.args.self.now.index_property_kind_uri, (c.args.self.now.filterable, tt))))))) _ _ _ c.in_ok-write.ensures.written (piece index_interval_form (index_direction_form & text_form & text_form & text_form & text_form & boolean_form & done) c.args.self.now.interval (c.args.self.now.direction, (c.args.self.now.name, (c.args.self.now.uom, (c.args.self.now.depth_datum, (c.args.self.now.index_property_kind_uri, (c.args.self.now.filterable, tt)))))) _ _ _ c.in_ok-write-2.ensures.written (piece index_direction_form (text_form & text_form & text_form & text_form & boolean_form & done) c.args.self.now.direction (c.args.self.now.name, (c.args.self.now.uom, (c.args.self.now.depth_datum, (c.args.self.now.index_property_kind_uri, (c.args.self.now.filterable, tt))))) _ _ _ c.in_ok-write-3.ensures.written (piece text_form (text_form & text_form & text_form & boolean_form & done) c.args.self.now.name (c.args.self.now.uom, (c.args.self.now.depth_datum, (c.args.self.now.index_property_kind_uri, (c.args.self.now.filterable, tt)))) _ _ _ c.in_ok-write-4.ensures.written (piece text_form (text_form & text_form & boolean_form & done) c.args.self.now.uom (c.args.self.now.depth_datum, (c.args.self.now.index_property_kind_uri, (c.args.self.now.filterable, tt))) _ _ _ c.in_ok-write-5.ensures.written (piece text_form (text_form & boolean_form & done) c.args.self.now.depth_datum (c.args.self.now.index_property_kind_uri, (c.args.self.now.filterable, tt)) _ _ _ c.in_ok-write-6.ensures.written (piece text_form (boolean_form & done) c.args.self.now.index_property_kind_uri (c.args.self.now.filterable, tt) _ _ _ c.in_ok-write-7.ensures.written (last_piece boolean_form c.args.self.now.filterable _ _ c.in_ok-write-8.ensures.written)))))))
-
-pub returns-clause-typed : goal.returns-clause-typed
-returns-clause-typed c = index_metadata_record_holds c.args.self.now c.in_ok-write.ensures.typed c.in_ok-write-2.ensures.typed c.in_ok-write-3.ensures.typed c.in_ok-write-4.ensures.typed c.in_ok-write-5.ensures.typed c.in_ok-write-6.ensures.typed c.in_ok-write-7.ensures.typed c.in_ok-write-8.ensures.typed
-
-pub returns-clause-fits : goal.returns-clause-fits
-returns-clause-fits c = (c.in_ok-write.ensures.fits, (c.in_ok-write-2.ensures.fits, (c.in_ok-write-3.ensures.fits, (c.in_ok-write-4.ensures.fits, (c.in_ok-write-5.ensures.fits, (c.in_ok-write-6.ensures.fits, (c.in_ok-write-7.ensures.fits, (c.in_ok-write-8.ensures.fits, tt))))))))
+returns-clause-written c = rw (c.in_ok-write-8.ensures.written, c.in_ok-write-7.ensures.written, c.in_ok-write-6.ensures.written, c.in_ok-write-5.ensures.written, c.in_ok-write-4.ensures.written, c.in_ok-write-3.ensures.written, c.in_ok-write-2.ensures.written, c.in_ok-write.ensures.written) (simp (append_assoc, append-nil))

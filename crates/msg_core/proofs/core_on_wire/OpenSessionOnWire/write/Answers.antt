@@ -1,9 +1,7 @@
+use Rattle.std.proofs.Common.{append_assoc}
+use Rattle.std.proofs.lemmas.List.{append-nil}
 use Rattle.std.proofs.lemmas.Result.{err_from_is_err_and}
-use Rattle.etp_schema.specs.DataValue.{data_value_form}
-use Rattle.etp_schema.specs.Form.{id_form, list_form, long_form, named_form, text_form, done, ◌&◌}
-use Rattle.msg_core.specs.Core.{open_session_holds, supported_data_object_form, supported_protocol_form}
 use Rattle.etp_schema.proofs.WritingLemmas.{grown}
-use Rattle.msg_core.proofs.Records.{piece, last_piece}
 use Rattle.msg_core.proofs.core_on_wire.OpenSessionOnWire.write.Goals as goal
 
 pub returns-in_err-write-2-clause-written : goal.returns-in_err-write-2-clause-written
@@ -57,10 +55,4 @@ returns-in_err-write-11-clause-written c =
     rw p.1 (grown _ _ _ _ c.in_ok-write.ensures.written (grown _ _ _ _ c.in_ok-write-2.ensures.written (grown _ _ _ _ c.in_ok-write-3.ensures.written (grown _ _ _ _ c.in_ok-write-4.ensures.written (grown _ _ _ _ c.in_ok-write-5.ensures.written (grown _ _ _ _ c.in_ok-write-6.ensures.written (grown _ _ _ _ c.in_ok-write-7.ensures.written (grown _ _ _ _ c.in_ok-write-8.ensures.written (grown _ _ _ _ c.in_ok-write-9.ensures.written (grown _ _ _ _ c.in_ok-write-10.ensures.written c.in_err-write-11.ensures.written))))))))))
 
 pub returns-clause-written : goal.returns-clause-written
-returns-clause-written c = piece text_form (text_form & id_form & (list_form supported_protocol_form) & (list_form supported_data_object_form) & text_form & (list_form text_form) & long_form & long_form & id_form & (named_form data_value_form) & done) c.args.self.now.application_name (c.args.self.now.application_version, (c.args.self.now.server_instance_id, (c.args.self.now.supported_protocols, (c.args.self.now.supported_data_objects, (c.args.self.now.supported_compression, (c.args.self.now.supported_formats, (c.args.self.now.current_date_time, (c.args.self.now.earliest_retained_change_time, (c.args.self.now.session_id, (c.args.self.now.endpoint_capabilities, tt)))))))))) _ _ _ c.in_ok-write.ensures.written (piece text_form (id_form & (list_form supported_protocol_form) & (list_form supported_data_object_form) & text_form & (list_form text_form) & long_form & long_form & id_form & (named_form data_value_form) & done) c.args.self.now.application_version (c.args.self.now.server_instance_id, (c.args.self.now.supported_protocols, (c.args.self.now.supported_data_objects, (c.args.self.now.supported_compression, (c.args.self.now.supported_formats, (c.args.self.now.current_date_time, (c.args.self.now.earliest_retained_change_time, (c.args.self.now.session_id, (c.args.self.now.endpoint_capabilities, tt))))))))) _ _ _ c.in_ok-write-2.ensures.written (piece id_form ((list_form supported_protocol_form) & (list_form supported_data_object_form) & text_form & (list_form text_form) & long_form & long_form & id_form & (named_form data_value_form) & done) c.args.self.now.server_instance_id (c.args.self.now.supported_protocols, (c.args.self.now.supported_data_objects, (c.args.self.now.supported_compression, (c.args.self.now.supported_formats, (c.args.self.now.current_date_time, (c.args.self.now.earliest_retained_change_time, (c.args.self.now.session_id, (c.args.self.now.endpoint_capabilities, tt)))))))) _ _ _ c.in_ok-write-3.ensures.written (piece (list_form supported_protocol_form) ((list_form supported_data_object_form) & text_form & (list_form text_form) & long_form & long_form & id_form & (named_form data_value_form) & done) c.args.self.now.supported_protocols (c.args.self.now.supported_data_objects, (c.args.self.now.supported_compression, (c.args.self.now.supported_formats, (c.args.self.now.current_date_time, (c.args.self.now.earliest_retained_change_time, (c.args.self.now.session_id, (c.args.self.now.endpoint_capabilities, tt))))))) _ _ _ c.in_ok-write-4.ensures.written (piece (list_form supported_data_object_form) (text_form & (list_form text_form) & long_form & long_form & id_form & (named_form data_value_form) & done) c.args.self.now.supported_data_objects (c.args.self.now.supported_compression, (c.args.self.now.supported_formats, (c.args.self.now.current_date_time, (c.args.self.now.earliest_retained_change_time, (c.args.self.now.session_id, (c.args.self.now.endpoint_capabilities, tt)))))) _ _ _ c.in_ok-write-5.ensures.written (piece text_form ((list_form text_form) & long_form & long_form & id_form & (named_form data_value_form) & done) c.args.self.now.supported_compression (c.args.self.now.supported_formats, (c.args.self.now.current_date_time, (c.args.self.now.earliest_retained_change_time, (c.args.self.now.session_id, (c.args.self.now.endpoint_capabilities, tt))))) _ _ _ c.in_ok-write-6.ensures.written (piece (list_form text_form) (long_form & long_form & id_form & (named_form data_value_form) & done) c.args.self.now.supported_formats (c.args.self.now.current_date_time, (c.args.self.now.earliest_retained_change_time, (c.args.self.now.session_id, (c.args.self.now.endpoint_capabilities, tt)))) _ _ _ c.in_ok-write-7.ensures.written (piece long_form (long_form & id_form & (named_form data_value_form) & done) c.args.self.now.current_date_time (c.args.self.now.earliest_retained_change_time, (c.args.self.now.session_id, (c.args.self.now.endpoint_capabilities, tt))) _ _ _ c.in_ok-write-8.ensures.written (piece long_form (id_form & (named_form data_value_form) & done) c.args.self.now.earliest_retained_change_time (c.args.self.now.session_id, (c.args.self.now.endpoint_capabilities, tt)) _ _ _ c.in_ok-write-9.ensures.written (piece id_form ((named_form data_value_form) & done) c.args.self.now.session_id (c.args.self.now.endpoint_capabilities, tt) _ _ _ c.in_ok-write-10.ensures.written (last_piece (named_form data_value_form) c.args.self.now.endpoint_capabilities _ _ c.in_ok-write-11.ensures.written))))))))))
-
-pub returns-clause-typed : goal.returns-clause-typed
-returns-clause-typed c = open_session_holds c.args.self.now c.in_ok-write.ensures.typed c.in_ok-write-2.ensures.typed c.in_ok-write-3.ensures.typed c.in_ok-write-4.ensures.typed c.in_ok-write-5.ensures.typed c.in_ok-write-6.ensures.typed c.in_ok-write-7.ensures.typed c.in_ok-write-8.ensures.typed c.in_ok-write-9.ensures.typed c.in_ok-write-10.ensures.typed c.in_ok-write-11.ensures.typed
-
-pub returns-clause-fits : goal.returns-clause-fits
-returns-clause-fits c = (c.in_ok-write.ensures.fits, (c.in_ok-write-2.ensures.fits, (c.in_ok-write-3.ensures.fits, (c.in_ok-write-4.ensures.fits, (c.in_ok-write-5.ensures.fits, (c.in_ok-write-6.ensures.fits, (c.in_ok-write-7.ensures.fits, (c.in_ok-write-8.ensures.fits, (c.in_ok-write-9.ensures.fits, (c.in_ok-write-10.ensures.fits, (c.in_ok-write-11.ensures.fits, tt)))))))))))
+returns-clause-written c = rw (c.in_ok-write-11.ensures.written, c.in_ok-write-10.ensures.written, c.in_ok-write-9.ensures.written, c.in_ok-write-8.ensures.written, c.in_ok-write-7.ensures.written, c.in_ok-write-6.ensures.written, c.in_ok-write-5.ensures.written, c.in_ok-write-4.ensures.written, c.in_ok-write-3.ensures.written, c.in_ok-write-2.ensures.written, c.in_ok-write.ensures.written) (simp (append_assoc, append-nil))

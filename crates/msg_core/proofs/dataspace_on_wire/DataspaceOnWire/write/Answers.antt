@@ -1,8 +1,7 @@
+use Rattle.std.proofs.Common.{append_assoc}
+use Rattle.std.proofs.lemmas.List.{append-nil}
 use Rattle.std.proofs.lemmas.Result.{err_from_is_err_and}
-use Rattle.etp_schema.specs.DataValue.{data_value_form}
-use Rattle.etp_schema.specs.Form.{long_form, named_form, text_form, done, ◌&◌}
 use Rattle.etp_schema.proofs.WritingLemmas.{grown}
-use Rattle.msg_core.proofs.Records.{piece, last_piece}
 use Rattle.msg_core.proofs.dataspace_on_wire.DataspaceOnWire.write.Goals as goal
 
 pub returns-in_err-write-2-clause-written : goal.returns-in_err-write-2-clause-written
@@ -26,4 +25,4 @@ returns-in_err-write-5-clause-written c =
     rw p.1 (grown _ _ _ _ c.in_ok-write.ensures.written (grown _ _ _ _ c.in_ok-write-2.ensures.written (grown _ _ _ _ c.in_ok-write-3.ensures.written (grown _ _ _ _ c.in_ok-write-4.ensures.written c.in_err-write-5.ensures.written))))
 
 pub returns-clause-written : goal.returns-clause-written
-returns-clause-written c = piece text_form (text_form & long_form & long_form & (named_form data_value_form) & done) c.args.self.now.uri (c.args.self.now.path, (c.args.self.now.store_last_write, (c.args.self.now.store_created, (c.args.self.now.custom_data, tt)))) _ _ _ c.in_ok-write.ensures.written (piece text_form (long_form & long_form & (named_form data_value_form) & done) c.args.self.now.path (c.args.self.now.store_last_write, (c.args.self.now.store_created, (c.args.self.now.custom_data, tt))) _ _ _ c.in_ok-write-2.ensures.written (piece long_form (long_form & (named_form data_value_form) & done) c.args.self.now.store_last_write (c.args.self.now.store_created, (c.args.self.now.custom_data, tt)) _ _ _ c.in_ok-write-3.ensures.written (piece long_form ((named_form data_value_form) & done) c.args.self.now.store_created (c.args.self.now.custom_data, tt) _ _ _ c.in_ok-write-4.ensures.written (last_piece (named_form data_value_form) c.args.self.now.custom_data _ _ c.in_ok-write-5.ensures.written))))
+returns-clause-written c = rw (c.in_ok-write-5.ensures.written, c.in_ok-write-4.ensures.written, c.in_ok-write-3.ensures.written, c.in_ok-write-2.ensures.written, c.in_ok-write.ensures.written) (simp (append_assoc, append-nil))

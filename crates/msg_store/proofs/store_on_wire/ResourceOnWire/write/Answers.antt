@@ -1,10 +1,7 @@
+use Rattle.std.proofs.Common.{append_assoc}
+use Rattle.std.proofs.lemmas.List.{append-nil}
 use Rattle.std.proofs.lemmas.Result.{err_from_is_err_and}
-use Rattle.etp_schema.specs.DataValue.{data_value_form}
-use Rattle.etp_schema.specs.Form.{int_form, list_form, long_form, named_form, option_form, text_form, done, ◌&◌}
-use Rattle.etp_schema.specs.Status.{active_status_kind_form}
-use Rattle.msg_store.specs.Store.{resource_holds}
 use Rattle.etp_schema.proofs.WritingLemmas.{grown}
-use Rattle.msg_store.proofs.Records.{piece, last_piece}
 use Rattle.msg_store.proofs.store_on_wire.ResourceOnWire.write.Goals as goal
 
 pub returns-in_err-write-2-clause-written : goal.returns-in_err-write-2-clause-written
@@ -53,10 +50,4 @@ returns-in_err-write-10-clause-written c =
     rw p.1 (grown _ _ _ _ c.in_ok-write.ensures.written (grown _ _ _ _ c.in_ok-write-2.ensures.written (grown _ _ _ _ c.in_ok-write-3.ensures.written (grown _ _ _ _ c.in_ok-write-4.ensures.written (grown _ _ _ _ c.in_ok-write-5.ensures.written (grown _ _ _ _ c.in_ok-write-6.ensures.written (grown _ _ _ _ c.in_ok-write-7.ensures.written (grown _ _ _ _ c.in_ok-write-8.ensures.written (grown _ _ _ _ c.in_ok-write-9.ensures.written c.in_err-write-10.ensures.written)))))))))
 
 pub returns-clause-written : goal.returns-clause-written
-returns-clause-written c = piece text_form ((list_form text_form) & text_form & (option_form int_form) & (option_form int_form) & long_form & long_form & long_form & active_status_kind_form & (named_form data_value_form) & done) c.args.self.now.uri (c.args.self.now.alternate_uris, (c.args.self.now.name, (c.args.self.now.source_count, (c.args.self.now.target_count, (c.args.self.now.last_changed, (c.args.self.now.store_last_write, (c.args.self.now.store_created, (c.args.self.now.active_status, (c.args.self.now.custom_data, tt))))))))) _ _ _ c.in_ok-write.ensures.written (piece (list_form text_form) (text_form & (option_form int_form) & (option_form int_form) & long_form & long_form & long_form & active_status_kind_form & (named_form data_value_form) & done) c.args.self.now.alternate_uris (c.args.self.now.name, (c.args.self.now.source_count, (c.args.self.now.target_count, (c.args.self.now.last_changed, (c.args.self.now.store_last_write, (c.args.self.now.store_created, (c.args.self.now.active_status, (c.args.self.now.custom_data, tt)))))))) _ _ _ c.in_ok-write-2.ensures.written (piece text_form ((option_form int_form) & (option_form int_form) & long_form & long_form & long_form & active_status_kind_form & (named_form data_value_form) & done) c.args.self.now.name (c.args.self.now.source_count, (c.args.self.now.target_count, (c.args.self.now.last_changed, (c.args.self.now.store_last_write, (c.args.self.now.store_created, (c.args.self.now.active_status, (c.args.self.now.custom_data, tt))))))) _ _ _ c.in_ok-write-3.ensures.written (piece (option_form int_form) ((option_form int_form) & long_form & long_form & long_form & active_status_kind_form & (named_form data_value_form) & done) c.args.self.now.source_count (c.args.self.now.target_count, (c.args.self.now.last_changed, (c.args.self.now.store_last_write, (c.args.self.now.store_created, (c.args.self.now.active_status, (c.args.self.now.custom_data, tt)))))) _ _ _ c.in_ok-write-4.ensures.written (piece (option_form int_form) (long_form & long_form & long_form & active_status_kind_form & (named_form data_value_form) & done) c.args.self.now.target_count (c.args.self.now.last_changed, (c.args.self.now.store_last_write, (c.args.self.now.store_created, (c.args.self.now.active_status, (c.args.self.now.custom_data, tt))))) _ _ _ c.in_ok-write-5.ensures.written (piece long_form (long_form & long_form & active_status_kind_form & (named_form data_value_form) & done) c.args.self.now.last_changed (c.args.self.now.store_last_write, (c.args.self.now.store_created, (c.args.self.now.active_status, (c.args.self.now.custom_data, tt)))) _ _ _ c.in_ok-write-6.ensures.written (piece long_form (long_form & active_status_kind_form & (named_form data_value_form) & done) c.args.self.now.store_last_write (c.args.self.now.store_created, (c.args.self.now.active_status, (c.args.self.now.custom_data, tt))) _ _ _ c.in_ok-write-7.ensures.written (piece long_form (active_status_kind_form & (named_form data_value_form) & done) c.args.self.now.store_created (c.args.self.now.active_status, (c.args.self.now.custom_data, tt)) _ _ _ c.in_ok-write-8.ensures.written (piece active_status_kind_form ((named_form data_value_form) & done) c.args.self.now.active_status (c.args.self.now.custom_data, tt) _ _ _ c.in_ok-write-9.ensures.written (last_piece (named_form data_value_form) c.args.self.now.custom_data _ _ c.in_ok-write-10.ensures.written)))))))))
-
-pub returns-clause-typed : goal.returns-clause-typed
-returns-clause-typed c = resource_holds c.args.self.now c.in_ok-write.ensures.typed c.in_ok-write-2.ensures.typed c.in_ok-write-3.ensures.typed c.in_ok-write-4.ensures.typed c.in_ok-write-5.ensures.typed c.in_ok-write-6.ensures.typed c.in_ok-write-7.ensures.typed c.in_ok-write-8.ensures.typed c.in_ok-write-9.ensures.typed c.in_ok-write-10.ensures.typed
-
-pub returns-clause-fits : goal.returns-clause-fits
-returns-clause-fits c = (c.in_ok-write.ensures.fits, (c.in_ok-write-2.ensures.fits, (c.in_ok-write-3.ensures.fits, (c.in_ok-write-4.ensures.fits, (c.in_ok-write-5.ensures.fits, (c.in_ok-write-6.ensures.fits, (c.in_ok-write-7.ensures.fits, (c.in_ok-write-8.ensures.fits, (c.in_ok-write-9.ensures.fits, (c.in_ok-write-10.ensures.fits, tt))))))))))
+returns-clause-written c = rw (c.in_ok-write-10.ensures.written, c.in_ok-write-9.ensures.written, c.in_ok-write-8.ensures.written, c.in_ok-write-7.ensures.written, c.in_ok-write-6.ensures.written, c.in_ok-write-5.ensures.written, c.in_ok-write-4.ensures.written, c.in_ok-write-3.ensures.written, c.in_ok-write-2.ensures.written, c.in_ok-write.ensures.written) (simp (append_assoc, append-nil))
