@@ -1,5 +1,9 @@
-//! Tests of the tables and of the store over them.
+//! Tests of the store.
 #![tactic(auto)]
 
 #[cfg(test)]
 mod calls;
+#[cfg(test)]
+mod channels;
+#[cfg(test)]
+mod items;
