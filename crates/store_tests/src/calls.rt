@@ -65,7 +65,13 @@ fn space_put(alloc: Global, path: &str, number: i64) -> Result<SpacePut, NoMemor
 }
 
 /// Puts two dataspaces under the names `a` and `b`, with the numbers 1 and 2.
-fn put_two(alloc: Global, store: &mut Store, at: i64, a: &str, b: &str) -> Result<Reply, NoMemory> {
+pub(crate) fn put_two(
+    alloc: Global,
+    store: &mut Store,
+    at: i64,
+    a: &str,
+    b: &str,
+) -> Result<Reply, NoMemory> {
     let mut items = Vec::new(alloc);
     items.push((Text::copy(alloc, "a")?, space_put(alloc, a, 1)?))?;
     items.push((Text::copy(alloc, "b")?, space_put(alloc, b, 2)?))?;
@@ -74,7 +80,12 @@ fn put_two(alloc: Global, store: &mut Store, at: i64, a: &str, b: &str) -> Resul
 }
 
 /// Drops two dataspaces under the names `a` and `b`.
-fn drop_two(alloc: Global, store: &mut Store, a: &str, b: &str) -> Result<Reply, NoMemory> {
+pub(crate) fn drop_two(
+    alloc: Global,
+    store: &mut Store,
+    a: &str,
+    b: &str,
+) -> Result<Reply, NoMemory> {
     let mut items = Vec::new(alloc);
     items.push((Text::copy(alloc, "a")?, Text::copy(alloc, a)?))?;
     items.push((Text::copy(alloc, "b")?, Text::copy(alloc, b)?))?;

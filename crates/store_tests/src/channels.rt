@@ -32,8 +32,13 @@ fn def(alloc: Global, number: u8, kind: ValueKind) -> Result<ChannelDef, NoMemor
     })
 }
 
-/// A store whose journal takes so many entries.
-fn store(alloc: Global, journal: u64) -> Result<Store, NoMemory> {
+/// A store whose journal takes so many entries, and whose subscriptions may be three of them behind.
+pub(crate) fn store(alloc: Global, journal: u64) -> Result<Store, NoMemory> {
+    patient_store(alloc, journal, 3)
+}
+
+/// The same where they may be so many behind.
+pub(crate) fn patient_store(alloc: Global, journal: u64, lag: u64) -> Result<Store, NoMemory> {
     let mut channels = Vec::new(alloc);
     channels.push(def(alloc, 0, ValueKind::Long)?)?;
     channels.push(def(alloc, 1, ValueKind::Long)?)?;
@@ -41,7 +46,7 @@ fn store(alloc: Global, journal: u64) -> Result<Store, NoMemory> {
     let config = Config {
         instance: Id16::from_bytes([1; 16]),
         name: Text::copy(alloc, "wd")?,
-        lag: 3,
+        lag,
         journal,
         types: None,
         channels: Shared::new(alloc, List::from_vec(channels))?,
@@ -64,12 +69,16 @@ fn items(alloc: Global, rows: &[(i64, i64)]) -> Result<List<ChannelPoint>, NoMem
     Ok(List::from_vec(items))
 }
 
-fn append(alloc: Global, store: &mut Store, rows: &[(i64, i64)]) -> Result<Reply, NoMemory> {
+pub(crate) fn append(
+    alloc: Global,
+    store: &mut Store,
+    rows: &[(i64, i64)],
+) -> Result<Reply, NoMemory> {
     let items = items(alloc, rows)?;
     ask(alloc, store, 5, StoreCall::Append { items })
 }
 
-fn replace(
+pub(crate) fn replace(
     alloc: Global,
     store: &mut Store,
     channels: &[i64],
@@ -87,7 +96,11 @@ fn replace(
 }
 
 /// Cuts under the names `a`, `b` and `c`, by channel and end.
-fn truncate(alloc: Global, store: &mut Store, rows: [(i64, i64); 3]) -> Result<Reply, NoMemory> {
+pub(crate) fn truncate(
+    alloc: Global,
+    store: &mut Store,
+    rows: [(i64, i64); 3],
+) -> Result<Reply, NoMemory> {
     let mut items = Vec::new(alloc);
     for (name, row) in ["a", "b", "c"].iter().zip(&rows) {
         let cut = Cutting {

@@ -11,7 +11,7 @@ use store_machine::*;
 use tx_stage::{Key, Op, OpWhat};
 
 /// The object of a number in a dataspace.
-fn uri(alloc: Global, space: &str, number: u8) -> Result<StoreUri, NoMemory> {
+pub(crate) fn uri(alloc: Global, space: &str, number: u8) -> Result<StoreUri, NoMemory> {
     let object = ObjectName {
         domain: Text::copy(alloc, "witsml21")?,
         name: Text::copy(alloc, "Well")?,
@@ -24,7 +24,7 @@ fn uri(alloc: Global, space: &str, number: u8) -> Result<StoreUri, NoMemory> {
 }
 
 /// An operation that sets an object to these bytes.
-fn set(alloc: Global, space: &str, number: u8, data: &[u8]) -> Result<Op, NoMemory> {
+pub(crate) fn set(alloc: Global, space: &str, number: u8, data: &[u8]) -> Result<Op, NoMemory> {
     let object = ObjectRecord {
         uri: uri(alloc, space, number)?,
         others: List::new(alloc),
@@ -45,7 +45,7 @@ fn set(alloc: Global, space: &str, number: u8, data: &[u8]) -> Result<Op, NoMemo
 }
 
 /// An operation that removes the object of a number in the default dataspace.
-fn gone(alloc: Global, number: u8) -> Result<Op, NoMemory> {
+pub(crate) fn gone(alloc: Global, number: u8) -> Result<Op, NoMemory> {
     Ok(Op {
         key: Key::Object(uri(alloc, "", number)?),
         what: OpWhat::Gone,
@@ -108,7 +108,7 @@ fn patch_last(alloc: Global, number: u8) -> Result<Op, NoMemory> {
 }
 
 /// What becomes of one operation.
-fn put(alloc: Global, store: &mut Store, op: Op) -> Result<Option<Verdict>, NoMemory> {
+pub(crate) fn put(alloc: Global, store: &mut Store, op: Op) -> Result<Option<Verdict>, NoMemory> {
     let mut items = Vec::new(alloc);
     items.push((Text::copy(alloc, "a")?, op))?;
     let items = Named::from_pairs(items)?.unwrap_or(Named::new(alloc));

@@ -6,4 +6,8 @@ mod calls;
 #[cfg(test)]
 mod channels;
 #[cfg(test)]
+mod commits;
+#[cfg(test)]
 mod items;
+#[cfg(test)]
+mod news;

@@ -1,0 +1,106 @@
+-- What subscriptions are to be told of, entry by entry.
+use Rattle.std.specs.Prelude.{ℕ, ℤ, zero, suc, pos, min, ◌≡◌, ◌≤◌, ◌<◌, ◌+◌, ◌==◌, ◌&&◌, ◌||◌, not, nat_lt, nat_le, int_lt, Bool, true, false, List, [], ◌∷◌, ◌++◌, Option, Some, None, if◌then◌else◌, length, map, filter, find, take, drop}
+use Rattle.std.specs.List.{flat_map, list_any, range_with_len}
+use Rattle.std.specs.Option.{option_to_list}
+use Rattle.std.specs.Ordering.{int_eq}
+use Rattle.etp_values.specs.Weight.{weigh}
+use Rattle.chan_defs.specs.declared.config.Config.{Config}
+use Rattle.channel_store.specs.declared.change.ChannelChange.{ChannelChange}
+use Rattle.channel_store.specs.declared.change.What.{What}
+use Rattle.channel_store.specs.declared.subscription.Sub.{Sub}
+use Rattle.channel_points.specs.Splits.{RisesBy}
+use Rattle.channel_store.specs.Channels.{Channel, whats_of}
+use Rattle.channel_store.specs.Points as told
+use Rattle.channel_store.specs.Store.{changes_at}
+use Rattle.channel_store.specs.Told.{change_bytes}
+use Rattle.store_machine.specs.declared.call.Reply.{Reply}
+use Rattle.store_machine.specs.declared.call.Reply.TheVariants as replied
+use Rattle.store_machine.specs.declared.journal.Entry.{Entry}
+use Rattle.store_machine.specs.declared.news.Followed.{Followed}
+use Rattle.store_machine.specs.declared.news.TheConstants.{MAX_CHANGES, MAX_CHANGE_BYTES}
+use Rattle.store_machine.specs.Channels.{change_by, changes_from, channel_points}
+
+-- ---- what is due
+
+-- the changes of the entry at a place, in the order of the channels' ids
+abbrev pub changes_at_entry : Config → ℕ → Entry → List ChannelChange
+changes_at_entry config place e = flat_map (λ k. change_by place (pos k) e) (range_with_len 0 (length config.channels))
+
+-- a change is due where some subscription is of its channel and told of its place
+abbrev pub is_due : List Sub → ChannelChange → Bool
+is_due subs c = list_any (λ (s : Sub). int_eq s.channel c.channel && nat_le s.from c.place) subs
+
+-- the due changes of entries in order, entry by entry; the first stands at `place`
+abbrev pub dues : Config → List Sub → ℕ → List Entry → List (List ChannelChange)
+dues config subs place [] = []
+dues config subs place (e ∷ es) = filter (is_due subs) (changes_at_entry config place e) ∷ dues config subs (place + 1) es
+
+abbrev pub is_some_due : List ChannelChange → Bool
+is_some_due [] = false
+is_some_due (c ∷ cs) = true
+
+-- how many entries have a due change
+abbrev pub lag : List (List ChannelChange) → ℕ
+lag ds = length (filter is_some_due ds)
+
+-- ---- what is taken
+
+-- an entry's due changes fit behind so many, whose points count so much; an entry without any does, and so does the first
+abbrev pub fits_behind : ℕ → ℕ → List ChannelChange → Bool
+fits_behind n b d = not (is_some_due d) || (nat_le n 0 || (nat_le (n + length d) MAX_CHANGES && nat_le (b + weigh change_bytes d) MAX_CHANGE_BYTES))
+
+-- the entries that are taken, from the first on as long as they fit
+abbrev pub taken : ℕ → ℕ → List (List ChannelChange) → List (List ChannelChange)
+taken n b [] = []
+taken n b (d ∷ ds) = if fits_behind n b d then d ∷ taken (n + length d) (b + weigh change_bytes d) ds else []
+
+abbrev pub joined : List (List ChannelChange) → List ChannelChange
+joined ds = flat_map (λ (d : List ChannelChange). d) ds
+
+-- ---- the reply
+
+-- by the due changes of the entries from `from` on, of a journal of the length `mark`: none of them where more than `limit`
+-- entries have any
+abbrev pub news_by : ℕ → ℕ → ℕ → List (List ChannelChange) → Reply
+news_by limit from mark ds =
+    if nat_lt limit (lag ds) then replied.News mark (lag ds) []
+    else replied.News (from + length (taken 0 0 ds)) (lag ds) (joined (taken 0 0 ds))
+
+-- the same after a history, from a cursor on
+unfoldable pub news_after : Config → List Entry → ℕ → List Sub → Reply
+news_after config history cursor subs =
+    news_by config.lag (min cursor (length history)) (length history) (dues config subs (min cursor (length history)) (drop (min cursor (length history)) history))
+
+-- ---- streams
+
+-- what a subscription of a channel is told that was made when the journal had the length `m`: the points from its start on, and
+-- then each later change, from its start on and by its kind
+abbrev pub stream : ℤ → ℤ → Bool → ℕ → List Entry → List What
+stream id start all m history = told.stream start all (channel_points id (take m history)) (whats_of (changes_from m id (drop m history)))
+
+-- ---- what the code relies on
+
+-- a channel that is followed is changed at a place at or past its first one
+abbrev pub is_followed : List Followed → ChannelChange → Bool
+is_followed fs c = list_any (λ (f : Followed). int_eq f.channel c.channel && nat_le f.from c.place) fs
+
+-- channels in the order of their ids, followed wherever these subscriptions have them due
+pub record Follows (subs : List Sub) (fs : List Followed) : Type 0 where
+  pub rise : RisesBy (λ (f g : Followed). int_lt f.channel g.channel ≡ true) fs
+  pub same : (c : ChannelChange) → is_followed fs c ≡ is_due subs c
+
+-- the due changes of the entry at a place, by the changes that the channels keep
+abbrev pub due_at : List Channel → List Followed → ℕ → List ChannelChange
+due_at cs [] place = []
+due_at cs (f ∷ fs) place =
+    (if nat_le f.from place then option_to_list (find (λ (x : ChannelChange). x.place == place) (changes_at cs f.channel)) else []) ++ due_at cs fs place
+
+-- the first place from one on whose entry has a due change is this one, or there is none
+abbrev pub IsNextDue : List Channel → List Followed → ℕ → Option ℕ → Type 0
+IsNextDue cs fs place None = (p : ℕ) → place ≤ p → due_at cs fs p ≡ []
+IsNextDue cs fs place (Some next) = (place ≤ next) × ((due_at cs fs next ≡ [] → ⊥) × ((p : ℕ) → place ≤ p → p < next → due_at cs fs p ≡ []))
+
+-- the due changes of so many entries, entry by entry; the first stands at `place`
+abbrev pub dues_at : List Channel → List Followed → ℕ → ℕ → List (List ChannelChange)
+dues_at cs fs place zero = []
+dues_at cs fs place (suc count) = due_at cs fs place ∷ dues_at cs fs (place + 1) count
