@@ -3,12 +3,9 @@ ghost use Rattle.std.specs.Prelude.{◌≡◌, ◌++◌, ◌∷◌, [], OnOk, On
 ghost use Rattle.tx_stage.specs.State.{state_in, state_now};
 ghost use Rattle.tx_stage.specs.declared.key.Key.{Key};
 
-use crate::alterations::{Alterations, Altered};
-use crate::boxed::BoxedItems;
 use crate::call::{Cutting, SpacePut};
 use channel_points::ChannelPoints;
-use etp_values::{List, NoMemory, Text};
-use std::alloc::Global;
+use etp_values::{Boxed, List, NoMemory, Text};
 use tx_stage::{Contents, Op, Plan, Staged};
 
 /// What an entry did: its accepted items, in order.
@@ -28,7 +25,7 @@ pub enum Act {
         channels: List<i64>,
         from: i64,
         to: i64,
-        items: BoxedItems,
+        items: Boxed<ChannelPoints>,
     },
     /// Channels that lost the points above their ends.
     Truncate(List<Cutting>),
@@ -43,21 +40,10 @@ pub struct Entry {
     pub act: Act,
 }
 
-/// Adds an entry that has no plan.
-pub(crate) fn push_entry(journal: &mut Vec<Entry>, entry: Entry) -> Result<(), NoMemory>
-    ensures journal { OnOk result (journal.new.items ≡ journal.old.items ++ entry ∷ []) }
-    ensures kept { OnErr result (journal.new.items ≡ journal.old.items) }
-{
-    journal.push(entry)?;
-    Ok(())
-}
-
 /// Does a plan, and adds its entry. All memory is taken before anything changes.
 pub(crate) fn add_entry(
-    alloc: Global,
     journal: &mut Vec<Entry>,
     contents: &mut Contents,
-    alterations: &mut Alterations,
     plan: Plan,
     entry: Entry,
 ) -> Result<(), NoMemory>
@@ -66,11 +52,8 @@ pub(crate) fn add_entry(
     ensures kept { OnErr result (journal.new.items ≡ journal.old.items) }
     ensures same { OnErr result ((key : Key) → state_in contents.new key ≡ state_in contents.old key) }
 {
-    let altered = Altered::by(alloc, &entry.act)?;
     journal.reserve(1)?;
-    alterations.reserve(&altered)?;
     contents.apply(plan)?;
-    alterations.note(journal.len() as u64, altered);
     let _ = journal.push(entry);
     Ok(())
 }

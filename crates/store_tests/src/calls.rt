@@ -65,13 +65,7 @@ fn space_put(alloc: Global, path: &str, number: i64) -> Result<SpacePut, NoMemor
 }
 
 /// Puts two dataspaces under the names `a` and `b`, with the numbers 1 and 2.
-pub(crate) fn put_two(
-    alloc: Global,
-    store: &mut Store,
-    at: i64,
-    a: &str,
-    b: &str,
-) -> Result<Reply, NoMemory> {
+fn put_two(alloc: Global, store: &mut Store, at: i64, a: &str, b: &str) -> Result<Reply, NoMemory> {
     let mut items = Vec::new(alloc);
     items.push((Text::copy(alloc, "a")?, space_put(alloc, a, 1)?))?;
     items.push((Text::copy(alloc, "b")?, space_put(alloc, b, 2)?))?;
@@ -80,12 +74,7 @@ pub(crate) fn put_two(
 }
 
 /// Drops two dataspaces under the names `a` and `b`.
-pub(crate) fn drop_two(
-    alloc: Global,
-    store: &mut Store,
-    a: &str,
-    b: &str,
-) -> Result<Reply, NoMemory> {
+fn drop_two(alloc: Global, store: &mut Store, a: &str, b: &str) -> Result<Reply, NoMemory> {
     let mut items = Vec::new(alloc);
     items.push((Text::copy(alloc, "a")?, Text::copy(alloc, a)?))?;
     items.push((Text::copy(alloc, "b")?, Text::copy(alloc, b)?))?;
@@ -167,14 +156,12 @@ fn a_journal_of_three_entries_takes_one_put(rt: HostRuntime) -> Result<(), Fail>
     let alloc = rt.alloc();
     let mut store = store(alloc, 3)?;
     let entered = store.ask(alloc, 0, 0, 5, StoreCall::Enter)?;
-    assert!(rt; entered.mark == 1 && matches!(&entered.reply, Reply::Entered(1)));
+    assert!(rt; entered.mark == 1 && entered.reply == Reply::Entered(1));
     assert!(rt; is_first(&store, 1, 1, 5));
     let put = put_two(alloc, &mut store, 6, "w", "v")?;
     assert!(rt; are(&put, ACCEPTED, ACCEPTED));
-    let full = put_two(alloc, &mut store, 7, "x", "y")?;
-    assert!(rt; matches!(&full, Reply::JournalFull));
-    let refused = store.ask(alloc, 0, 0, 8, StoreCall::Enter)?;
-    assert!(rt; matches!(&refused.reply, Reply::JournalFull));
+    assert!(rt; put_two(alloc, &mut store, 7, "x", "y")? == Reply::JournalFull);
+    assert!(rt; store.ask(alloc, 0, 0, 8, StoreCall::Enter)?.reply == Reply::JournalFull);
     assert!(rt; store.entries() == 3);
     Ok(())
 }

@@ -1,13 +1,5 @@
-//! Tests of the store.
+//! Tests of the tables and of the store over them.
 #![tactic(auto)]
 
 #[cfg(test)]
 mod calls;
-#[cfg(test)]
-mod channels;
-#[cfg(test)]
-mod commits;
-#[cfg(test)]
-mod items;
-#[cfg(test)]
-mod news;
