@@ -8,4 +8,3 @@ pub mod PieceLemmas
 pub mod PlaceLemmas
 pub mod KeptLemmas
 pub mod JoinLemmas
-pub mod TypedLemmas

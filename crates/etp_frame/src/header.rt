@@ -4,8 +4,8 @@ ghost use Rattle.etp_frame.specs.Header.{has_flag};
 ghost use Rattle.etp_frame.specs.Message.{Names};
 
 use crate::message::Message;
-use avro_bin::{Fault, Tree};
-use etp_schema::{Fields, InTree, Measure, OnWire, Reader, record_of};
+use avro_bin::Tree;
+use etp_schema::{Fields, InTree, record_of};
 use etp_values::NoMemory;
 use std::alloc::Global;
 
@@ -49,38 +49,6 @@ impl InTree for Header {
             id: fields.take()?,
             flags: fields.take()?,
         })
-    }
-}
-
-impl OnWire for Header {
-    fn read(from: &mut Reader<'_>) -> Result<Header, Fault> {
-        from.node()?;
-        Ok(Header {
-            protocol: from.take()?,
-            kind: from.take()?,
-            correlation: from.take()?,
-            id: from.take()?,
-            flags: from.take()?,
-        })
-    }
-
-    #[tactic(auto, using(crate::specs::Header::header_holds))]
-    fn write(&self, into: &mut Vec<u8>) -> Result<(), NoMemory> {
-        self.protocol.write(into)?;
-        self.kind.write(into)?;
-        self.correlation.write(into)?;
-        self.id.write(into)?;
-        self.flags.write(into)?;
-        Ok(())
-    }
-
-    fn measure(&self) -> Measure {
-        Measure::of_record()
-            .with(&self.protocol)
-            .with(&self.kind)
-            .with(&self.correlation)
-            .with(&self.id)
-            .with(&self.flags)
     }
 }
 

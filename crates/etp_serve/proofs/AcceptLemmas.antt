@@ -2,7 +2,6 @@
 use Rattle.std.proofs.Common.{◌≡◌, ◌≤◌, ◌<◌, ◌+◌, ◌-◌, ℕ, suc, ℤ, Bool, true, false, List, [], ◌∷◌, ◌++◌, length, map, None, Some, refl, ap, sym, ◌∙◌, subst, inl, inr, arith, append_assoc, length-append}
 use Rattle.std.proofs.lemmas.List.{append-nil}
 use Rattle.std.specs.Prelude.{IfSome, IsSome}
-use Rattle.std.specs.Option.{option_to_list}
 use Rattle.std.specs.List.{AllByRecursion}
 use Rattle.std.specs.declared.option.Option.{Option}
 use mathlib.Core.List.{IsPrefix}
@@ -24,13 +23,14 @@ use Rattle.turn_book.specs.Rules.{IsSettled}
 use Rattle.turn_book.specs.Steps.{met_of}
 use Rattle.turn_book.specs.declared.view.Met.{Met}
 use Rattle.turn_book.proofs.ListLemmas.{each_right, rises_wider}
+use Rattle.store_hub.specs.declared.hub.Hub.{Hub}
 use Rattle.store_hub.specs.Notes.{Meets, SeesMore}
 use Rattle.store_hub.specs.Words.{Known, by_of, enters_of}
 use Rattle.session_core.specs.Arriving.{Event}
 use Rattle.session_core.specs.Run.{AllWithin, Course, run}
 use Rattle.session_core.specs.Session.{bytes_of, end_of}
 use Rattle.session_core.specs.declared.state.Outgoing.{Outgoing}
-use Rattle.etp_serve.specs.Accepted.{Accepts, AsSession, Backs, Came, HadMemory, HadMemoryBut, IsBack, IsCame, IsDone, IsLeft, IsOfItsOwn, IsOneLess, IsReached, IsSettledIn, OnFull, OnLack, ServesAll, Session, WasServed, end_number, mets}
+use Rattle.etp_serve.specs.Accepted.{Accepts, AsSession, Backs, Came, HadMemory, HadMemoryBut, IsBack, IsBegun, IsCame, IsDone, IsLeft, IsOfItsOwn, IsOneLess, IsReached, IsSettledIn, OnFull, OnLack, ServesAll, Session, WasServed, end_number, mets}
 use Rattle.etp_serve.specs.Ends.{EndsAs, HasCause}
 use Rattle.etp_serve.specs.Events.{AllOpen, events}
 use Rattle.etp_serve.specs.Laws.{Laws}
@@ -39,6 +39,7 @@ use Rattle.etp_serve.specs.Talks.{IsSent}
 use Rattle.etp_serve.specs.declared.ended.Ended.{Ended}
 use Rattle.etp_serve.specs.declared.served.Served.{Served}
 use Rattle.etp_serve.specs.declared.served.Served.TheVariants.{Stopped, ListenFault, NoMemory}
+use Rattle.etp_serve.specs.declared.thread.Started.{Started}
 use Rattle.etp_serve.proofs.Rans.{within_all}
 use Rattle.etp_serve.proofs.Turns.{sent_all}
 
@@ -79,23 +80,23 @@ served_longer laws config old new end n places moments fronts taken pre mine s =
       heeds = same.1 s.heeds;
     }
 
-was_served : Laws → (test : List ℤ → Bool) (config : Config) (h : List Entry) (s : Session) → IsPrefix s.met.seen h → own by_of s.met.number h ≡ own by_of s.met.number s.met.seen → WasServed test config s.met.seen s → WasServed test config h s
-was_served laws test config h s pre mine w =
+pub was_served : Laws → (test : List ℤ → Bool) (config : Config) (old new : List Entry) (s : Session) → IsPrefix old new → own by_of s.met.number new ≡ own by_of s.met.number old → WasServed test config old s → WasServed test config new s
+was_served laws test config old new s pre mine w =
     let n : ℕ = s.met.number in
     let es : List Event = events s.taken s.moments s.met.heard in
-    let within : AllWithin (length s.met.seen) w.places = (within_all (n + 1) w.places (length s.met.seen) w.served.rises).1 in
+    let within : AllWithin (length old) w.places = (within_all (n + 1) w.places (length old) w.served.rises).1 in
     record {
       places = w.places;
       places_are = w.places_are;
       passes = w.passes;
-      served = served_longer laws config s.met.seen h s.end n w.places s.moments s.met.heard s.taken pre mine w.served;
-      all_sent = subst (λ (c : Course). IsSent s.end (map bytes_of c.sent) s.sent) (sym (laws.same config n s.met.seen h w.places es pre within).0) w.all_sent;
+      served = served_longer laws config old new s.end n w.places s.moments s.met.heard s.taken pre mine w.served;
+      all_sent = subst (λ (c : Course). IsSent s.end (map bytes_of c.sent) s.sent) (sym (laws.same config n old new w.places es pre within).0) w.all_sent;
     }
 
 came_all : Laws → (test : List ℤ → Bool) (config : Config) (low : ℕ) (h : List Entry) (cs : List Came) → AllByRecursion (IsOfItsOwn test config low) cs → AllByRecursion (IsSettledIn config h) cs → AllByRecursion (IsCame test config low h) cs
 came_all laws test config low h [] each settled = tt
 came_all laws test config low h (AsSession s ∷ cs) each settled =
-    ((each.0.0, was_served laws test config h s settled.0.0 settled.0.1 each.0.1), came_all laws test config low h cs each.1 settled.1)
+    ((each.0.0, was_served laws test config s.met.seen h s settled.0.0 settled.0.1 each.0.1), came_all laws test config low h cs each.1 settled.1)
 came_all laws test config low h (OnFull ∷ cs) each settled = (settled.0, came_all laws test config low h cs each.1 settled.1)
 came_all laws test config low h (OnLack ∷ cs) each settled = (tt, came_all laws test config low h cs each.1 settled.1)
 
@@ -270,20 +271,6 @@ module _ (test : List ℤ → Bool) (config : Config) (v0 : Known) (given0 : ℕ
     memory = tt;
   }
 
-  -- a link was given
-  pub accepts_given : (v : Known) (given now left : ℕ) (b : Option (List Back)) → now ≡ given + 1 → Accepts Stopped test config v0 v given0 given left b0 b → Accepts Stopped test config v0 v given0 now (suc left) b0 b
-  accepts_given v given now left b one a = record {
-    came = a.came;
-    met = a.met;
-    before = a.before;
-    each = a.each;
-    settled = a.settled;
-    count = omega (arith, a.count, one);
-    few = a.few;
-    links = a.links;
-    memory = a.memory;
-  }
-
   -- the serving ends
   pub accepts_until : (end : Served) (v : Known) (given left : ℕ) (b : Option (List Back)) → Accepts Stopped test config v0 v given0 given left b0 b → Accepts end test config v0 v given0 given left b0 b
   accepts_until end v given left b a = record {
@@ -369,19 +356,21 @@ accepts_at end test config v0 v0' v given0 given0' given left left' b0 b0' b vie
     (subst (λ (x : ℕ). Accepts end test config v0 v x given left' b0' b) (sym count)
     (subst (λ (x : ℕ). Accepts end test config v0 v given0 given x b0' b) (sym more) (subst (λ (x : Option (List Back)). Accepts end test config v0 v given0 given left x b) (sym backs) a)))
 
--- ---- children that are taken out and put back
+-- what a thread was given, by what its promise has
+pub begun_as : {L C : Type 0} (talk : L → Option Talk) (faults : L → ℕ) (over : L → Bool) (tests : C → List ℤ → Bool) (hub : Hub) (test : List ℤ → Bool) (low : ℕ) (b0 : Option (List Back)) (p : Started L C) (link : L) (n : ℕ)
+    → p.hub.value ≡ hub → tests p.clock.value ≡ test → p.number ≡ n → p.link.value ≡ link → low ≤ n → IsAccepted (talk link) (faults link) (over link) → (IsSome b0 → IsSome (talk link)) → IsBegun talk faults over tests hub test low b0 p
+begun_as {L} talk faults over tests hub test low b0 p link n hub_is test_is number_is link_is late fresh tells = record {
+  hub_is = hub_is;
+  test_is = test_is;
+  late = subst (λ (k : ℕ). low ≤ k) (sym number_is) late;
+  fresh = subst (λ (l : L). IsAccepted (talk l) (faults l) (over l)) (sym link_is) fresh;
+  tells = subst (λ (l : L). IsSome b0 → IsSome (talk l)) (sym link_is) tells;
+}
 
-pub popped : {X : Type 0} (P : X → Type 0) (old : List X) (r : Option X) (new : List X) (x : X) → r ≡ Some x → old ≡ option_to_list r ++ new → AllByRecursion P old → P x × (AllByRecursion P new × (length old ≡ suc (length new)))
-popped {X} P old r new x is items all =
-    let are : old ≡ x ∷ new = items ∙ ap (λ (o : Option X). option_to_list o ++ new) is in
-    let each : AllByRecursion P (x ∷ new) = subst (AllByRecursion P) are all in
-    (each.0, (each.1, ap length are))
+-- ---- a child that is put behind the others
 
 pub pushed : {X : Type 0} (P : X → Type 0) (old new : List X) (x : X) → new ≡ old ++ x ∷ [] → AllByRecursion P old → P x → AllByRecursion P new
 pushed P old new x is all p = subst (AllByRecursion P) (sym is) (all-append P old (x ∷ []) all (p, tt))
-
-pub pushed_length : {X : Type 0} (old new : List X) (x : X) → new ≡ old ++ x ∷ [] → length new ≡ suc (length old)
-pushed_length old new x is = let long : length new ≡ length (old ++ x ∷ []) = ap length is in let sum = length-append old (x ∷ []) in omega (arith, long, sum)
 
 -- ---- how many links may still come
 

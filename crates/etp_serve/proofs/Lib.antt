@@ -7,3 +7,5 @@ pub mod Settling
 pub mod Turns
 pub mod Tails
 pub mod AcceptLemmas
+pub mod CloseLemmas
+pub mod EnteredLemmas

@@ -5,3 +5,4 @@ pub mod Steps
 pub mod Laws
 pub mod Served
 pub mod Accepted
+pub mod Closing

@@ -1,5 +1,5 @@
 //! Sessions that are served in threads of their own, until they are taken in.
-ghost use Rattle.std.specs.Prelude.{◌≡◌, ◌≤◌, ◌<◌, ◌++◌, ◌∷◌, [], ℕ, suc, List, ℤ, Bool, false, Option, None, length};
+ghost use Rattle.std.specs.Prelude.{◌≡◌, ◌≤◌, ◌<◌, ◌+◌, ◌++◌, ◌∷◌, [], ℕ, suc, List, ℤ, Bool, false, Option, None, length};
 ghost use Rattle.std.specs.List.{AllByRecursion};
 ghost use Rattle.std.specs.VecDeque.{deque_capacity, deque_len};
 ghost use Rattle.etp_outside.specs.Doors.{Back, TakesBack, back_of};
@@ -101,6 +101,7 @@ pub(crate) fn join_child<A: Listener, C: Clock, R: Threads>(
 pub(crate) fn put_last<T: Drop>(children: &mut VecDeque<T>, child: T)
     requires room { deque_len children.old < deque_capacity children.old }
     ensures items { children.new.items ≡ children.old.items ++ child ∷ [] }
+    ensures more { deque_len children.new ≡ deque_len children.old + 1 }
     ensures capacity { deque_capacity children.new ≡ deque_capacity children.old }
 {
     let Ok(()) = children.push_back(child) else {

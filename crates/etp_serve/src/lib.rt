@@ -8,6 +8,9 @@
 //! [`serve_all`] serves the links that a [`Listener`] gives, each in a thread of its own. Its contract (`ServesAll` in
 //! `specs/Accepted`) says of each link what became of it: the session that was served over it, or why there was none.
 //!
+//! [`closing_laws`] says that this holds over the journal that the store has in the end, too (`ServedOver` in
+//! `specs/Closing`).
+//!
 //! A turn is made of events (`specs/Events`), and an event of an answer of the store and of messages that are sent
 //! (`specs/Steps`). How the serving of a session ended is an [`Ended`], and what the link shows of it is `HasCause` in
 //! `specs/Ends`.
@@ -27,5 +30,6 @@ mod thread;
 
 pub use accepting::serve_all;
 pub use ended::Ended;
+pub use laws::closing_laws;
 pub use served::Served;
 pub use serving::serve_session;

@@ -30,6 +30,7 @@ fn each_link_has_a_session_of_its_own(rt: HostRuntime) -> Result<(), Fail> {
     for back in door.returned() {
         assert!(&rt; back.end == 1 && back.link.sent().len() == 2);
         assert!(&rt; back.link.sent()[1].as_bytes() == PUT_DATASPACES_RESPONSE);
+        assert!(&rt; back.number < 64);
         numbers |= 1u64.wrapping_shl(back.number as u32);
     }
     // three sessions, each with a number of its own and one entry more

@@ -1,5 +1,5 @@
 //! A listener that tells where it listens.
-ghost use Rattle.std.specs.Prelude.{None};
+ghost use Rattle.std.specs.Prelude.{◌≡◌, None};
 
 use etp_outside::{Listened, Listener, Next, Sink, write_all};
 use outside_net::{ServerLink, TcpDoor};
@@ -25,7 +25,9 @@ impl<'a, R: Net<Listener = TcpListener, Stream = TcpStream>, W: Sink> ToldDoor<'
     }
 
     /// Writes the line. What can't be written is lost.
-    fn tell(&mut self) {
+    fn tell(&mut self)
+        ensures { self.new.door ≡ self.old.door }
+    {
         let Some(port) = self.door.port() else {
             return;
         };

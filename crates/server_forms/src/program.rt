@@ -1,4 +1,7 @@
 //! The server over the system: its words, files, sockets and streams, the status line, and the exit status.
+ghost use Rattle.std.specs.Prelude.{◌≡◌, ◌++◌, OnOk};
+ghost use Rattle.server_forms.specs.Program.{IsTold, ending, told};
+
 use crate::door::ToldDoor;
 use crate::run::run_server;
 use etp_outside::{DirHost, NoGate, Sink, Status, StdSink, WallClock, write_all};
@@ -95,7 +98,9 @@ fn words<R: AllocGlobal + Env>(rt: &R) -> Result<Vec<String>, Status> {
 
 /// Writes the status line, and behind that of words in no form how the program is called. `Done` has no line. What can't be
 /// written is lost; the line of `NoMemory` needs no memory.
-fn tell<W: Sink>(alloc: Global, status: Status, errors: &mut W) {
+pub fn tell<W: Sink>(alloc: Global, status: Status, errors: &mut W)
+    ensures { IsTold (told status) (W.held errors.old) (W.held errors.new) }
+{
     match status {
         Status::NoMemory => return write_front(errors, b"no memory\n"),
         _ => {}
@@ -108,19 +113,25 @@ fn tell<W: Sink>(alloc: Global, status: Status, errors: &mut W) {
 }
 
 /// Writes a piece, or what of its front can be written.
-fn write_front<W: Sink>(errors: &mut W, piece: &[u8]) {
+fn write_front<W: Sink>(errors: &mut W, piece: &[u8])
+    ensures { IsTold piece.now (W.held errors.old) (W.held errors.new) }
+{
     let _ = write_all(errors, piece);
 }
 
 /// Appends all that is told of a status.
-fn push_told(alloc: Global, status: Status, into: &mut Vec<u8>) -> Result<(), NoMemory> {
+fn push_told(alloc: Global, status: Status, into: &mut Vec<u8>) -> Result<(), NoMemory>
+    ensures { OnOk result (into.new.items ≡ into.old.items ++ told status) }
+{
     status.line(alloc, into)?;
     into.extend_from_slice(ending(status))?;
     Ok(())
 }
 
 /// What follows a status line.
-fn ending(status: Status) -> &'static [u8] {
+fn ending(status: Status) -> &'static [u8]
+    ensures { result.now ≡ ending status }
+{
     match status {
         Status::Done => b"",
         Status::Usage => USAGE,

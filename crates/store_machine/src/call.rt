@@ -1,5 +1,5 @@
 //! What a store is asked, and what it answers.
-use channel_store::ChannelChange;
+use channel_store::{ChannelChange, Sub};
 use etp_values::{
     ChannelPoint, Copied, DataValue, ErrorCode, List, Named, NoMemory, Point, StoreUri, Text,
 };
@@ -48,17 +48,8 @@ pub struct StartAsk {
     pub all: bool,
 }
 
-/// A subscription that stands: the index that it starts at, and the place of the journal from which on it is told of changes.
-#[derive(Clone, Copy, Debug, Drop, PartialEq, Eq)]
-pub struct Sub {
-    pub channel: i64,
-    pub start: i64,
-    pub from: u64,
-    pub all: bool,
-}
-
 /// A call. Items under names are taken in the order of their names, and each sees the earlier ones.
-#[derive(Debug, Drop, PartialEq, Eq)]
+#[derive(Drop)]
 pub enum StoreCall {
     /// Lets a session in.
     Enter,
@@ -143,14 +134,14 @@ pub enum MetaReply {
 }
 
 /// Where a subscription starts, and the points from there on.
-#[derive(Debug, Drop, PartialEq, Eq)]
+#[derive(Drop)]
 pub enum StartReply {
     From { start: i64, points: List<Point> },
     Refused(ErrorCode),
 }
 
 /// The reply to a call.
-#[derive(Debug, Drop, PartialEq, Eq)]
+#[derive(Drop)]
 pub enum Reply {
     /// The session is let in; its number is the place of its entry.
     Entered(u64),
@@ -185,7 +176,7 @@ pub enum Reply {
 }
 
 /// A reply, and the length of the journal that it was made from.
-#[derive(Debug, Drop, PartialEq, Eq)]
+#[derive(Drop)]
 pub struct Answer {
     pub mark: u64,
     pub reply: Reply,

@@ -40,6 +40,15 @@ pub struct Entry {
     pub act: Act,
 }
 
+/// Adds an entry that has no plan.
+pub(crate) fn push_entry(journal: &mut Vec<Entry>, entry: Entry) -> Result<(), NoMemory>
+    ensures journal { OnOk result (journal.new.items ≡ journal.old.items ++ entry ∷ []) }
+    ensures kept { OnErr result (journal.new.items ≡ journal.old.items) }
+{
+    journal.push(entry)?;
+    Ok(())
+}
+
 /// Does a plan, and adds its entry. All memory is taken before anything changes.
 pub(crate) fn add_entry(
     journal: &mut Vec<Entry>,

@@ -19,8 +19,9 @@ mod store;
 
 pub use call::{
     Answer, Cutting, MetaReply, RangeAsk, Reply, SpacePut, Start, StartAsk, StartReply, StoreCall,
-    Sub, Verdict,
+    Verdict,
 };
+pub use channel_store::Sub;
 pub use counted::MAX_JOURNAL_BYTES;
 pub use journal::{Act, Entry};
 pub use laws::{growth_laws, number_laws, room_laws, state_laws};

@@ -8,8 +8,8 @@ ghost use Rattle.etp_values.specs.declared.code.ErrorCode.TheVariants as code;
 
 use crate::call::{Answer, Reply, SpacePut, StoreCall};
 use crate::counted::bytes_with;
-use crate::draft::{Draft, draft_drops, draft_ops, draft_puts};
-use crate::journal::{Act, Entry, add_entry};
+use crate::draft::{draft_drops, draft_ops, draft_puts};
+use crate::journal::{Act, Entry, add_entry, push_entry};
 use crate::looks::looked;
 use crate::spaces::listed;
 use chan_defs::Config;
@@ -171,14 +171,14 @@ impl Store {
                 reply: Reply::JournalFull,
             });
         };
-        self.journal.reserve(1)?;
-        self.bytes = bytes;
-        let _ = self.journal.push(Entry {
+        let entry = Entry {
             by: mark,
             nth: 0,
             at,
             act,
-        });
+        };
+        push_entry(&mut self.journal, entry)?;
+        self.bytes = bytes;
         Ok(Answer {
             mark,
             reply: Reply::Entered(mark),
@@ -217,19 +217,15 @@ impl Store {
         ensures err { OnErr result (self.new ≡ self.old) }
     {
         let mark = self.journal.len() as u64;
-        let Draft {
-            verdicts,
-            accepted,
-            plan,
-        } = draft_puts(alloc, at, items.into_vec())?;
-        let verdicts = Named::from_sorted(verdicts);
-        if accepted.is_empty() {
+        let draft = draft_puts(alloc, at, items.into_vec())?;
+        let verdicts = Named::from_sorted(draft.verdicts);
+        if draft.accepted.is_empty() {
             return Ok(Answer {
                 mark,
                 reply: Reply::Verdicts(verdicts),
             });
         }
-        let act = Act::PutSpaces(List::from_vec(accepted));
+        let act = Act::PutSpaces(List::from_vec(draft.accepted));
         let Some(bytes) = bytes_with(self.config.journal, mark, self.bytes, &act) else {
             drop(act);
             return Ok(Answer {
@@ -238,7 +234,7 @@ impl Store {
             });
         };
         let entry = Entry { by, nth, at, act };
-        add_entry(&mut self.journal, &mut self.contents, plan, entry)?;
+        add_entry(&mut self.journal, &mut self.contents, draft.plan, entry)?;
         self.bytes = bytes;
         Ok(Answer {
             mark,
@@ -265,19 +261,15 @@ impl Store {
         ensures err { OnErr result (self.new ≡ self.old) }
     {
         let mark = self.journal.len() as u64;
-        let Draft {
-            verdicts,
-            accepted,
-            plan,
-        } = draft_drops(alloc, &self.contents, items.into_vec())?;
-        let verdicts = Named::from_sorted(verdicts);
-        if accepted.is_empty() {
+        let draft = draft_drops(alloc, &self.contents, items.into_vec())?;
+        let verdicts = Named::from_sorted(draft.verdicts);
+        if draft.accepted.is_empty() {
             return Ok(Answer {
                 mark,
                 reply: Reply::Verdicts(verdicts),
             });
         }
-        let act = Act::DropSpaces(List::from_vec(accepted));
+        let act = Act::DropSpaces(List::from_vec(draft.accepted));
         let Some(bytes) = bytes_with(self.config.journal, mark, self.bytes, &act) else {
             drop(act);
             return Ok(Answer {
@@ -286,7 +278,7 @@ impl Store {
             });
         };
         let entry = Entry { by, nth, at, act };
-        add_entry(&mut self.journal, &mut self.contents, plan, entry)?;
+        add_entry(&mut self.journal, &mut self.contents, draft.plan, entry)?;
         self.bytes = bytes;
         Ok(Answer {
             mark,
@@ -325,19 +317,15 @@ impl Store {
         ensures err { OnErr result (self.new ≡ self.old) }
     {
         let mark = self.journal.len() as u64;
-        let Draft {
-            verdicts,
-            accepted,
-            plan,
-        } = draft_ops(alloc, &self.contents, items.into_vec())?;
-        let verdicts = Named::from_sorted(verdicts);
-        if accepted.is_empty() {
+        let draft = draft_ops(alloc, &self.contents, items.into_vec())?;
+        let verdicts = Named::from_sorted(draft.verdicts);
+        if draft.accepted.is_empty() {
             return Ok(Answer {
                 mark,
                 reply: Reply::Verdicts(verdicts),
             });
         }
-        let act = Act::Put(List::from_vec(accepted));
+        let act = Act::Put(List::from_vec(draft.accepted));
         let Some(bytes) = bytes_with(self.config.journal, mark, self.bytes, &act) else {
             drop(act);
             return Ok(Answer {
@@ -346,7 +334,7 @@ impl Store {
             });
         };
         let entry = Entry { by, nth, at, act };
-        add_entry(&mut self.journal, &mut self.contents, plan, entry)?;
+        add_entry(&mut self.journal, &mut self.contents, draft.plan, entry)?;
         self.bytes = bytes;
         Ok(Answer {
             mark,

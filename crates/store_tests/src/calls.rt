@@ -156,12 +156,14 @@ fn a_journal_of_three_entries_takes_one_put(rt: HostRuntime) -> Result<(), Fail>
     let alloc = rt.alloc();
     let mut store = store(alloc, 3)?;
     let entered = store.ask(alloc, 0, 0, 5, StoreCall::Enter)?;
-    assert!(rt; entered.mark == 1 && entered.reply == Reply::Entered(1));
+    assert!(rt; entered.mark == 1 && matches!(&entered.reply, Reply::Entered(1)));
     assert!(rt; is_first(&store, 1, 1, 5));
     let put = put_two(alloc, &mut store, 6, "w", "v")?;
     assert!(rt; are(&put, ACCEPTED, ACCEPTED));
-    assert!(rt; put_two(alloc, &mut store, 7, "x", "y")? == Reply::JournalFull);
-    assert!(rt; store.ask(alloc, 0, 0, 8, StoreCall::Enter)?.reply == Reply::JournalFull);
+    let full = put_two(alloc, &mut store, 7, "x", "y")?;
+    assert!(rt; matches!(&full, Reply::JournalFull));
+    let refused = store.ask(alloc, 0, 0, 8, StoreCall::Enter)?;
+    assert!(rt; matches!(&refused.reply, Reply::JournalFull));
     assert!(rt; store.entries() == 3);
     Ok(())
 }

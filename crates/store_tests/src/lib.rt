@@ -1,5 +1,7 @@
-//! Tests of the tables and of the store over them.
+//! Tests of the store.
 #![tactic(auto)]
 
 #[cfg(test)]
 mod calls;
+#[cfg(test)]
+mod items;
