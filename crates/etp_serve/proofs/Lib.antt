@@ -6,6 +6,3 @@ pub mod Rans
 pub mod Settling
 pub mod Turns
 pub mod Tails
-pub mod AcceptLemmas
-pub mod CloseLemmas
-pub mod EnteredLemmas

@@ -4,5 +4,3 @@ pub mod Talks
 pub mod Steps
 pub mod Laws
 pub mod Served
-pub mod Accepted
-pub mod Closing

@@ -2,8 +2,6 @@
 #![tactic(auto)]
 
 #[cfg(test)]
-mod links;
-#[cfg(test)]
 mod samples;
 #[cfg(test)]
 mod sessions;

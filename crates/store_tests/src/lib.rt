@@ -1,7 +1,5 @@
-//! Tests of the store.
+//! Tests of the tables and of the store over them.
 #![tactic(auto)]
 
 #[cfg(test)]
 mod calls;
-#[cfg(test)]
-mod items;

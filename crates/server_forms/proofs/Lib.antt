@@ -1,6 +1,0 @@
-pub mod Telling
-pub mod Numbers
-pub mod Countings
-pub mod Writings
-pub mod Lines
-pub mod Serving
