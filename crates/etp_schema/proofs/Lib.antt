@@ -1,3 +1,8 @@
 pub mod BodyLemmas
 pub mod Parts
 pub mod LastKind
+pub mod Measured
+pub mod ItemLemmas
+pub mod TypedLemmas
+pub mod KindLemmas
+pub mod WritingLemmas

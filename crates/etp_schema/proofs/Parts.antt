@@ -1,5 +1,6 @@
 -- What parts of trees are.
-use Rattle.std.proofs.Common.{ℕ, List, [], ◌∷◌, Some, None, map, arith}
+use Rattle.std.proofs.Common.{ℕ, List, [], ◌∷◌, Some, None, Result, Ok, Err, map, arith}
+use Rattle.std.specs.Prelude.{OnOk}
 use Rattle.std.specs.List.{AllByRecursion}
 use Rattle.avro_bin.specs.Value.{row, list, entries, pairs}
 use Rattle.avro_bin.specs.View.{with_value}
@@ -34,3 +35,11 @@ none_holds f = (omega arith, tt)
 pub some_holds : {A : Type 0} (f : Form A) (x : A) → Holds f x → Holds (option_form f) (Some x)
 unfolding Holds
 some_holds f x h = (omega arith, h)
+
+pub on_ok : {T E P : Type 0} (r : Result T E) → P → OnOk r P
+on_ok (Ok x) p = p
+on_ok (Err e) p = tt
+
+pub on_ok_by : {T E P Q : Type 0} (r : Result T E) → (P → Q) → OnOk r P → OnOk r Q
+on_ok_by (Ok x) f p = f p
+on_ok_by (Err e) f p = tt

@@ -7,3 +7,5 @@ pub mod Shapes
 pub mod Bodies
 pub mod Family
 pub mod Size
+pub mod Reading
+pub mod Measure

@@ -1,10 +1,16 @@
 //! Numbers, texts, bytes and identifiers as trees.
-ghost use Rattle.std.specs.Prelude.{◌≡◌, get_or};
+ghost use Rattle.std.specs.Prelude.{◌≡◌, get_or, length};
+ghost use Rattle.avro_bin.specs.Reading.{place_at};
 ghost use Rattle.avro_bin.specs.View.{value_of};
-ghost use Rattle.etp_schema.specs.Form.{id_of, symbol_in};
+ghost use Rattle.etp_schema.specs.Form.{id_of, symbol_in, node_at, leaf_at};
+ghost use Rattle.etp_schema.specs.Reading.{Reads};
 
 use crate::in_tree::InTree;
-use avro_bin::Tree;
+use crate::measure::Measure;
+use crate::on_wire::OnWire;
+use crate::reader::Reader;
+use avro_bin::numbers::put_number;
+use avro_bin::{Fault, Tree, put_blob, put_text};
 use etp_values::{Bits32, Bits64, Blob, Copied, Id16, NoMemory, Text};
 use std::alloc::Global;
 
@@ -27,6 +33,23 @@ impl InTree for bool {
     }
 }
 
+impl OnWire for bool {
+    fn read(from: &mut Reader<'_>) -> Result<bool, Fault> {
+        from.node()?;
+        from.boolean()
+    }
+
+    #[tactic(auto, unfolding(crate::specs::Form::Holds))]
+    fn write(&self, into: &mut Vec<u8>) -> Result<(), NoMemory> {
+        into.push(if *self { 1 } else { 0 })?;
+        Ok(())
+    }
+
+    fn measure(&self) -> Measure {
+        Measure::of_bytes(1)
+    }
+}
+
 impl InTree for i32 {
     ghost use Rattle.etp_schema.specs.Form.{int_form};
 
@@ -43,6 +66,22 @@ impl InTree for i32 {
             Tree::Int(value) => Ok(value),
             _ => Ok(0),
         }
+    }
+}
+
+impl OnWire for i32 {
+    fn read(from: &mut Reader<'_>) -> Result<i32, Fault> {
+        from.node()?;
+        from.int()
+    }
+
+    #[tactic(auto, unfolding(crate::specs::Form::Holds))]
+    fn write(&self, into: &mut Vec<u8>) -> Result<(), NoMemory> {
+        put_number(into, *self as i64)
+    }
+
+    fn measure(&self) -> Measure {
+        Measure::of_number(*self as i64)
     }
 }
 
@@ -65,6 +104,22 @@ impl InTree for i64 {
     }
 }
 
+impl OnWire for i64 {
+    fn read(from: &mut Reader<'_>) -> Result<i64, Fault> {
+        from.node()?;
+        from.long()
+    }
+
+    #[tactic(auto, unfolding(crate::specs::Form::Holds))]
+    fn write(&self, into: &mut Vec<u8>) -> Result<(), NoMemory> {
+        put_number(into, *self)
+    }
+
+    fn measure(&self) -> Measure {
+        Measure::of_number(*self)
+    }
+}
+
 impl InTree for Bits32 {
     ghost use Rattle.etp_schema.specs.Form.{float_form};
 
@@ -81,6 +136,23 @@ impl InTree for Bits32 {
             Tree::Float(value) => Ok(value),
             _ => Ok(Bits32(0)),
         }
+    }
+}
+
+impl OnWire for Bits32 {
+    fn read(from: &mut Reader<'_>) -> Result<Bits32, Fault> {
+        from.node()?;
+        from.float()
+    }
+
+    #[tactic(auto, unfolding(crate::specs::Form::Holds))]
+    fn write(&self, into: &mut Vec<u8>) -> Result<(), NoMemory> {
+        into.extend_from_slice(&self.0.to_le_bytes())?;
+        Ok(())
+    }
+
+    fn measure(&self) -> Measure {
+        Measure::of_bytes(4)
     }
 }
 
@@ -103,6 +175,23 @@ impl InTree for Bits64 {
     }
 }
 
+impl OnWire for Bits64 {
+    fn read(from: &mut Reader<'_>) -> Result<Bits64, Fault> {
+        from.node()?;
+        from.double()
+    }
+
+    #[tactic(auto, unfolding(crate::specs::Form::Holds))]
+    fn write(&self, into: &mut Vec<u8>) -> Result<(), NoMemory> {
+        into.extend_from_slice(&self.0.to_le_bytes())?;
+        Ok(())
+    }
+
+    fn measure(&self) -> Measure {
+        Measure::of_bytes(8)
+    }
+}
+
 impl InTree for Text {
     ghost use Rattle.etp_schema.specs.Form.{text_form};
 
@@ -119,6 +208,22 @@ impl InTree for Text {
             Tree::Text(text) => Ok(text),
             _ => Ok(Text::new(alloc)),
         }
+    }
+}
+
+impl OnWire for Text {
+    fn read(from: &mut Reader<'_>) -> Result<Text, Fault> {
+        from.node()?;
+        from.text()
+    }
+
+    #[tactic(auto, unfolding(crate::specs::Form::Holds))]
+    fn write(&self, into: &mut Vec<u8>) -> Result<(), NoMemory> {
+        put_text(into, self)
+    }
+
+    fn measure(&self) -> Measure {
+        Measure::of_blob(self.as_bytes())
     }
 }
 
@@ -141,6 +246,22 @@ impl InTree for Blob {
     }
 }
 
+impl OnWire for Blob {
+    fn read(from: &mut Reader<'_>) -> Result<Blob, Fault> {
+        from.node()?;
+        from.bytes()
+    }
+
+    #[tactic(auto, unfolding(crate::specs::Form::Holds))]
+    fn write(&self, into: &mut Vec<u8>) -> Result<(), NoMemory> {
+        put_blob(into, self.as_bytes())
+    }
+
+    fn measure(&self) -> Measure {
+        Measure::of_blob(self.as_bytes())
+    }
+}
+
 impl InTree for Id16 {
     ghost use Rattle.etp_schema.specs.Form.{id_form};
 
@@ -160,8 +281,25 @@ impl InTree for Id16 {
     }
 }
 
+impl OnWire for Id16 {
+    fn read(from: &mut Reader<'_>) -> Result<Id16, Fault> {
+        from.node()?;
+        from.id()
+    }
+
+    #[tactic(auto, unfolding(crate::specs::Form::Holds))]
+    fn write(&self, into: &mut Vec<u8>) -> Result<(), NoMemory> {
+        into.extend_from_slice(self.as_bytes())?;
+        Ok(())
+    }
+
+    fn measure(&self) -> Measure {
+        Measure::of_bytes(self.as_bytes().len() as u64)
+    }
+}
+
 /// The identifier of sixteen bytes.
-fn id_from(bytes: &[u8]) -> Id16
+pub(crate) fn id_from(bytes: &[u8]) -> Id16
     ensures { result ≡ id_of bytes.now }
 {
     let mut id = [0; 16];
@@ -176,7 +314,22 @@ fn id_from(bytes: &[u8]) -> Id16
 pub fn symbol_of<T: Copy>(tree: Tree, symbols: &[T], past: T) -> T
     ensures { result ≡ get_or symbols.now (symbol_in (value_of tree)) past }
 {
-    match symbols.get(place_of(tree) as usize) {
+    symbol_at(place_of(tree), symbols, past)
+}
+
+/// Reads the symbol of an enumeration with these symbols in order.
+pub fn read_symbol<T: Copy>(from: &mut Reader<'_>, symbols: &[T], past: T) -> Result<T, Fault>
+    ensures { Reads (node_at (leaf_at (λ p. get_or symbols.now p past) (place_at (length symbols.now))) from.old.left from.old.rest.now) result from.new }
+{
+    from.node()?;
+    let place = from.place(symbols.len())?;
+    Ok(symbol_at(place, symbols, past))
+}
+
+fn symbol_at<T: Copy>(place: u32, symbols: &[T], past: T) -> T
+    ensures { result ≡ get_or symbols.now place past }
+{
+    match symbols.get(place as usize) {
         Some(symbol) => *symbol,
         None => past,
     }

@@ -17,6 +17,33 @@
 //!         (λ x. refl) (λ p. refl)
 //! ```
 //!
+//! [`OnWire`] reads and writes the same values straight from and to bytes. The form says how they are read, too (`at`, with the
+//! law `at_is`: as the value at the front of the bytes is read), so that a record's three methods go field by field and need no
+//! proof either:
+//!
+//! ```text
+//! impl OnWire for TruncateInfo {
+//!     fn read(from: &mut Reader<'_>) -> Result<TruncateInfo, Fault> {
+//!         from.node()?;
+//!         Ok(TruncateInfo { channel_id: from.take()?, new_end_index: from.take()? })
+//!     }
+//!
+//!     #[tactic(auto, using(crate::specs::ChannelRecords::truncate_info_holds))]
+//!     fn write(&self, into: &mut Vec<u8>) -> Result<(), NoMemory> {
+//!         self.channel_id.write(into)?;
+//!         self.new_end_index.write(into)?;
+//!         Ok(())
+//!     }
+//!
+//!     fn measure(&self) -> Measure {
+//!         Measure::of_record().with(&self.channel_id).with(&self.new_end_index)
+//!     }
+//! }
+//! ```
+//!
+//! [`read_body`] and [`write_body`] are the whole calls, equal to `decode` with `from_tree` and to `to_tree` with `encode`;
+//! [`measure_of`] counts the bytes and nodes of a value.
+//!
 //! Unions go by `union`, `◌or◌` and `last` in the same way, enumerations by `symbols`. The messages of a protocol are an
 //! enum, with `specs/Family` for its numbers.
 #![tactic(auto)]
@@ -24,21 +51,30 @@
 mod body;
 mod choices;
 mod data;
+mod data_on_wire;
 mod fields;
 mod in_tree;
 mod leaves;
 mod many;
+mod many_on_wire;
+mod measure;
+mod on_wire;
 pub mod places;
 pub mod protocols;
+mod reader;
 mod size;
 mod status;
 mod table;
 
 pub use body::{Side, body_of, is_protocol};
 pub use choices::{branch_of, branch_record};
+pub use data_on_wire::{write_branch, write_null};
 pub use fields::{Fields, record_of};
 pub use in_tree::{InTree, read_back, write_back};
-pub use leaves::symbol_of;
-pub use size::encoded_size;
+pub use leaves::{read_symbol, symbol_of};
+pub use measure::Measure;
+pub use on_wire::{OnWire, read_body, write_body};
+pub use reader::Reader;
+pub use size::{encoded_size, measure_of};
 pub use status::ActiveStatusKind;
 pub use table::{TABLE, schema_table};

@@ -55,7 +55,7 @@ impl<T: InTree> InTree for Named<T> {
 
     ghost form = { named_form T.form };
 
-    #[tactic(auto, using(crate::proofs::Parts::parts, crate::proofs::Parts::named_holds))]
+    #[tactic(auto, using(crate::proofs::Parts::parts))]
     fn to_tree(&self, alloc: Global) -> Result<Tree, NoMemory> {
         let trees = trees_of_named(alloc, self)?;
         Ok(Tree::Map(trees))

@@ -1,20 +1,32 @@
 //! Sizes of typed values on the wire.
 ghost use Rattle.std.specs.Prelude.{◌≡◌, IfOk, length};
 ghost use Rattle.avro_bin.specs.Plain.{plain};
+ghost use Rattle.etp_schema.specs.Measure.{size_of};
 ghost use Rattle.etp_schema.specs.Size.{capped};
 
-use crate::in_tree::InTree;
-use crate::table::TABLE;
+use crate::measure::Measure;
+use crate::on_wire::OnWire;
 use etp_values::NoMemory;
 use std::alloc::Global;
 
+/// The longest size that is counted.
+const SIZE_LIMIT: u64 = 1 << 40;
+
+/// How many bytes the written spelling of the value has, and how many nodes. It takes no memory.
+#[tactic(auto, using(crate::proofs::Measured::measured_is))]
+pub fn measure_of<T: OnWire>(value: &T) -> Measure
+    ensures { result ≡ size_of (T.form.as_value value.now) }
+{
+    value.measure()
+}
+
 /// How many bytes the written spelling of the value has; `u64::MAX` stands for each length above 2^40.
-pub fn encoded_size<T: InTree>(alloc: Global, value: &T) -> Result<u64, NoMemory>
+pub fn encoded_size<T: OnWire>(_alloc: Global, value: &T) -> Result<u64, NoMemory>
     ensures { IfOk result (λ n. n ≡ capped (length (plain (T.form.as_value value.now)))) }
 {
-    let tree = value.to_tree(alloc)?;
-    match avro_bin::size(&TABLE, 0, &tree) {
-        Ok(size) => Ok(size),
-        Err(_) => Ok(u64::MAX),
+    let bytes = measure_of(value).bytes;
+    if bytes > SIZE_LIMIT {
+        return Ok(u64::MAX);
     }
+    Ok(bytes)
 }

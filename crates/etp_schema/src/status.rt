@@ -1,7 +1,11 @@
 //! Whether a channel or an object is active.
 use crate::in_tree::InTree;
-use crate::leaves::symbol_of;
-use avro_bin::Tree;
+use crate::leaves::{read_symbol, symbol_of};
+use crate::measure::Measure;
+use crate::on_wire::OnWire;
+use crate::reader::Reader;
+use avro_bin::numbers::put_number;
+use avro_bin::{Fault, Tree};
 use etp_values::{Copied, NoMemory};
 use std::alloc::Global;
 
@@ -31,6 +35,31 @@ impl InTree for ActiveStatusKind {
             &[ActiveStatusKind::Active, ActiveStatusKind::Inactive],
             ActiveStatusKind::Inactive,
         ))
+    }
+}
+
+impl OnWire for ActiveStatusKind {
+    fn read(from: &mut Reader<'_>) -> Result<ActiveStatusKind, Fault> {
+        read_symbol(
+            from,
+            &[ActiveStatusKind::Active, ActiveStatusKind::Inactive],
+            ActiveStatusKind::Inactive,
+        )
+    }
+
+    #[tactic(auto, unfolding(crate::specs::Form::Holds))]
+    fn write(&self, into: &mut Vec<u8>) -> Result<(), NoMemory> {
+        match self {
+            ActiveStatusKind::Active => put_number(into, 0),
+            ActiveStatusKind::Inactive => put_number(into, 1),
+        }
+    }
+
+    fn measure(&self) -> Measure {
+        match self {
+            ActiveStatusKind::Active => Measure::of_number(0),
+            ActiveStatusKind::Inactive => Measure::of_number(1),
+        }
     }
 }
 

@@ -45,3 +45,15 @@ fn named_values_have_their_encoded_size(rt: HostRuntime) -> Result<(), Fail> {
     assert!(rt; bytes.as_slice() == b"\x02\x02a\x06\x80\x01\x00".as_slice());
     Ok(())
 }
+
+#[test]
+fn named_values_go_without_trees(rt: HostRuntime) -> Result<(), Fail> {
+    let alloc = rt.alloc();
+    let (named, length) = read_body::<Named<DataValue>>(alloc, b"\x02\x02a\x06\x80\x01\x00\x05")?;
+    assert_eq!(rt; length, 7);
+    assert_eq!(rt; measure_of(&named), Measure { bytes: 7, nodes: 4 });
+    let mut bytes = Vec::new(alloc);
+    write_body(&named, &mut bytes)?;
+    assert!(rt; bytes.as_slice() == b"\x02\x02a\x06\x80\x01\x00".as_slice());
+    Ok(())
+}

@@ -1,0 +1,330 @@
+//! Lists, maps, optional and boxed values from and to bytes.
+ghost use Rattle.std.specs.Prelude.{◌≡◌, ◌++◌, ◌<◌, ◌^◌, IfOk, OnOk, length, map, pos};
+ghost use Rattle.std.specs.List.{AllByRecursion};
+ghost use Rattle.avro_bin.specs.Number.{plain_number};
+ghost use Rattle.avro_bin.specs.Plain.{plain, plain_all, plain_named, plain_blob, Writes};
+ghost use Rattle.avro_bin.specs.Reading.{items_at, block_at};
+ghost use Rattle.avro_bin.specs.Along.{push_at, put_at};
+ghost use Rattle.avro_bin.specs.Shape.{FitsTree, IsText, AllFit, AllNamedFit};
+ghost use Rattle.avro_bin.specs.Value.{VUnion, row, entries};
+ghost use Rattle.avro_bin.specs.View.{with_value};
+ghost use Rattle.etp_schema.specs.Form.{Holds, list_form, list_at, named_at};
+ghost use Rattle.etp_schema.specs.Measure.{counts, measured_behind, measured_named};
+ghost use Rattle.etp_schema.specs.Reading.{Reads, ReadsOn};
+
+use crate::measure::Measure;
+use crate::on_wire::OnWire;
+use crate::reader::Reader;
+use avro_bin::blocks::is_filled;
+use avro_bin::numbers::put_number;
+use avro_bin::{Fault, Why, put_text};
+use etp_values::{Boxed, List, Named, NoMemory, Text};
+use std::alloc::Global;
+use std::collections::BTreeMap;
+
+/// How many items get their room before they are read: a count alone asks for no more than this.
+const ROOM: u64 = 4096;
+
+impl<T: OnWire> OnWire for List<T> {
+    fn read(from: &mut Reader<'_>) -> Result<List<T>, Fault> {
+        from.node()?;
+        read_list(from)
+    }
+
+    fn write(&self, into: &mut Vec<u8>) -> Result<(), NoMemory> {
+        write_list(self.as_slice(), into)
+    }
+
+    fn measure(&self) -> Measure {
+        measure_items(self.as_slice())
+    }
+}
+
+/// The items of blocks, up to a count of 0.
+fn read_list<T: OnWire>(from: &mut Reader<'_>) -> Result<List<T>, Fault>
+    ensures { Reads (list_at T.form from.old.left from.old.rest.now) result from.new }
+{
+    let bytes = from.rest();
+    let mut items = Vec::new(from.alloc());
+    for _ in 0..bytes.len() + 1 {
+        let count = from.long()?;
+        if count == 0 {
+            return Ok(List::from_vec(items));
+        }
+        read_block(from, count, &mut items)?;
+    }
+    // Not reached: each block takes a byte.
+    Err(Fault::At(Why::Limit, from.rest().len()))
+}
+
+/// The items of a block whose count is read, behind those that are there.
+fn read_block<T: OnWire>(from: &mut Reader<'_>, count: i64, items: &mut Vec<T>) -> Result<(), Fault>
+    ensures { ReadsOn (block_at (push_at T.form.at) (items.old.items, from.old.left) count from.old.rest.now) (items.new.items, from.new.left) from.new result }
+{
+    if count >= 0 {
+        return read_items(from, count as u64, items);
+    }
+    let start = from.rest().len();
+    let size = from.long()?;
+    if size < 0 {
+        return Err(Fault::At(Why::Length, start));
+    }
+    let before = from.rest().len();
+    read_items(from, (-(count + 1)) as u64 + 1, items)?;
+    if !is_filled(before, size as u64, from.rest().len()) {
+        return Err(Fault::At(Why::BlockSize, start));
+    }
+    Ok(())
+}
+
+/// So many items, behind those that are there.
+fn read_items<T: OnWire>(from: &mut Reader<'_>, count: u64, items: &mut Vec<T>) -> Result<(), Fault>
+    ensures { ReadsOn (items_at (push_at T.form.at) count (items.old.items, from.old.left) from.old.rest.now) (items.new.items, from.new.left) from.new result }
+{
+    let room = count.min(ROOM) as usize;
+    items.reserve(room.min(from.rest().len()))?;
+    for _ in 0..count {
+        let item = T::read(from)?;
+        items.push(item)?;
+    }
+    Ok(())
+}
+
+/// Appends one block of items, or none, and a count of 0.
+fn write_list<T: OnWire>(items: &[T], into: &mut Vec<u8>) -> Result<(), NoMemory>
+    ensures written { Writes (plain ((list_form T.form).as_value items.now)) into.old.items into.new.items result }
+    ensures typed { OnOk result (Holds (list_form T.form) items.now) }
+    ensures fits { OnOk result (FitsTree ((list_form T.form).as_value items.now)) }
+{
+    let count = items.len();
+    if count == 0 {
+        return put_count(into, 0);
+    }
+    put_count(into, count)?;
+    write_items(items, into)?;
+    put_number(into, 0)?;
+    Ok(())
+}
+
+/// Appends the count of a block. More than 63 bits of it are want of memory: no list of so many trees could be made.
+fn put_count(into: &mut Vec<u8>, count: usize) -> Result<(), NoMemory>
+    ensures written { Writes (plain_number (pos count)) into.old.items into.new.items result }
+    ensures small { OnOk result (count < 2 ^ 63) }
+{
+    if count > i64::MAX as usize {
+        return Err(NoMemory);
+    }
+    put_number(into, count as i64)
+}
+
+fn write_items<T: OnWire>(items: &[T], into: &mut Vec<u8>) -> Result<(), NoMemory>
+    ensures written { Writes (plain_all (row (map T.form.as_value items.now))) into.old.items into.new.items result }
+    ensures typed { OnOk result (AllByRecursion (Holds T.form) items.now) }
+    ensures fits { OnOk result (AllFit (row (map T.form.as_value items.now))) }
+{
+    for item in items {
+        item.write(into)?;
+    }
+    Ok(())
+}
+
+fn measure_items<T: OnWire>(items: &[T]) -> Measure
+    ensures { result ≡ measured_behind (counts (length items.now)) (row (map T.form.as_value items.now)) }
+{
+    let mut measure = Measure::of_count(items.len());
+    for item in items {
+        measure = measure.with(item);
+    }
+    measure
+}
+
+impl<T: OnWire> OnWire for Named<T> {
+    fn read(from: &mut Reader<'_>) -> Result<Named<T>, Fault> {
+        from.node()?;
+        read_named(from)
+    }
+
+    fn write(&self, into: &mut Vec<u8>) -> Result<(), NoMemory> {
+        let count = self.len();
+        if count == 0 {
+            return put_count(into, 0);
+        }
+        put_count(into, count)?;
+        write_entries(self, into)?;
+        put_number(into, 0)?;
+        Ok(())
+    }
+
+    fn measure(&self) -> Measure {
+        measure_entries(self)
+    }
+}
+
+/// The entries of blocks, up to a count of 0.
+fn read_named<T: OnWire>(from: &mut Reader<'_>) -> Result<Named<T>, Fault>
+    ensures { Reads (named_at T.form from.old.left from.old.rest.now) result from.new }
+{
+    let bytes = from.rest();
+    let mut held = BTreeMap::new(from.alloc());
+    for _ in 0..bytes.len() + 1 {
+        let count = from.long()?;
+        if count == 0 {
+            let named = in_order(from.alloc(), held)?;
+            return Ok(named);
+        }
+        read_entry_block(from, count, &mut held)?;
+    }
+    // Not reached: each block takes a byte.
+    Err(Fault::At(Why::Limit, from.rest().len()))
+}
+
+/// The entries of a block whose count is read, among those that are there.
+fn read_entry_block<T: OnWire>(
+    from: &mut Reader<'_>,
+    count: i64,
+    held: &mut BTreeMap<Text, T>,
+) -> Result<(), Fault>
+    ensures { ReadsOn (block_at (put_at T.form.at) (held.old.entries, from.old.left) count from.old.rest.now) (held.new.entries, from.new.left) from.new result }
+{
+    if count >= 0 {
+        return read_entries(from, count as u64, held);
+    }
+    let start = from.rest().len();
+    let size = from.long()?;
+    if size < 0 {
+        return Err(Fault::At(Why::Length, start));
+    }
+    let before = from.rest().len();
+    read_entries(from, (-(count + 1)) as u64 + 1, held)?;
+    if !is_filled(before, size as u64, from.rest().len()) {
+        return Err(Fault::At(Why::BlockSize, start));
+    }
+    Ok(())
+}
+
+/// So many entries, among those that are there.
+fn read_entries<T: OnWire>(
+    from: &mut Reader<'_>,
+    count: u64,
+    held: &mut BTreeMap<Text, T>,
+) -> Result<(), Fault>
+    ensures { ReadsOn (items_at (put_at T.form.at) count (held.old.entries, from.old.left) from.old.rest.now) (held.new.entries, from.new.left) from.new result }
+{
+    for _ in 0..count {
+        read_entry(from, held)?;
+    }
+    Ok(())
+}
+
+/// One entry: a name that is not there yet, and its value.
+fn read_entry<T: OnWire>(from: &mut Reader<'_>, held: &mut BTreeMap<Text, T>) -> Result<(), Fault>
+    ensures { ReadsOn (put_at T.form.at (held.old.entries, from.old.left) from.old.rest.now) (held.new.entries, from.new.left) from.new result }
+{
+    let start = from.rest().len();
+    let name = from.text()?;
+    if held.contains_key(&name) {
+        return Err(Fault::At(Why::DoubleKey, start));
+    }
+    let value = T::read(from)?;
+    held.insert(name, value)?;
+    Ok(())
+}
+
+/// The entries in the byte order of their names.
+fn in_order<T: Drop>(alloc: Global, held: BTreeMap<Text, T>) -> Result<Named<T>, NoMemory>
+    ensures { IfOk result (λ r. r ≡ held.entries) }
+{
+    let mut items = Vec::new(alloc);
+    items.reserve(held.len())?;
+    for pair in held {
+        items.push(pair)?;
+    }
+    Ok(Named::from_sorted(items))
+}
+
+fn write_entry<T: OnWire>(name: &Text, value: &T, into: &mut Vec<u8>) -> Result<(), NoMemory>
+    ensures written { Writes (plain_blob name.now ++ plain (T.form.as_value value.now)) into.old.items into.new.items result }
+    ensures text { IsText name.now }
+    ensures typed { OnOk result (Holds T.form value.now) }
+    ensures fits { OnOk result (FitsTree (T.form.as_value value.now)) }
+{
+    put_text(into, name)?;
+    value.write(into)?;
+    Ok(())
+}
+
+fn write_entries<T: OnWire>(named: &Named<T>, into: &mut Vec<u8>) -> Result<(), NoMemory>
+    ensures written { Writes (plain_named (entries (map (with_value T.form.as_value) named.now))) into.old.items into.new.items result }
+    ensures typed { OnOk result (AllByRecursion (λ e. Holds T.form e.1) named.now) }
+    ensures fits { OnOk result (AllNamedFit (entries (map (with_value T.form.as_value) named.now))) }
+{
+    for i in 0..named.len() {
+        let (name, value) = named.at(i);
+        write_entry(name, value, into)?;
+    }
+    Ok(())
+}
+
+fn measure_entries<T: OnWire>(named: &Named<T>) -> Measure
+    ensures { result ≡ measured_named (counts (length named.now)) (entries (map (with_value T.form.as_value) named.now)) }
+{
+    let mut measure = Measure::of_count(named.len());
+    for i in 0..named.len() {
+        let (name, value) = named.at(i);
+        measure = measure.plus(Measure::of_name(name.as_bytes())).with(value);
+    }
+    measure
+}
+
+impl<T: OnWire> OnWire for Option<T> {
+    fn read(from: &mut Reader<'_>) -> Result<Option<T>, Fault> {
+        from.node()?;
+        let place = from.place(2)?;
+        if place == 0 {
+            from.node()?;
+            return Ok(None);
+        }
+        let value = T::read(from)?;
+        Ok(Some(value))
+    }
+
+    fn write(&self, into: &mut Vec<u8>) -> Result<(), NoMemory> {
+        match self {
+            None => put_number(into, 0),
+            Some(value) => write_some(value, into),
+        }
+    }
+
+    fn measure(&self) -> Measure {
+        match self {
+            None => Measure::of_number(0).plus(Measure::of_bytes(0)),
+            Some(value) => Measure::of_number(1).with(value),
+        }
+    }
+}
+
+fn write_some<T: OnWire>(value: &T, into: &mut Vec<u8>) -> Result<(), NoMemory>
+    ensures written { Writes (plain (VUnion 1 (T.form.as_value value.now))) into.old.items into.new.items result }
+    ensures typed { OnOk result (Holds T.form value.now) }
+    ensures fits { OnOk result (FitsTree (T.form.as_value value.now)) }
+{
+    put_number(into, 1)?;
+    value.write(into)?;
+    Ok(())
+}
+
+impl<T: OnWire> OnWire for Boxed<T> {
+    fn read(from: &mut Reader<'_>) -> Result<Boxed<T>, Fault> {
+        let value = T::read(from)?;
+        let boxed = Boxed::new(from.alloc(), value)?;
+        Ok(boxed)
+    }
+
+    fn write(&self, into: &mut Vec<u8>) -> Result<(), NoMemory> {
+        self.get().write(into)
+    }
+
+    fn measure(&self) -> Measure {
+        self.get().measure()
+    }
+}
