@@ -22,7 +22,7 @@ use msg_store::{DataArrayMessage, StoreMessage};
 use std::alloc::Global;
 
 /// A message of any protocol. ProtocolException and Acknowledge stand in Core's enum under every protocol.
-#[derive(Debug, Drop, PartialEq, Eq)]
+#[derive(Debug, Drop)]
 pub enum Message {
     Core(CoreMessage),
     Transaction(TransactionMessage),

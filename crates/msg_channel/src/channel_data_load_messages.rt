@@ -15,7 +15,7 @@ use etp_values::{List, Named, NoMemory, Text};
 use std::alloc::Global;
 
 /// A channel that is open for loading, and what the server wants of it.
-#[derive(Debug, Drop, PartialEq, Eq)]
+#[derive(Debug, Drop)]
 pub struct OpenChannelInfo {
     /// What the channel is, with the number by which points name it.
     pub metadata: ChannelMetadataRecord,
@@ -50,7 +50,7 @@ impl InTree for OpenChannelInfo {
 }
 
 /// Asks to load points into channels.
-#[derive(Debug, Drop, PartialEq, Eq)]
+#[derive(Debug, Drop)]
 pub struct OpenChannels {
     /// The channels' URIs, under keys of the sender's choice.
     pub uris: Named<Text>,
@@ -75,7 +75,7 @@ impl InTree for OpenChannels {
 }
 
 /// The channels that are open.
-#[derive(Debug, Drop, PartialEq, Eq)]
+#[derive(Debug, Drop)]
 pub struct OpenChannelsResponse {
     /// The channels, under the keys of the request.
     pub channels: Named<OpenChannelInfo>,
@@ -100,7 +100,7 @@ impl InTree for OpenChannelsResponse {
 }
 
 /// Ends the loading of channels.
-#[derive(Debug, Drop, PartialEq, Eq)]
+#[derive(Debug, Drop)]
 pub struct CloseChannels {
     /// The channels' numbers, under keys of the sender's choice.
     pub id: Named<i64>,
@@ -123,7 +123,7 @@ impl InTree for CloseChannels {
 }
 
 /// Appends points to open channels. The schema calls it ChannelData, as the message of ChannelSubscribe.
-#[derive(Debug, Drop, PartialEq, Eq)]
+#[derive(Debug, Drop)]
 pub struct LoadChannelData {
     /// The points, those of one channel in the order of their indexes.
     pub payload: List<DataItem>,
@@ -148,7 +148,7 @@ impl InTree for LoadChannelData {
 }
 
 /// Replaces the points of an interval in open channels.
-#[derive(Debug, Drop, PartialEq, Eq)]
+#[derive(Debug, Drop)]
 pub struct ReplaceRange {
     /// The interval whose points are dropped.
     pub changed_interval: IndexInterval,
@@ -183,7 +183,7 @@ impl InTree for ReplaceRange {
 }
 
 /// Says that channels are closed: the answer to CloseChannels, or a notice.
-#[derive(Debug, Drop, PartialEq, Eq)]
+#[derive(Debug, Drop)]
 pub struct ChannelsClosed {
     /// Why, in words.
     pub reason: Text,
@@ -211,7 +211,7 @@ impl InTree for ChannelsClosed {
 }
 
 /// The range was replaced.
-#[derive(Debug, Drop, PartialEq, Eq)]
+#[derive(Debug, Drop)]
 pub struct ReplaceRangeResponse {
     /// When that was done, in microseconds since 1970-01-01 UTC.
     pub channel_change_time: i64,
@@ -236,7 +236,7 @@ impl InTree for ReplaceRangeResponse {
 }
 
 /// Cuts off open channels.
-#[derive(Debug, Drop, PartialEq, Eq)]
+#[derive(Debug, Drop)]
 pub struct TruncateChannels {
     /// Where each channel is to end, under keys of the sender's choice.
     pub channels: Named<TruncateInfo>,
@@ -261,7 +261,7 @@ impl InTree for TruncateChannels {
 }
 
 /// The channels that were cut off.
-#[derive(Debug, Drop, PartialEq, Eq)]
+#[derive(Debug, Drop)]
 pub struct TruncateChannelsResponse {
     /// When that was done, in microseconds since 1970-01-01 UTC, under the keys of the request.
     pub channels_truncated_time: Named<i64>,
@@ -286,7 +286,7 @@ impl InTree for TruncateChannelsResponse {
 }
 
 /// A message of the ChannelDataLoad protocol.
-#[derive(Debug, Drop, PartialEq, Eq)]
+#[derive(Debug, Drop)]
 pub enum ChannelDataLoadMessage {
     OpenChannels(OpenChannels),
     OpenChannelsResponse(OpenChannelsResponse),

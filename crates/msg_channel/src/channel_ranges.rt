@@ -7,7 +7,7 @@ use etp_values::{Id16, List, NoMemory};
 use std::alloc::Global;
 
 /// An interval of some channels.
-#[derive(Debug, Drop, PartialEq, Eq)]
+#[derive(Debug, Drop)]
 pub struct ChannelRangeInfo {
     /// The channels' numbers.
     pub channel_ids: List<i64>,
@@ -42,7 +42,7 @@ impl InTree for ChannelRangeInfo {
 }
 
 /// Asks for the points of intervals.
-#[derive(Debug, Drop, PartialEq, Eq)]
+#[derive(Debug, Drop)]
 pub struct GetRanges {
     /// The sender's own name for the request.
     pub request_uuid: Id16,
@@ -73,7 +73,7 @@ impl InTree for GetRanges {
 }
 
 /// The points of the intervals.
-#[derive(Debug, Drop, PartialEq, Eq)]
+#[derive(Debug, Drop)]
 pub struct GetRangesResponse {
     /// The points, range by range as they were asked for.
     pub payload: List<DataItem>,
@@ -98,7 +98,7 @@ impl InTree for GetRangesResponse {
 }
 
 /// Points of subscribed channels were replaced.
-#[derive(Debug, Drop, PartialEq, Eq)]
+#[derive(Debug, Drop)]
 pub struct RangeReplaced {
     /// When that was done, in microseconds since 1970-01-01 UTC.
     pub change_time: i64,
@@ -137,7 +137,7 @@ impl InTree for RangeReplaced {
 }
 
 /// Subscribed channels were cut off.
-#[derive(Debug, Drop, PartialEq, Eq)]
+#[derive(Debug, Drop)]
 pub struct ChannelsTruncated {
     /// When that was done, in microseconds since 1970-01-01 UTC.
     pub change_time: i64,

@@ -169,7 +169,7 @@ impl InTree for ChannelDataKind {
 }
 
 /// One of the indexes of a channel.
-#[derive(Debug, Drop, PartialEq, Eq)]
+#[derive(Debug, Drop)]
 pub struct IndexMetadataRecord {
     pub index_kind: ChannelIndexKind,
     /// From the index of the channel's first point to that of its last; both null where it has no points.
@@ -252,7 +252,7 @@ impl InTree for IndexMetadataRecord {
 }
 
 /// An attribute that the values of a channel can have, as a mark of their quality.
-#[derive(Debug, Drop, PartialEq, Eq)]
+#[derive(Debug, Drop)]
 pub struct AttributeMetadataRecord {
     /// The number by which a [`DataAttribute`] names it.
     pub attribute_id: i32,
@@ -302,7 +302,7 @@ impl InTree for AttributeMetadataRecord {
 }
 
 /// What a channel is.
-#[derive(Debug, Drop, PartialEq, Eq)]
+#[derive(Debug, Drop)]
 pub struct ChannelMetadataRecord {
     /// The URI of the channel as a data object.
     pub uri: Text,

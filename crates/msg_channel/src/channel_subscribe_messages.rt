@@ -16,7 +16,7 @@ use etp_values::{List, Named, NoMemory, Text};
 use std::alloc::Global;
 
 /// What a client wants of one channel.
-#[derive(Debug, Drop, PartialEq, Eq)]
+#[derive(Debug, Drop)]
 pub struct ChannelSubscribeInfo {
     /// The channel's number.
     pub channel_id: i64,
@@ -55,7 +55,7 @@ impl InTree for ChannelSubscribeInfo {
 }
 
 /// Asks what channels are.
-#[derive(Debug, Drop, PartialEq, Eq)]
+#[derive(Debug, Drop)]
 pub struct GetChannelMetadata {
     /// The channels' URIs, under keys of the sender's choice.
     pub uris: Named<Text>,
@@ -80,7 +80,7 @@ impl InTree for GetChannelMetadata {
 }
 
 /// What the channels are.
-#[derive(Debug, Drop, PartialEq, Eq)]
+#[derive(Debug, Drop)]
 pub struct GetChannelMetadataResponse {
     /// The records, under the keys of the request.
     pub metadata: Named<ChannelMetadataRecord>,
@@ -105,7 +105,7 @@ impl InTree for GetChannelMetadataResponse {
 }
 
 /// Asks for the points of channels, those that stand and those to come.
-#[derive(Debug, Drop, PartialEq, Eq)]
+#[derive(Debug, Drop)]
 pub struct SubscribeChannels {
     /// What is wanted of each channel, under keys of the sender's choice.
     pub channels: Named<ChannelSubscribeInfo>,
@@ -130,7 +130,7 @@ impl InTree for SubscribeChannels {
 }
 
 /// New points of subscribed channels.
-#[derive(Debug, Drop, PartialEq, Eq)]
+#[derive(Debug, Drop)]
 pub struct ChannelData {
     /// The points, those of one channel in the order of their indexes.
     pub payload: List<DataItem>,
@@ -155,7 +155,7 @@ impl InTree for ChannelData {
 }
 
 /// Ends subscriptions.
-#[derive(Debug, Drop, PartialEq, Eq)]
+#[derive(Debug, Drop)]
 pub struct UnsubscribeChannels {
     /// The channels' numbers, under keys of the sender's choice.
     pub channel_ids: Named<i64>,
@@ -180,7 +180,7 @@ impl InTree for UnsubscribeChannels {
 }
 
 /// Says that subscriptions have ended: the answer to UnsubscribeChannels, or a notice.
-#[derive(Debug, Drop, PartialEq, Eq)]
+#[derive(Debug, Drop)]
 pub struct SubscriptionsStopped {
     /// Why, in words.
     pub reason: Text,
@@ -211,7 +211,7 @@ impl InTree for SubscriptionsStopped {
 }
 
 /// The channels that were subscribed.
-#[derive(Debug, Drop, PartialEq, Eq)]
+#[derive(Debug, Drop)]
 pub struct SubscribeChannelsResponse {
     /// A text for each key of the request that was granted; it may be empty.
     pub success: Named<Text>,
@@ -236,7 +236,7 @@ impl InTree for SubscribeChannelsResponse {
 }
 
 /// A message of the ChannelSubscribe protocol.
-#[derive(Debug, Drop, PartialEq, Eq)]
+#[derive(Debug, Drop)]
 pub enum ChannelSubscribeMessage {
     GetChannelMetadata(GetChannelMetadata),
     GetChannelMetadataResponse(GetChannelMetadataResponse),

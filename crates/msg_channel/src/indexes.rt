@@ -115,7 +115,7 @@ impl InTree for IndexValue {
 }
 
 /// The values of an index from one to another, both included.
-#[derive(Debug, Drop, PartialEq, Eq)]
+#[derive(Debug, Drop)]
 pub struct IndexInterval {
     /// The first value; null where there is none.
     pub start_index: IndexValue,

@@ -6,7 +6,7 @@ use etp_values::{DataValue, List, NoMemory};
 use std::alloc::Global;
 
 /// The value of one attribute at a point.
-#[derive(Debug, Drop, PartialEq, Eq)]
+#[derive(Debug, Drop)]
 pub struct DataAttribute {
     /// The attribute's number among those of the channel ([`AttributeMetadataRecord`]).
     pub attribute_id: i32,
@@ -36,7 +36,7 @@ impl InTree for DataAttribute {
 }
 
 /// A point of a channel.
-#[derive(Debug, Drop, PartialEq, Eq)]
+#[derive(Debug, Drop)]
 pub struct DataItem {
     /// The channel's number.
     pub channel_id: i64,
@@ -75,7 +75,7 @@ impl InTree for DataItem {
 }
 
 /// Where a channel is cut off.
-#[derive(Debug, Drop, PartialEq, Eq)]
+#[derive(Debug, Drop)]
 pub struct TruncateInfo {
     /// The channel's number.
     pub channel_id: i64,

@@ -12,7 +12,7 @@ use etp_values::{DataValue, Id16, List, Named, NoMemory, Text};
 use std::alloc::Global;
 
 /// A version of a protocol.
-#[derive(Debug, Drop, PartialEq, Eq)]
+#[derive(Debug, Drop)]
 pub struct Version {
     pub major: i32,
     pub minor: i32,
@@ -47,7 +47,7 @@ impl InTree for Version {
 }
 
 /// A protocol, as one end asks for it or supports it.
-#[derive(Debug, Drop, PartialEq, Eq)]
+#[derive(Debug, Drop)]
 pub struct SupportedProtocol {
     /// The protocol's number.
     pub protocol: i32,
@@ -86,7 +86,7 @@ impl InTree for SupportedProtocol {
 }
 
 /// A type of data objects that one end knows.
-#[derive(Debug, Drop, PartialEq, Eq)]
+#[derive(Debug, Drop)]
 pub struct SupportedDataObject {
     /// The type as `DOMAIN.TYPE`, where `*` in place of the type stands for all of the domain.
     pub qualified_type: Text,
@@ -117,7 +117,7 @@ impl InTree for SupportedDataObject {
 }
 
 /// Why something was refused.
-#[derive(Debug, Drop, PartialEq, Eq)]
+#[derive(Debug, Drop)]
 pub struct ErrorInfo {
     /// The text of the code.
     pub message: Text,
@@ -145,7 +145,7 @@ impl InTree for ErrorInfo {
 }
 
 /// The client asks for a session. It is the first message of a connection.
-#[derive(Debug, Drop, PartialEq, Eq)]
+#[derive(Debug, Drop)]
 pub struct RequestSession {
     pub application_name: Text,
     pub application_version: Text,
@@ -210,7 +210,7 @@ impl InTree for RequestSession {
 }
 
 /// The server's answer to RequestSession: what the session has.
-#[derive(Debug, Drop, PartialEq, Eq)]
+#[derive(Debug, Drop)]
 pub struct OpenSession {
     pub application_name: Text,
     pub application_version: Text,
@@ -275,7 +275,7 @@ impl InTree for OpenSession {
 }
 
 /// Ends the session.
-#[derive(Debug, Drop, PartialEq, Eq)]
+#[derive(Debug, Drop)]
 pub struct CloseSession {
     /// Why, in words.
     pub reason: Text,
@@ -300,7 +300,7 @@ impl InTree for CloseSession {
 }
 
 /// Asks for a Pong.
-#[derive(Debug, Drop, PartialEq, Eq)]
+#[derive(Debug, Drop)]
 pub struct Ping {
     /// The sender's moment, in microseconds since 1970-01-01 UTC.
     pub current_date_time: i64,
@@ -325,7 +325,7 @@ impl InTree for Ping {
 }
 
 /// Answers a Ping.
-#[derive(Debug, Drop, PartialEq, Eq)]
+#[derive(Debug, Drop)]
 pub struct Pong {
     /// The sender's moment, in microseconds since 1970-01-01 UTC.
     pub current_date_time: i64,
@@ -350,7 +350,7 @@ impl InTree for Pong {
 }
 
 /// Refuses a message: as a whole by `error`, or some of its keys by `errors`. It is a message of every protocol.
-#[derive(Debug, Drop, PartialEq, Eq)]
+#[derive(Debug, Drop)]
 pub struct ProtocolException {
     /// The refusal of the whole message.
     pub error: Option<ErrorInfo>,
@@ -398,7 +398,7 @@ impl InTree for Acknowledge {
 
 /// A message of the Core protocol. ProtocolException and Acknowledge are messages of every protocol, with the same
 /// numbers and bodies.
-#[derive(Debug, Drop, PartialEq, Eq)]
+#[derive(Debug, Drop)]
 pub enum CoreMessage {
     RequestSession(RequestSession),
     OpenSession(OpenSession),

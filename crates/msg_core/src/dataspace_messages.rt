@@ -12,7 +12,7 @@ use etp_values::{DataValue, List, Named, NoMemory, Text};
 use std::alloc::Global;
 
 /// A dataspace: a space of its own for data objects.
-#[derive(Debug, Drop, PartialEq, Eq)]
+#[derive(Debug, Drop)]
 pub struct Dataspace {
     /// The dataspace's URI.
     pub uri: Text,
@@ -55,7 +55,7 @@ impl InTree for Dataspace {
 }
 
 /// Asks which dataspaces there are.
-#[derive(Debug, Drop, PartialEq, Eq)]
+#[derive(Debug, Drop)]
 pub struct GetDataspaces {
     /// Where given, only dataspaces that were written after this moment are wanted, in microseconds since 1970-01-01
     /// UTC.
@@ -81,7 +81,7 @@ impl InTree for GetDataspaces {
 }
 
 /// Answers GetDataspaces.
-#[derive(Debug, Drop, PartialEq, Eq)]
+#[derive(Debug, Drop)]
 pub struct GetDataspacesResponse {
     /// The dataspaces in the byte order of their paths.
     pub dataspaces: List<Dataspace>,
@@ -106,7 +106,7 @@ impl InTree for GetDataspacesResponse {
 }
 
 /// Makes or writes dataspaces.
-#[derive(Debug, Drop, PartialEq, Eq)]
+#[derive(Debug, Drop)]
 pub struct PutDataspaces {
     /// The dataspaces to make or to write, by the client's keys.
     pub dataspaces: Named<Dataspace>,
@@ -131,7 +131,7 @@ impl InTree for PutDataspaces {
 }
 
 /// Deletes dataspaces with all that they hold.
-#[derive(Debug, Drop, PartialEq, Eq)]
+#[derive(Debug, Drop)]
 pub struct DeleteDataspaces {
     /// The URIs of the dataspaces, by the client's keys.
     pub uris: Named<Text>,
@@ -156,7 +156,7 @@ impl InTree for DeleteDataspaces {
 }
 
 /// Answers DeleteDataspaces.
-#[derive(Debug, Drop, PartialEq, Eq)]
+#[derive(Debug, Drop)]
 pub struct DeleteDataspacesResponse {
     /// An empty text for each key that was granted.
     pub success: Named<Text>,
@@ -181,7 +181,7 @@ impl InTree for DeleteDataspacesResponse {
 }
 
 /// Answers PutDataspaces.
-#[derive(Debug, Drop, PartialEq, Eq)]
+#[derive(Debug, Drop)]
 pub struct PutDataspacesResponse {
     /// An empty text for each key that was granted.
     pub success: Named<Text>,
@@ -206,7 +206,7 @@ impl InTree for PutDataspacesResponse {
 }
 
 /// A message of the Dataspace protocol.
-#[derive(Debug, Drop, PartialEq, Eq)]
+#[derive(Debug, Drop)]
 pub enum DataspaceMessage {
     GetDataspaces(GetDataspaces),
     GetDataspacesResponse(GetDataspacesResponse),

@@ -12,7 +12,7 @@ use etp_values::{Id16, List, NoMemory, Text};
 use std::alloc::Global;
 
 /// Starts a transaction.
-#[derive(Debug, Drop, PartialEq, Eq)]
+#[derive(Debug, Drop)]
 pub struct StartTransaction {
     /// Whether the transaction only reads.
     pub read_only: bool,
@@ -47,7 +47,7 @@ impl InTree for StartTransaction {
 }
 
 /// Answers StartTransaction.
-#[derive(Debug, Drop, PartialEq, Eq)]
+#[derive(Debug, Drop)]
 pub struct StartTransactionResponse {
     /// The transaction's identity.
     pub transaction_uuid: Id16,
@@ -82,7 +82,7 @@ impl InTree for StartTransactionResponse {
 }
 
 /// Asks that all writes of the transaction be done at once.
-#[derive(Debug, Drop, PartialEq, Eq)]
+#[derive(Debug, Drop)]
 pub struct CommitTransaction {
     /// The transaction's identity.
     pub transaction_uuid: Id16,
@@ -107,7 +107,7 @@ impl InTree for CommitTransaction {
 }
 
 /// Drops the transaction and its writes.
-#[derive(Debug, Drop, PartialEq, Eq)]
+#[derive(Debug, Drop)]
 pub struct RollbackTransaction {
     /// The transaction's identity.
     pub transaction_uuid: Id16,
@@ -132,7 +132,7 @@ impl InTree for RollbackTransaction {
 }
 
 /// Answers CommitTransaction.
-#[derive(Debug, Drop, PartialEq, Eq)]
+#[derive(Debug, Drop)]
 pub struct CommitTransactionResponse {
     /// The transaction's identity.
     pub transaction_uuid: Id16,
@@ -167,7 +167,7 @@ impl InTree for CommitTransactionResponse {
 }
 
 /// Answers RollbackTransaction.
-#[derive(Debug, Drop, PartialEq, Eq)]
+#[derive(Debug, Drop)]
 pub struct RollbackTransactionResponse {
     /// The transaction's identity.
     pub transaction_uuid: Id16,
@@ -202,7 +202,7 @@ impl InTree for RollbackTransactionResponse {
 }
 
 /// A message of the Transaction protocol.
-#[derive(Debug, Drop, PartialEq, Eq)]
+#[derive(Debug, Drop)]
 pub enum TransactionMessage {
     StartTransaction(StartTransaction),
     StartTransactionResponse(StartTransactionResponse),

@@ -6,7 +6,7 @@ use etp_values::{AnyArray, DataValue, List, Named, NoMemory, Text};
 use std::alloc::Global;
 
 /// Names an array.
-#[derive(Debug, Drop, PartialEq, Eq)]
+#[derive(Debug, Drop)]
 pub struct DataArrayIdentifier {
     /// The URI of the object that the array belongs to.
     pub uri: Text,
@@ -37,7 +37,7 @@ impl InTree for DataArrayIdentifier {
 }
 
 /// An array, or a region of one.
-#[derive(Debug, Drop, PartialEq, Eq)]
+#[derive(Debug, Drop)]
 pub struct DataArray {
     /// How many elements it has in each dimension; the last dimension runs fastest.
     pub dimensions: List<i64>,
@@ -68,7 +68,7 @@ impl InTree for DataArray {
 }
 
 /// What is known of an array beside its elements.
-#[derive(Debug, Drop, PartialEq, Eq)]
+#[derive(Debug, Drop)]
 pub struct DataArrayMetadata {
     /// How many elements the array has in each dimension; the last dimension runs fastest.
     pub dimensions: List<i64>,
@@ -119,7 +119,7 @@ impl InTree for DataArrayMetadata {
 }
 
 /// A region of an array that is wanted.
-#[derive(Debug, Drop, PartialEq, Eq)]
+#[derive(Debug, Drop)]
 pub struct GetDataSubarraysType {
     pub uid: DataArrayIdentifier,
     /// The place of the region's first element, in each dimension from 0.
@@ -153,7 +153,7 @@ impl InTree for GetDataSubarraysType {
 }
 
 /// An array to make or to write.
-#[derive(Debug, Drop, PartialEq, Eq)]
+#[derive(Debug, Drop)]
 pub struct PutDataArraysType {
     pub uid: DataArrayIdentifier,
     pub array: DataArray,
@@ -186,7 +186,7 @@ impl InTree for PutDataArraysType {
 }
 
 /// A region of an array to write.
-#[derive(Debug, Drop, PartialEq, Eq)]
+#[derive(Debug, Drop)]
 pub struct PutDataSubarraysType {
     pub uid: DataArrayIdentifier,
     /// The region's elements in row-major order (`data` in the schema).
@@ -224,7 +224,7 @@ impl InTree for PutDataSubarraysType {
 }
 
 /// An array to make whose elements are false, 0, the empty text or the byte 0.
-#[derive(Debug, Drop, PartialEq, Eq)]
+#[derive(Debug, Drop)]
 pub struct PutUninitializedDataArrayType {
     pub uid: DataArrayIdentifier,
     /// What the array is to be. Its two moments are ignored.

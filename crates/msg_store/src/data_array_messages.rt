@@ -16,7 +16,7 @@ use etp_values::{Named, NoMemory, Text};
 use std::alloc::Global;
 
 /// Answers GetDataArrays.
-#[derive(Debug, Drop, PartialEq, Eq)]
+#[derive(Debug, Drop)]
 pub struct GetDataArraysResponse {
     /// The arrays, by the client's keys.
     pub data_arrays: Named<DataArray>,
@@ -41,7 +41,7 @@ impl InTree for GetDataArraysResponse {
 }
 
 /// Asks for whole arrays.
-#[derive(Debug, Drop, PartialEq, Eq)]
+#[derive(Debug, Drop)]
 pub struct GetDataArrays {
     /// Which arrays, by the client's keys.
     pub data_arrays: Named<DataArrayIdentifier>,
@@ -66,7 +66,7 @@ impl InTree for GetDataArrays {
 }
 
 /// Asks for regions of arrays.
-#[derive(Debug, Drop, PartialEq, Eq)]
+#[derive(Debug, Drop)]
 pub struct GetDataSubarrays {
     /// Which regions, by the client's keys.
     pub data_subarrays: Named<GetDataSubarraysType>,
@@ -91,7 +91,7 @@ impl InTree for GetDataSubarrays {
 }
 
 /// Makes or writes whole arrays.
-#[derive(Debug, Drop, PartialEq, Eq)]
+#[derive(Debug, Drop)]
 pub struct PutDataArrays {
     /// The arrays, by the client's keys.
     pub data_arrays: Named<PutDataArraysType>,
@@ -116,7 +116,7 @@ impl InTree for PutDataArrays {
 }
 
 /// Writes regions of arrays that are there.
-#[derive(Debug, Drop, PartialEq, Eq)]
+#[derive(Debug, Drop)]
 pub struct PutDataSubarrays {
     /// The regions, by the client's keys.
     pub data_subarrays: Named<PutDataSubarraysType>,
@@ -141,7 +141,7 @@ impl InTree for PutDataSubarrays {
 }
 
 /// Asks what is known of arrays, without their elements.
-#[derive(Debug, Drop, PartialEq, Eq)]
+#[derive(Debug, Drop)]
 pub struct GetDataArrayMetadata {
     /// Which arrays, by the client's keys.
     pub data_arrays: Named<DataArrayIdentifier>,
@@ -166,7 +166,7 @@ impl InTree for GetDataArrayMetadata {
 }
 
 /// Answers GetDataArrayMetadata.
-#[derive(Debug, Drop, PartialEq, Eq)]
+#[derive(Debug, Drop)]
 pub struct GetDataArrayMetadataResponse {
     /// What is known of each array, by the client's keys.
     pub array_metadata: Named<DataArrayMetadata>,
@@ -191,7 +191,7 @@ impl InTree for GetDataArrayMetadataResponse {
 }
 
 /// Answers GetDataSubarrays.
-#[derive(Debug, Drop, PartialEq, Eq)]
+#[derive(Debug, Drop)]
 pub struct GetDataSubarraysResponse {
     /// The regions, by the client's keys.
     pub data_subarrays: Named<DataArray>,
@@ -216,7 +216,7 @@ impl InTree for GetDataSubarraysResponse {
 }
 
 /// Makes arrays without sending their elements.
-#[derive(Debug, Drop, PartialEq, Eq)]
+#[derive(Debug, Drop)]
 pub struct PutUninitializedDataArrays {
     /// The arrays, by the client's keys.
     pub data_arrays: Named<PutUninitializedDataArrayType>,
@@ -241,7 +241,7 @@ impl InTree for PutUninitializedDataArrays {
 }
 
 /// Answers PutDataArrays.
-#[derive(Debug, Drop, PartialEq, Eq)]
+#[derive(Debug, Drop)]
 pub struct PutDataArraysResponse {
     /// An empty text for each key that was granted.
     pub success: Named<Text>,
@@ -266,7 +266,7 @@ impl InTree for PutDataArraysResponse {
 }
 
 /// Answers PutDataSubarrays.
-#[derive(Debug, Drop, PartialEq, Eq)]
+#[derive(Debug, Drop)]
 pub struct PutDataSubarraysResponse {
     /// An empty text for each key that was granted.
     pub success: Named<Text>,
@@ -291,7 +291,7 @@ impl InTree for PutDataSubarraysResponse {
 }
 
 /// Answers PutUninitializedDataArrays.
-#[derive(Debug, Drop, PartialEq, Eq)]
+#[derive(Debug, Drop)]
 pub struct PutUninitializedDataArraysResponse {
     /// An empty text for each key that was granted.
     pub success: Named<Text>,
@@ -319,7 +319,7 @@ impl InTree for PutUninitializedDataArraysResponse {
 }
 
 /// A message of the DataArray protocol.
-#[derive(Debug, Drop, PartialEq, Eq)]
+#[derive(Debug, Drop)]
 pub enum DataArrayMessage {
     GetDataArraysResponse(GetDataArraysResponse),
     GetDataArrays(GetDataArrays),

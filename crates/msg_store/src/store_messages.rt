@@ -12,7 +12,7 @@ use etp_values::{Blob, DataValue, Id16, List, Named, NoMemory, Text};
 use std::alloc::Global;
 
 /// What a data object is, beside its data.
-#[derive(Debug, Drop, PartialEq, Eq)]
+#[derive(Debug, Drop)]
 pub struct Resource {
     /// The object's URI.
     pub uri: Text,
@@ -75,7 +75,7 @@ impl InTree for Resource {
 }
 
 /// A data object with its data, which no store reads.
-#[derive(Debug, Drop, PartialEq, Eq)]
+#[derive(Debug, Drop)]
 pub struct DataObject {
     pub resource: Resource,
     /// What the data are written in: `xml`, `json`; empty for `xml`.
@@ -114,7 +114,7 @@ impl InTree for DataObject {
 
 /// What became of the objects that are contained in one that was put, by their URIs. A store that does not look into
 /// objects leaves the four lists empty.
-#[derive(Debug, Drop, PartialEq, Eq)]
+#[derive(Debug, Drop)]
 pub struct PutResponse {
     /// Those that were made.
     pub created_contained_object_uris: List<Text>,
@@ -153,7 +153,7 @@ impl InTree for PutResponse {
 }
 
 /// A list of texts, as a record.
-#[derive(Debug, Drop, PartialEq, Eq)]
+#[derive(Debug, Drop)]
 pub struct ArrayOfString {
     pub values: List<Text>,
 }
@@ -177,7 +177,7 @@ impl InTree for ArrayOfString {
 }
 
 /// Asks for data objects.
-#[derive(Debug, Drop, PartialEq, Eq)]
+#[derive(Debug, Drop)]
 pub struct GetDataObjects {
     /// The URIs of the objects, by the client's keys.
     pub uris: Named<Text>,
@@ -205,7 +205,7 @@ impl InTree for GetDataObjects {
 }
 
 /// Makes or writes data objects.
-#[derive(Debug, Drop, PartialEq, Eq)]
+#[derive(Debug, Drop)]
 pub struct PutDataObjects {
     /// The objects to make or to write, by the client's keys.
     pub data_objects: Named<DataObject>,
@@ -236,7 +236,7 @@ impl InTree for PutDataObjects {
 }
 
 /// Deletes data objects with their arrays.
-#[derive(Debug, Drop, PartialEq, Eq)]
+#[derive(Debug, Drop)]
 pub struct DeleteDataObjects {
     /// The URIs of the objects, by the client's keys.
     pub uris: Named<Text>,
@@ -267,7 +267,7 @@ impl InTree for DeleteDataObjects {
 }
 
 /// Answers GetDataObjects.
-#[derive(Debug, Drop, PartialEq, Eq)]
+#[derive(Debug, Drop)]
 pub struct GetDataObjectsResponse {
     /// The objects, by the client's keys.
     pub data_objects: Named<DataObject>,
@@ -293,7 +293,7 @@ impl InTree for GetDataObjectsResponse {
 
 /// A piece of the data of an object that was sent with a `blob_id`. The pieces come in order after the message that has
 /// the object.
-#[derive(Debug, Drop, PartialEq, Eq)]
+#[derive(Debug, Drop)]
 pub struct Chunk {
     /// The identity that the object was sent with.
     pub blob_id: Id16,
@@ -328,7 +328,7 @@ impl InTree for Chunk {
 }
 
 /// Answers PutDataObjects.
-#[derive(Debug, Drop, PartialEq, Eq)]
+#[derive(Debug, Drop)]
 pub struct PutDataObjectsResponse {
     /// What was done for each key that was granted.
     pub success: Named<PutResponse>,
@@ -353,7 +353,7 @@ impl InTree for PutDataObjectsResponse {
 }
 
 /// Answers DeleteDataObjects.
-#[derive(Debug, Drop, PartialEq, Eq)]
+#[derive(Debug, Drop)]
 pub struct DeleteDataObjectsResponse {
     /// The URIs of the objects that were deleted, for each key that was granted.
     pub deleted_uris: Named<ArrayOfString>,
@@ -378,7 +378,7 @@ impl InTree for DeleteDataObjectsResponse {
 }
 
 /// A message of the Store protocol.
-#[derive(Debug, Drop, PartialEq, Eq)]
+#[derive(Debug, Drop)]
 pub enum StoreMessage {
     GetDataObjects(GetDataObjects),
     PutDataObjects(PutDataObjects),
