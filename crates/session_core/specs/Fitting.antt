@@ -18,18 +18,14 @@ use Rattle.session_core.specs.Run.{takes}
 -- a reply that says what the kept request needs: the dataspaces, or a verdict on each granted key and no other; a change may
 -- find the journal full
 abbrev pub FitsDataspaces : DataspacePending → Reply → Type 0
-FitsDataspaces keeps.Get (reply.Entered place) = ⊥
 FitsDataspaces keeps.Get (reply.Spaces records) = Unit {0}
-FitsDataspaces keeps.Get (reply.Verdicts verdicts) = ⊥
-FitsDataspaces keeps.Get reply.JournalFull = ⊥
-FitsDataspaces (keeps.Put items) (reply.Entered place) = ⊥
-FitsDataspaces (keeps.Put items) (reply.Spaces records) = ⊥
+FitsDataspaces keeps.Get _ = ⊥
 FitsDataspaces (keeps.Put items) (reply.Verdicts verdicts) = keys_of verdicts ≡ keys_of (granted items)
 FitsDataspaces (keeps.Put items) reply.JournalFull = Unit {0}
-FitsDataspaces (keeps.Delete items) (reply.Entered place) = ⊥
-FitsDataspaces (keeps.Delete items) (reply.Spaces records) = ⊥
+FitsDataspaces (keeps.Put items) _ = ⊥
 FitsDataspaces (keeps.Delete items) (reply.Verdicts verdicts) = keys_of verdicts ≡ keys_of (granted items)
 FitsDataspaces (keeps.Delete items) reply.JournalFull = Unit {0}
+FitsDataspaces (keeps.Delete items) _ = ⊥
 
 -- the same of the request that a session has in hand
 abbrev pub Fits : Reply → Pending → Type 0

@@ -150,4 +150,4 @@ abbrev pub dataspace_reply : DataspacePending → Reply → List (Sending Datasp
 dataspace_reply pending (answer.Spaces records) = records_reply pending records
 dataspace_reply pending (answer.Verdicts verdicts) = verdicts_reply pending verdicts
 dataspace_reply pending answer.JournalFull = refusal_alone LimitExceeded
-dataspace_reply pending (answer.Entered place) = []
+dataspace_reply pending _ = []

@@ -1,5 +1,5 @@
 //! The requests of the Dataspace protocol.
-ghost use Rattle.std.specs.Prelude.{◌≡◌, IfOk};
+ghost use Rattle.std.specs.Prelude.{◌≡◌, [], IfOk};
 ghost use Rattle.etp_values.specs.Uri.{space_text};
 ghost use Rattle.keyed_requests.specs.Plain.{plain_outcome, plain_reply};
 ghost use Rattle.keyed_requests.specs.Sending.{refusal_alone};
@@ -356,6 +356,14 @@ fn verdicts_reply(
     }
 }
 
+/// Nothing is said of an answer that is none to the call.
+fn no_reply(alloc: Global, reply: Reply) -> List<Sending<DataspaceMessage>>
+    ensures { result ≡ [] }
+{
+    drop(reply);
+    List::new(alloc)
+}
+
 /// The reply at the store's answer to the call of a request of the Dataspace protocol.
 pub fn dataspace_reply(
     alloc: Global,
@@ -368,6 +376,6 @@ pub fn dataspace_reply(
         Reply::Spaces(records) => records_reply(alloc, pending, records),
         Reply::Verdicts(verdicts) => verdicts_reply(alloc, pending, verdicts),
         Reply::JournalFull => refusal_alone(alloc, ErrorCode::LimitExceeded),
-        Reply::Entered(_) => Ok(List::new(alloc)),
+        other => Ok(no_reply(alloc, other)),
     }
 }

@@ -1,5 +1,5 @@
 -- One call between taking and giving the turn.
-use Rattle.std.proofs.Common.{◌≡◌, ◌+◌, ◌-◌, ◌≤◌, ◌<◌, ℕ, ℤ, List, [], ◌∷◌, ◌++◌, length, Option, Some, None, IfSome, Result, Ok, Err, IfOk, refl, ap, sym, ◌∙◌, subst, arith, length-append}
+use Rattle.std.proofs.Common.{◌≡◌, ◌+◌, ◌-◌, ◌≤◌, ◌<◌, inl, inr, ℕ, ℤ, List, [], ◌∷◌, ◌++◌, length, Option, Some, None, IfSome, Result, Ok, Err, IfOk, refl, ap, sym, ◌∙◌, subst, arith, length-append}
 use Rattle.std.specs.Prelude.{OnOk, OnErr}
 use Rattle.std.specs.List.{AllByRecursion}
 use mathlib.Core.List.{IsPrefix}
@@ -12,7 +12,7 @@ use Rattle.store_machine.specs.Answers.{answer, entries_of, answered, added}
 use Rattle.store_machine.specs.Laws.{OneOrNone, IsEntryOf, IsCallAt}
 use Rattle.store_machine.specs.Legal.{IsNext}
 use Rattle.store_machine.proofs.Numbers.{entries-one, entries-of_session}
-use Rattle.turn_book.specs.Hands.{IsOneMore, Waits}
+use Rattle.turn_book.specs.Hands.{IsOneMore, MayGive, Waits}
 use Rattle.turn_book.specs.Lists.{Each, own}
 use Rattle.turn_book.specs.Rules.{IsSettled}
 use Rattle.turn_book.specs.Steps.{marked, released, wrote, IsOwn, IsOwnSeen, Sees}
@@ -101,6 +101,15 @@ module _ (number : Option ℕ) (u : Known) (log after : List Entry) where
       let t : P (marked log (length log) u) = subst P (looked u m log len s) (same, entry) in
       noted_looked w es held g t.0 t.1
 
+-- what may be given after that
+gives_looked : (n : ℕ) (u : Known) (log after es : List Entry) → u.number ≡ Some n → u.held ≡ Some log → Grows (Some n) log after es → MayGive by_of enters_of (marked log (length log) u) after
+gives_looked n u log after [] num held g = inl (held ∙ ap Some (sym (g.whole ∙ append-nil log)))
+gives_looked n u log after (e ∷ []) num held g = inr (e, (held, g.whole), subst (λ (o : Option ℕ). IsOwn by_of enters_of o (length log) e) (sym num) g.mine.0)
+gives_looked n u log after (e ∷ f ∷ es) num held g = absurd (g.one)
+
+gives_by : (n : ℕ) (u m : Known) (log after : List Entry) (len : ℕ) (es : List Entry) → u.number ≡ Some n → u.held ≡ Some log → Sees by_of enters_of log u len m → Grows (Some n) log after es → MayGive by_of enters_of m after
+gives_by n u m log after len es num held s g = subst (λ (x : Known). MayGive by_of enters_of x after) (sym (looked u m log len s)) (gives_looked n u log after es num held g)
+
 module _ (n nth : ℕ) (u m : Known) (log after : List Entry) (len : ℕ) where
   -- the pass counts one more for an entry
   pub keeps_noted : (es : List Entry) → IsKept n nth (record u { held = None }) → Sees by_of enters_of log u len m → Grows (Some n) log after es → IsKept n (nth + (length after - len)) (noted log es u)
@@ -170,6 +179,7 @@ module _ (config key : Config) (n nth : ℕ) (at : ℤ) (call : StoreCall) (u m 
   pub record Turned {E : Type 0} (r : Result Answer E) : Type 0 where
     pub longer : len ≤ length after
     pub fits : nth + (length after - len) ≤ length after
+    pub gives : MayGive by_of enters_of m after
     pub kept : (m.held ≡ Some after → w ≡ released m) → ((e : Entry) → IsOneMore m e after → w ≡ wrote e m) → IsKept n (nth + (length after - len)) w
     pub ok : (m.held ≡ Some after → w ≡ released m) → ((e : Entry) → IsOneMore m e after → w ≡ wrote e m) → IfOk r (λ a. (v : Known) → Waits v log u → Answers key n nth at call v a w)
     pub err : (m.held ≡ Some after → w ≡ released m) → ((e : Entry) → IsOneMore m e after → w ≡ wrote e m) → OnErr r ((v : Known) → Waits v log u → Refuses n v w)
@@ -185,6 +195,7 @@ module _ (config key : Config) (n nth : ℕ) (at : ℤ) (call : StoreCall) (u m 
       let more : len ≤ length after = omega (arith, sizes, both, found) in record {
         longer = more;
         fits = counts_fit n nth (length after) len log (ap length (own_kept n u m log len k.0 s) ∙ k.2) s.found more;
+        gives = gives_by n u m log after len es k.0 held s g;
         kept = λ same entry. subst (IsKept n (nth + (length after - len))) (sym (noted_by (Some n) u log after m w len es held s g same entry)) (keeps_noted n nth u m log after len es k s g);
         ok = λ same entry. turn_answers r fixed k.0 s ok (noted_by (Some n) u log after m w len es held s g same entry);
         err = λ same entry. turn_refuses r k.0 s (noted_by (Some n) u log after m w len es held s g same entry);

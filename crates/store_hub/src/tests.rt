@@ -150,7 +150,7 @@ fn an_attempt_is_busy_only_while_the_turn_is_taken(rt: HostRuntime) -> Result<()
     let mut seat = hub.book.split(&mut door.seat);
     let inside = hub.book.take(&rt, &mut seat);
     let tried = hub.try_ask(alloc, &mut one, 2, StoreCall::Spaces { newer: None })?;
-    assert!(rt; tried == Tried::Busy(StoreCall::Spaces { newer: None }));
+    assert!(rt; matches!(&tried, Tried::Busy(StoreCall::Spaces { newer: None })));
     hub.book.give(&mut seat, inside);
     let tried = hub.try_ask(alloc, &mut one, 3, StoreCall::Spaces { newer: None })?;
     assert!(rt; matches!(&tried, Tried::Done(answer) if answer.mark == 2));

@@ -2,7 +2,7 @@
 use store_machine::{Answer, StoreCall};
 
 /// What comes of asking without waiting.
-#[derive(Debug, Drop, PartialEq, Eq)]
+#[derive(Drop)]
 pub enum Tried {
     /// The store was free, and answered.
     Done(Answer),

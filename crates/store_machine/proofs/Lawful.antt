@@ -1,31 +1,34 @@
 -- What a store keeps stays right through a further entry, and its journal legal.
-use Rattle.std.specs.Prelude.{ℕ, ℤ, pos, nat_lt, nat_le, Bool, true, false, List, [], ◌∷◌, ◌++◌, ◌≡◌, ◌+◌, ◌≤◌, ◌&&◌, Option, Some, None, length, filter, fold, map, refl, if◌then◌else◌}
-use Rattle.std.specs.List.{AllByRecursion}
+use Rattle.std.specs.Prelude.{ℕ, ℤ, pos, nat_lt, nat_le, Bool, true, false, List, [], ◌∷◌, ◌++◌, ◌≡◌, ◌+◌, ◌≤◌, ◌&&◌, Option, Some, None, length, filter, map, refl, if◌then◌else◌}
 use Rattle.std.specs.Map.{values_of}
-use Rattle.std.proofs.lemmas.Bool.{false≢true}
 use Rattle.std.proofs.Common.{ap, sym, ◌∙◌, subst, append_assoc, append-nil, arith}
 use Rattle.chan_defs.specs.declared.config.Config.{Config}
 use Rattle.object_store.specs.declared.records.SpaceRecord.{SpaceRecord}
-use Rattle.object_store.specs.Tables.{default_dataspace}
+use Rattle.tx_stage.specs.declared.contents.Contents.{Contents}
+use Rattle.tx_stage.specs.declared.key.Key.{Key}
+use Rattle.tx_stage.specs.declared.look.Looked.{Looked}
+use Rattle.tx_stage.specs.declared.look.Want.{Want}
+use Rattle.tx_stage.specs.declared.op.Op.{Op}
+use Rattle.tx_stage.specs.declared.plan.Plan.{Plan}
+use Rattle.tx_stage.specs.declared.value.Value.{Value}
+use Rattle.tx_stage.specs.Looks.{looks}
+use Rattle.tx_stage.specs.State.{first, state_in, state_now}
 use Rattle.store_machine.specs.declared.call.SpacePut.{SpacePut}
 use Rattle.store_machine.specs.declared.counted.TheConstants.{MAX_JOURNAL_BYTES}
 use Rattle.store_machine.specs.declared.journal.Act.{Act}
-use Rattle.store_machine.specs.declared.journal.Act.TheVariants.{Enter, PutSpaces, DropSpaces}
+use Rattle.store_machine.specs.declared.journal.Act.TheVariants.{Enter, PutSpaces, DropSpaces, Put}
 use Rattle.store_machine.specs.declared.journal.Entry.{Entry}
-use Rattle.store_machine.specs.History.{Space, Change, DropSpace, is_default, set_space, entry_changes, changes_of}
-use Rattle.etp_values.specs.declared.code.ErrorCode.TheVariants.{RequestDenied, NotFound}
-use Rattle.store_machine.specs.declared.call.Verdict.{Verdict}
-use Rattle.store_machine.specs.declared.call.Verdict.TheVariants.{Accepted, Refused}
+use Rattle.store_machine.specs.History.{Change, DropSpace, Operate, set_space, changes_by, entry_changes, changes_of}
+use Rattle.store_machine.specs.declared.call.Reply.TheVariants as replied
 use Rattle.store_machine.specs.declared.call.Reply.TheVariants.{Spaces}
 use Rattle.store_machine.specs.declared.call.StoreCall.{StoreCall}
 use Rattle.store_machine.specs.declared.call.StoreCall.TheVariants as call
-use Rattle.store_machine.specs.Dataspaces.{is_newer}
+use Rattle.store_machine.specs.Dataspaces.{dataspaces, is_newer}
 use Rattle.store_machine.specs.Counted.{counted_act, counted, is_room, bytes_with}
-use Rattle.store_machine.specs.Answers.{is_there, verdict, is_accepted, accepted, act_of, granted, has_room_for, entry, entered, entries_of, answer}
-use Rattle.store_machine.specs.Legal.{IsNext, MayAsk, Follows, LegalFrom, Legal, door}
-use Rattle.store_machine.specs.Kept.{Stands, Keeps, put_in, drop_in, put_record}
+use Rattle.store_machine.specs.Answers.{verdict, is_accepted, accepted, act_of, granted, has_room_for, entry, entered, entries_of, seen_after, answer}
+use Rattle.store_machine.specs.Legal.{IsNext, MayAct, MayAsk, Follows, LegalFrom, Legal, door}
+use Rattle.store_machine.specs.Kept.{Holds, Plans, Keeps}
 use Rattle.store_machine.proofs.Values.{changes-push}
-use Rattle.store_machine.proofs.Standing.{stands-puts, stands-drops, stands-first, stands-is}
 
 -- what was accepted is accepted again
 accepted-again : {X : Type 0} (change : X → Change) (sofar : List Change) (xs : List X) → accepted change sofar (accepted change sofar xs) ≡ accepted change sofar xs
@@ -39,28 +42,6 @@ accepted-again {X} change sofar (x ∷ xs) = by (is_accepted (verdict sofar (cha
     by true e taken kept = ap (λ b. if b then x ∷ accepted change (sofar ++ change x ∷ []) (accepted change (sofar ++ change x ∷ []) xs) else accepted change sofar (accepted change (sofar ++ change x ∷ []) xs)) e
         ∙ ap (λ l. x ∷ l) taken
     by false e taken kept = kept
-
--- what is accepted is not the default dataspace
-accepted-named : {X : Type 0} (change : X → Change) (path_of : X → List ℕ) → ((sofar : List Change) (x : X) → is_accepted (verdict sofar (change x)) ≡ true → is_default (path_of x) ≡ false)
-    → (sofar : List Change) (xs : List X) → AllByRecursion (λ x. is_default (path_of x) ≡ false) (accepted change sofar xs)
-accepted-named change path_of named sofar [] = tt
-accepted-named {X} change path_of named sofar (x ∷ xs) =
-    by (is_accepted (verdict sofar (change x))) refl (accepted-named change path_of named (sofar ++ change x ∷ []) xs) (accepted-named change path_of named sofar xs)
-  where
-    by : (b : Bool) → is_accepted (verdict sofar (change x)) ≡ b
-        → AllByRecursion (λ y. is_default (path_of y) ≡ false) (accepted change (sofar ++ change x ∷ []) xs)
-        → AllByRecursion (λ y. is_default (path_of y) ≡ false) (accepted change sofar xs)
-        → AllByRecursion (λ y. is_default (path_of y) ≡ false) (if b then x ∷ accepted change (sofar ++ change x ∷ []) xs else accepted change sofar xs)
-    by true e taken kept = (named sofar x e, taken)
-    by false e taken kept = kept
-
-put-named : (b : Bool) → is_accepted (if b then Refused RequestDenied else Accepted) ≡ true → b ≡ false
-put-named true h = absurd (false≢true h)
-put-named false h = refl
-
-drop-named : (b : Bool) (v : Verdict) → is_accepted (if b then Refused RequestDenied else v) ≡ true → b ≡ false
-drop-named true v h = absurd (false≢true h)
-drop-named false v h = refl
 
 -- ---- legal histories
 
@@ -79,34 +60,57 @@ legal-one : (config : Config) (history : List Entry) (e : Entry) (room : Bool) �
 legal-one config history e true legal follows = legal-push config history e legal (follows refl)
 legal-one config history e false legal follows = subst (Legal config) (sym (append-nil history)) legal
 
--- the entry of the accepted items, where there are any
-legal-puts : (config : Config) (history : List Entry) (by nth : ℕ) (at : ℤ) (asked puts : List SpacePut) → Legal config history → IsNext history by nth
-    → puts ≡ accepted (set_space (pos 0)) (changes_of history) asked → Legal config (history ++ entered config history by nth at (act_of PutSpaces puts))
-legal-puts config history by nth at asked [] legal next same = subst (Legal config) (sym (append-nil history)) legal
-legal-puts config history by nth at asked (p ∷ ps) legal next same =
-    legal-one config history (record { by = by; nth = nth; at = at; act = PutSpaces (p ∷ ps) }) (has_room_for config history (PutSpaces (p ∷ ps))) legal
-    (λ room. record { same = ap (entered config history by nth at) again ∙ ap (λ b. if b then record { by = by; nth = nth; at = at; act = PutSpaces (p ∷ ps) } ∷ [] else []) room; may = next })
-  where
-    again : granted config history (PutSpaces (p ∷ ps)) ≡ PutSpaces (p ∷ ps) ∷ []
-    again = ap (act_of PutSpaces) (ap (accepted (set_space (pos 0)) (changes_of history)) same ∙ accepted-again (set_space (pos 0)) (changes_of history) asked ∙ sym same)
+-- ---- acts of several items
 
-legal-drops : (config : Config) (history : List Entry) (by nth : ℕ) (at : ℤ) (asked paths : List (List ℕ)) → Legal config history → IsNext history by nth
-    → paths ≡ accepted DropSpace (changes_of history) asked → Legal config (history ++ entered config history by nth at (act_of DropSpaces paths))
-legal-drops config history by nth at asked [] legal next same = subst (Legal config) (sym (append-nil history)) legal
-legal-drops config history by nth at asked (p ∷ ps) legal next same =
-    legal-one config history (record { by = by; nth = nth; at = at; act = DropSpaces (p ∷ ps) }) (has_room_for config history (DropSpaces (p ∷ ps))) legal
-    (λ room. record { same = ap (entered config history by nth at) again ∙ ap (λ b. if b then record { by = by; nth = nth; at = at; act = DropSpaces (p ∷ ps) } ∷ [] else []) room; may = next })
+-- an act makes an entry of its accepted items, under the number of whoever may make it
+record Makes {X : Type 0} (act : List X → Act) (change : X → Change) (config : Config) (history : List Entry) (by nth : ℕ) (at : ℤ) : Type 0 where
+  grants : (xs : List X) → granted config history (act xs) ≡ act_of act (accepted change (changes_of history) xs)
+  enters : (xs : List X) → entry history by nth at (act xs) ≡ record { by = by; nth = nth; at = at; act = act xs }
+  may : (xs : List X) → MayAct history by nth (act xs)
+
+makes-puts : (config : Config) (history : List Entry) (by nth : ℕ) (at : ℤ) → IsNext history by nth → Makes PutSpaces (set_space (pos 0)) config history by nth at
+makes-puts config history by nth at next = record { grants = λ xs. refl; enters = λ xs. refl; may = λ xs. next }
+
+makes-drops : (config : Config) (history : List Entry) (by nth : ℕ) (at : ℤ) → IsNext history by nth → Makes DropSpaces DropSpace config history by nth at
+makes-drops config history by nth at next = record { grants = λ xs. refl; enters = λ xs. refl; may = λ xs. next }
+
+makes-ops : (config : Config) (history : List Entry) (by nth : ℕ) (at : ℤ) → IsNext history by nth → Makes Put Operate config history by nth at
+makes-ops config history by nth at next = record { grants = λ xs. refl; enters = λ xs. refl; may = λ xs. next }
+
+-- the entry of accepted items follows, where there is room
+follows-items : {X : Type 0} (act : List X → Act) (change : X → Change) (config : Config) (history : List Entry) (by nth : ℕ) (at : ℤ) → Makes act change config history by nth at
+    → (asked : List X) (x : X) (xs : List X) → x ∷ xs ≡ accepted change (changes_of history) asked → has_room_for config history (act (x ∷ xs)) ≡ true
+    → Follows config history (record { by = by; nth = nth; at = at; act = act (x ∷ xs) })
+follows-items act change config history by nth at m asked x xs same room = record {
+  same = ap (entered config history by nth at) again ∙ ap (λ b. if b then entry history by nth at (act (x ∷ xs)) ∷ [] else []) room ∙ ap (λ e. e ∷ []) (m.enters (x ∷ xs));
+  may = m.may (x ∷ xs);
+}
   where
-    again : granted config history (DropSpaces (p ∷ ps)) ≡ DropSpaces (p ∷ ps) ∷ []
-    again = ap (act_of DropSpaces) (ap (accepted DropSpace (changes_of history)) same ∙ accepted-again DropSpace (changes_of history) asked ∙ sym same)
+    again : granted config history (act (x ∷ xs)) ≡ act (x ∷ xs) ∷ []
+    again = m.grants (x ∷ xs) ∙ ap (act_of act) (ap (accepted change (changes_of history)) same ∙ accepted-again change (changes_of history) asked ∙ sym same)
+
+legal-items : {X : Type 0} (act : List X → Act) (change : X → Change) (config : Config) (history : List Entry) (by nth : ℕ) (at : ℤ) → Makes act change config history by nth at
+    → (asked xs : List X) → Legal config history → xs ≡ accepted change (changes_of history) asked → Legal config (history ++ entered config history by nth at (act_of act xs))
+legal-items act change config history by nth at m asked [] legal same = subst (Legal config) (sym (append-nil history)) legal
+legal-items act change config history by nth at m asked (x ∷ xs) legal same =
+    let e : Entry = record { by = by; nth = nth; at = at; act = act (x ∷ xs) } in
+    subst (λ (d : Entry). Legal config (history ++ (if has_room_for config history (act (x ∷ xs)) then d ∷ [] else []))) (sym (m.enters (x ∷ xs)))
+    (legal-one config history e (has_room_for config history (act (x ∷ xs))) legal (follows-items act change config history by nth at m asked x xs same))
+
+legal-granted : {X : Type 0} (act : List X → Act) (change : X → Change) (config : Config) (history : List Entry) (by nth : ℕ) (at : ℤ) → Makes act change config history by nth at
+    → (asked : List X) → Legal config history → Legal config (history ++ entered config history by nth at (granted config history (act asked)))
+legal-granted act change config history by nth at m asked legal =
+    subst (λ acts. Legal config (history ++ entered config history by nth at acts)) (sym (m.grants asked))
+    (legal-items act change config history by nth at m asked (accepted change (changes_of history) asked) legal refl)
 
 pub legal-call : (config : Config) (history : List Entry) (by nth : ℕ) (at : ℤ) (c : StoreCall) → Legal config history → MayAsk history by nth c → Legal config (history ++ entries_of config history by nth at c)
 legal-call config history by nth at call.Enter legal may =
     let e : Entry = entry history by nth at Enter in
     legal-one config history e (has_room_for config history Enter) legal (λ room. record { same = ap (λ b. if b then e ∷ [] else []) room; may = tt })
-legal-call config history by nth at (call.Spaces newer) legal may = subst (Legal config) (sym (append-nil history)) legal
-legal-call config history by nth at (call.PutSpaces items) legal may = legal-puts config history by nth at (values_of items) (accepted (set_space (pos 0)) (changes_of history) (values_of items)) legal may refl
-legal-call config history by nth at (call.DropSpaces items) legal may = legal-drops config history by nth at (values_of items) (accepted DropSpace (changes_of history) (values_of items)) legal may refl
+legal-call config history by nth at (call.PutSpaces items) legal may = legal-granted PutSpaces (set_space (pos 0)) config history by nth at (makes-puts config history by nth at may) (values_of items) legal
+legal-call config history by nth at (call.DropSpaces items) legal may = legal-granted DropSpaces DropSpace config history by nth at (makes-drops config history by nth at may) (values_of items) legal
+legal-call config history by nth at (call.Put items) legal may = legal-granted Put Operate config history by nth at (makes-ops config history by nth at may) (values_of items) legal
+legal-call config history by nth at _ legal may = subst (Legal config) (sym (append-nil history)) legal
 
 -- ---- counted bytes
 
@@ -119,61 +123,69 @@ fits config history a h = grind (arith, h)
 
 -- ---- a further entry
 
--- an entry that follows, with the list that stands for the changes then
-keeps-push : (config : Config) (journal : List Entry) (total : ℕ) (rs rs' : List SpaceRecord) (e : Entry) → Keeps config journal total rs → Follows config journal e → has_room_for config journal e.act ≡ true → Stands rs' (changes_of journal ++ entry_changes e) → Keeps config (journal ++ e ∷ []) (total + counted_act e.act) rs'
-keeps-push config journal total rs rs' e k f room s = record {
+-- an entry that follows, with the tables that hold what its changes left
+keeps-push : (config : Config) (journal : List Entry) (total : ℕ) (t t' : Contents) (e : Entry) → Keeps config journal total t → Follows config journal e → has_room_for config journal e.act ≡ true
+    → Holds t' (changes_of journal ++ entry_changes e) → Keeps config (journal ++ e ∷ []) (total + counted_act e.act) t'
+keeps-push config journal total t t' e k f room h = record {
   legal = legal-push config journal e k.legal f;
   bytes = ap (λ n. n + counted_act e.act) k.bytes ∙ sym (counted-push journal e);
   limit = subst (λ n. n + counted_act e.act ≤ MAX_JOURNAL_BYTES) (sym k.bytes) (fits config journal e.act room);
-  stands = subst (Stands rs') (sym (changes-push journal e)) s;
+  holds = subst (Holds t') (sym (changes-push journal e)) h;
 }
 
 -- someone enters
-pub keeps-enter : (config : Config) (journal : List Entry) (total : ℕ) (rs : List SpaceRecord) (at : ℤ) → Keeps config journal total rs → has_room_for config journal Enter ≡ true
-    → Keeps config (journal ++ entry journal 0 0 at Enter ∷ []) (total + counted_act Enter) rs
-keeps-enter config journal total rs at k room = keeps-push config journal total rs rs (entry journal 0 0 at Enter) k
+pub keeps-enter : (config : Config) (journal : List Entry) (total : ℕ) (t : Contents) (at : ℤ) → Keeps config journal total t → has_room_for config journal Enter ≡ true
+    → Keeps config (journal ++ entry journal 0 0 at Enter ∷ []) (total + counted_act Enter) t
+keeps-enter config journal total t at k room = keeps-push config journal total t t (entry journal 0 0 at Enter) k
     (record { same = ap (λ b. if b then entry journal (length journal) 0 at Enter ∷ [] else []) room; may = tt }) room
-    (subst (Stands rs) (sym (append-nil (changes_of journal))) k.stands)
+    (subst (Holds t) (sym (append-nil (changes_of journal))) k.holds)
 
-some_act : {X : Type 0} (act : List X → Act) (xs : List X) → (xs ≡ [] → ⊥) → act_of act xs ≡ act xs ∷ []
-some_act act [] n = absurd (n refl)
-some_act act (x ∷ xs) n = refl
+-- a plan was done
+done : (t t' : Contents) (p : Plan) (changes : List Change) → ((key : Key) → state_in t' key ≡ state_now t p key) → Plans t p changes → Holds t' changes
+done t t' p changes does pl = record { each = λ key. does key ∙ pl.each key }
+
+-- accepted items make an entry, whose changes were planned
+keeps-items : {X : Type 0} (act : List X → Act) (change : X → Change) (config : Config) (journal : List Entry) (by nth : ℕ) (at : ℤ) → Makes act change config journal by nth at
+    → (total : ℕ) (t t' : Contents) (p : Plan) (asked xs : List X) → Keeps config journal total t → xs ≡ accepted change (changes_of journal) asked → (xs ≡ [] → ⊥) → has_room_for config journal (act xs) ≡ true
+    → ((key : Key) → state_in t' key ≡ state_now t p key) → Plans t p (changes_of journal ++ changes_by at (act xs))
+    → Keeps config (journal ++ record { by = by; nth = nth; at = at; act = act xs } ∷ []) (total + counted_act (act xs)) t'
+keeps-items act change config journal by nth at m total t t' p asked [] k same some room does pl = absurd (some refl)
+keeps-items act change config journal by nth at m total t t' p asked (x ∷ xs) k same some room does pl =
+    keeps-push config journal total t t' (record { by = by; nth = nth; at = at; act = act (x ∷ xs) }) k (follows-items act change config journal by nth at m asked x xs same room) room
+    (done t t' p (changes_of journal ++ changes_by at (act (x ∷ xs))) does pl)
 
 -- dataspaces are put
-pub keeps-puts : (config : Config) (journal : List Entry) (total : ℕ) (rs : List SpaceRecord) (by nth : ℕ) (at : ℤ) (asked puts : List SpacePut) → Keeps config journal total rs → IsNext journal by nth
-    → puts ≡ accepted (set_space (pos 0)) (changes_of journal) asked → (puts ≡ [] → ⊥) → has_room_for config journal (PutSpaces puts) ≡ true
-    → Keeps config (journal ++ record { by = by; nth = nth; at = at; act = PutSpaces puts } ∷ []) (total + counted_act (PutSpaces puts)) (fold put_in rs (map (put_record at rs) puts))
-keeps-puts config journal total rs by nth at asked puts k next same some room =
-    keeps-push config journal total rs (fold put_in rs (map (put_record at rs) puts)) (record { by = by; nth = nth; at = at; act = PutSpaces puts }) k
-    (record { same = ap (entered config journal by nth at) again ∙ ap (λ b. if b then record { by = by; nth = nth; at = at; act = PutSpaces puts } ∷ [] else []) room; may = next })
-    room (stands-puts at rs (changes_of journal) puts named k.stands)
-  where
-    named : AllByRecursion (λ (p : SpacePut). is_default p.path ≡ false) puts
-    named = subst (AllByRecursion (λ (p : SpacePut). is_default p.path ≡ false)) (sym same)
-        (accepted-named (set_space (pos 0)) (λ p. p.path) (λ sofar p h. put-named (is_default p.path) h) (changes_of journal) asked)
-
-    again : granted config journal (PutSpaces puts) ≡ PutSpaces puts ∷ []
-    again = ap (act_of PutSpaces) (ap (accepted (set_space (pos 0)) (changes_of journal)) same ∙ accepted-again (set_space (pos 0)) (changes_of journal) asked ∙ sym same) ∙ some_act PutSpaces puts some
+pub keeps-puts : (config : Config) (journal : List Entry) (by nth : ℕ) (at : ℤ) (total : ℕ) (t t' : Contents) (p : Plan) (asked puts : List SpacePut)
+    → Keeps config journal total t → IsNext journal by nth → puts ≡ accepted (set_space (pos 0)) (changes_of journal) asked → Plans t p (changes_of journal ++ map (set_space at) puts) → (puts ≡ [] → ⊥) → has_room_for config journal (PutSpaces puts) ≡ true
+    → ((key : Key) → state_in t' key ≡ state_now t p key)
+    → Keeps config (journal ++ record { by = by; nth = nth; at = at; act = PutSpaces puts } ∷ []) (total + counted_act (PutSpaces puts)) t'
+keeps-puts config journal by nth at total t t' p asked puts k next same pl some room does =
+    keeps-items PutSpaces (set_space (pos 0)) config journal by nth at (makes-puts config journal by nth at next) total t t' p asked puts k same some room does pl
 
 -- dataspaces are dropped
-pub keeps-drops : (config : Config) (journal : List Entry) (total : ℕ) (rs : List SpaceRecord) (by nth : ℕ) (at : ℤ) (asked paths : List (List ℕ)) → Keeps config journal total rs → IsNext journal by nth
-    → paths ≡ accepted DropSpace (changes_of journal) asked → (paths ≡ [] → ⊥) → has_room_for config journal (DropSpaces paths) ≡ true
-    → Keeps config (journal ++ record { by = by; nth = nth; at = at; act = DropSpaces paths } ∷ []) (total + counted_act (DropSpaces paths)) (fold drop_in rs paths)
-keeps-drops config journal total rs by nth at asked paths k next same some room =
-    keeps-push config journal total rs (fold drop_in rs paths) (record { by = by; nth = nth; at = at; act = DropSpaces paths }) k
-    (record { same = ap (entered config journal by nth at) again ∙ ap (λ b. if b then record { by = by; nth = nth; at = at; act = DropSpaces paths } ∷ [] else []) room; may = next })
-    room (stands-drops rs (changes_of journal) paths named k.stands)
-  where
-    named : AllByRecursion (λ p. is_default p ≡ false) paths
-    named = subst (AllByRecursion (λ p. is_default p ≡ false)) (sym same)
-        (accepted-named DropSpace (λ p. p) (λ sofar p h. drop-named (is_default p) (if is_there (Space p) sofar then Accepted else Refused NotFound) h) (changes_of journal) asked)
+pub keeps-drops : (config : Config) (journal : List Entry) (by nth : ℕ) (at : ℤ) (total : ℕ) (t t' : Contents) (p : Plan) (asked paths : List (List ℕ))
+    → Keeps config journal total t → IsNext journal by nth → paths ≡ accepted DropSpace (changes_of journal) asked → Plans t p (changes_of journal ++ map DropSpace paths) → (paths ≡ [] → ⊥) → has_room_for config journal (DropSpaces paths) ≡ true
+    → ((key : Key) → state_in t' key ≡ state_now t p key)
+    → Keeps config (journal ++ record { by = by; nth = nth; at = at; act = DropSpaces paths } ∷ []) (total + counted_act (DropSpaces paths)) t'
+keeps-drops config journal by nth at total t t' p asked paths k next same pl some room does =
+    keeps-items DropSpaces DropSpace config journal by nth at (makes-drops config journal by nth at next) total t t' p asked paths k same some room does pl
 
-    again : granted config journal (DropSpaces paths) ≡ DropSpaces paths ∷ []
-    again = ap (act_of DropSpaces) (ap (accepted DropSpace (changes_of journal)) same ∙ accepted-again DropSpace (changes_of journal) asked ∙ sym same) ∙ some_act DropSpaces paths some
+-- operations are done
+pub keeps-ops : (config : Config) (journal : List Entry) (by nth : ℕ) (at : ℤ) (total : ℕ) (t t' : Contents) (p : Plan) (asked ops : List Op)
+    → Keeps config journal total t → IsNext journal by nth → ops ≡ accepted Operate (changes_of journal) asked → Plans t p (changes_of journal ++ map Operate ops) → (ops ≡ [] → ⊥) → has_room_for config journal (Put ops) ≡ true
+    → ((key : Key) → state_in t' key ≡ state_now t p key)
+    → Keeps config (journal ++ record { by = by; nth = nth; at = at; act = Put ops } ∷ []) (total + counted_act (Put ops)) t'
+keeps-ops config journal by nth at total t t' p asked ops k next same pl some room does =
+    keeps-items Put Operate config journal by nth at (makes-ops config journal by nth at next) total t t' p asked ops k same some room does pl
+
+-- nothing was added
+pub keeps-kept : (config : Config) (journal journal' : List Entry) (total : ℕ) (t t' : Contents) → Keeps config journal total t → journal' ≡ journal → ((key : Key) → state_in t' key ≡ state_in t key) → Keeps config journal' total t'
+keeps-kept config journal journal' total t t' k kept same =
+    subst (λ (l : List Entry). Keeps config l total t') (sym kept) (record { legal = k.legal; bytes = k.bytes; limit = k.limit; holds = record { each = λ key. same key ∙ k.holds.each key } })
 
 -- the door alone
-pub keeps-first : (config : Config) → Keeps config (door ∷ []) 64 (default_dataspace ∷ [])
-keeps-first config = record { legal = (refl, tt); bytes = refl; limit = omega arith; stands = stands-first }
+pub keeps-first : (config : Config) (t : Contents) → ((key : Key) → state_in t key ≡ first key) → Keeps config (door ∷ []) 64 t
+keeps-first config t starts = record { legal = (refl, tt); bytes = refl; limit = omega arith; holds = record { each = starts } }
 
 -- ---- what the code knows
 
@@ -190,6 +202,15 @@ with_room config journal total bytes a e h =
     by false h = absurd (cc)
 
 -- the dataspaces listed
-pub listed-answer : (config : Config) (journal : List Entry) (total : ℕ) (rs found : List SpaceRecord) (newer : Option ℤ) (mark : ℕ) → Keeps config journal total rs → mark ≡ length journal → found ≡ filter (is_newer newer) rs
+pub listed-answer : (config : Config) (journal : List Entry) (found : List SpaceRecord) (newer : Option ℤ) (mark : ℕ) → mark ≡ length journal → found ≡ filter (is_newer newer) (dataspaces (changes_of journal))
     → record { mark = mark; reply = Spaces found } ≡ answer config journal (call.Spaces newer)
-listed-answer config journal total rs found newer mark k m f = (λ j. record { mark = m j; reply = Spaces ((f ∙ ap (filter (is_newer newer)) (stands-is rs (changes_of journal) k.stands)) j) })
+listed-answer config journal found newer mark m f = (λ j. record { mark = m j; reply = Spaces (f j) })
+
+-- what is seen at keys
+pub seen-answer : (config : Config) (journal : List Entry) (wants : List Want) (seen : List Looked) (mark : ℕ) → mark ≡ length journal → seen ≡ seen_after journal wants
+    → record { mark = mark; reply = replied.Looked seen } ≡ answer config journal (call.Look wants)
+seen-answer config journal wants seen mark m s = (λ j. record { mark = m j; reply = replied.Looked (s j) })
+
+pub seen-tables : (t : Contents) (history : List Entry) (wants : List Want) (seen : List Looked) → Holds t (changes_of history) → seen ≡ looks (state_in t) wants → seen ≡ seen_after history wants
+unfolding seen_after
+seen-tables t history wants seen h s = s ∙ ap (λ (state : Key → Option Value). looks state wants) (λ j key. h.each key j)

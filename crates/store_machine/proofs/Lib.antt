@@ -3,6 +3,6 @@ pub mod Lawful
 pub mod Numbers
 pub mod Places
 pub mod Room
+pub mod Sorting
 pub mod Standing
-pub mod Tables
 pub mod Values

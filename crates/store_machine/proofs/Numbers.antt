@@ -6,13 +6,12 @@ use Rattle.std.proofs.lemmas.Bool.{false≢true}
 use Rattle.std.proofs.lemmas.Grind.{common_steps}
 use Rattle.chan_defs.specs.declared.config.Config.{Config}
 use Rattle.std.specs.Map.{values_of}
-use Rattle.store_machine.specs.declared.call.SpacePut.{SpacePut}
 use Rattle.store_machine.specs.declared.call.StoreCall.{StoreCall}
 use Rattle.store_machine.specs.declared.call.StoreCall.TheVariants as call
 use Rattle.store_machine.specs.declared.journal.Act.{Act}
-use Rattle.store_machine.specs.declared.journal.Act.TheVariants.{Enter, PutSpaces, DropSpaces}
+use Rattle.store_machine.specs.declared.journal.Act.TheVariants.{Enter, PutSpaces, DropSpaces, Put}
 use Rattle.store_machine.specs.declared.journal.Entry.{Entry}
-use Rattle.store_machine.specs.History.{DropSpace, set_space, changes_of}
+use Rattle.store_machine.specs.History.{DropSpace, Operate, set_space, changes_of}
 use Rattle.store_machine.specs.Laws.{IsCallAt, IsEntryOf, IsNumber, OneOrNone, is_enter}
 use Rattle.store_machine.specs.Answers.{accepted, act_of, granted, has_room_for, entry, entered, entries_of}
 use Rattle.store_machine.specs.Legal.{own, IsNext, MayAct, MayAsk, LegalFrom, Legal}
@@ -35,8 +34,7 @@ by_within config earlier by nth at Enter same may = from (has_room_for config ea
     from : (b : Bool) → (if b then entry earlier by nth at Enter ∷ [] else []) ≡ record { by = by; nth = nth; at = at; act = Enter } ∷ [] → by ≤ length earlier
     from true h = let e : length earlier ≡ by = ap first_by h in omega (arith, e)
     from false h = absurd (cc)
-by_within config earlier by nth at (PutSpaces puts) same may = let h = below_length (λ (e : Entry). e.act ≡ Enter) earlier by may.session in omega (arith, h)
-by_within config earlier by nth at (DropSpaces paths) same may = let h = below_length (λ (e : Entry). e.act ≡ Enter) earlier by may.session in omega (arith, h)
+by_within config earlier by nth at _ same may = let h = below_length (λ (e : Entry). e.act ≡ Enter) earlier by may.session in omega (arith, h)
 
 all_below : (config : Config) (n : ℕ) (earlier es : List Entry) → length earlier + length es ≤ n → LegalFrom config earlier es → AllByRecursion (λ (e : Entry). e.by < n) es
 all_below config n earlier [] l h = tt
@@ -75,20 +73,20 @@ some_or_none : (b : Bool) (by nth : ℕ) (at : ℤ) (e : Entry) → IsEntryOf by
 some_or_none true by nth at e h = (h, tt)
 some_or_none false by nth at e h = tt
 
+-- at most one act of a session makes its entry
+entered-of_session : {X : Type 0} (config : Config) (history : List Entry) (by nth : ℕ) (at : ℤ) (act : List X → Act) (xs : List X)
+    → ((xs : List X) → entry history by nth at (act xs) ≡ record { by = by; nth = nth; at = at; act = act xs }) → AllByRecursion (IsEntryOf by nth at) (entered config history by nth at (act_of act xs))
+entered-of_session config history by nth at act [] is = tt
+entered-of_session config history by nth at act (x ∷ xs) is =
+    some_or_none (has_room_for config history (act (x ∷ xs))) by nth at (entry history by nth at (act (x ∷ xs))) (subst (IsEntryOf by nth at) (sym (is (x ∷ xs))) (refl, (refl, refl)))
+
 pub entries-of_session : (config : Config) (history : List Entry) (by nth : ℕ) (at : ℤ) (c : StoreCall)
     → IsCallAt history c → AllByRecursion (IsEntryOf by nth at) (entries_of config history by nth at c)
 entries-of_session config history by nth at call.Enter h = absurd h
-entries-of_session config history by nth at (call.Spaces newer) h = tt
-entries-of_session config history by nth at (call.PutSpaces items) h = from (accepted (set_space (pos 0)) (changes_of history) (values_of items))
-  where
-    from : (puts : List SpacePut) → AllByRecursion (IsEntryOf by nth at) (entered config history by nth at (act_of PutSpaces puts))
-    from [] = tt
-    from (p ∷ ps) = some_or_none (has_room_for config history (PutSpaces (p ∷ ps))) by nth at _ (refl, (refl, refl))
-entries-of_session config history by nth at (call.DropSpaces items) h = from (accepted DropSpace (changes_of history) (values_of items))
-  where
-    from : (paths : List (List ℕ)) → AllByRecursion (IsEntryOf by nth at) (entered config history by nth at (act_of DropSpaces paths))
-    from [] = tt
-    from (p ∷ ps) = some_or_none (has_room_for config history (DropSpaces (p ∷ ps))) by nth at _ (refl, (refl, refl))
+entries-of_session config history by nth at (call.PutSpaces items) h = entered-of_session config history by nth at PutSpaces (accepted (set_space (pos 0)) (changes_of history) (values_of items)) (λ xs. refl)
+entries-of_session config history by nth at (call.DropSpaces items) h = entered-of_session config history by nth at DropSpaces (accepted DropSpace (changes_of history) (values_of items)) (λ xs. refl)
+entries-of_session config history by nth at (call.Put items) h = entered-of_session config history by nth at Put (accepted Operate (changes_of history) (values_of items)) (λ xs. refl)
+entries-of_session config history by nth at _ h = tt
 
 one_if : {X : Type 0} (b : Bool) (x : X) → OneOrNone (if b then x ∷ [] else [])
 one_if true x = tt
@@ -102,9 +100,10 @@ entered-one config history by nth at act (x ∷ xs) = one_if (has_room_for confi
 
 pub entries-one : (config : Config) (history : List Entry) (by nth : ℕ) (at : ℤ) (c : StoreCall) → OneOrNone (entries_of config history by nth at c)
 entries-one config history by nth at call.Enter = one_if (has_room_for config history Enter) (entry history by nth at Enter)
-entries-one config history by nth at (call.Spaces newer) = tt
 entries-one config history by nth at (call.PutSpaces items) = entered-one config history by nth at PutSpaces (accepted (set_space (pos 0)) (changes_of history) (values_of items))
 entries-one config history by nth at (call.DropSpaces items) = entered-one config history by nth at DropSpaces (accepted DropSpace (changes_of history) (values_of items))
+entries-one config history by nth at (call.Put items) = entered-one config history by nth at Put (accepted Operate (changes_of history) (values_of items))
+entries-one config history by nth at _ = tt
 
 pub call-stays : (history later : List Entry) (c : StoreCall) → IsCallAt history c → IsCallAt (history ++ later) c
 call-stays history later call.Enter h = absurd h

@@ -1,5 +1,5 @@
 -- The value of a key after further changes, and after further entries.
-use Rattle.std.specs.Prelude.{ℕ, Bool, true, false, cond, List, [], ◌∷◌, ◌++◌, ◌≡◌, ◌||◌, Option, Some, None, fold, filter, map, refl, if◌then◌else◌}
+use Rattle.std.specs.Prelude.{ℕ, Bool, true, false, cond, List, [], ◌∷◌, ◌++◌, ◌≡◌, ◌||◌, ◌&&◌, Option, Some, fold, filter, refl, is_none}
 use Rattle.std.specs.List.{list_any}
 use Rattle.std.specs.Str.{bytes_eq}
 use Rattle.std.proofs.Common.{ap, sym, ◌∙◌, append-nil}
@@ -8,9 +8,19 @@ use Rattle.std.proofs.lemmas.Slice.Eq.{bytes_eq-Decides}
 use Rattle.std.proofs.lemmas.List.Elements.{filter-append}
 use Rattle.std.proofs.lemmas.List.Sums.{fold-append}
 use Rattle.std.proofs.lemmas.List.Concat.{flat_map-append}
+use Rattle.array_store.specs.Refusals.{record_refusal}
+use Rattle.etp_values.specs.SameUri.{same_uri}
 use Rattle.object_store.specs.Tables.{default_dataspace}
+use Rattle.tx_stage.specs.declared.key.Key.{Key}
+use Rattle.tx_stage.specs.declared.key.Key.TheVariants.{Space, Object, Array}
+use Rattle.tx_stage.specs.declared.op.OpWhat.{OpWhat}
+use Rattle.tx_stage.specs.declared.op.OpWhat.TheVariants.{SetObject, SetArray, Patch, Gone}
+use Rattle.tx_stage.specs.declared.value.Value.{Value}
+use Rattle.tx_stage.specs.declared.value.Value.TheVariants as valued
+use Rattle.tx_stage.specs.Ops.{alters_by}
+use Rattle.tx_stage.specs.State.{first}
 use Rattle.store_machine.specs.declared.journal.Entry.{Entry}
-use Rattle.store_machine.specs.History.{Key, Space, Value, SpaceValue, Change, SetSpace, DropSpace, is_default, alters, left, first, value, entry_changes, changes_of, value_after, entry_alters}
+use Rattle.store_machine.specs.History.{Change, SetSpace, DropSpace, Operate, alters, left, value, entry_changes, changes_of, value_after, entry_alters}
 
 pub path_is : (p q : List ℕ) → bytes_eq p q ≡ true → p ≡ q
 path_is p q h = (bytes_eq-Decides p q).0 h
@@ -47,24 +57,24 @@ changes-push history e = flat_map-append entry_changes history (e ∷ []) ∙ ap
 pub value_after-push : (key : Key) (history : List Entry) (e : Entry) → entry_alters key e ≡ false → value_after key (history ++ e ∷ []) ≡ value_after key history
 value_after-push key history e h = ap (value key) (changes-push history e) ∙ value-unaltered key (changes_of history) (entry_changes e) h
 
-nothing_left : {X : Type 0} (b : Bool) (r : Option X) → r ≡ None → cond b None r ≡ r
-nothing_left true r h = sym h
-nothing_left false r h = refl
+and_false : (b : Bool) → (b && false) ≡ false
+and_false true = refl
+and_false false = refl
 
--- dataspaces that were dropped are gone, and the others as they were
-pub value-dropped : (path : List ℕ) → is_default path ≡ false → (before : List Change) (gone : List (List ℕ)) → value (Space path) (before ++ map DropSpace gone) ≡ cond (list_any (bytes_eq path) gone) None (value (Space path) before)
-value-dropped path other before gone = value-append (Space path) before (map DropSpace gone) ∙ drops gone (value (Space path) before)
-  where
-    drops : (gone : List (List ℕ)) (v : Option Value) → fold left v (filter (λ c. alters c (Space path)) (map DropSpace gone)) ≡ cond (list_any (bytes_eq path) gone) None v
-    drops [] v = refl
-    drops (g ∷ gs) v = by (bytes_eq path g) refl (drops gs)
-      where
-        by : (b : Bool) → bytes_eq path g ≡ b → ((v : Option Value) → fold left v (filter (λ c. alters c (Space path)) (map DropSpace gs)) ≡ cond (list_any (bytes_eq path) gs) None v)
-            → fold left v (cond b (DropSpace g ∷ filter (λ c. alters c (Space path)) (map DropSpace gs)) (filter (λ c. alters c (Space path)) (map DropSpace gs))) ≡ cond (b || list_any (bytes_eq path) gs) None v
-        by true here rest =
-            ap (λ (n : Bool). fold left (if n then v else None) (filter (λ c. alters c (Space path)) (map DropSpace gs))) (ap is_default (sym (path_is path g here)) ∙ other)
-            ∙ rest None ∙ nothing_left (list_any (bytes_eq path) gs) None refl
-        by false here rest = rest v
+-- no operation alters a dataspace
+pub elsewhere : (own : Key) (what : OpWhat) (q : List ℕ) → alters_by own what (Space q) ≡ false
+elsewhere (Space p) (SetObject r) q = refl
+elsewhere (Space p) (SetArray r) q = refl
+elsewhere (Space p) (Patch ss cs vs) q = refl
+elsewhere (Space p) Gone q = refl
+elsewhere (Object u) (SetObject r) q = and_false (same_uri u r.uri)
+elsewhere (Object u) (SetArray r) q = refl
+elsewhere (Object u) (Patch ss cs vs) q = refl
+elsewhere (Object u) Gone q = refl
+elsewhere (Array k) (SetObject r) q = refl
+elsewhere (Array k) (SetArray r) q = and_false (is_none (record_refusal r))
+elsewhere (Array k) (Patch ss cs vs) q = refl
+elsewhere (Array k) Gone q = refl
 
 -- no change alters the value of the default dataspace
 default-fold : (cs : List Change) (v : Option Value) → fold left v (filter (λ c. alters c (Space [])) cs) ≡ v
@@ -73,6 +83,7 @@ default-fold (SetSpace [] custom at ∷ cs) v = default-fold cs v
 default-fold (SetSpace (b ∷ bs) custom at ∷ cs) v = default-fold cs v
 default-fold (DropSpace [] ∷ cs) v = default-fold cs v
 default-fold (DropSpace (b ∷ bs) ∷ cs) v = default-fold cs v
+default-fold (Operate o ∷ cs) v = ap (λ b. fold left v (cond b (Operate o ∷ filter (λ c. alters c (Space [])) cs) (filter (λ c. alters c (Space [])) cs))) (elsewhere o.key o.what []) ∙ default-fold cs v
 
-pub default-stays : (changes : List Change) → value (Space []) changes ≡ Some (SpaceValue default_dataspace)
-default-stays changes = default-fold changes (Some (SpaceValue default_dataspace))
+pub default-stays : (changes : List Change) → value (Space []) changes ≡ Some (valued.Space default_dataspace)
+default-stays changes = default-fold changes (Some (valued.Space default_dataspace))

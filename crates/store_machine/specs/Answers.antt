@@ -1,19 +1,27 @@
 -- What a call answers, and the entry that it adds, by the history before it.
-use Rattle.std.specs.Prelude.{ℕ, ℤ, pos, Bool, true, false, List, [], ◌∷◌, ◌++◌, if◌then◌else◌, is_some, length, map, filter}
+use Rattle.std.specs.Prelude.{ℕ, ℤ, pos, Bool, true, false, List, [], ◌∷◌, ◌++◌, Option, Some, None, if◌then◌else◌, is_some, length, map, filter}
 use Rattle.std.specs.Map.{values_of}
-use Rattle.etp_values.specs.declared.code.ErrorCode.TheVariants.{RequestDenied, NotFound}
+use Rattle.etp_values.specs.declared.code.ErrorCode.{ErrorCode}
+use Rattle.etp_values.specs.declared.code.ErrorCode.TheVariants.{InvalidMessageType, RequestDenied, NotFound}
 use Rattle.chan_defs.specs.declared.config.Config.{Config}
+use Rattle.tx_stage.specs.declared.key.Key.{Key}
+use Rattle.tx_stage.specs.declared.key.Key.TheVariants.{Space}
+use Rattle.tx_stage.specs.declared.look.Looked.{Looked as Seen}
+use Rattle.tx_stage.specs.declared.look.Want.{Want}
+use Rattle.tx_stage.specs.Looks.{looks}
+use Rattle.tx_stage.specs.Overlay.{op_refusal}
 use Rattle.store_machine.specs.declared.call.StoreCall.{StoreCall}
 use Rattle.store_machine.specs.declared.call.StoreCall.TheVariants as call
 use Rattle.store_machine.specs.declared.call.Verdict.{Verdict}
 use Rattle.store_machine.specs.declared.call.Verdict.TheVariants.{Accepted, Refused}
 use Rattle.store_machine.specs.declared.call.Reply.{Reply}
-use Rattle.store_machine.specs.declared.call.Reply.TheVariants.{Entered, Spaces, Verdicts, JournalFull}
+use Rattle.store_machine.specs.declared.call.Reply.TheVariants as replied
+use Rattle.store_machine.specs.declared.call.Reply.TheVariants.{Entered, Spaces, Verdicts, Looked, JournalFull}
 use Rattle.store_machine.specs.declared.call.Answer.{Answer}
 use Rattle.store_machine.specs.declared.journal.Act.{Act}
-use Rattle.store_machine.specs.declared.journal.Act.TheVariants.{Enter, PutSpaces, DropSpaces}
+use Rattle.store_machine.specs.declared.journal.Act.TheVariants.{Enter, PutSpaces, DropSpaces, Put}
 use Rattle.store_machine.specs.declared.journal.Entry.{Entry}
-use Rattle.store_machine.specs.History.{Key, Space, Change, SetSpace, DropSpace, is_default, value, set_space, changes_of}
+use Rattle.store_machine.specs.History.{Change, SetSpace, DropSpace, Operate, is_default, value, set_space, changes_of, value_after}
 use Rattle.store_machine.specs.Dataspaces.{dataspaces, is_newer}
 use Rattle.store_machine.specs.Counted.{counted, is_room}
 
@@ -23,12 +31,19 @@ use Rattle.store_machine.specs.Counted.{counted, is_room}
 abbrev pub is_there : Key → List Change → Bool
 is_there key changes = is_some (value key changes)
 
--- the verdict on a change after those so far. The default dataspace is neither put nor dropped; only what is there is dropped
+-- the verdict by a refusal, where there is one
+abbrev pub verdict_of : Option ErrorCode → Verdict
+verdict_of None = Accepted
+verdict_of (Some code) = Refused code
+
+-- the verdict on a change after those so far. The default dataspace is neither put nor dropped; only what is there is
+-- dropped; an operation is judged by what the changes left at each key
 abbrev pub verdict : List Change → Change → Verdict
 verdict sofar (SetSpace path custom at) = if is_default path then Refused RequestDenied else Accepted
 verdict sofar (DropSpace path) =
     if is_default path then Refused RequestDenied
     else (if is_there (Space path) sofar then Accepted else Refused NotFound)
+verdict sofar (Operate o) = verdict_of (op_refusal (λ key. value key sofar) o)
 
 abbrev pub is_accepted : Verdict → Bool
 is_accepted Accepted = true
@@ -59,18 +74,22 @@ act_of act [] = []
 act_of act (x ∷ xs) = act (x ∷ xs) ∷ []
 
 -- what is done of an act that is asked for at the end of a history: its accepted items, and nothing where there are none.
--- The moment decides no verdict, so what is put is judged as if put at 0
+-- The moment decides no verdict on a dataspace, so what is put is judged as if put at 0. Commits and the acts on channels are
+-- not done yet
 abbrev pub granted : Config → List Entry → Act → List Act
 granted config history Enter = Enter ∷ []
 granted config history (PutSpaces puts) = act_of PutSpaces (accepted (set_space (pos 0)) (changes_of history) puts)
 granted config history (DropSpaces paths) = act_of DropSpaces (accepted DropSpace (changes_of history) paths)
+granted config history (Put ops) = act_of Put (accepted Operate (changes_of history) ops)
+granted config history _ = []
 
--- what a call would do: one act or none
+-- what a call would do: one act or none. A call that only reads does nothing
 abbrev pub wanted : Config → List Entry → StoreCall → List Act
 wanted config history call.Enter = granted config history Enter
-wanted config history (call.Spaces newer) = []
 wanted config history (call.PutSpaces items) = granted config history (PutSpaces (values_of items))
 wanted config history (call.DropSpaces items) = granted config history (DropSpaces (values_of items))
+wanted config history (call.Put items) = granted config history (Put (values_of items))
+wanted config history _ = []
 
 -- whether the journal takes a further entry of this act
 abbrev pub has_room_for : Config → List Entry → Act → Bool
@@ -83,8 +102,7 @@ has_room config history (a ∷ more) = has_room_for config history a
 -- the entry of an act: an Enter stands under its own place, with no entry before it
 abbrev pub entry : List Entry → ℕ → ℕ → ℤ → Act → Entry
 entry history by nth at Enter = record { by = length history; nth = 0; at = at; act = Enter }
-entry history by nth at (PutSpaces puts) = record { by = by; nth = nth; at = at; act = PutSpaces puts }
-entry history by nth at (DropSpaces paths) = record { by = by; nth = nth; at = at; act = DropSpaces paths }
+entry history by nth at a = record { by = by; nth = nth; at = at; act = a }
 
 -- the entry that these acts add, where the journal has room
 abbrev pub entered : Config → List Entry → ℕ → ℕ → ℤ → List Act → List Entry
@@ -96,12 +114,19 @@ entries_of config history by nth at c = entered config history by nth at (wanted
 
 -- ---- answers
 
--- the reply where the journal has room
+-- what is seen at keys after a history. The crates above have no need to look inside
+unfoldable pub seen_after : List Entry → List Want → List Seen
+seen_after history wants = looks (λ key. value_after key history) wants
+
+-- the reply where the journal has room. A call that is not served yet is refused as such
 abbrev pub reply : Config → List Entry → StoreCall → Reply
 reply config history call.Enter = Entered (length history)
 reply config history (call.Spaces newer) = Spaces (filter (is_newer newer) (dataspaces (changes_of history)))
 reply config history (call.PutSpaces items) = Verdicts (verdicts (set_space (pos 0)) (changes_of history) items)
 reply config history (call.DropSpaces items) = Verdicts (verdicts DropSpace (changes_of history) items)
+reply config history (call.Look wants) = Looked (seen_after history wants)
+reply config history (call.Put items) = Verdicts (verdicts Operate (changes_of history) items)
+reply config history _ = replied.Refused InvalidMessageType
 
 -- the answer to a call
 abbrev pub answer : Config → List Entry → StoreCall → Answer

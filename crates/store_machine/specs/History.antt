@@ -1,52 +1,44 @@
 -- The state after a history: what the changes of its entries left at each key.
-use Rattle.std.specs.Prelude.{ℕ, ℤ, pos, Bool, ◌==◌, List, [], Option, Some, None, fold, filter, map, length, if◌then◌else◌}
+use Rattle.std.specs.Prelude.{ℕ, ℤ, Bool, ◌==◌, List, [], Option, Some, None, fold, filter, map, length, if◌then◌else◌}
 use Rattle.std.specs.List.{flat_map, list_any}
 use Rattle.std.specs.Str.{bytes_eq}
 use Rattle.etp_values.specs.declared.data.DataValue.{DataValue}
-use Rattle.object_store.specs.declared.records.SpaceRecord.{SpaceRecord}
-use Rattle.object_store.specs.Tables.{default_dataspace}
+use Rattle.tx_stage.specs.declared.key.Key.{Key}
+use Rattle.tx_stage.specs.declared.key.Key.TheVariants.{Space}
+use Rattle.tx_stage.specs.declared.op.Op.{Op}
+use Rattle.tx_stage.specs.declared.value.Value.{Value}
+use Rattle.tx_stage.specs.declared.value.Value.TheVariants as valued
+use Rattle.tx_stage.specs.Keys.{same_key, space_of}
+use Rattle.tx_stage.specs.Ops.{made_at, op_alters, op_left}
+use Rattle.tx_stage.specs.State.{first}
 use Rattle.store_machine.specs.declared.call.SpacePut.{SpacePut}
 use Rattle.store_machine.specs.declared.journal.Act.{Act}
 use Rattle.store_machine.specs.declared.journal.Act.TheVariants as act
 use Rattle.store_machine.specs.declared.journal.Entry.{Entry}
 
--- what a change can alter
-pub data Key : Type 0 where
-  Space : (path : List ℕ) → Key
-
--- what can stand at a key
-pub data Value : Type 0 where
-  SpaceValue : (dataspace : SpaceRecord) → Value
-
 -- a change of the state
 pub data Change : Type 0 where
   SetSpace : (path : List ℕ) (custom : List (List ℕ × DataValue)) (at : ℤ) → Change
   DropSpace : (path : List ℕ) → Change
+  Operate : (op : Op) → Change
 
 -- the default dataspace has the empty path
 abbrev pub is_default : List ℕ → Bool
 is_default path = length path == 0
 
--- a change alters its own key
+-- a put of a dataspace alters its own key, a drop also all that is in it, and an operation what it says
 abbrev pub alters : Change → Key → Bool
-alters (SetSpace p custom at) (Space path) = bytes_eq path p
-alters (DropSpace p) (Space path) = bytes_eq path p
-
--- when a value was made; one that was not there is made now
-abbrev pub made_at : ℤ → Option Value → ℤ
-made_at at None = at
-made_at at (Some (SpaceValue r)) = r.created
+alters (SetSpace p custom at) key = same_key key (Space p)
+alters (DropSpace p) key = bytes_eq (space_of key) p
+alters (Operate o) key = op_alters o key
 
 -- what a change leaves at a key that it alters, from the value before. The default dataspace stays as it is from the first
 abbrev pub left : Option Value → Change → Option Value
 left before (SetSpace path custom at) =
     if is_default path then before
-    else Some (SpaceValue (record { path = path; written = at; created = made_at at before; custom = custom }))
+    else Some (valued.Space (record { path = path; written = at; created = made_at at before; custom = custom }))
 left before (DropSpace path) = if is_default path then before else None
-
--- the default dataspace is there from the first
-abbrev pub first : Key → Option Value
-first (Space path) = if is_default path then Some (SpaceValue default_dataspace) else None
+left before (Operate o) = op_left o before
 
 -- the value of a key after these changes: what those that alter it left, one after the other
 abbrev pub value : Key → List Change → Option Value
@@ -61,6 +53,11 @@ abbrev pub changes_by : ℤ → Act → List Change
 changes_by at act.Enter = []
 changes_by at (act.PutSpaces puts) = map (set_space at) puts
 changes_by at (act.DropSpaces paths) = map DropSpace paths
+changes_by at (act.Put ops) = map Operate ops
+changes_by at (act.Commit staged) = map Operate staged.ops
+changes_by at (act.Append items) = []
+changes_by at (act.Replace channels from to items) = []
+changes_by at (act.Truncate cuts) = []
 
 abbrev pub entry_changes : Entry → List Change
 entry_changes e = changes_by e.at e.act

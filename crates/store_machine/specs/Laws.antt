@@ -1,19 +1,17 @@
 -- Laws on histories.
-use Rattle.std.specs.Prelude.{ℕ, ℤ, pos, ◌≡◌, Bool, true, false, not, fold, filter, map, Option, List, [], ◌∷◌, ◌++◌, Some, IsSomeAnd, slice_get, length}
+use Rattle.std.specs.Prelude.{ℕ, ℤ, ◌≡◌, Bool, true, false, List, [], ◌∷◌, ◌++◌, Some, IsSomeAnd, slice_get, length}
 use Rattle.std.specs.List.{list_any, AllByRecursion}
-use Rattle.std.specs.Option.{option_map}
 use Rattle.chan_defs.specs.declared.config.Config.{Config}
-use Rattle.object_store.specs.declared.op.ObjectOp.{ObjectOp}
-use Rattle.object_store.specs.declared.op.ObjectOp.TheVariants as op
-use Rattle.object_store.specs.declared.records.SpaceRecord.{SpaceRecord}
-use Rattle.object_store.specs.Changes.{space_after}
 use Rattle.object_store.specs.Tables.{default_dataspace}
+use Rattle.tx_stage.specs.declared.key.Key.{Key}
+use Rattle.tx_stage.specs.declared.key.Key.TheVariants.{Space}
+use Rattle.tx_stage.specs.declared.value.Value.TheVariants as valued
 use Rattle.store_machine.specs.declared.call.StoreCall.{StoreCall}
 use Rattle.store_machine.specs.declared.call.StoreCall.TheVariants as call
 use Rattle.store_machine.specs.declared.journal.Act.{Act}
 use Rattle.store_machine.specs.declared.journal.Act.TheVariants.{Enter}
 use Rattle.store_machine.specs.declared.journal.Entry.{Entry}
-use Rattle.store_machine.specs.History.{Key, Space, SpaceValue, Change, SetSpace, DropSpace, is_default, alters, left, value, value_after, entry_alters}
+use Rattle.store_machine.specs.History.{Change, alters, value, value_after, entry_alters}
 use Rattle.store_machine.specs.Answers.{entries_of, has_room_for}
 use Rattle.store_machine.specs.Legal.{own, IsNext, MayAsk, Legal}
 
@@ -57,24 +55,7 @@ EntriesLeaveOthers = (key : Key) (history : List Entry) (e : Entry)
 
 -- the default dataspace is always there as it is from the first
 abbrev pub DefaultStays : Type 0
-DefaultStays = (changes : List Change) → value (Space []) changes ≡ Some (SpaceValue default_dataspace)
-
--- a change as an operation on a table of dataspaces
-abbrev pub operation : Change → ObjectOp
-operation (SetSpace path custom at) = op.SetSpace (record { path = path; written = at; created = pos 0; custom = custom })
-operation (DropSpace path) = op.DropSpace path
-
--- whether a change is of another dataspace than the default one
-abbrev pub is_named : Change → Bool
-is_named (SetSpace path custom at) = not (is_default path)
-is_named (DropSpace path) = not (is_default path)
-
--- after the operations of such changes a table has the values that they leave
-abbrev pub TableHasValues : Type 0
-TableHasValues = (path : List ℕ) (before : Option SpaceRecord) (changes : List Change)
-    → AllByRecursion (λ c. is_named c ≡ true) changes
-    → option_map SpaceValue (fold (space_after path) before (map operation changes))
-    ≡ fold left (option_map SpaceValue before) (filter (λ c. alters c (Space path)) changes)
+DefaultStays = (changes : List Change) → value (Space []) changes ≡ Some (valued.Space default_dataspace)
 
 -- ---- the numbers of sessions
 

@@ -4,7 +4,7 @@ use Rattle.chan_defs.specs.declared.config.Config.{Config}
 use Rattle.store_machine.specs.declared.call.StoreCall.{StoreCall}
 use Rattle.store_machine.specs.declared.call.StoreCall.TheVariants as call
 use Rattle.store_machine.specs.declared.journal.Act.{Act}
-use Rattle.store_machine.specs.declared.journal.Act.TheVariants.{Enter, PutSpaces, DropSpaces}
+use Rattle.store_machine.specs.declared.journal.Act.TheVariants.{Enter}
 use Rattle.store_machine.specs.declared.journal.Entry.{Entry}
 use Rattle.store_machine.specs.Answers.{granted, entered}
 
@@ -20,15 +20,12 @@ pub record IsNext (history : List Entry) (by nth : ℕ) : Type 0 where
 -- who may make an entry of this act: for an Enter anyone
 abbrev pub MayAct : List Entry → ℕ → ℕ → Act → Type 0
 MayAct history by nth Enter = Unit {0}
-MayAct history by nth (PutSpaces puts) = IsNext history by nth
-MayAct history by nth (DropSpaces paths) = IsNext history by nth
+MayAct history by nth _ = IsNext history by nth
 
 -- who may make a call
 abbrev pub MayAsk : List Entry → ℕ → ℕ → StoreCall → Type 0
 MayAsk history by nth call.Enter = Unit {0}
-MayAsk history by nth (call.Spaces newer) = IsNext history by nth
-MayAsk history by nth (call.PutSpaces items) = IsNext history by nth
-MayAsk history by nth (call.DropSpaces items) = IsNext history by nth
+MayAsk history by nth _ = IsNext history by nth
 
 -- an entry is the one that the call with exactly its items adds to the history before it, by someone who may
 pub record Follows (config : Config) (history : List Entry) (e : Entry) : Type 0 where

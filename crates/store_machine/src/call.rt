@@ -1,7 +1,11 @@
 //! What a store is asked, and what it answers.
-use etp_values::{Copied, DataValue, ErrorCode, List, Named, NoMemory, Text};
+use channel_store::{ChannelChange, Sub};
+use etp_values::{
+    ChannelPoint, Copied, DataValue, ErrorCode, List, Named, NoMemory, Point, StoreUri, Text,
+};
 use object_store::SpaceRecord;
 use std::alloc::Global;
+use tx_stage::{Looked, Op, Staged, Want};
 
 /// A dataspace to be put: its path, and what its client says of it.
 #[derive(Debug, Drop, PartialEq, Eq)]
@@ -10,28 +14,134 @@ pub struct SpacePut {
     pub custom: Named<DataValue>,
 }
 
-/// A call. The items of a call are taken in the order of their names, and each sees the earlier ones.
-#[derive(Debug, Drop, PartialEq, Eq)]
+/// A channel, and the index above which its points go.
+#[derive(Clone, Copy, Debug, Drop, PartialEq, Eq)]
+pub struct Cutting {
+    pub channel: i64,
+    pub end: i64,
+}
+
+/// A channel, and the interval of which the points are asked; both ends belong to it.
+#[derive(Clone, Copy, Debug, Drop, PartialEq, Eq)]
+pub struct RangeAsk {
+    pub channel: i64,
+    pub from: i64,
+    pub to: i64,
+}
+
+/// Where a subscription starts.
+#[derive(Clone, Copy, Debug, Drop, PartialEq, Eq)]
+pub enum Start {
+    /// At an index.
+    At(i64),
+    /// At the last so many points.
+    Latest(i32),
+    /// Past the last point.
+    Live,
+}
+
+/// A subscription to be made: whether it is told of replacements and truncations too.
+#[derive(Clone, Copy, Debug, Drop, PartialEq, Eq)]
+pub struct StartAsk {
+    pub channel: i64,
+    pub start: Start,
+    pub all: bool,
+}
+
+/// A call. Items under names are taken in the order of their names, and each sees the earlier ones.
+#[derive(Drop)]
 pub enum StoreCall {
     /// Lets a session in.
     Enter,
     /// Lists the dataspaces, or those that were written after a moment.
-    Spaces { newer: Option<i64> },
+    Spaces {
+        newer: Option<i64>,
+    },
     /// Makes dataspaces, or replaces their custom data.
-    PutSpaces { items: Named<SpacePut> },
-    /// Removes dataspaces by their paths.
-    DropSpaces { items: Named<Text> },
+    PutSpaces {
+        items: Named<SpacePut>,
+    },
+    /// Removes dataspaces by their paths, with all that is in them.
+    DropSpaces {
+        items: Named<Text>,
+    },
+    /// Looks at what stands at keys.
+    Look {
+        items: List<Want>,
+    },
+    /// Sets and removes objects, sets and patches arrays.
+    Put {
+        items: Named<Op>,
+    },
+    /// Commits a transaction.
+    Commit {
+        staged: Staged,
+    },
+    /// Adds points behind the last ones of their channels.
+    Append {
+        items: List<ChannelPoint>,
+    },
+    /// Puts points in the place of those from `from` to `to`, in each of the channels.
+    Replace {
+        channels: List<i64>,
+        from: i64,
+        to: i64,
+        items: List<ChannelPoint>,
+    },
+    /// Drops the points above an end, in each of the channels.
+    Truncate {
+        items: Named<Cutting>,
+    },
+    /// Gives the points of intervals.
+    Range {
+        items: List<RangeAsk>,
+    },
+    /// Looks up channels by their URIs.
+    Meta {
+        items: Named<StoreUri>,
+    },
+    /// Finds where subscriptions start, and gives the points from there on.
+    Subscribe {
+        items: Named<StartAsk>,
+    },
+    /// Tells subscriptions of the changes from a place of the journal on.
+    News {
+        cursor: u64,
+        subs: List<Sub>,
+    },
 }
 
-/// What becomes of an item: `RequestDenied` for the default dataspace, `NotFound` where there is none to be removed.
+/// What becomes of an item.
+///
+/// A put or a drop of the default dataspace is refused by `RequestDenied`, a drop of one that is not there by `NotFound`. An
+/// operation that does not go with its key is refused by `InvalidArgument`, one without what it needs by `NotFound`, and a
+/// patch that does not fit by the code of its fault.
 #[derive(Clone, Copy, Debug, Drop, PartialEq, Eq)]
 pub enum Verdict {
     Accepted,
     Refused(ErrorCode),
 }
 
+/// What is known of a channel: its id, and the indexes of its first and last points.
+#[derive(Clone, Copy, Debug, Drop, PartialEq, Eq)]
+pub enum MetaReply {
+    Known {
+        channel: i64,
+        first: Option<i64>,
+        last: Option<i64>,
+    },
+    Refused(ErrorCode),
+}
+
+/// Where a subscription starts, and the points from there on.
+#[derive(Drop)]
+pub enum StartReply {
+    From { start: i64, points: List<Point> },
+    Refused(ErrorCode),
+}
+
 /// The reply to a call.
-#[derive(Debug, Drop, PartialEq, Eq)]
+#[derive(Drop)]
 pub enum Reply {
     /// The session is let in; its number is the place of its entry.
     Entered(u64),
@@ -39,12 +149,34 @@ pub enum Reply {
     Spaces(List<SpaceRecord>),
     /// What became of each item.
     Verdicts(Named<Verdict>),
+    /// What is seen at each key, in order.
+    Looked(List<Looked>),
+    /// The points were taken.
+    Written,
+    /// The transaction was committed.
+    Committed,
+    /// An entry at this place changed a key that the transaction had touched before.
+    Conflict(u64),
     /// There is no room in the journal for the entry that the call would add.
     JournalFull,
+    /// The call is refused as a whole; by `InvalidMessageType` a call that the store does not serve.
+    Refused(ErrorCode),
+    /// The points of the intervals, in order.
+    Points(List<ChannelPoint>),
+    /// What is known of each channel.
+    Metas(Named<MetaReply>),
+    /// Where each subscription starts.
+    Started(Named<StartReply>),
+    /// The changes of the entries up to the place `upto`, and how many entries have changes to be told of.
+    News {
+        upto: u64,
+        lag: u64,
+        changes: List<ChannelChange>,
+    },
 }
 
 /// A reply, and the length of the journal that it was made from.
-#[derive(Debug, Drop, PartialEq, Eq)]
+#[derive(Drop)]
 pub struct Answer {
     pub mark: u64,
     pub reply: Reply,

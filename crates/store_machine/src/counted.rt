@@ -6,6 +6,7 @@ ghost use Rattle.store_machine.specs.Counted.{put_bytes, drop_bytes, act_bytes, 
 use crate::call::SpacePut;
 use crate::journal::Act;
 use etp_values::{List, Text, custom_weight};
+use tx_stage::{ops_bytes, touched_bytes};
 
 /// How many bytes the entries of a journal count at most.
 pub const MAX_JOURNAL_BYTES: u64 = 536_870_912;
@@ -37,6 +38,12 @@ fn paths_bytes(paths: &List<Text>) -> u64
     sum
 }
 
+/// What a channel counts whose points are replaced.
+const REPLACED_BYTES: u64 = 32;
+
+/// What a channel counts that is cut.
+const CUT_BYTES: u64 = 16;
+
 /// The items of an act together; a sum above `u64::MAX` is `u64::MAX`.
 fn items_bytes(act: &Act) -> u64
     ensures { result ≡ capped (act_bytes act.now) }
@@ -45,6 +52,19 @@ fn items_bytes(act: &Act) -> u64
         Act::Enter => 0,
         Act::PutSpaces(puts) => puts_bytes(puts),
         Act::DropSpaces(paths) => paths_bytes(paths),
+        Act::Put(ops) => ops_bytes(ops),
+        Act::Commit(staged) => ops_bytes(&staged.ops).saturating_add(touched_bytes(
+            &staged.touched,
+        )),
+        Act::Append(items) => items.bytes(),
+        Act::Replace {
+            channels,
+            items,
+            ..
+        } => REPLACED_BYTES
+            .saturating_mul(channels.len() as u64)
+            .saturating_add(items.get().bytes()),
+        Act::Truncate(cuts) => CUT_BYTES.saturating_mul(cuts.len() as u64),
     }
 }
 

@@ -1,179 +1,203 @@
-//! A call in the making: its items judged over the dataspaces as they stand, before anything changes.
+//! A call in the making: its items judged over the tables as they stand, before anything changes.
 ghost use Rattle.std.specs.Prelude.{◌≡◌, ◌++◌, ◌∷◌, [], IfOk, OnOk, List, map, pos};
-ghost use Rattle.std.specs.List.{list_any};
-ghost use Rattle.std.specs.Map.{keys_of, values_of};
-ghost use Rattle.std.specs.Str.{bytes_eq};
-ghost use Rattle.store_machine.specs.History.{Change, DropSpace, set_space};
+ghost use Rattle.std.specs.Map.{values_of};
 ghost use Rattle.store_machine.specs.Answers.{verdicts, accepted};
-ghost use Rattle.store_machine.specs.Kept.{put_record, put_verdict, drop_verdict, with_accepted, Stands};
+ghost use Rattle.store_machine.specs.History.{Change, DropSpace, Operate, set_space};
+ghost use Rattle.store_machine.specs.Kept.{with_accepted, Holds, Plans, Judges, Takes};
+ghost use Rattle.tx_stage.specs.declared.contents.Contents.{Contents as Tables};
 
 use crate::call::{SpacePut, Verdict};
-use crate::dataspaces::dataspace_at;
-use etp_values::{Copied, ErrorCode, Named, NoMemory, Text};
-use object_store::SpaceRecord;
+use etp_values::{ErrorCode, NoMemory, Text};
 use std::alloc::Global;
+use tx_stage::{Contents, Op, Plan};
 
-/// Dataspaces to be put: the verdicts, the accepted items, and what each leaves.
+/// Items that were judged in order: the verdicts, the accepted items, and what these do.
 #[derive(Drop)]
-pub(crate) struct Puts {
+pub(crate) struct Draft<T> {
     pub(crate) verdicts: Vec<(Text, Verdict)>,
-    pub(crate) accepted: Vec<SpacePut>,
-    pub(crate) records: Vec<SpaceRecord>,
+    pub(crate) accepted: Vec<T>,
+    pub(crate) plan: Plan,
 }
 
-/// Dataspaces to be dropped: the verdicts, and the accepted paths.
-#[derive(Drop)]
-pub(crate) struct Drops {
-    pub(crate) verdicts: Vec<(Text, Verdict)>,
-    pub(crate) accepted: Vec<Text>,
+impl<T: Drop> Draft<T> {
+    fn new(alloc: Global) -> Draft<T>
+        ensures verdicts { result.verdicts.items ≡ [] }
+        ensures accepted { result.accepted.items ≡ [] }
+        ensures plan { (t : Tables) (sofar : List Change) → Holds t sofar → Plans t result.plan sofar }
+    {
+        Draft {
+            verdicts: Vec::new(alloc),
+            accepted: Vec::new(alloc),
+            plan: Plan::new(alloc),
+        }
+    }
+
+    /// Notes the verdict on an item, and takes the item where it is accepted.
+    fn note(&mut self, name: Text, verdict: Verdict, item: T) -> Result<(), NoMemory>
+        ensures verdicts { OnOk result (
+            self.new.verdicts.items ≡ self.old.verdicts.items ++ (name, verdict) ∷ []) }
+        ensures accepted { OnOk result (
+            self.new.accepted.items ≡ with_accepted verdict self.old.accepted.items item) }
+        ensures plan { self.new.plan ≡ self.old.plan }
+    {
+        self.verdicts.push((name, verdict))?;
+        if let Verdict::Refused(_) = verdict {
+            return Ok(());
+        }
+        self.accepted.push(item)?;
+        Ok(())
+    }
 }
 
-fn put_verdict(put: &SpacePut) -> Verdict
-    ensures { result ≡ put_verdict put.now }
+fn judge_put(alloc: Global, plan: &mut Plan, at: i64, put: &SpacePut) -> Result<Verdict, NoMemory>
+    ensures { IfOk result (λ v. (t : Tables) → Judges t plan.old plan.new v (set_space at put.now)) }
 {
     if put.path.is_empty() {
-        return Verdict::Refused(ErrorCode::RequestDenied);
+        return Ok(Verdict::Refused(ErrorCode::RequestDenied));
     }
-    Verdict::Accepted
-}
-
-/// What an accepted put leaves; a dataspace that stands keeps the moment when it was made.
-fn record_of(
-    alloc: Global,
-    dataspaces: &[SpaceRecord],
-    at: i64,
-    put: &SpacePut,
-) -> Result<SpaceRecord, NoMemory>
-    ensures { IfOk result (λ r. r ≡ put_record at dataspaces.now put.now) }
-{
-    let created = match dataspace_at(dataspaces, &put.path) {
-        Some(dataspace) => dataspace.created,
-        None => at,
-    };
-    Ok(SpaceRecord {
-        path: put.path.copy(alloc)?,
-        written: at,
-        created,
-        custom: put.custom.copy(alloc)?,
-    })
+    plan.put_space(alloc, at, &put.path, &put.custom)?;
+    Ok(Verdict::Accepted)
 }
 
 fn take_put(
     alloc: Global,
-    dataspaces: &[SpaceRecord],
+    draft: &mut Draft<SpacePut>,
     at: i64,
-    puts: &mut Puts,
     name: Text,
     put: SpacePut,
 ) -> Result<(), NoMemory>
-    ensures verdicts { OnOk result (
-        puts.new.verdicts.items ≡ puts.old.verdicts.items ++ (name, put_verdict put) ∷ []) }
-    ensures accepted { OnOk result (
-        puts.new.accepted.items ≡ with_accepted (put_verdict put) puts.old.accepted.items put) }
-    ensures records { OnOk result (
-        puts.new.records.items
-        ≡ with_accepted (put_verdict put) puts.old.records.items (put_record at dataspaces.now put)) }
+    ensures { OnOk result ((t : Tables) (sofar : List Change) → Plans t draft.old.plan sofar
+        → Takes t sofar name put (set_space at put)
+        draft.old.verdicts.items draft.new.verdicts.items
+        draft.old.accepted.items draft.new.accepted.items draft.new.plan) }
 {
-    let verdict = put_verdict(&put);
-    puts.verdicts.push((name, verdict))?;
-    if let Verdict::Refused(_) = verdict {
-        return Ok(());
-    }
-    let dataspace = record_of(alloc, dataspaces, at, &put)?;
-    puts.records.push(dataspace)?;
-    puts.accepted.push(put)?;
+    let verdict = judge_put(alloc, &mut draft.plan, at, &put)?;
+    draft.note(name, verdict, put)?;
     Ok(())
 }
 
-/// Judges dataspaces to be put.
+/// Judges dataspaces to be put at a moment.
 pub(crate) fn draft_puts(
     alloc: Global,
-    dataspaces: &[SpaceRecord],
     at: i64,
     items: Vec<(Text, SpacePut)>,
-) -> Result<Puts, NoMemory>
-    ensures verdicts { IfOk result (λ d. (sofar : List Change)
+) -> Result<Draft<SpacePut>, NoMemory>
+    ensures verdicts { IfOk result (λ d. (t : Tables) (sofar : List Change) → Holds t sofar
         → d.verdicts.items ≡ verdicts (set_space (pos 0)) sofar items.items) }
-    ensures accepted { IfOk result (λ d. (sofar : List Change)
+    ensures accepted { IfOk result (λ d. (t : Tables) (sofar : List Change) → Holds t sofar
         → d.accepted.items ≡ accepted (set_space (pos 0)) sofar (values_of items.items)) }
-    ensures records { IfOk result (λ d.
-        d.records.items ≡ map (put_record at dataspaces.now) d.accepted.items) }
+    ensures plan { IfOk result (λ d. (t : Tables) (sofar : List Change) → Holds t sofar
+        → Plans t d.plan (sofar ++ map (set_space at) d.accepted.items)) }
 {
-    let mut puts = Puts {
-        verdicts: Vec::new(alloc),
-        accepted: Vec::new(alloc),
-        records: Vec::new(alloc),
-    };
+    let mut draft = Draft::new(alloc);
     for (name, put) in items {
-        take_put(alloc, dataspaces, at, &mut puts, name, put)?;
+        take_put(alloc, &mut draft, at, name, put)?;
     }
-    Ok(puts)
+    Ok(draft)
 }
 
-fn is_among(path: &Text, gone: &[Text]) -> bool
-    ensures { result ≡ list_any (bytes_eq path.now) gone.now }
-{
-    for other in gone {
-        if *path == *other {
-            return true;
-        }
-    }
-    false
-}
-
-fn drop_verdict(dataspaces: &[SpaceRecord], gone: &[Text], path: &Text) -> Verdict
-    ensures { result ≡ drop_verdict dataspaces.now gone.now path.now }
+fn judge_drop(
+    alloc: Global,
+    contents: &Contents,
+    plan: &mut Plan,
+    path: &Text,
+) -> Result<Verdict, NoMemory>
+    ensures { IfOk result (λ v. Judges contents.now plan.old plan.new v (DropSpace path.now)) }
 {
     if path.is_empty() {
-        return Verdict::Refused(ErrorCode::RequestDenied);
+        return Ok(Verdict::Refused(ErrorCode::RequestDenied));
     }
-    if dataspace_at(dataspaces, path).is_some() && !is_among(path, gone) {
-        return Verdict::Accepted;
+    if !contents.has_space(plan, path) {
+        return Ok(Verdict::Refused(ErrorCode::NotFound));
     }
-    Verdict::Refused(ErrorCode::NotFound)
+    plan.drop_space(alloc, path)?;
+    Ok(Verdict::Accepted)
 }
 
 fn take_drop(
-    dataspaces: &[SpaceRecord],
-    drops: &mut Drops,
+    alloc: Global,
+    contents: &Contents,
+    draft: &mut Draft<Text>,
     name: Text,
     path: Text,
 ) -> Result<(), NoMemory>
-    ensures verdicts { OnOk result (
-        drops.new.verdicts.items
-        ≡ drops.old.verdicts.items
-        ++ (name, drop_verdict dataspaces.now drops.old.accepted.items path) ∷ []) }
-    ensures accepted { OnOk result (
-        drops.new.accepted.items
-        ≡ with_accepted (drop_verdict dataspaces.now drops.old.accepted.items path)
-        drops.old.accepted.items path) }
+    ensures { OnOk result ((sofar : List Change) → Plans contents.now draft.old.plan sofar
+        → Takes contents.now sofar name path (DropSpace path)
+        draft.old.verdicts.items draft.new.verdicts.items
+        draft.old.accepted.items draft.new.accepted.items draft.new.plan) }
 {
-    let verdict = drop_verdict(dataspaces, drops.accepted.as_slice(), &path);
-    drops.verdicts.push((name, verdict))?;
-    if let Verdict::Refused(_) = verdict {
-        return Ok(());
-    }
-    drops.accepted.push(path)?;
+    let verdict = judge_drop(alloc, contents, &mut draft.plan, &path)?;
+    draft.note(name, verdict, path)?;
     Ok(())
 }
 
-/// Judges dataspaces to be dropped; each sees those that the earlier items drop.
+/// Judges dataspaces to be dropped.
 pub(crate) fn draft_drops(
     alloc: Global,
-    dataspaces: &[SpaceRecord],
+    contents: &Contents,
     items: Vec<(Text, Text)>,
-) -> Result<Drops, NoMemory>
-    ensures verdicts { IfOk result (λ d. (sofar : List Change) → Stands dataspaces.now sofar
+) -> Result<Draft<Text>, NoMemory>
+    ensures verdicts { IfOk result (λ d. (sofar : List Change) → Holds contents.now sofar
         → d.verdicts.items ≡ verdicts DropSpace sofar items.items) }
-    ensures accepted { IfOk result (λ d. (sofar : List Change) → Stands dataspaces.now sofar
+    ensures accepted { IfOk result (λ d. (sofar : List Change) → Holds contents.now sofar
         → d.accepted.items ≡ accepted DropSpace sofar (values_of items.items)) }
+    ensures plan { IfOk result (λ d. (sofar : List Change) → Holds contents.now sofar
+        → Plans contents.now d.plan (sofar ++ map DropSpace d.accepted.items)) }
 {
-    let mut drops = Drops {
-        verdicts: Vec::new(alloc),
-        accepted: Vec::new(alloc),
-    };
+    let mut draft = Draft::new(alloc);
     for (name, path) in items {
-        take_drop(dataspaces, &mut drops, name, path)?;
+        take_drop(alloc, contents, &mut draft, name, path)?;
     }
-    Ok(drops)
+    Ok(draft)
+}
+
+fn judge_op(
+    alloc: Global,
+    contents: &Contents,
+    plan: &mut Plan,
+    op: &Op,
+) -> Result<Verdict, NoMemory>
+    ensures { IfOk result (λ v. Judges contents.now plan.old plan.new v (Operate op.now)) }
+{
+    match contents.judge(alloc, plan, op)? {
+        None => Ok(Verdict::Accepted),
+        Some(code) => Ok(Verdict::Refused(code)),
+    }
+}
+
+fn take_op(
+    alloc: Global,
+    contents: &Contents,
+    draft: &mut Draft<Op>,
+    name: Text,
+    op: Op,
+) -> Result<(), NoMemory>
+    ensures { OnOk result ((sofar : List Change) → Plans contents.now draft.old.plan sofar
+        → Takes contents.now sofar name op (Operate op)
+        draft.old.verdicts.items draft.new.verdicts.items
+        draft.old.accepted.items draft.new.accepted.items draft.new.plan) }
+{
+    let verdict = judge_op(alloc, contents, &mut draft.plan, &op)?;
+    draft.note(name, verdict, op)?;
+    Ok(())
+}
+
+/// Judges operations on objects and arrays.
+pub(crate) fn draft_ops(
+    alloc: Global,
+    contents: &Contents,
+    items: Vec<(Text, Op)>,
+) -> Result<Draft<Op>, NoMemory>
+    ensures verdicts { IfOk result (λ d. (sofar : List Change) → Holds contents.now sofar
+        → d.verdicts.items ≡ verdicts Operate sofar items.items) }
+    ensures accepted { IfOk result (λ d. (sofar : List Change) → Holds contents.now sofar
+        → d.accepted.items ≡ accepted Operate sofar (values_of items.items)) }
+    ensures plan { IfOk result (λ d. (sofar : List Change) → Holds contents.now sofar
+        → Plans contents.now d.plan (sofar ++ map Operate d.accepted.items)) }
+{
+    let mut draft = Draft::new(alloc);
+    for (name, op) in items {
+        take_op(alloc, contents, &mut draft, name, op)?;
+    }
+    Ok(draft)
 }

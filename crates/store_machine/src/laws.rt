@@ -1,17 +1,15 @@
 //! Laws on the definitions, as contracts of functions that do nothing.
-ghost use Rattle.store_machine.specs.Laws.{ChangesLeaveOthers, EntriesLeaveOthers, DefaultStays, TableHasValues};
+ghost use Rattle.store_machine.specs.Laws.{ChangesLeaveOthers, EntriesLeaveOthers, DefaultStays};
 ghost use Rattle.store_machine.specs.Laws.{DoorIsSession, NumbersStay, NextNumberIsFresh, EntersAreEnter};
 ghost use Rattle.store_machine.specs.Laws.{EntriesAreTheSessions, NextMayAsk, CallsStay, CallsAddOne};
 ghost use Rattle.store_machine.specs.Laws.{FullStaysFull};
 ghost use Rattle.store_machine.specs.Growth.{CallsKeepLegal};
 
-/// The value of a key depends on the changes that alter it alone, and that of the default dataspace on none. A table of
-/// dataspaces that does what the changes say has their values.
+/// The value of a key depends on the changes that alter it alone, and that of the default dataspace on none.
 pub fn state_laws()
     ensures changes { ChangesLeaveOthers }
     ensures entries { EntriesLeaveOthers }
     ensures default { DefaultStays }
-    ensures table { TableHasValues }
 {}
 
 /// Numbers of sessions: the door's is one, each stays one, and the number that the next Enter gives has no entry yet.

@@ -2,20 +2,28 @@
 //!
 //! [`Store::ask`] answers a [`StoreCall`]. A call that changes the state adds one [`Entry`] to the journal, whose [`Act`]
 //! holds the accepted items; the state is what the changes of all entries left (`specs/History`), and what is answered
-//! depends on the journal and the call alone (`specs/Answers`). The dataspaces that stand now are kept beside the journal,
-//! in byte order of their paths, and the invariant of [`Store`] ties them to it.
+//! depends on the journal and the call alone (`specs/Answers`). The tables of what stands now are kept beside the journal,
+//! and the invariant of [`Store`] ties them to it.
+//!
+//! Commits and the calls on channels are not served yet: they are refused by `InvalidMessageType`.
 #![tactic(auto)]
 
 mod call;
 mod counted;
-mod dataspaces;
 mod draft;
 mod journal;
 mod laws;
+mod looks;
+mod spaces;
 mod store;
 
-pub use call::{Answer, Reply, SpacePut, StoreCall, Verdict};
+pub use call::{
+    Answer, Cutting, MetaReply, RangeAsk, Reply, SpacePut, Start, StartAsk, StartReply, StoreCall,
+    Verdict,
+};
+pub use channel_store::Sub;
 pub use counted::MAX_JOURNAL_BYTES;
 pub use journal::{Act, Entry};
 pub use laws::{growth_laws, number_laws, room_laws, state_laws};
 pub use store::Store;
+pub use tx_stage::{Looked, Want};

@@ -3,17 +3,20 @@ ghost use Rattle.std.specs.Prelude.{◌≡◌, ◌<◌, ◌++◌, ◌∷◌, [],
 ghost use Rattle.store_machine.specs.Answers.{answer, entries_of};
 ghost use Rattle.store_machine.specs.Legal.{Legal, MayAsk, IsNext, door};
 ghost use Rattle.store_machine.specs.declared.call.StoreCall.TheVariants as call;
+ghost use Rattle.store_machine.specs.declared.call.Reply.TheVariants as reply;
+ghost use Rattle.etp_values.specs.declared.code.ErrorCode.TheVariants as code;
 
 use crate::call::{Answer, Reply, SpacePut, StoreCall};
 use crate::counted::bytes_with;
-use crate::dataspaces::{drop_of, listed, put_all};
-use crate::draft::{Drops, Puts, draft_drops, draft_puts};
-use crate::journal::{Act, Entry};
+use crate::draft::{draft_drops, draft_ops, draft_puts};
+use crate::journal::{Act, Entry, add_entry, push_entry};
+use crate::looks::looked;
+use crate::spaces::listed;
 use chan_defs::Config;
-use etp_values::{List, Named, NoMemory, Text};
-use object_store::SpaceRecord;
+use etp_values::{ErrorCode, List, Named, NoMemory, Text};
 use std::alloc::Global;
 use std::marker::Model;
+use tx_stage::{Contents, Op, Want};
 
 /// A store. A contract sees its configuration and its journal.
 #[derive(Drop)]
@@ -22,8 +25,8 @@ pub struct Store {
     journal: Vec<Entry>,
     /// What the entries count together.
     bytes: u64,
-    /// The dataspaces that stand now, in byte order of their paths.
-    dataspaces: Vec<SpaceRecord>,
+    /// What stands now.
+    contents: Contents,
 }
 
 impl Model for Store {
@@ -34,7 +37,7 @@ impl Model for Store {
 
     ghost view = { λ s. record { config = s.config; journal = s.journal.items } };
 
-    ghost invariant = { λ s. Keeps s.config s.journal.items s.bytes s.dataspaces.items };
+    ghost invariant = { λ s. Keeps s.config s.journal.items s.bytes s.contents };
 }
 
 impl Store {
@@ -42,13 +45,7 @@ impl Store {
     pub fn new(alloc: Global, config: Config) -> Result<Store, NoMemory>
         ensures { IfOk result (λ s. s ≡ record { config = config; journal = door ∷ [] }) }
     {
-        let mut dataspaces = Vec::new(alloc);
-        dataspaces.push(SpaceRecord {
-            path: Text::new(alloc),
-            written: 0,
-            created: 0,
-            custom: Named::new(alloc),
-        })?;
+        let contents = Contents::new(alloc)?;
         let mut journal = Vec::new(alloc);
         journal.push(Entry {
             by: 0,
@@ -60,7 +57,7 @@ impl Store {
             config,
             journal,
             bytes: 64,
-            dataspaces,
+            contents,
         })
     }
 
@@ -104,6 +101,56 @@ impl Store {
             StoreCall::Spaces { newer } => self.list_spaces(alloc, newer),
             StoreCall::PutSpaces { items } => self.put_spaces(alloc, by, nth, at, items),
             StoreCall::DropSpaces { items } => self.drop_spaces(alloc, by, nth, at, items),
+            StoreCall::Look { items } => self.look(alloc, items),
+            StoreCall::Put { items } => self.put(alloc, by, nth, at, items),
+            StoreCall::Commit { staged } => {
+                drop(staged);
+                Ok(self.unserved())
+            }
+            StoreCall::Append { items } => {
+                drop(items);
+                Ok(self.unserved())
+            }
+            StoreCall::Replace {
+                channels,
+                items,
+                ..
+            } => {
+                drop(channels);
+                drop(items);
+                Ok(self.unserved())
+            }
+            StoreCall::Truncate { items } => {
+                drop(items);
+                Ok(self.unserved())
+            }
+            StoreCall::Range { items } => {
+                drop(items);
+                Ok(self.unserved())
+            }
+            StoreCall::Meta { items } => {
+                drop(items);
+                Ok(self.unserved())
+            }
+            StoreCall::Subscribe { items } => {
+                drop(items);
+                Ok(self.unserved())
+            }
+            StoreCall::News { subs, .. } => {
+                drop(subs);
+                Ok(self.unserved())
+            }
+        }
+    }
+
+    /// The answer to a call that the store does not serve.
+    fn unserved(&self) -> Answer
+        ensures answer { result ≡ record { mark = length self.now.journal; reply = reply.Refused code.InvalidMessageType } }
+        ensures legal { Legal self.now.config self.now.journal }
+    {
+        Answer {
+            mark: self.journal.len() as u64,
+            reply: Reply::Refused(ErrorCode::InvalidMessageType),
         }
     }
 
@@ -124,14 +171,14 @@ impl Store {
                 reply: Reply::JournalFull,
             });
         };
-        self.journal.reserve(1)?;
-        self.bytes = bytes;
-        let _ = self.journal.push(Entry {
+        let entry = Entry {
             by: mark,
             nth: 0,
             at,
             act,
-        });
+        };
+        push_entry(&mut self.journal, entry)?;
+        self.bytes = bytes;
         Ok(Answer {
             mark,
             reply: Reply::Entered(mark),
@@ -144,7 +191,7 @@ impl Store {
         ensures legal { Legal self.now.config self.now.journal }
     {
         let mark = self.journal.len() as u64;
-        let dataspaces = listed(alloc, self.dataspaces.as_slice(), newer)?;
+        let dataspaces = listed(alloc, &self.contents, newer)?;
         Ok(Answer {
             mark,
             reply: Reply::Spaces(dataspaces),
@@ -170,28 +217,29 @@ impl Store {
         ensures err { OnErr result (self.new ≡ self.old) }
     {
         let mark = self.journal.len() as u64;
-        let Puts {
-            verdicts,
-            accepted,
-            records,
-        } = draft_puts(alloc, self.dataspaces.as_slice(), at, items.into_vec())?;
-        let reply = Reply::Verdicts(Named::from_sorted(verdicts));
-        if accepted.is_empty() {
-            return Ok(Answer { mark, reply });
+        let draft = draft_puts(alloc, at, items.into_vec())?;
+        let verdicts = Named::from_sorted(draft.verdicts);
+        if draft.accepted.is_empty() {
+            return Ok(Answer {
+                mark,
+                reply: Reply::Verdicts(verdicts),
+            });
         }
-        let act = Act::PutSpaces(List::from_vec(accepted));
+        let act = Act::PutSpaces(List::from_vec(draft.accepted));
         let Some(bytes) = bytes_with(self.config.journal, mark, self.bytes, &act) else {
+            drop(act);
             return Ok(Answer {
                 mark,
                 reply: Reply::JournalFull,
             });
         };
-        self.journal.reserve(1)?;
-        self.dataspaces.reserve(records.len())?;
-        put_all(&mut self.dataspaces, records);
+        let entry = Entry { by, nth, at, act };
+        add_entry(&mut self.journal, &mut self.contents, draft.plan, entry)?;
         self.bytes = bytes;
-        let _ = self.journal.push(Entry { by, nth, at, act });
-        Ok(Answer { mark, reply })
+        Ok(Answer {
+            mark,
+            reply: Reply::Verdicts(verdicts),
+        })
     }
 
     fn drop_spaces(
@@ -213,25 +261,84 @@ impl Store {
         ensures err { OnErr result (self.new ≡ self.old) }
     {
         let mark = self.journal.len() as u64;
-        let Drops {
-            verdicts,
-            accepted: paths,
-        } = draft_drops(alloc, self.dataspaces.as_slice(), items.into_vec())?;
-        let reply = Reply::Verdicts(Named::from_sorted(verdicts));
-        if paths.is_empty() {
-            return Ok(Answer { mark, reply });
+        let draft = draft_drops(alloc, &self.contents, items.into_vec())?;
+        let verdicts = Named::from_sorted(draft.verdicts);
+        if draft.accepted.is_empty() {
+            return Ok(Answer {
+                mark,
+                reply: Reply::Verdicts(verdicts),
+            });
         }
-        let act = Act::DropSpaces(List::from_vec(paths));
+        let act = Act::DropSpaces(List::from_vec(draft.accepted));
         let Some(bytes) = bytes_with(self.config.journal, mark, self.bytes, &act) else {
+            drop(act);
             return Ok(Answer {
                 mark,
                 reply: Reply::JournalFull,
             });
         };
-        self.journal.reserve(1)?;
-        drop_of(&mut self.dataspaces, &act);
+        let entry = Entry { by, nth, at, act };
+        add_entry(&mut self.journal, &mut self.contents, draft.plan, entry)?;
         self.bytes = bytes;
-        let _ = self.journal.push(Entry { by, nth, at, act });
-        Ok(Answer { mark, reply })
+        Ok(Answer {
+            mark,
+            reply: Reply::Verdicts(verdicts),
+        })
+    }
+
+    fn look(&self, alloc: Global, items: List<Want>) -> Result<Answer, NoMemory>
+        ensures answer { IfOk result (λ a. a ≡ answer self.now.config self.now.journal (call.Look items)) }
+        ensures legal { Legal self.now.config self.now.journal }
+    {
+        let mark = self.journal.len() as u64;
+        let seen = looked(alloc, &self.contents, &items)?;
+        Ok(Answer {
+            mark,
+            reply: Reply::Looked(seen),
+        })
+    }
+
+    fn put(
+        &mut self,
+        alloc: Global,
+        by: u64,
+        nth: u64,
+        at: i64,
+        items: Named<Op>,
+    ) -> Result<Answer, NoMemory>
+        requires { IsNext self.old.journal by nth }
+        ensures answer { IfOk result (λ a.
+            a ≡ answer self.old.config self.old.journal (call.Put items)) }
+        ensures journal { OnOk result (
+            self.new.journal
+            ≡ self.old.journal ++ entries_of self.old.config self.old.journal by nth at (call.Put items)) }
+        ensures config { self.new.config ≡ self.old.config }
+        ensures legal { Legal self.new.config self.new.journal }
+        ensures err { OnErr result (self.new ≡ self.old) }
+    {
+        let mark = self.journal.len() as u64;
+        let draft = draft_ops(alloc, &self.contents, items.into_vec())?;
+        let verdicts = Named::from_sorted(draft.verdicts);
+        if draft.accepted.is_empty() {
+            return Ok(Answer {
+                mark,
+                reply: Reply::Verdicts(verdicts),
+            });
+        }
+        let act = Act::Put(List::from_vec(draft.accepted));
+        let Some(bytes) = bytes_with(self.config.journal, mark, self.bytes, &act) else {
+            drop(act);
+            return Ok(Answer {
+                mark,
+                reply: Reply::JournalFull,
+            });
+        };
+        let entry = Entry { by, nth, at, act };
+        add_entry(&mut self.journal, &mut self.contents, draft.plan, entry)?;
+        self.bytes = bytes;
+        Ok(Answer {
+            mark,
+            reply: Reply::Verdicts(verdicts),
+        })
     }
 }

@@ -9,7 +9,7 @@ use std::test::Fail;
 use store_machine::*;
 
 /// A store whose journal takes so many entries.
-fn store(alloc: Global, journal: u64) -> Result<Store, NoMemory> {
+pub(crate) fn store(alloc: Global, journal: u64) -> Result<Store, NoMemory> {
     let config = Config {
         instance: Id16::from_bytes([1; 16]),
         name: Text::copy(alloc, "wd")?,
@@ -44,7 +44,12 @@ fn own_entries(store: &Store, by: u64) -> u64
 }
 
 /// Asks as the door.
-fn ask(alloc: Global, store: &mut Store, at: i64, call: StoreCall) -> Result<Reply, NoMemory> {
+pub(crate) fn ask(
+    alloc: Global,
+    store: &mut Store,
+    at: i64,
+    call: StoreCall,
+) -> Result<Reply, NoMemory> {
     let nth = own_entries(store, 0);
     Ok(store.ask(alloc, 0, nth, at, call)?.reply)
 }
@@ -124,13 +129,20 @@ fn lists(
     Ok(found.len() == expected.len())
 }
 
+fn is_enter(act: &Act) -> bool {
+    match act {
+        Act::Enter => true,
+        _ => false,
+    }
+}
+
 /// Whether an entry stands at a place under this number, as its first, at this moment.
 fn is_first(store: &Store, place: u64, by: u64, at: i64) -> bool {
     if place >= store.entries() {
         return false;
     }
     let entry = store.entry(place);
-    entry.by == by && entry.nth == 0 && entry.at == at && entry.act == Act::Enter
+    entry.by == by && entry.nth == 0 && entry.at == at && is_enter(&entry.act)
 }
 
 const ACCEPTED: Verdict = Verdict::Accepted;
@@ -144,12 +156,14 @@ fn a_journal_of_three_entries_takes_one_put(rt: HostRuntime) -> Result<(), Fail>
     let alloc = rt.alloc();
     let mut store = store(alloc, 3)?;
     let entered = store.ask(alloc, 0, 0, 5, StoreCall::Enter)?;
-    assert!(rt; entered.mark == 1 && entered.reply == Reply::Entered(1));
+    assert!(rt; entered.mark == 1 && matches!(&entered.reply, Reply::Entered(1)));
     assert!(rt; is_first(&store, 1, 1, 5));
     let put = put_two(alloc, &mut store, 6, "w", "v")?;
     assert!(rt; are(&put, ACCEPTED, ACCEPTED));
-    assert!(rt; put_two(alloc, &mut store, 7, "x", "y")? == Reply::JournalFull);
-    assert!(rt; store.ask(alloc, 0, 0, 8, StoreCall::Enter)?.reply == Reply::JournalFull);
+    let full = put_two(alloc, &mut store, 7, "x", "y")?;
+    assert!(rt; matches!(&full, Reply::JournalFull));
+    let refused = store.ask(alloc, 0, 0, 8, StoreCall::Enter)?;
+    assert!(rt; matches!(&refused.reply, Reply::JournalFull));
     assert!(rt; store.entries() == 3);
     Ok(())
 }

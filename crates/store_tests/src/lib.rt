@@ -1,4 +1,4 @@
-//! Tests of the tables and of the store over them.
+//! Tests of the store.
 #![tactic(auto)]
 
 #[cfg(test)]

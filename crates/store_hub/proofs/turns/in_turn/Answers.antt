@@ -36,6 +36,15 @@ overflow_add-nth c =
     let fits = t.fits in
     omega (arith, fits, c.entries-entries.ensures.len)
 
+pub give-requires-clause-journal : goal.give-requires-clause-journal
+give-requires-clause-journal c =
+    let u : Known = view c.args.seat.now in
+    let m : Known = view c.look-mark.new.seat in
+    let s = sees u m c.args.inside.store.journal c.look-mark.result c.requires.held c.look-mark.ensures.held in
+    let t = turned c.args.inside.store.config c.args.inside.store.config c.args.number c.args.nth.now (to_z w64 (of_z w64 c.args.at)) c.args.call u m m c.args.inside.store.journal c.ask_as-answer.new.store.journal c.look-mark.result
+    c.ask_as-answer.result refl c.requires.kept c.requires.held s c.ask_as-answer.ensures.ok c.ask_as-answer.ensures.err in
+    t.gives
+
 pub returns-clause-kept : goal.returns-clause-kept
 returns-clause-kept c =
     let u : Known = view c.args.seat.now in
@@ -57,3 +66,13 @@ returns-clause-ok c =
     c.ask_as-answer.result c.requires.fixed c.requires.kept c.requires.held s c.ask_as-answer.ensures.ok c.ask_as-answer.ensures.err in
     subst (λ (z : ℤ). IfOk c.ask_as-answer.result (λ (a : Answer). (v : Known) → Waits v c.args.inside.store.journal u → Answers config c.args.number c.args.nth.now z c.args.call v a w)) (to_z-of_z w64 c.args.at c.ranges.at)
     (t.ok c.give.ensures.same c.give.ensures.entry)
+
+pub returns-clause-err : goal.returns-clause-err
+returns-clause-err c =
+    let u : Known = view c.args.seat.now in
+    let m : Known = view c.look-mark.new.seat in
+    let w : Known = view c.give.new.seat in
+    let s = sees u m c.args.inside.store.journal c.look-mark.result c.requires.held c.look-mark.ensures.held in
+    let t = turned c.args.inside.store.config c.args.inside.store.config c.args.number c.args.nth.now (to_z w64 (of_z w64 c.args.at)) c.args.call u m w c.args.inside.store.journal c.ask_as-answer.new.store.journal c.look-mark.result
+    c.ask_as-answer.result refl c.requires.kept c.requires.held s c.ask_as-answer.ensures.ok c.ask_as-answer.ensures.err in
+    t.err c.give.ensures.same c.give.ensures.entry

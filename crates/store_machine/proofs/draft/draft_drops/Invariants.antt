@@ -1,8 +1,9 @@
 use Rattle.std.proofs.Common.{List}
 use Rattle.std.specs.Vec.Iter.{into_iter_items}
-use Rattle.store_machine.specs.History.{Change}
-use Rattle.store_machine.specs.Kept.{Stands, Judged}
+use Rattle.store_machine.specs.History.{Change, DropSpace}
+use Rattle.store_machine.specs.Kept.{Holds, Drafting}
 use Rattle.store_machine.proofs.draft.draft_drops.Given as goal
 
 abbrev pub invariant-loop-name : goal.invariant-loop-name
-invariant-loop-name l = (sofar : List Change) → Stands l.dataspaces sofar → Judged sofar (into_iter_items l.name-iterator) l.fn.items.items l.drops.verdicts.items l.drops.accepted.items
+invariant-loop-name l = (sofar : List Change) → Holds l.contents sofar
+    → Drafting DropSpace l.contents sofar (into_iter_items l.name-iterator) l.fn.items.items l.draft.verdicts.items l.draft.accepted.items l.draft.plan

@@ -1,12 +1,10 @@
-use Rattle.std.proofs.Common.{◌≡◌, ◌++◌, map}
-use Rattle.std.specs.Map.{values_of}
+use Rattle.std.proofs.Common.{List}
 use Rattle.std.specs.Vec.Iter.{into_iter_items}
-use Rattle.store_machine.specs.Kept.{put_record, put_verdicts, puttable}
+use Rattle.tx_stage.specs.declared.contents.Contents.{Contents}
+use Rattle.store_machine.specs.History.{Change, set_space}
+use Rattle.store_machine.specs.Kept.{Holds, Drafting}
 use Rattle.store_machine.proofs.draft.draft_puts.Given as goal
 
 abbrev pub invariant-loop-name : goal.invariant-loop-name
-invariant-loop-name l = record {
-  verdicts : l.puts.verdicts.items ++ put_verdicts (into_iter_items l.name-iterator) ≡ put_verdicts l.fn.items.items;
-  accepted : l.puts.accepted.items ++ puttable (values_of (into_iter_items l.name-iterator)) ≡ puttable (values_of l.fn.items.items);
-  records : l.puts.records.items ≡ map (put_record l.at l.dataspaces) l.puts.accepted.items;
-}
+invariant-loop-name l = (t : Contents) (sofar : List Change) → Holds t sofar
+    → Drafting (set_space l.at) t sofar (into_iter_items l.name-iterator) l.fn.items.items l.draft.verdicts.items l.draft.accepted.items l.draft.plan

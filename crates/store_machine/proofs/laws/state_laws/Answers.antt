@@ -1,5 +1,4 @@
 use Rattle.store_machine.proofs.Values.{value-unaltered, value_after-push, default-stays}
-use Rattle.store_machine.proofs.Tables.{table-values}
 use Rattle.store_machine.proofs.laws.state_laws.Goals as goal
 
 pub returns-clause-changes : goal.returns-clause-changes
@@ -10,6 +9,3 @@ returns-clause-entries c = value_after-push
 
 pub returns-clause-default : goal.returns-clause-default
 returns-clause-default c = default-stays
-
-pub returns-clause-table : goal.returns-clause-table
-returns-clause-table c = table-values

@@ -1,12 +1,10 @@
 use Rattle.std.proofs.Common.{arith, ◌≡◌, ◌∷◌, []}
 use Rattle.std.proofs.lemmas.Grind.{common_steps}
-use Rattle.object_store.specs.Tables.{default_dataspace}
 use Rattle.store_machine.specs.Legal.{door}
 use Rattle.store_machine.proofs.Lawful.{keeps-first}
 use Rattle.store_machine.proofs.store.Store.new.Goals as goal
 
 pub invariant_of-result : goal.invariant_of-result
 invariant_of-result c =
-    let journal : c.push-2.new.self.items ≡ door ∷ [] = grind (arith, common_steps) in
-    let dataspaces : c.push.new.self.items ≡ default_dataspace ∷ [] = grind (arith, common_steps) in
-    rw (journal, dataspaces) (keeps-first c.args.config)
+    let journal : c.push.new.self.items ≡ door ∷ [] = grind (arith, common_steps) in
+    rw journal (keeps-first c.args.config c.in_ok-contents.contents c.in_ok-contents.ensures)

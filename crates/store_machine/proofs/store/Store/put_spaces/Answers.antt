@@ -1,35 +1,44 @@
-use Rattle.std.proofs.Common.{arith, ap, sym, subst, ◌∙◌, ◌≡◌, ◌++◌, ◌∷◌, ◌+◌, pos, nat_cmp, [], Some, length, fold, map}
+use Rattle.std.proofs.Common.{arith, ap, sym, subst, ◌∙◌, ◌≡◌, ◌++◌, ◌∷◌, nat_cmp, [], Some, length, map, pos, w64}
 use Rattle.std.proofs.lemmas.Grind.{common_steps}
+use Rattle.std.proofs.lemmas.Int.{to_z-of_z}
 use Rattle.std.specs.Cmp.Lexicographic.{slice_cmp}
 use Rattle.std.specs.List.Sorted.{IsStrictlySortedBy}
 use Rattle.std.specs.Map.{keys_of, values_of}
 use Rattle.store_machine.specs.declared.journal.Act.TheVariants.{PutSpaces}
 use Rattle.store_machine.specs.History.{set_space, changes_of}
-use Rattle.store_machine.specs.Counted.{counted_act, bytes_with}
+use Rattle.store_machine.specs.Counted.{bytes_with}
 use Rattle.store_machine.specs.Answers.{verdicts, accepted}
 use Rattle.store_machine.specs.Legal.{IsNext}
-use Rattle.store_machine.specs.Kept.{Keeps, put_in, put_record}
+use Rattle.store_machine.specs.Kept.{Keeps, Plans}
 use Rattle.store_machine.proofs.Judging.{names-verdicts}
-use Rattle.store_machine.proofs.Lawful.{keeps-puts, with_room}
+use Rattle.store_machine.proofs.Lawful.{keeps-puts, keeps-kept, with_room}
 use Rattle.store_machine.proofs.store.Store.put_spaces.Goals as goal
 
-pub from_sorted-requires : goal.from_sorted-requires
-from_sorted-requires c =
+pub from_sorted-verdicts-requires : goal.from_sorted-verdicts-requires
+from_sorted-verdicts-requires c =
     let cs = changes_of c.self.inside.journal.items in
-    let given : c.in_ok-verdicts.field-0.verdicts.items ≡ verdicts (set_space (pos 0)) cs c.args.items = grind (arith, common_steps, c.in_ok-verdicts.ensures.verdicts cs) in
+    let given : c.in_ok-draft.draft.verdicts.items ≡ verdicts (set_space (pos 0)) cs c.args.items =
+    c.in_ok-draft.ensures.verdicts c.self.inside.contents cs c.self.invariant.holds ∙ ap (verdicts (set_space (pos 0)) cs) c.into_vec.ensures.items in
     subst (IsStrictlySortedBy (slice_cmp nat_cmp)) (sym (ap keys_of given ∙ names-verdicts (set_space (pos 0)) cs c.args.items)) c.into_vec.ensures.sorted
+
+pub invariant_of-self : goal.invariant_of-self
+invariant_of-self c = keeps-kept _ _ _ _ _ _ c.self.invariant c.in_err-add_entry.ensures.kept c.in_err-add_entry.ensures.same
 
 pub invariant_of-self-2 : goal.invariant_of-self-2
 invariant_of-self-2 c =
     let s = c.self.inside in
-    let puts = c.in_ok-verdicts.accepted.items in
-    let told : Some c.in-Some.bytes ≡ bytes_with s.config.journal (length s.journal.items) s.bytes (PutSpaces puts) = grind (arith, common_steps) in
-    let pushed : c.push.new.self.items ≡ s.journal.items ++ record { by = c.args.by; nth = c.args.nth; at = c.args.at; act = PutSpaces puts } ∷ [] = grind (arith, common_steps) in
-    let drafted : puts ≡ accepted (set_space (pos 0)) (changes_of s.journal.items) (values_of c.args.items) = grind (arith, common_steps, c.in_ok-verdicts.ensures.accepted (changes_of s.journal.items)) in
-    let put : c.put_all.new.dataspaces.items ≡ fold put_in s.dataspaces.items (map (put_record c.args.at s.dataspaces.items) puts) = grind (arith, common_steps) in
-    let room = with_room s.config s.journal.items s.bytes c.in-Some.bytes (PutSpaces puts) c.self.invariant.bytes told in
-    rw (pushed, put) (subst (λ n. Keeps s.config (s.journal.items ++ record { by = c.args.by; nth = c.args.nth; at = c.args.at; act = PutSpaces puts } ∷ []) n (fold put_in s.dataspaces.items (map (put_record c.args.at s.dataspaces.items) puts))) (sym room.1)
-    (keeps-puts s.config s.journal.items s.bytes s.dataspaces.items c.args.by c.args.nth c.args.at (values_of c.args.items) puts c.self.invariant (subst (λ k. IsNext k.journal c.args.by c.args.nth) (sym c.self.view_is) c.requires) drafted (grind (arith, common_steps)) room.0))
+    let cs = changes_of s.journal.items in
+    let items = c.in_ok-draft.draft.accepted.items in
+    let plan = c.in_ok-draft.draft.plan in
+    let told : Some c.in-Some.bytes ≡ bytes_with s.config.journal (length s.journal.items) s.bytes (PutSpaces items) = grind (arith, common_steps) in
+    let pushed : c.add_entry.new.journal.items ≡ s.journal.items ++ record { by = c.args.by; nth = c.args.nth; at = c.args.at; act = PutSpaces items } ∷ [] = grind (arith, common_steps) in
+    let drafted : items ≡ accepted (set_space (pos 0)) cs (values_of c.args.items) =
+    c.in_ok-draft.ensures.accepted c.self.inside.contents cs c.self.invariant.holds ∙ ap (λ l. accepted (set_space (pos 0)) cs (values_of l)) c.into_vec.ensures.items in
+    let planned : Plans s.contents plan (cs ++ map (set_space c.args.at) items) = subst (λ a. Plans s.contents plan (cs ++ map (set_space a) items)) (to_z-of_z w64 c.args.at c.ranges.at) (c.in_ok-draft.ensures.plan c.self.inside.contents cs c.self.invariant.holds) in
+    let room = with_room s.config s.journal.items s.bytes c.in-Some.bytes (PutSpaces items) c.self.invariant.bytes told in
+    rw pushed (subst (λ n. Keeps s.config (s.journal.items ++ record { by = c.args.by; nth = c.args.nth; at = c.args.at; act = PutSpaces items } ∷ []) n c.add_entry.new.contents) (sym room.1)
+    (keeps-puts s.config s.journal.items c.args.by c.args.nth c.args.at s.bytes s.contents c.add_entry.new.contents plan (values_of c.args.items) items c.self.invariant
+    (subst (λ k. IsNext k.journal c.args.by c.args.nth) (sym c.self.view_is) c.requires) drafted planned (grind (arith, common_steps)) room.0 c.in_ok-add_entry.ensures.contents))
 
 pub returns-clause-legal : goal.returns-clause-legal
 returns-clause-legal c = (invariant_of-self-2 c).legal

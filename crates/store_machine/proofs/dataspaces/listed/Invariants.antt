@@ -1,6 +1,0 @@
-use Rattle.std.proofs.Common.{◌≡◌, ◌++◌, drop, filter}
-use Rattle.store_machine.specs.Dataspaces.{is_newer}
-use Rattle.store_machine.proofs.dataspaces.listed.Given as goal
-
-abbrev pub invariant-loop-dataspace : goal.invariant-loop-dataspace
-invariant-loop-dataspace l = l.found.items ++ filter (is_newer l.newer) (drop l.dataspace-index l.dataspaces) ≡ filter (is_newer l.newer) l.dataspaces

@@ -1,0 +1,5 @@
+use Rattle.store_machine.proofs.Judging.{takes-noted}
+use Rattle.store_machine.proofs.draft.take_op.Goals as goal
+
+pub returns : goal.returns
+returns c = λ sofar h. takes-noted _ sofar c.args.name c.args.op _ _ _ _ _ _ _ _ (c.in_ok-verdict.ensures sofar h) c.in_ok-note.ensures.verdicts c.in_ok-note.ensures.accepted c.note.ensures.plan
