@@ -6,3 +6,6 @@ pub mod Rans
 pub mod Settling
 pub mod Turns
 pub mod Tails
+pub mod AcceptLemmas
+pub mod CloseLemmas
+pub mod EnteredLemmas

@@ -4,3 +4,5 @@ pub mod Talks
 pub mod Steps
 pub mod Laws
 pub mod Served
+pub mod Accepted
+pub mod Closing

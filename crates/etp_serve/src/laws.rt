@@ -1,8 +1,9 @@
 //! The laws of the crates below that the proofs of this one rest on.
+ghost use Rattle.etp_serve.specs.Closing.{EachEntered, ServedInTheEnd};
 ghost use Rattle.etp_serve.specs.Laws.{Laws};
 
 use session_core::{runs, steps};
-use store_machine::number_laws;
+use store_machine::{number_laws, room_laws};
 
 /// What holds of runs, of half steps, and of the entries of a session's calls.
 pub(crate) fn laws()
@@ -11,4 +12,14 @@ pub(crate) fn laws()
     runs();
     steps();
     number_laws();
+}
+
+/// What became of links holds over the journal of the closed store too, and each link that was given is an entry of it that
+/// lets a session in, unless the journal is full.
+pub fn closing_laws()
+    ensures served { ServedInTheEnd }
+    ensures entered { EachEntered }
+{
+    laws();
+    room_laws();
 }

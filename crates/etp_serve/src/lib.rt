@@ -5,17 +5,31 @@
 //! Its contract (`Serves` in `specs/Served`) is in whole lists: what the session was sent is what a run of the machine
 //! says, over the one history of all sessions, with each call answered at a place of that history.
 //!
+//! [`serve_all`] serves the links that a [`Listener`] gives, each in a thread of its own. Its contract (`ServesAll` in
+//! `specs/Accepted`) says of each link what became of it: the session that was served over it, or why there was none.
+//!
+//! [`closing_laws`] says that this holds over the journal that the store has in the end, too (`ServedOver` in
+//! `specs/Closing`).
+//!
 //! A turn is made of events (`specs/Events`), and an event of an answer of the store and of messages that are sent
 //! (`specs/Steps`). How the serving of a session ended is an [`Ended`], and what the link shows of it is `HasCause` in
 //! `specs/Ends`.
 //!
 //! [`Link`]: etp_outside::Link
+//! [`Listener`]: etp_outside::Listener
 #![tactic(auto)]
 
+mod accepting;
+mod children;
 mod ended;
 mod laws;
+mod served;
 mod serving;
 mod steps;
+mod thread;
 
+pub use accepting::serve_all;
 pub use ended::Ended;
+pub use laws::closing_laws;
+pub use served::Served;
 pub use serving::serve_session;

@@ -1,0 +1,231 @@
+//! Sessions that are served in threads of their own, until they are taken in.
+ghost use Rattle.std.specs.Prelude.{◌≡◌, ◌≤◌, ◌<◌, ◌+◌, ◌++◌, ◌∷◌, [], ℕ, suc, List, ℤ, Bool, false, Option, None, length};
+ghost use Rattle.std.specs.List.{AllByRecursion};
+ghost use Rattle.std.specs.VecDeque.{deque_capacity, deque_len};
+ghost use Rattle.etp_outside.specs.Doors.{Back, TakesBack, back_of};
+ghost use Rattle.etp_outside.specs.Told.{Told};
+ghost use Rattle.store_hub.specs.Notes.{Meets};
+ghost use Rattle.store_hub.specs.Passes.{IsPassOf, config_of, known};
+ghost use Rattle.store_hub.specs.Words.{Known};
+ghost use Rattle.etp_serve.specs.Accepted.{Accepts, IsBegun, end_number};
+ghost use Rattle.etp_serve.specs.declared.served.Served.{Served};
+ghost use Rattle.etp_serve.specs.declared.served.Served.TheVariants.{Stopped};
+
+use crate::ended::Ended;
+use crate::thread::{Finished, Started};
+use etp_outside::{Clock, Listener};
+use std::collections::VecDeque;
+use std::snapshot::Snapshot;
+use std::thread::{PromisedHandle, Threads};
+use store_hub::{Hub, Pass};
+use store_machine::room_laws;
+
+/// The handle of a session's thread.
+pub(crate) type Handle<L, C> = PromisedHandle<Finished<L>, Started<L, C>>;
+
+/// A session that is served in a thread, and its bit among those that have ended.
+#[derive(Drop)]
+pub(crate) struct Child<H> {
+    pub(crate) handle: H,
+    pub(crate) bit: u64,
+}
+
+/// The number of an end: those of captures, and 6 and 7 for the ends that no capture has.
+fn end_number_of(end: Ended) -> u8
+    ensures { result ≡ end_number end }
+{
+    match end {
+        Ended::Closed => 1,
+        Ended::Refused(_) => 2,
+        Ended::IdsSpent => 3,
+        Ended::PeerEnd => 4,
+        Ended::LinkFault => 6,
+        Ended::NoMemory => 7,
+    }
+}
+
+/// Takes in what an ended session knew, and hands its link back.
+pub(crate) fn take_in<A: Listener>(
+    hub: &Hub,
+    door: &mut A,
+    pass: &mut Pass,
+    finished: Finished<A::Link>,
+)
+    requires own { IsPassOf hub.now pass.old }
+    requires ended { IsPassOf hub.now finished.pass }
+    ensures own { IsPassOf hub.now pass.new × (pass.new.number ≡ pass.old.number) }
+    ensures met { Meets (known pass.old) (known finished.pass) (known pass.new) }
+    ensures back { Told (A.backs door.old) (A.backs door.new) (TakesBack (A.given door.old)
+        (back_of finished.pass.number (end_number finished.end) (A.Link.faults finished.link) (A.Link.ended finished.link)
+        (A.Link.talk finished.link))) }
+    ensures given { A.given door.new ≡ A.given door.old }
+    ensures stopped { A.stopped door.new ≡ A.stopped door.old }
+    ensures kept { A.faults door.old ≤ A.faults door.new }
+{
+    let Finished {
+        link,
+        pass: ended,
+        end,
+    } = finished;
+    let number = ended.number();
+    hub.meet(pass, ended);
+    door.back(link, number, end_number_of(end));
+}
+
+/// Waits until a session has ended, and takes it in.
+pub(crate) fn join_child<A: Listener, C: Clock, R: Threads>(
+    rt: &R,
+    hub: &Hub,
+    door: &mut A,
+    pass: &mut Pass,
+    child: Child<Handle<A::Link, C>>,
+)
+    requires own { IsPassOf hub.now pass.old }
+    requires hub { child.handle.promise.hub.value ≡ hub.now }
+    ensures own { IsPassOf hub.now pass.new × (pass.new.number ≡ pass.old.number) }
+    ensures settles { (end : Served) (test : List ℤ → Bool) (v0 : Known) (given0 left : ℕ) (b0 : Option (List Back))
+        → IsBegun A.Link.talk A.Link.faults A.Link.ended C.passes hub.now test (length v0.seen) b0 child.handle.promise
+        → Accepts end test (config_of hub.now) v0 (known pass.old) given0 (A.given door.old) (suc left) b0 (A.backs door.old)
+        → Accepts end test (config_of hub.now) v0 (known pass.new) given0 (A.given door.new) left b0 (A.backs door.new) }
+    ensures given { A.given door.new ≡ A.given door.old }
+    ensures stopped { A.stopped door.new ≡ A.stopped door.old }
+    ensures kept { A.faults door.old ≤ A.faults door.new }
+{
+    // For the proof alone: a full journal stays full.
+    room_laws();
+    let finished = child.handle.join(rt);
+    take_in(hub, door, pass, finished);
+}
+
+/// Puts a child behind the others, where there is room.
+pub(crate) fn put_last<T: Drop>(children: &mut VecDeque<T>, child: T)
+    requires room { deque_len children.old < deque_capacity children.old }
+    ensures items { children.new.items ≡ children.old.items ++ child ∷ [] }
+    ensures more { deque_len children.new ≡ deque_len children.old + 1 }
+    ensures capacity { deque_capacity children.new ≡ deque_capacity children.old }
+{
+    let Ok(()) = children.push_back(child) else {
+        unreachable!()
+    };
+}
+
+/// Takes in the first of the children, where its bit is one of these, and else puts it behind the others. Without bits it
+/// waits for that child's end.
+pub(crate) fn settle_first<A: Listener, C: Clock, R: Threads>(
+    rt: &R,
+    hub: &Hub,
+    door: &mut A,
+    pass: &mut Pass,
+    clock: &C,
+    children: &mut VecDeque<Child<Handle<A::Link, C>>>,
+    bits: Option<u64>,
+    opened: &Snapshot<A>,
+    first: &Snapshot<Pass>,
+)
+    requires own { IsPassOf hub.now pass.old }
+    requires all { AllByRecursion (λ k. IsBegun A.Link.talk A.Link.faults A.Link.ended C.passes hub.now (C.passes clock.now)
+        (length (known first.now.value).seen) (A.backs opened.now.value) k.handle.promise) children.old.items }
+    requires way { Accepts Stopped (C.passes clock.now) (config_of hub.now) (known first.now.value) (known pass.old)
+        (A.given opened.now.value) (A.given door.old) (length children.old.items) (A.backs opened.now.value) (A.backs door.old) }
+    ensures own { IsPassOf hub.now pass.new × (pass.new.number ≡ pass.old.number) }
+    ensures all { AllByRecursion (λ k. IsBegun A.Link.talk A.Link.faults A.Link.ended C.passes hub.now (C.passes clock.now)
+        (length (known first.now.value).seen) (A.backs opened.now.value) k.handle.promise) children.new.items }
+    ensures way { Accepts Stopped (C.passes clock.now) (config_of hub.now) (known first.now.value) (known pass.new)
+        (A.given opened.now.value) (A.given door.new) (length children.new.items) (A.backs opened.now.value) (A.backs door.new) }
+    ensures fewer { deque_len children.new ≤ deque_len children.old }
+    ensures room { bits ≡ None → 0 < deque_len children.old → deque_len children.new < deque_len children.old }
+    ensures capacity { deque_capacity children.new ≡ deque_capacity children.old }
+    ensures given { A.given door.new ≡ A.given door.old }
+    ensures stopped { A.stopped door.new ≡ A.stopped door.old }
+    ensures kept { A.faults door.old ≤ A.faults door.new }
+{
+    let Some(child) = children.pop_front() else {
+        return;
+    };
+    if is_running(child.bit, bits) {
+        put_last(children, child);
+    } else {
+        join_child(rt, hub, door, pass, child);
+    }
+}
+
+/// Whether there are bits, and this one is none of them.
+fn is_running(bit: u64, bits: Option<u64>) -> bool
+    ensures { bits ≡ None → result ≡ false }
+{
+    match bits {
+        None => false,
+        Some(bits) => bit & bits == 0,
+    }
+}
+
+/// Takes in the children whose bits these are.
+pub(crate) fn settle_ended<A: Listener, C: Clock, R: Threads>(
+    rt: &R,
+    hub: &Hub,
+    door: &mut A,
+    pass: &mut Pass,
+    clock: &C,
+    children: &mut VecDeque<Child<Handle<A::Link, C>>>,
+    bits: u64,
+    opened: &Snapshot<A>,
+    first: &Snapshot<Pass>,
+)
+    requires own { IsPassOf hub.now pass.old }
+    requires all { AllByRecursion (λ k. IsBegun A.Link.talk A.Link.faults A.Link.ended C.passes hub.now (C.passes clock.now)
+        (length (known first.now.value).seen) (A.backs opened.now.value) k.handle.promise) children.old.items }
+    requires way { Accepts Stopped (C.passes clock.now) (config_of hub.now) (known first.now.value) (known pass.old)
+        (A.given opened.now.value) (A.given door.old) (length children.old.items) (A.backs opened.now.value) (A.backs door.old) }
+    ensures own { IsPassOf hub.now pass.new × (pass.new.number ≡ pass.old.number) }
+    ensures all { AllByRecursion (λ k. IsBegun A.Link.talk A.Link.faults A.Link.ended C.passes hub.now (C.passes clock.now)
+        (length (known first.now.value).seen) (A.backs opened.now.value) k.handle.promise) children.new.items }
+    ensures way { Accepts Stopped (C.passes clock.now) (config_of hub.now) (known first.now.value) (known pass.new)
+        (A.given opened.now.value) (A.given door.new) (length children.new.items) (A.backs opened.now.value) (A.backs door.new) }
+    ensures fewer { deque_len children.new ≤ deque_len children.old }
+    ensures capacity { deque_capacity children.new ≡ deque_capacity children.old }
+    ensures given { A.given door.new ≡ A.given door.old }
+    ensures stopped { A.stopped door.new ≡ A.stopped door.old }
+    ensures kept { A.faults door.old ≤ A.faults door.new }
+{
+    for _ in 0..children.len() {
+        settle_first(
+            rt,
+            hub,
+            door,
+            pass,
+            clock,
+            children,
+            Some(bits),
+            opened,
+            first,
+        );
+    }
+}
+
+/// Waits until all children have ended, and takes them in.
+pub(crate) fn settle_all<A: Listener, C: Clock, R: Threads>(
+    rt: &R,
+    hub: &Hub,
+    door: &mut A,
+    pass: &mut Pass,
+    clock: &C,
+    children: VecDeque<Child<Handle<A::Link, C>>>,
+    opened: &Snapshot<A>,
+    first: &Snapshot<Pass>,
+)
+    requires own { IsPassOf hub.now pass.old }
+    requires all { AllByRecursion (λ k. IsBegun A.Link.talk A.Link.faults A.Link.ended C.passes hub.now (C.passes clock.now)
+        (length (known first.now.value).seen) (A.backs opened.now.value) k.handle.promise) children.items }
+    ensures own { IsPassOf hub.now pass.new × (pass.new.number ≡ pass.old.number) }
+    ensures settles { (end : Served) → Accepts end (C.passes clock.now) (config_of hub.now) (known first.now.value) (known pass.old)
+        (A.given opened.now.value) (A.given door.old) (length children.items) (A.backs opened.now.value) (A.backs door.old)
+        → Accepts end (C.passes clock.now) (config_of hub.now) (known first.now.value) (known pass.new)
+        (A.given opened.now.value) (A.given door.new) 0 (A.backs opened.now.value) (A.backs door.new) }
+    ensures given { A.given door.new ≡ A.given door.old }
+    ensures stopped { A.stopped door.new ≡ A.stopped door.old }
+    ensures kept { A.faults door.old ≤ A.faults door.new }
+{
+    for child in children {
+        join_child(rt, hub, door, pass, child);
+    }
+}

@@ -1,0 +1,83 @@
+//! A session in a thread of its own.
+ghost use Rattle.std.specs.Prelude.{◌≡◌, [], IfSome};
+ghost use Rattle.etp_outside.specs.Moments.{Tests};
+ghost use Rattle.store_hub.specs.Passes.{IsFresh, IsPassOf, config_of, known};
+ghost use Rattle.etp_serve.specs.Accepted.{IsDone};
+
+use crate::ended::Ended;
+use crate::serving::serve_session;
+use chan_defs::Config;
+use etp_outside::{Clock, Gate, Link};
+use std::alloc::Global;
+use std::snapshot::Snapshot;
+use std::sync::Wait;
+use std::sync::atomic::{AtomicU64, Ordering};
+use std::thread::Promise;
+use store_hub::{Hub, Pass};
+
+/// What a session's thread answers: its link and its pass, and how it ended.
+#[derive(Drop)]
+pub(crate) struct Finished<L> {
+    pub(crate) link: L,
+    pub(crate) pass: Pass,
+    pub(crate) end: Ended,
+}
+
+/// What a session's thread was given.
+#[derive(Drop)]
+pub(crate) struct Started<L, C> {
+    pub(crate) hub: Snapshot<Hub>,
+    pub(crate) clock: Snapshot<C>,
+    pub(crate) link: Snapshot<L>,
+    pub(crate) number: u64,
+}
+
+impl<L: Link, C: Clock> Promise<Finished<L>> for Started<L, C> {
+    ghost use Rattle.std.specs.Prelude.{◌≡◌};
+    ghost use Rattle.store_hub.specs.Passes.{IsPassOf, config_of, known};
+    ghost use Rattle.etp_serve.specs.Accepted.{IsDone};
+
+    ghost kept_by = { λ p r. IsPassOf p.hub.value r.pass × (r.pass.number ≡ p.number)
+        × IsDone (C.passes p.clock.value) (config_of p.hub.value) p.number (known r.pass) r.end
+        (L.talk p.link.value) (L.talk r.link) (L.faults p.link.value) (L.faults r.link) (L.ended r.link) };
+}
+
+/// For proofs alone: the moments that a clock told pass its test.
+fn moments_pass<C: Clock>(clock: &C)
+    ensures { Tests (C.told clock.now) (C.passes clock.now) }
+{
+    let _ = clock;
+}
+
+/// Serves a session that was just let in until it ends, closes its link, and sets its bit among those that have ended.
+pub(crate) fn serve_one<L: Link, C: Clock, G: Gate, R: Wait>(
+    rt: &R,
+    alloc: Global,
+    link: L,
+    hub: &Hub,
+    pass: Pass,
+    clock: C,
+    gate: &G,
+    conf: &Config,
+    over: &AtomicU64,
+    bit: u64,
+) -> Finished<L>
+    requires own { IsPassOf hub.now pass }
+    requires conf { conf.now ≡ config_of hub.now }
+    requires fresh { IsFresh pass }
+    requires alone { (known pass).met ≡ [] }
+    requires anew { IfSome (C.told clock) (λ moments. moments ≡ []) }
+    ensures own { IsPassOf hub.now result.pass × (result.pass.number ≡ pass.number) }
+    ensures done { IsDone (C.passes clock) (config_of hub.now) pass.number (known result.pass) result.end
+        (L.talk link) (L.talk result.link) (L.faults link) (L.faults result.link) (L.ended result.link) }
+{
+    let mut link = link;
+    let mut pass = pass;
+    let mut clock = clock;
+    moments_pass(&clock);
+    let end = serve_session(rt, alloc, &mut link, hub, &mut pass, &mut clock, gate, conf);
+    moments_pass(&clock);
+    link.close();
+    over.fetch_or(bit, Ordering::SeqCst);
+    Finished { link, pass, end }
+}
