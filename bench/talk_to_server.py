@@ -3,8 +3,7 @@
 
     python3 talk_to_server.py ETPD ETPTOOL
 
-ETPD and ETPTOOL are the built programs. The clients are those of Debian's python3-websockets, which shares nothing with the
-product; where it is not installed, this says so and does nothing.
+ETPD and ETPTOOL are the built programs. The clients are those of web_socket.py, which shares nothing with the product.
 
 Before the first client there are strangers: one that says nothing, one that goes at once, one with a request that is no
 handshake. Then eight clients at once, in three phases: each opens its session; puts three dataspaces, lists all, pings, and
@@ -25,12 +24,8 @@ import time
 import uuid
 from pathlib import Path
 
+import web_socket
 import wire
-
-try:
-    import websockets
-except ImportError:
-    websockets = None
 
 INSTANCE = uuid.UUID("00000000-0000-0000-0000-000000000001")
 CONFIG = f'instance = "{INSTANCE}"\nname = "wd"\n'
@@ -100,7 +95,7 @@ class Client:
         self.socket = None
 
     async def connect(self, uri):
-        self.socket = await websockets.connect(uri, subprotocols=[SUBPROTOCOL], max_size=None)
+        self.socket = await web_socket.connect(uri, [SUBPROTOCOL])
         assert self.socket.subprotocol == SUBPROTOCOL
 
     async def ask(self, phase, sent, written=None):
@@ -266,9 +261,6 @@ def expected_report(clients, odd, gone):
 
 
 def main():
-    if websockets is None:
-        print("skipped: python3-websockets is not installed")
-        return
     etpd, etptool = sys.argv[1:]
     with tempfile.TemporaryDirectory() as folder:
         config = str(Path(folder, "wd.toml"))

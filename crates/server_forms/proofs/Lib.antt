@@ -1,0 +1,6 @@
+pub mod Telling
+pub mod Numbers
+pub mod Countings
+pub mod Writings
+pub mod Lines
+pub mod Serving

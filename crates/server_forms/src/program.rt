@@ -1,0 +1,151 @@
+//! The server over the system: its words, files, sockets and streams, the status line, and the exit status.
+ghost use Rattle.std.specs.Prelude.{◌≡◌, ◌++◌, OnOk};
+ghost use Rattle.server_forms.specs.Program.{IsTold, ending, told};
+
+use crate::door::ToldDoor;
+use crate::run::run_server;
+use etp_outside::{DirHost, NoGate, Sink, Status, StdSink, WallClock, write_all};
+use etp_values::NoMemory;
+use std::alloc::{AllocError, Global};
+use std::io::{self, Write};
+use std::net::{Net, TcpListener, TcpStream};
+use std::process::ExitCode;
+use std::rt::{Env, Files};
+use std::sync::Wait;
+use std::thread::Threads;
+use std::{env, time};
+
+/// What follows the line of `Usage`.
+const USAGE: &[u8] = b"\netpd CONFIG ADDRESS\netpd CONFIG ADDRESS SESSIONS\n";
+
+/// So much memory is taken once and given back before the run. The C library then keeps what is freed, where it would else
+/// give what a large message took back to the system, and take it again page by page for the next.
+const KEPT_MEMORY: usize = 16_777_216;
+
+/// Runs the server with the program's words and its output. It tells `told` the port that it got, and `errors` how it ended.
+pub fn run_program<R, T, E>(rt: &R, told: T, errors: E) -> ExitCode
+where
+    R: AllocGlobal
+        + Env
+        + Files
+        + Print
+        + Net<Listener = TcpListener, Stream = TcpStream>
+        + time::Clock
+        + Threads
+        + Wait
+        + Sync,
+    T: Write + Drop,
+    E: Write + Drop,
+{
+    let alloc = rt.alloc();
+    let kept: Result<Vec<u8>, AllocError> = Vec::with_capacity(alloc, KEPT_MEMORY);
+    drop(kept);
+    let status = run_words(rt, told);
+    tell(alloc, status, &mut StdSink::new(errors));
+    ExitCode::from(status.number())
+}
+
+/// Runs the server with the program's words.
+fn run_words<R, T>(rt: &R, told: T) -> Status
+where
+    R: AllocGlobal
+        + Env
+        + Files
+        + Print
+        + Net<Listener = TcpListener, Stream = TcpStream>
+        + time::Clock
+        + Threads
+        + Wait
+        + Sync,
+    T: Write + Drop,
+{
+    let alloc = rt.alloc();
+    let words = match words(rt) {
+        Ok(words) => words,
+        Err(status) => return status,
+    };
+    let mut out = StdSink::new(io::writer(rt));
+    let mut host = DirHost::new(rt);
+    let mut door = ToldDoor::new(alloc, rt, StdSink::new(told));
+    let clock = WallClock::new(rt);
+    run_server(
+        rt,
+        alloc,
+        words.as_slice(),
+        &mut host,
+        &mut door,
+        &mut out,
+        &clock,
+        &NoGate,
+    )
+}
+
+/// The words after the program's name.
+fn words<R: AllocGlobal + Env>(rt: &R) -> Result<Vec<String>, Status> {
+    let args = match env::args(rt) {
+        Ok(args) => args,
+        Err(error) if error.kind() == io::ErrorKind::OutOfMemory => return Err(Status::NoMemory),
+        Err(_) => return Err(Status::Usage),
+    };
+    let mut words = Vec::new(rt.alloc());
+    for word in args.skip(1) {
+        if words.push(word).is_err() {
+            return Err(Status::NoMemory);
+        }
+    }
+    Ok(words)
+}
+
+/// Writes the status line, and behind that of words in no form how the program is called. `Done` has no line. What can't be
+/// written is lost; the line of `NoMemory` needs no memory.
+pub fn tell<W: Sink>(alloc: Global, status: Status, errors: &mut W)
+    ensures { IsTold (told status) (W.held errors.old) (W.held errors.new) }
+{
+    match status {
+        Status::NoMemory => return write_front(errors, b"no memory\n"),
+        _ => {}
+    }
+    let mut text = Vec::new(alloc);
+    match push_told(alloc, status, &mut text) {
+        Ok(()) => write_front(errors, text.as_slice()),
+        Err(_) => {}
+    }
+}
+
+/// Writes a piece, or what of its front can be written.
+fn write_front<W: Sink>(errors: &mut W, piece: &[u8])
+    ensures { IsTold piece.now (W.held errors.old) (W.held errors.new) }
+{
+    let _ = write_all(errors, piece);
+}
+
+/// Appends all that is told of a status.
+fn push_told(alloc: Global, status: Status, into: &mut Vec<u8>) -> Result<(), NoMemory>
+    ensures { OnOk result (into.new.items ≡ into.old.items ++ told status) }
+{
+    status.line(alloc, into)?;
+    into.extend_from_slice(ending(status))?;
+    Ok(())
+}
+
+/// What follows a status line.
+fn ending(status: Status) -> &'static [u8]
+    ensures { result.now ≡ ending status }
+{
+    match status {
+        Status::Done => b"",
+        Status::Usage => USAGE,
+        Status::Config { .. }
+        | Status::Capture(_)
+        | Status::ReadFault
+        | Status::WriteFault
+        | Status::NoMemory
+        | Status::ListenFault
+        | Status::Limit
+        | Status::Refused(_)
+        | Status::LinkFault
+        | Status::Peer
+        | Status::Input(_)
+        | Status::Stopped => b"\n",
+    }
+}
