@@ -4,13 +4,17 @@
 `cases` prints the calls, one a line, and `answer` what each gives. A line has a call and its words:
 
     dims DIMS COUNT                            how many elements there are; COUNT may be `any`
+    judge DIMS KIND ELEMENTS                   why a record is no array
     reserve MORE                               makes room for more arrays
     put SPACE PATH DIMS KIND ELEMENTS AT       puts an array that was written at AT
     get SPACE PATH                             the array
     slice SPACE PATH STARTS COUNTS             the elements of a region
     patch SPACE PATH STARTS COUNTS KIND ELEMENTS
+    copied SPACE PATH STARTS COUNTS            the elements of a region of a copy of the record
+    copied SPACE PATH STARTS COUNTS KIND ELEMENTS      a copy of the record with a patch, which the store does not have
     written SPACE PATH AT                      notes when it was last written
     drop_object SPACE, drop_space SPACE        how many arrays went
+    apply OPERATION;OPERATION..                does operations in order: `set` with the words of a put, `drop_object` or `drop_space`
 
 A list is written with commas, and `-` is that of none. Floats and doubles are given by their bits; a text may be written as
 PIECE*COUNT.
@@ -151,6 +155,30 @@ class Store:
         array["items"] = new
         return "done"
 
+    def copied(self, space, path, starts, counts, *values):
+        held = dict(self.arrays)
+        if not values:
+            return self.slice(space, path, starts, counts)
+        if (space, path) in held:
+            self.arrays[space, path] = dict(held[space, path])
+        answer = self.patch(space, path, starts, counts, *values)
+        if answer == "done":
+            answer = self.get(space, path)
+        self.arrays = held
+        return answer
+
+    def judge(self, dims, kind, items):
+        answer = Store().put("", "", dims, kind, items, 0)
+        if answer == "done":
+            return "an array"
+        return "code %d: %s" % (17 if answer == TOO_LARGE else 5, answer)
+
+    def apply(self, line):
+        operations = [operation.split(" ") for operation in line.split(";")]
+        for call, *words in operations:
+            getattr(self, "put" if call == "set" else call)(*words)
+        return "%d done" % len(operations)
+
     def written(self, space, path, at):
         if (space, path) not in self.arrays:
             return "no array"
@@ -249,6 +277,30 @@ drop_space w
 get w a
 get x a
 get y a
+put q a 4,6 int 0,1,2,3,4,5,6,7,8,9,10,11,12,13,14,15,16,17,18,19,20,21,22,23 1
+copied q a 1,2 2,2
+copied q a 3,5 2,1
+copied q a 3,5 1,1 int 99
+copied q a 3,5 1,1 long 99
+copied q a 3,5 2,1 int 98,99
+copied q b 3,5 1,1
+copied q b 3,5 1,1 int 99
+slice q a 3,5 1,1
+judge 4,6 int 1
+judge 1,2 int 3,4
+judge - int -
+judge 2,-1 long -
+judge 1 string a*33554425
+apply set s a 2 int 1,2 3;set t a 1 long 7 4;drop_space s
+get s a
+get t a
+apply drop_space t;set t a 2 int 5,6 8;set t a 3 int 5,6 9;set t b 1 boolean true 9
+get t a
+get t b
+apply set t a 2 int 6,5 10;set s c 1 int 1 11;drop_object t;drop_object s;set s c 1 int 2 12
+get t a
+get t b
+get s c
 """
 
 
@@ -300,8 +352,8 @@ def main():
     elif sys.argv[1:] == ["answer"]:
         store = Store()
         for line in lines:
-            call, *words = line.split(" ")
-            print(getattr(store, call)(*words))
+            call, rest = line.split(" ", 1)
+            print(store.apply(rest) if call == "apply" else getattr(store, call)(*rest.split(" ")))
     else:
         sys.exit("cases or answer")
 

@@ -3,20 +3,39 @@ ghost use Rattle.std.specs.Prelude.{IsSome};
 ghost use Rattle.array_store.specs.Table.{array_in};
 
 use crate::elements::{elements, numbers};
-use crate::showing::{print_elements, print_record};
-use array_store::{ArrayError, ArrayKey, ArrayRecord, ArrayStore, dims};
+use crate::records::print_copied;
+use crate::showing::{print_answer, print_record};
+use array_store::{ArrayError, ArrayKey, ArrayRecord, ArrayStore, dims, record_refusal};
 use etp_values::{AnyArray, Copied, List, Named, NoMemory, StoreUri, Text};
 use std::alloc::Global;
 use std::io;
 
 /// The key of a path in a dataspace.
-fn key_of(alloc: Global, space: &str, path: &str) -> Result<ArrayKey, NoMemory> {
+pub(crate) fn key_of(alloc: Global, space: &str, path: &str) -> Result<ArrayKey, NoMemory> {
     Ok(ArrayKey {
         uri: StoreUri {
             space: Text::copy(alloc, space)?,
             object: None,
         },
         path: Text::copy(alloc, path)?,
+    })
+}
+
+/// A record of these elements, written at this moment.
+pub(crate) fn record_of(
+    alloc: Global,
+    dims: &str,
+    values: AnyArray,
+    at: &str,
+) -> Result<ArrayRecord, NoMemory> {
+    Ok(ArrayRecord {
+        dims: numbers(alloc, dims)?,
+        preferred: List::new(alloc),
+        values,
+        logical: 4,
+        custom: Named::new(alloc),
+        written: at.parse::<i64>().unwrap_or(0),
+        created: 0,
     })
 }
 
@@ -31,16 +50,32 @@ fn print_dims(rt: &HostRuntime, list: &str, count: &str) -> io::Result<()> {
     }
 }
 
-fn print_done(rt: &HostRuntime, done: Result<(), ArrayError>) -> io::Result<()> {
-    match done {
-        Ok(()) => println!(rt; "done"),
-        Err(error) => println!(rt; "{error}"),
+/// Why a record is no array, if it is none.
+fn judge(
+    alloc: Global,
+    dims: &str,
+    kind: &str,
+    values: &str,
+) -> Result<Option<ArrayError>, NoMemory> {
+    let values = elements(alloc, kind, values)?;
+    let record = record_of(alloc, dims, values, "0")?;
+    Ok(record_refusal(&record))
+}
+
+fn print_judged(rt: &HostRuntime, dims: &str, kind: &str, values: &str) -> io::Result<()> {
+    match judge(rt.alloc(), dims, kind, values) {
+        Ok(Some(error)) => {
+            let code = error.code().number();
+            println!(rt; "code {code}: {error}")
+        }
+        Ok(None) => println!(rt; "an array"),
+        Err(_) => println!(rt; "no memory for the record"),
     }
 }
 
-fn print_answer(rt: &HostRuntime, answer: Result<AnyArray, ArrayError>) -> io::Result<()> {
-    match answer {
-        Ok(values) => print_elements(rt, &values),
+fn print_done(rt: &HostRuntime, done: Result<(), ArrayError>) -> io::Result<()> {
+    match done {
+        Ok(()) => println!(rt; "done"),
         Err(error) => println!(rt; "{error}"),
     }
 }
@@ -66,17 +101,9 @@ fn put(
     key: &ArrayKey,
     dims: &str,
     values: AnyArray,
-    at: i64,
+    at: &str,
 ) -> Result<(), ArrayError> {
-    let record = ArrayRecord {
-        dims: numbers(alloc, dims)?,
-        preferred: List::new(alloc),
-        values,
-        logical: 4,
-        custom: Named::new(alloc),
-        written: at,
-        created: 0,
-    };
+    let record = record_of(alloc, dims, values, at)?;
     store.put(key.copy(alloc)?, record)
 }
 
@@ -151,12 +178,10 @@ fn print_keyed(
     match words {
         [] => print_found(rt, store.get(key)),
         [dims, kind, values, at] if call == "put" => match elements(alloc, kind, values) {
-            Ok(values) => {
-                let at = at.parse::<i64>().unwrap_or(0);
-                print_done(rt, put(alloc, store, key, dims, values, at))
-            }
+            Ok(values) => print_done(rt, put(alloc, store, key, dims, values, at)),
             Err(_) => println!(rt; "no memory for the values"),
         },
+        words if call == "copied" => print_copied(rt, store.get(key), words),
         _ => {
             if store.get(key).is_none() {
                 return println!(rt; "no array");
@@ -174,6 +199,7 @@ pub(crate) fn print_call(
 ) -> io::Result<()> {
     match words {
         [call, dims, count] if *call == "dims" => print_dims(rt, dims, count),
+        [call, dims, kind, values] if *call == "judge" => print_judged(rt, dims, kind, values),
         [call, more] if *call == "reserve" => print_done(rt, reserve(store, more)),
         [call, space, path, words @ ..] => match key_of(rt.alloc(), space, path) {
             Ok(key) => print_keyed(rt, store, &key, call, words),

@@ -6,19 +6,24 @@
 
 mod calls;
 mod elements;
+mod operations;
+mod records;
 mod showing;
 
 use array_store::ArrayStore;
 use calls::print_call;
-use std::alloc::Global;
+use operations::{print_applied, words_of};
 use std::io::{self, BufRead, BufReader};
 
-fn words_of<'a>(alloc: Global, line: &'a str) -> io::Result<Vec<&'a str>> {
-    let mut words = Vec::new(alloc);
-    for word in line.split(' ') {
-        words.push(word)?;
+/// Runs one line.
+fn print_line(rt: &HostRuntime, store: &mut ArrayStore, line: &str) -> io::Result<()> {
+    if let Some(ops) = line.strip_prefix("apply ") {
+        return print_applied(rt, store, ops);
     }
-    Ok(words)
+    match words_of(rt.alloc(), line) {
+        Ok(words) => print_call(rt, store, words.as_slice()),
+        Err(_) => println!(rt; "no memory for the words"),
+    }
 }
 
 fn main(rt: HostRuntime) -> io::Result<()> {
@@ -26,8 +31,7 @@ fn main(rt: HostRuntime) -> io::Result<()> {
     let mut store = ArrayStore::new(alloc);
     for line in BufReader::new(alloc, rt.reader())?.lines(alloc) {
         let line = line?;
-        let words = words_of(alloc, line.as_str())?;
-        print_call(&rt, &mut store, words.as_slice())?;
+        print_line(&rt, &mut store, line.as_str())?;
     }
     Ok(())
 }

@@ -1,5 +1,5 @@
 //! Printed elements and records.
-use array_store::{ArrayRecord, array_bytes, element_count};
+use array_store::{ArrayError, ArrayRecord, array_bytes, element_count};
 use etp_values::{AnyArray, Bits32, Bits64, Text};
 use std::fmt::Display;
 use std::io;
@@ -45,7 +45,7 @@ fn kind_of(values: &AnyArray) -> &'static str {
 }
 
 /// Prints the kind, and each element behind a space.
-pub(crate) fn print_elements(rt: &HostRuntime, values: &AnyArray) -> io::Result<()> {
+fn print_elements(rt: &HostRuntime, values: &AnyArray) -> io::Result<()> {
     print!(rt; "{}", kind_of(values))?;
     match values {
         AnyArray::ArrayOfBoolean(items) => print_items(rt, items.as_slice())?,
@@ -65,4 +65,15 @@ pub(crate) fn print_record(rt: &HostRuntime, array: &ArrayRecord) -> io::Result<
     let (count, bytes) = (element_count(&array.values), array_bytes(&array.values));
     print!(rt; "elements {count} bytes {bytes} ")?;
     print_elements(rt, &array.values)
+}
+
+/// Prints elements, or why there are none.
+pub(crate) fn print_answer(
+    rt: &HostRuntime,
+    answer: Result<AnyArray, ArrayError>,
+) -> io::Result<()> {
+    match answer {
+        Ok(values) => print_elements(rt, &values),
+        Err(error) => println!(rt; "{error}"),
+    }
 }
