@@ -1,0 +1,9 @@
+//! A system on which a program meets what the real one can't be made to do in a test.
+//!
+//! A [`FaultySystem`] has the words and the memory of the process. Its input is a capture of one frame, memory is refused to
+//! whoever opens a file, and its output takes nothing.
+#![tactic(auto)]
+
+mod system;
+
+pub use system::FaultySystem;
