@@ -98,9 +98,6 @@ chained-push steps s old before rises = record {
       (slice-push steps s n t at);
 }
 
-pub chained-none : IsChained []
-chained-none = record { goes_on = λ n s at. absurd cc }
-
 -- ---- what is found in a chain
 
 -- none from a place on where the last is before it
@@ -135,13 +132,6 @@ step-of steps (suc k) d chained h within =
 or-found : (a : Option ℕ) (p : ℕ) (found : Option ℕ) → option_or (option_or a (Some p)) found ≡ option_or a (Some p)
 or-found None p found = refl
 or-found (Some x) p found = refl
-
-or-none : (a : Option ℕ) → option_or a None ≡ a
-or-none None = refl
-or-none (Some x) = refl
-
-pub found-first : (steps : List Step) (n from : ℕ) → find (nat_le from) (chain (chains_of steps) n) ≡ option_or (find (nat_le from) (chain (chains_of steps) n)) None
-found-first steps n from = sym (or-none _)
 
 -- a step that is not before the place
 pub found-on : (steps : List Step) (n from : ℕ) (s : Step) (found whole : Option ℕ) → IsStepOf steps n s → from ≤ s.place

@@ -1,7 +1,7 @@
 //! In which entries of a journal a key occurs.
 //!
-//! An [`EntryIndex`] has for each key the places of the entries that it was noted at. It finds the first of them from a
-//! place on by going back from the latest, so a look costs what happened at that key since, and not the journal.
+//! An [`EntryIndex`] knows at which places each key was noted. It finds the first of them from a given place on by going
+//! back from the latest, so a look costs what happened at that key since, and not the journal.
 #![tactic(auto)]
 
 mod chains;

@@ -1,5 +1,5 @@
 //! Boards.
-ghost use Rattle.std.specs.Prelude.{◌≡◌, ◌++◌, ◌∷◌, [], filter, length, not, ℤ, ℕ, List, OnErr, OnOk};
+ghost use Rattle.std.specs.Prelude.{◌≡◌, ◌++◌, ◌∷◌, [], filter, length, not, OnErr, OnOk};
 ghost use Rattle.std.specs.Ordering.{int_eq};
 ghost use Rattle.avro_bin.specs.Plain.{Writes};
 ghost use Rattle.watch_views.specs.Boards.{Feeds, FeedsOne, lines_at, lines_of, reading};

@@ -11,8 +11,8 @@ use channel_store::{ChangeMsg, What};
 use etp_values::NoMemory;
 use std::alloc::Global;
 
-/// Counts the appends, the points of these appends, the replacements and the truncations. A count at the greatest `u64` stays there. Its
-/// line is `counts APPENDS POINTS REPLACES TRUNCATES`.
+/// How many appends, replacements and truncations there were, and how many points were appended. Each number stops at the greatest
+/// `u64`. The line is `counts APPENDS POINTS REPLACES TRUNCATES`.
 #[derive(Clone, Copy, Debug, Drop, PartialEq, Eq)]
 pub struct Counts {
     appends: u64,
