@@ -1,5 +1,0 @@
-//! Tests of the store.
-#![tactic(auto)]
-
-#[cfg(test)]
-mod calls;
