@@ -1,16 +1,8 @@
 pub mod History
 pub mod Dataspaces
 pub mod Counted
-pub mod Channels
-pub mod Cuts
-pub mod Reads
-pub mod Ranging
-pub mod Starts
-pub mod News
-pub mod Telling
 pub mod Answers
 pub mod Legal
 pub mod Kept
-pub mod Loads
 pub mod Laws
 pub mod Growth
