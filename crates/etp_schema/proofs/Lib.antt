@@ -6,3 +6,4 @@ pub mod ItemLemmas
 pub mod TypedLemmas
 pub mod KindLemmas
 pub mod WritingLemmas
+pub mod RecordLemmas

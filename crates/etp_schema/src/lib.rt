@@ -5,8 +5,9 @@
 //! place of a message's body.
 //!
 //! [`InTree`] is a type whose values are, one to one, the values of a schema. Its ghost member `form` says which schema,
-//! and carries both laws. A record is written by [`record_of`] its fields' trees and read by [`Fields`], and its form is
-//! put together of its fields' forms by `fields`, `◌&◌` and `done` of `specs/Form`, so that no record needs a proof:
+//! and carries both laws. [`OnWire`] reads and writes the same values straight from and to bytes, and measures them; the form
+//! says how they are read, too (`at`, with the law `at_is`: as the value at the front of the bytes is read). The form of a
+//! record is put together of its fields' forms by `fields`, `◌&◌` and `done` of `specs/Form`:
 //!
 //! ```text
 //! abbrev pub truncate_info_form : Form TruncateInfo
@@ -17,29 +18,29 @@
 //!         (λ x. refl) (λ p. refl)
 //! ```
 //!
-//! [`OnWire`] reads and writes the same values straight from and to bytes. The form says how they are read, too (`at`, with the
-//! law `at_is`: as the value at the front of the bytes is read), so that a record's three methods go field by field and need no
-//! proof either:
+//! and its methods go by its fields, first to last, as a pair of the first and the others ([`ReadFields`], [`WriteFields`]),
+//! so that no record needs a proof:
 //!
 //! ```text
 //! impl OnWire for TruncateInfo {
+//!     #[tactic(auto, using(etp_schema::proofs::RecordLemmas::record_read, etp_schema::proofs::RecordLemmas::record_fails))]
 //!     fn read(from: &mut Reader<'_>) -> Result<TruncateInfo, Fault> {
-//!         from.node()?;
-//!         Ok(TruncateInfo { channel_id: from.take()?, new_end_index: from.take()? })
+//!         let (channel_id, (new_end_index, ())) = from.fields()?;
+//!         Ok(TruncateInfo { channel_id, new_end_index })
 //!     }
 //!
-//!     #[tactic(auto, using(crate::specs::ChannelRecords::truncate_info_holds))]
+//!     #[tactic(auto, unfolding(etp_schema::specs::Form::Holds))]
 //!     fn write(&self, into: &mut Vec<u8>) -> Result<(), NoMemory> {
-//!         self.channel_id.write(into)?;
-//!         self.new_end_index.write(into)?;
-//!         Ok(())
+//!         write_fields((&self.channel_id, (&self.new_end_index, ())), into)
 //!     }
 //!
 //!     fn measure(&self) -> Measure {
-//!         Measure::of_record().with(&self.channel_id).with(&self.new_end_index)
+//!         measure_fields((&self.channel_id, (&self.new_end_index, ())))
 //!     }
 //! }
 //! ```
+//!
+//! Trees go the same way, by [`fields_of`] and [`tree_of`].
 //!
 //! [`read_body`] and [`write_body`] are the whole calls, equal to `decode` with `from_tree` and to `to_tree` with `encode`;
 //! [`measure_of`] counts the bytes and nodes of a value.
@@ -62,6 +63,7 @@ mod on_wire;
 pub mod places;
 pub mod protocols;
 mod reader;
+mod record_fields;
 mod size;
 mod status;
 mod table;
@@ -69,12 +71,15 @@ mod table;
 pub use body::{Side, body_of, is_protocol};
 pub use choices::{branch_of, branch_record};
 pub use data_on_wire::{write_branch, write_null};
-pub use fields::{Fields, record_of};
+pub use fields::Fields;
 pub use in_tree::{InTree, read_back, write_back};
 pub use leaves::{read_symbol, symbol_of};
 pub use measure::Measure;
 pub use on_wire::{OnWire, read_body, write_body};
 pub use reader::Reader;
+pub use record_fields::{
+    ReadFields, WriteFields, fields_of, measure_fields, tree_of, write_fields,
+};
 pub use size::{encoded_size, measure_of};
 pub use status::ActiveStatusKind;
 pub use table::{TABLE, schema_table};

@@ -2,11 +2,12 @@
 ghost use Rattle.std.specs.Prelude.{◌≡◌, ◌<◌, IfOk};
 ghost use Rattle.std.specs.Int.{w32, w64};
 ghost use Rattle.avro_bin.specs.Reading.{boolean_at, int_at, number_at, fixed_number_at, blob_at, text_at, place_at};
-ghost use Rattle.etp_schema.specs.Form.{leaf_at, bits_32, bits_64, id_of, sixteen_at};
+ghost use Rattle.etp_schema.specs.Form.{leaf_at, node_at, bits_32, bits_64, id_of, sixteen_at};
 ghost use Rattle.etp_schema.specs.Reading.{Reads, ReadsLeaf, Begins};
 
 use crate::leaves::id_from;
 use crate::on_wire::OnWire;
+use crate::record_fields::ReadFields;
 use avro_bin::{Fault, Why, leaves, numbers};
 use etp_values::{Bits32, Bits64, Blob, Id16, Text};
 use std::alloc::Global;
@@ -60,6 +61,14 @@ impl<'a> Reader<'a> {
         ensures { Reads (T.form.at self.old.left self.old.rest.now) result self.new }
     {
         T::read(self)
+    }
+
+    /// Reads the fields of a record, behind the record's node.
+    pub fn fields<R: ReadFields>(&mut self) -> Result<R, Fault>
+        ensures { Reads (node_at R.forms.at self.old.left self.old.rest.now) result self.new }
+    {
+        self.node()?;
+        R::read(self)
     }
 
     /// One byte, 0 or 1.

@@ -1,0 +1,160 @@
+//! The fields of a record, first to last: each is read, written and measured behind the one before.
+ghost use Rattle.std.specs.Prelude.{◌≡◌, ◌++◌, ◌∷◌, [], IfOk, OnOk, map, List as Items};
+ghost use Rattle.avro_bin.specs.Plain.{plain, plain_all, Writes};
+ghost use Rattle.avro_bin.specs.Schema.{SFields, Schemas, none, more};
+ghost use Rattle.avro_bin.specs.Shape.{AllFit, FieldsHave, FitsTree, HasSchema};
+ghost use Rattle.avro_bin.specs.Value.{Value, VFields, row, list};
+ghost use Rattle.avro_bin.specs.View.{value_of};
+ghost use Rattle.etp_schema.specs.Form.{Row, done, ◌&◌, fields_in};
+ghost use Rattle.etp_schema.specs.Left.{left};
+ghost use Rattle.etp_schema.specs.Measure.{measured, measured_behind};
+ghost use Rattle.etp_schema.specs.Reading.{Reads};
+
+use crate::fields::{Fields, record_of};
+use crate::measure::Measure;
+use crate::on_wire::OnWire;
+use crate::reader::Reader;
+use avro_bin::{Fault, Tree};
+use etp_values::NoMemory;
+use std::alloc::Global;
+
+/// The fields of a record that are read: a pair of the first and the others, and `()` behind the last.
+pub trait ReadFields: Drop {
+    ghost forms: { Row Self };
+
+    /// The fields that are still to be read of a record's tree; where there is none more, null is read.
+    fn from_trees(trees: &mut Fields) -> Result<Self, NoMemory>
+        ensures { IfOk result (λ x. x ≡ forms.from_values (left trees.old)) };
+
+    /// The fields at the front of what is left.
+    fn read(from: &mut Reader<'_>) -> Result<Self, Fault>
+        ensures { Reads (forms.at from.old.left from.old.rest.now) result from.new };
+}
+
+impl ReadFields for () {
+    ghost forms = { done };
+
+    fn from_trees(_trees: &mut Fields) -> Result<(), NoMemory> {
+        Ok(())
+    }
+
+    fn read(_from: &mut Reader<'_>) -> Result<(), Fault> {
+        Ok(())
+    }
+}
+
+impl<A: OnWire, B: ReadFields> ReadFields for (A, B) {
+    ghost forms = { A.form & B.forms };
+
+    fn from_trees(trees: &mut Fields) -> Result<(A, B), NoMemory> {
+        let first = trees.take()?;
+        let others = B::from_trees(trees)?;
+        Ok((first, others))
+    }
+
+    fn read(from: &mut Reader<'_>) -> Result<(A, B), Fault> {
+        let first = A::read(from)?;
+        let others = B::read(from)?;
+        Ok((first, others))
+    }
+}
+
+/// The fields of a record that are written: a pair of the first and the others, and `()` behind the last.
+pub trait WriteFields: Drop {
+    ghost schemas: { Schemas };
+
+    ghost values: { Self → Items Value };
+
+    /// Appends each field's tree.
+    fn to_trees(self, alloc: Global, trees: &mut Vec<Tree>) -> Result<(), NoMemory>
+        ensures value { OnOk result (map value_of trees.new.items ≡ map value_of trees.old.items ++ values self) }
+        ensures typed { OnOk result (FieldsHave schemas (list (row (values self)))) };
+
+    /// Appends each field's written spelling. After `NoMemory` what was there still stands in front.
+    fn write(self, into: &mut Vec<u8>) -> Result<(), NoMemory>
+        ensures written { Writes (plain_all (row (values self))) into.old.items into.new.items result }
+        ensures typed { OnOk result (FieldsHave schemas (list (row (values self)))) }
+        ensures fits { OnOk result (AllFit (row (values self))) };
+
+    /// How much the fields take, with what stands before them.
+    fn measure(self, before: Measure) -> Measure
+        ensures { result ≡ measured_behind before (row (values self)) };
+}
+
+impl WriteFields for () {
+    ghost schemas = { none };
+
+    ghost values = { λ u. [] };
+
+    fn to_trees(self, _alloc: Global, _trees: &mut Vec<Tree>) -> Result<(), NoMemory> {
+        Ok(())
+    }
+
+    fn write(self, _into: &mut Vec<u8>) -> Result<(), NoMemory> {
+        Ok(())
+    }
+
+    fn measure(self, before: Measure) -> Measure {
+        before
+    }
+}
+
+impl<'a, A: OnWire, B: WriteFields> WriteFields for (&'a A, B) {
+    ghost schemas = { more A.form.schema B.schemas };
+
+    ghost values = { λ p. A.form.as_value p.0.now ∷ B.values p.1 };
+
+    #[tactic(auto, unfolding(crate::specs::Form::Holds))]
+    fn to_trees(self, alloc: Global, trees: &mut Vec<Tree>) -> Result<(), NoMemory> {
+        let (first, others) = self;
+        trees.push(first.to_tree(alloc)?)?;
+        others.to_trees(alloc, trees)?;
+        Ok(())
+    }
+
+    #[tactic(auto, unfolding(crate::specs::Form::Holds))]
+    fn write(self, into: &mut Vec<u8>) -> Result<(), NoMemory> {
+        let (first, others) = self;
+        first.write(into)?;
+        others.write(into)?;
+        Ok(())
+    }
+
+    fn measure(self, before: Measure) -> Measure {
+        let (first, others) = self;
+        others.measure(before.with(first))
+    }
+}
+
+/// The fields of a record's tree.
+pub fn fields_of<R: ReadFields>(alloc: Global, tree: Tree) -> Result<R, NoMemory>
+    ensures { IfOk result (λ x. x ≡ R.forms.from_values (fields_in (value_of tree))) }
+{
+    R::from_trees(&mut Fields::of(alloc, tree))
+}
+
+/// The tree of a record of these fields.
+pub fn tree_of<W: WriteFields>(alloc: Global, fields: W) -> Result<Tree, NoMemory>
+    ensures value { IfOk result (λ t. value_of t ≡ VFields (row (W.values fields))) }
+    ensures typed { OnOk result (HasSchema (SFields W.schemas) (VFields (row (W.values fields)))) }
+{
+    let mut trees = Vec::new(alloc);
+    fields.to_trees(alloc, &mut trees)?;
+    Ok(record_of(trees))
+}
+
+/// Appends the written spelling of a record of these fields. After `NoMemory` what was there still stands in front.
+pub fn write_fields<W: WriteFields>(fields: W, into: &mut Vec<u8>) -> Result<(), NoMemory>
+    ensures written { Writes (plain (VFields (row (W.values fields)))) into.old.items into.new.items result }
+    ensures typed { OnOk result (HasSchema (SFields W.schemas) (VFields (row (W.values fields)))) }
+    ensures fits { OnOk result (FitsTree (VFields (row (W.values fields)))) }
+{
+    fields.write(into)
+}
+
+/// How much of a message a record of these fields takes.
+pub fn measure_fields<W: WriteFields>(fields: W) -> Measure
+    ensures { result ≡ measured (VFields (row (W.values fields))) }
+{
+    fields.measure(Measure::of_record())
+}
