@@ -16,7 +16,7 @@ abbrev reached : Result (Value × ℕ) Refusal → ℕ
 reached (Ok x) = x.1
 reached (Err e) = offset_in e
 
-refused_at : (w : Why) (offset : ℕ) → offset_in (refusal w offset) ≡ offset
+pub refused_at : (w : Why) (offset : ℕ) → offset_in (refusal w offset) ≡ offset
 refused_at why.Short offset = refl
 refused_at why.Number offset = refl
 refused_at why.Range offset = refl

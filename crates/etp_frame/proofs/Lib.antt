@@ -8,3 +8,4 @@ pub mod PieceLemmas
 pub mod PlaceLemmas
 pub mod KeptLemmas
 pub mod JoinLemmas
+pub mod TypedLemmas

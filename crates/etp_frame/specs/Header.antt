@@ -1,7 +1,7 @@
 -- Headers, and the bits of their flags.
 use Rattle.std.specs.Prelude.{refl, ℤ, pos, Bool, not, ◌==◌, bit_and}
 use Rattle.std.specs.Int.{w32, cast_unsigned}
-use Rattle.etp_schema.specs.Form.{Form, Holds, int_form, long_form, fields, ◌&◌, done}
+use Rattle.etp_schema.specs.Form.{Form, int_form, long_form, fields, ◌&◌, done}
 use Rattle.etp_frame.specs.declared.header.Header.{Header}
 
 -- protocol, messageType, correlationId, messageId, messageFlags
@@ -11,10 +11,6 @@ header_form =
     (λ x. (x.protocol, (x.kind, (x.correlation, (x.id, (x.flags, tt))))))
     (λ p. record { protocol = p.0; kind = p.1.0; correlation = p.1.1.0; id = p.1.1.1.0; flags = p.1.1.1.1.0 })
     (λ x. refl) (λ p. refl)
-
-pub header_holds : (x : Header) → Holds int_form x.protocol → Holds int_form x.kind → Holds long_form x.correlation → Holds long_form x.id → Holds int_form x.flags → Holds header_form x
-unfolding Holds
-header_holds x h0 h1 h2 h3 h4 = (h0, (h1, (h2, (h3, (h4, tt)))))
 
 -- the bit of the last part of an answer, or of its only one
 abbrev pub final_part : ℤ

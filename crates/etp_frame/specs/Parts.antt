@@ -6,9 +6,11 @@ use Rattle.avro_bin.specs.declared.refusal.Refusal.{Refusal}
 use Rattle.avro_bin.specs.declared.refusal.Refusal.TheVariants as r
 use Rattle.avro_bin.specs.declared.tree.Tree.{Tree}
 use Rattle.etp_schema.specs.Bodies.{body_place}
+use Rattle.etp_schema.specs.Family.{Kind}
 use Rattle.etp_schema.specs.declared.body.Side.{Side}
 use Rattle.etp_frame.specs.Reading.{shifted, header_in, admitted}
 use Rattle.etp_frame.specs.declared.header.Header.{Header}
+use Rattle.etp_frame.specs.declared.message.Message.{Message}
 use Rattle.etp_frame.specs.declared.error.FrameError.{FrameError}
 use Rattle.etp_frame.specs.declared.error.FrameError.TheVariants as f
 
@@ -62,3 +64,8 @@ ChecksBody (Err e) expected = e ≢ f.NoMemory → expected ≡ Err e
 abbrev pub ChecksMessage : Result Header FrameError → Result (Header × (ℕ × Value)) FrameError → Type 0
 ChecksMessage (Ok h) expected = (body : ℕ × Value) × (expected ≡ Ok (h, body))
 ChecksMessage (Err e) expected = e ≢ f.NoMemory → expected ≡ Err e
+
+-- the message of this kind of some value that is expected, or that error, unless memory ran out
+abbrev pub GivesMessage : Kind Message → Result Message FrameError → Result Value FrameError → Type 0
+GivesMessage k (Ok x) expected = (v : Value) × (expected ≡ Ok v) × (x ≡ k.read v)
+GivesMessage k (Err e) expected = e ≢ f.NoMemory → expected ≡ Err e

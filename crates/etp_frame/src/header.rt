@@ -4,8 +4,10 @@ ghost use Rattle.etp_frame.specs.Header.{has_flag};
 ghost use Rattle.etp_frame.specs.Message.{Names};
 
 use crate::message::Message;
-use avro_bin::Tree;
-use etp_schema::{Fields, InTree, record_of};
+use avro_bin::{Fault, Tree};
+use etp_schema::{
+    InTree, Measure, OnWire, Reader, fields_of, measure_fields, tree_of, write_fields,
+};
 use etp_values::NoMemory;
 use std::alloc::Global;
 
@@ -29,26 +31,67 @@ impl InTree for Header {
 
     ghost form = { header_form };
 
-    #[tactic(auto, using(crate::specs::Header::header_holds))]
+    #[tactic(auto, unfolding(etp_schema::specs::Form::Holds))]
     fn to_tree(&self, alloc: Global) -> Result<Tree, NoMemory> {
-        Ok(record_of(vec![in alloc;
-            self.protocol.to_tree(alloc)?,
-            self.kind.to_tree(alloc)?,
-            self.correlation.to_tree(alloc)?,
-            self.id.to_tree(alloc)?,
-            self.flags.to_tree(alloc)?,
-        ]?))
+        tree_of(
+            alloc,
+            (
+                &self.protocol,
+                (
+                    &self.kind,
+                    (&self.correlation, (&self.id, (&self.flags, ()))),
+                ),
+            ),
+        )
     }
 
     fn from_tree(alloc: Global, tree: Tree) -> Result<Header, NoMemory> {
-        let mut fields = Fields::of(alloc, tree);
+        let (protocol, (kind, (correlation, (id, (flags, ()))))) = fields_of(alloc, tree)?;
         Ok(Header {
-            protocol: fields.take()?,
-            kind: fields.take()?,
-            correlation: fields.take()?,
-            id: fields.take()?,
-            flags: fields.take()?,
+            protocol,
+            kind,
+            correlation,
+            id,
+            flags,
         })
+    }
+}
+
+impl OnWire for Header {
+    #[tactic(auto, using(etp_schema::proofs::RecordLemmas::record_read, etp_schema::proofs::RecordLemmas::record_fails))]
+    fn read(from: &mut Reader<'_>) -> Result<Header, Fault> {
+        let (protocol, (kind, (correlation, (id, (flags, ()))))) = from.fields()?;
+        Ok(Header {
+            protocol,
+            kind,
+            correlation,
+            id,
+            flags,
+        })
+    }
+
+    #[tactic(auto, unfolding(etp_schema::specs::Form::Holds))]
+    fn write(&self, into: &mut Vec<u8>) -> Result<(), NoMemory> {
+        write_fields(
+            (
+                &self.protocol,
+                (
+                    &self.kind,
+                    (&self.correlation, (&self.id, (&self.flags, ()))),
+                ),
+            ),
+            into,
+        )
+    }
+
+    fn measure(&self) -> Measure {
+        measure_fields((
+            &self.protocol,
+            (
+                &self.kind,
+                (&self.correlation, (&self.id, (&self.flags, ()))),
+            ),
+        ))
     }
 }
 

@@ -1,8 +1,10 @@
 //! The messages of all protocols.
-ghost use Rattle.std.specs.Prelude.{◌≡◌, ◌↔◌, ◌++◌, IfOk, OnOk, IsTrue, pos, is_some};
-ghost use Rattle.avro_bin.specs.Shape.{HasSchema};
-ghost use Rattle.avro_bin.specs.View.{value_of};
-ghost use Rattle.etp_schema.specs.Family.{kind_in, read_as, read_kind};
+ghost use Rattle.std.specs.Prelude.{◌≡◌, ◌↔◌, ◌++◌, OnOk, IsTrue, pos, is_some};
+ghost use Rattle.avro_bin.specs.Plain.{plain, Writes};
+ghost use Rattle.avro_bin.specs.Shape.{HasSchema, FitsTree};
+ghost use Rattle.etp_schema.specs.Family.{kind_in};
+ghost use Rattle.etp_schema.specs.Measure.{measured};
+ghost use Rattle.etp_schema.specs.Reading.{Reads, kind_at};
 ghost use Rattle.msg_core.specs.Core.{core_kinds};
 ghost use Rattle.msg_core.specs.Dataspace.{dataspace_kinds};
 ghost use Rattle.msg_core.specs.Transaction.{transaction_kinds};
@@ -13,13 +15,12 @@ ghost use Rattle.msg_channel.specs.ChannelDataLoad.{channel_data_load_kinds};
 ghost use Rattle.etp_frame.specs.Message.{message_body, IsOf, protocol_of, typed_kind, under, common_kinds};
 ghost use Rattle.etp_frame.specs.declared.message.Message.TheVariants as m;
 
-use avro_bin::Tree;
-use etp_schema::{is_protocol, protocols};
+use avro_bin::Fault;
+use etp_schema::{Measure, Reader, is_protocol, protocols};
 use etp_values::NoMemory;
 use msg_channel::{ChannelDataLoadMessage, ChannelSubscribeMessage};
 use msg_core::{CoreMessage, DataspaceMessage, TransactionMessage};
 use msg_store::{DataArrayMessage, StoreMessage};
-use std::alloc::Global;
 
 /// A message of any protocol. ProtocolException and Acknowledge stand in Core's enum under every protocol.
 #[derive(Debug, Drop)]
@@ -81,40 +82,55 @@ impl Message {
         }
     }
 
-    /// The tree of the message's body.
-    pub(crate) fn to_tree(&self, alloc: Global) -> Result<Tree, NoMemory>
-        ensures value { IfOk result (λ t. value_of t ≡ (message_body self.now).value) }
-        ensures typed { OnOk result (HasSchema (message_body self.now).schema (message_body self.now).value) }
+    /// The message of this protocol and number whose body stands at the front of what is left, where the protocol has one.
+    pub(crate) fn read(
+        from: &mut Reader<'_>,
+        protocol: i32,
+        kind: i32,
+    ) -> Result<Option<Message>, Fault>
+        ensures { Reads (kind_at (typed_kind protocol kind) from.old.left from.old.rest.now) result from.new }
     {
-        match self {
-            Message::Core(message) => message.to_tree(alloc),
-            Message::Transaction(message) => message.to_tree(alloc),
-            Message::Dataspace(message) => message.to_tree(alloc),
-            Message::Store(message) => message.to_tree(alloc),
-            Message::DataArray(message) => message.to_tree(alloc),
-            Message::ChannelSubscribe(message) => message.to_tree(alloc),
-            Message::ChannelDataLoad(message) => message.to_tree(alloc),
+        match protocol {
+            protocols::CORE => read_core(from, kind),
+            protocols::TRANSACTION => read_transaction(from, kind),
+            protocols::DATASPACE => read_dataspace(from, kind),
+            protocols::STORE => read_store(from, kind),
+            protocols::DATA_ARRAY => read_data_array(from, kind),
+            protocols::CHANNEL_SUBSCRIBE => read_channel_subscribe(from, kind),
+            protocols::CHANNEL_DATA_LOAD => read_channel_data_load(from, kind),
+            _ => Ok(None),
         }
     }
 
-    /// The message of this protocol and number with this body, where the protocol has one.
-    pub(crate) fn from_tree(
-        alloc: Global,
-        protocol: i32,
-        kind: i32,
-        tree: Tree,
-    ) -> Result<Option<Message>, NoMemory>
-        ensures { IfOk result (λ x. x ≡ read_as (value_of tree) (typed_kind protocol kind)) }
+    /// Appends the written spelling of the message's body. After `NoMemory` what was there still stands in front.
+    pub(crate) fn write(&self, into: &mut Vec<u8>) -> Result<(), NoMemory>
+        ensures written { Writes (plain (message_body self.now).value) into.old.items into.new.items result }
+        ensures typed { OnOk result (HasSchema (message_body self.now).schema (message_body self.now).value) }
+        ensures fits { OnOk result (FitsTree (message_body self.now).value) }
     {
-        match protocol {
-            protocols::CORE => core_message(alloc, kind, tree),
-            protocols::TRANSACTION => transaction_message(alloc, kind, tree),
-            protocols::DATASPACE => dataspace_message(alloc, kind, tree),
-            protocols::STORE => store_message(alloc, kind, tree),
-            protocols::DATA_ARRAY => data_array_message(alloc, kind, tree),
-            protocols::CHANNEL_SUBSCRIBE => channel_subscribe_message(alloc, kind, tree),
-            protocols::CHANNEL_DATA_LOAD => channel_data_load_message(alloc, kind, tree),
-            _ => Ok(None),
+        match self {
+            Message::Core(message) => message.write(into),
+            Message::Transaction(message) => message.write(into),
+            Message::Dataspace(message) => message.write(into),
+            Message::Store(message) => message.write(into),
+            Message::DataArray(message) => message.write(into),
+            Message::ChannelSubscribe(message) => message.write(into),
+            Message::ChannelDataLoad(message) => message.write(into),
+        }
+    }
+
+    /// How much of a message the body takes.
+    pub(crate) fn measure(&self) -> Measure
+        ensures { result ≡ measured (message_body self.now).value }
+    {
+        match self {
+            Message::Core(message) => message.measure(),
+            Message::Transaction(message) => message.measure(),
+            Message::Dataspace(message) => message.measure(),
+            Message::Store(message) => message.measure(),
+            Message::DataArray(message) => message.measure(),
+            Message::ChannelSubscribe(message) => message.measure(),
+            Message::ChannelDataLoad(message) => message.measure(),
         }
     }
 }
@@ -131,107 +147,99 @@ fn is_common(kind: i32) -> bool
 }
 
 /// A message that every protocol has.
-fn common_message(alloc: Global, kind: i32, tree: Tree) -> Result<Option<Message>, NoMemory>
-    ensures { IfOk result (λ x. x ≡ read_kind common_kinds kind (value_of tree)) }
+fn read_common(from: &mut Reader<'_>, kind: i32) -> Result<Option<Message>, Fault>
+    ensures { Reads (kind_at (kind_in common_kinds kind) from.old.left from.old.rest.now) result from.new }
 {
-    if !is_common(kind) {
-        return Ok(None);
+    if is_common(kind) {
+        return read_core(from, kind);
     }
-    core_message(alloc, kind, tree)
+    Ok(None)
 }
 
-fn core_message(alloc: Global, kind: i32, tree: Tree) -> Result<Option<Message>, NoMemory>
-    ensures { IfOk result (λ x. x ≡ read_kind (under m.Core core_kinds) kind (value_of tree)) }
+fn read_core(from: &mut Reader<'_>, kind: i32) -> Result<Option<Message>, Fault>
+    ensures { Reads (kind_at (kind_in (under m.Core core_kinds) kind) from.old.left from.old.rest.now) result from.new }
 {
-    match CoreMessage::from_tree(alloc, kind, tree) {
+    match CoreMessage::read(from, kind) {
         Ok(Some(message)) => Ok(Some(Message::Core(message))),
         Ok(None) => Ok(None),
-        Err(error) => Err(error),
+        Err(fault) => Err(fault),
     }
 }
 
-fn transaction_message(alloc: Global, kind: i32, tree: Tree) -> Result<Option<Message>, NoMemory>
-    ensures { IfOk result (λ x. x ≡ read_kind (common_kinds ++ under m.Transaction transaction_kinds) kind (value_of tree)) }
+fn read_transaction(from: &mut Reader<'_>, kind: i32) -> Result<Option<Message>, Fault>
+    ensures { Reads (kind_at (kind_in (common_kinds ++ under m.Transaction transaction_kinds) kind) from.old.left from.old.rest.now) result from.new }
 {
     if is_common(kind) {
-        return common_message(alloc, kind, tree);
+        return read_common(from, kind);
     }
-    match TransactionMessage::from_tree(alloc, kind, tree) {
+    match TransactionMessage::read(from, kind) {
         Ok(Some(message)) => Ok(Some(Message::Transaction(message))),
         Ok(None) => Ok(None),
-        Err(error) => Err(error),
+        Err(fault) => Err(fault),
     }
 }
 
-fn dataspace_message(alloc: Global, kind: i32, tree: Tree) -> Result<Option<Message>, NoMemory>
-    ensures { IfOk result (λ x. x ≡ read_kind (common_kinds ++ under m.Dataspace dataspace_kinds) kind (value_of tree)) }
+fn read_dataspace(from: &mut Reader<'_>, kind: i32) -> Result<Option<Message>, Fault>
+    ensures { Reads (kind_at (kind_in (common_kinds ++ under m.Dataspace dataspace_kinds) kind) from.old.left from.old.rest.now) result from.new }
 {
     if is_common(kind) {
-        return common_message(alloc, kind, tree);
+        return read_common(from, kind);
     }
-    match DataspaceMessage::from_tree(alloc, kind, tree) {
+    match DataspaceMessage::read(from, kind) {
         Ok(Some(message)) => Ok(Some(Message::Dataspace(message))),
         Ok(None) => Ok(None),
-        Err(error) => Err(error),
+        Err(fault) => Err(fault),
     }
 }
 
-fn store_message(alloc: Global, kind: i32, tree: Tree) -> Result<Option<Message>, NoMemory>
-    ensures { IfOk result (λ x. x ≡ read_kind (common_kinds ++ under m.Store store_kinds) kind (value_of tree)) }
+fn read_store(from: &mut Reader<'_>, kind: i32) -> Result<Option<Message>, Fault>
+    ensures { Reads (kind_at (kind_in (common_kinds ++ under m.Store store_kinds) kind) from.old.left from.old.rest.now) result from.new }
 {
     if is_common(kind) {
-        return common_message(alloc, kind, tree);
+        return read_common(from, kind);
     }
-    match StoreMessage::from_tree(alloc, kind, tree) {
+    match StoreMessage::read(from, kind) {
         Ok(Some(message)) => Ok(Some(Message::Store(message))),
         Ok(None) => Ok(None),
-        Err(error) => Err(error),
+        Err(fault) => Err(fault),
     }
 }
 
-fn data_array_message(alloc: Global, kind: i32, tree: Tree) -> Result<Option<Message>, NoMemory>
-    ensures { IfOk result (λ x. x ≡ read_kind (common_kinds ++ under m.DataArray data_array_kinds) kind (value_of tree)) }
+fn read_data_array(from: &mut Reader<'_>, kind: i32) -> Result<Option<Message>, Fault>
+    ensures { Reads (kind_at (kind_in (common_kinds ++ under m.DataArray data_array_kinds) kind) from.old.left from.old.rest.now) result from.new }
 {
     if is_common(kind) {
-        return common_message(alloc, kind, tree);
+        return read_common(from, kind);
     }
-    match DataArrayMessage::from_tree(alloc, kind, tree) {
+    match DataArrayMessage::read(from, kind) {
         Ok(Some(message)) => Ok(Some(Message::DataArray(message))),
         Ok(None) => Ok(None),
-        Err(error) => Err(error),
+        Err(fault) => Err(fault),
     }
 }
 
-fn channel_subscribe_message(
-    alloc: Global,
-    kind: i32,
-    tree: Tree,
-) -> Result<Option<Message>, NoMemory>
-    ensures { IfOk result (λ x. x ≡ read_kind (common_kinds ++ under m.ChannelSubscribe channel_subscribe_kinds) kind (value_of tree)) }
+fn read_channel_subscribe(from: &mut Reader<'_>, kind: i32) -> Result<Option<Message>, Fault>
+    ensures { Reads (kind_at (kind_in (common_kinds ++ under m.ChannelSubscribe channel_subscribe_kinds) kind) from.old.left from.old.rest.now) result from.new }
 {
     if is_common(kind) {
-        return common_message(alloc, kind, tree);
+        return read_common(from, kind);
     }
-    match ChannelSubscribeMessage::from_tree(alloc, kind, tree) {
+    match ChannelSubscribeMessage::read(from, kind) {
         Ok(Some(message)) => Ok(Some(Message::ChannelSubscribe(message))),
         Ok(None) => Ok(None),
-        Err(error) => Err(error),
+        Err(fault) => Err(fault),
     }
 }
 
-fn channel_data_load_message(
-    alloc: Global,
-    kind: i32,
-    tree: Tree,
-) -> Result<Option<Message>, NoMemory>
-    ensures { IfOk result (λ x. x ≡ read_kind (common_kinds ++ under m.ChannelDataLoad channel_data_load_kinds) kind (value_of tree)) }
+fn read_channel_data_load(from: &mut Reader<'_>, kind: i32) -> Result<Option<Message>, Fault>
+    ensures { Reads (kind_at (kind_in (common_kinds ++ under m.ChannelDataLoad channel_data_load_kinds) kind) from.old.left from.old.rest.now) result from.new }
 {
     if is_common(kind) {
-        return common_message(alloc, kind, tree);
+        return read_common(from, kind);
     }
-    match ChannelDataLoadMessage::from_tree(alloc, kind, tree) {
+    match ChannelDataLoadMessage::read(from, kind) {
         Ok(Some(message)) => Ok(Some(Message::ChannelDataLoad(message))),
         Ok(None) => Ok(None),
-        Err(error) => Err(error),
+        Err(fault) => Err(fault),
     }
 }

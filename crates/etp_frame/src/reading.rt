@@ -1,13 +1,18 @@
 //! Reading whole messages.
-ghost use Rattle.std.specs.Prelude.{◌≡◌, ◌≢◌, ◌<◌, ◌≤◌, ◌+◌, ◌^◌, length, Err, IfOk, IfErr};
+ghost use Rattle.std.specs.Prelude.{◌≡◌, ◌≢◌, ◌<◌, ◌≤◌, ◌+◌, ◌-◌, ◌^◌, ◌==◌, if◌then◌else◌, length, Some, Ok, Err, IfOk, IfErr};
 ghost use Rattle.etp_values.specs.Gives.{Gives};
+ghost use Rattle.avro_bin.specs.Laws.{read_value};
+ghost use Rattle.avro_bin.specs.Refusing.{refusal};
 ghost use Rattle.avro_bin.specs.Value.{nodes};
 ghost use Rattle.avro_bin.specs.Shape.{HasSchema};
 ghost use Rattle.avro_bin.specs.View.{value_of};
 ghost use Rattle.etp_schema.specs.Bodies.{body_place};
 ghost use Rattle.etp_schema.specs.Shapes.{shape_at, table_size};
-ghost use Rattle.etp_frame.specs.Reading.{node_limit, tree_of, read_of, header_in, admitted, body_in};
-ghost use Rattle.etp_frame.specs.Parts.{offset_in, as_header_error, as_body_error, GivesValue, GivesTree, IsFront};
+ghost use Rattle.etp_frame.specs.Reading.{node_limit, tree_of, read_of, header_in, admitted, as_body, body_in};
+ghost use Rattle.etp_schema.specs.Family.{Kind};
+ghost use Rattle.etp_frame.specs.Message.{typed_kind};
+ghost use Rattle.etp_frame.specs.Parts.{offset_in, as_header_error, as_body_error, GivesValue, GivesMessage, GivesTree, IsFront};
+ghost use Rattle.etp_frame.specs.declared.message.Message.{Message as AnyMessage};
 ghost use Rattle.etp_frame.specs.Wire.{IsMessage};
 ghost use Rattle.etp_frame.specs.declared.error.FrameError.TheVariants as f;
 
@@ -15,8 +20,8 @@ use crate::error::FrameError;
 use crate::flags;
 use crate::header::Header;
 use crate::message::Message;
-use avro_bin::{Refusal, Tree, decode};
-use etp_schema::{InTree, Side, body_of, is_protocol, places, schema_table};
+use avro_bin::{Fault, NODE_LIMIT, Refusal, Tree, Why, decode, refusal_at};
+use etp_schema::{Reader, Side, body_of, is_protocol, read_body, schema_table};
 use std::alloc::Global;
 
 /// The header and the message of these bytes, which `sender` sent. Where several causes refuse them, the first in the order of
@@ -29,15 +34,63 @@ pub fn read_message(
     ensures gives { Gives f.NoMemory result (read_of sender bytes.now) }
     ensures form { IfOk result (λ r. IsMessage sender r.0 r.1 bytes.now) }
 {
-    let (header, _, tree) = match read_tree(alloc, bytes, sender) {
-        Ok(read) => read,
+    let (header, length, _) = match read_front(alloc, bytes, sender) {
+        Ok(front) => front,
         Err(error) => return Err(error),
     };
-    match Message::from_tree(alloc, header.protocol, header.kind, tree) {
-        Ok(Some(message)) => Ok((header, message)),
-        Ok(None) => Err(FrameError::UnknownKind(header)),
-        Err(_) => Err(FrameError::NoMemory),
+    match read_typed(alloc, header, length, &bytes[length..]) {
+        Ok(message) => Ok((header, message)),
+        Err(error) => Err(error),
     }
+}
+
+/// The message of the body that stands behind so many bytes, where it ends with the rest of them.
+fn read_typed(
+    alloc: Global,
+    header: Header,
+    front: usize,
+    rest: &[u8],
+) -> Result<Message, FrameError>
+    requires { front + length rest.now < 2 ^ 64 }
+    ensures { (k : Kind AnyMessage) → typed_kind header.protocol header.kind ≡ Some k
+        → GivesMessage k result (as_body header front (length rest.now) (read_value k.schema node_limit rest.now)) }
+{
+    let mut from = Reader::new(alloc, rest, NODE_LIMIT);
+    match Message::read(&mut from, header.protocol, header.kind) {
+        Ok(Some(message)) => {
+            let length = rest.len().saturating_sub(from.rest().len());
+            ended(header, message, front, length, rest.len())
+        }
+        Ok(None) => Err(FrameError::UnknownKind(header)),
+        Err(Fault::At(why, left)) => Err(fault_error(header, front, rest.len(), why, left)),
+        Err(Fault::Memory) => Err(FrameError::NoMemory),
+    }
+}
+
+/// Why a body of `size` bytes, which stands behind `front` others, is refused: the refused item begins with `left` of them left.
+fn fault_error(header: Header, front: usize, size: usize, why: Why, left: usize) -> FrameError
+    requires { front + size < 2 ^ 64 }
+    ensures { result ≡ as_body_error header front (refusal why (size - left)) }
+{
+    body_error(header, front, refusal_at(why, size.saturating_sub(left)))
+}
+
+/// The message, where its body behind so many bytes is as long as what stands there.
+fn ended(
+    header: Header,
+    message: Message,
+    front: usize,
+    length: usize,
+    size: usize,
+) -> Result<Message, FrameError>
+    requires { front + length < 2 ^ 64 }
+    ensures { result ≡ (if length == size then Ok message else Err (f.Rest header (front + length))) }
+{
+    if length != size {
+        drop(message);
+        return Err(FrameError::Rest(header, front + length));
+    }
+    Ok(message)
 }
 
 /// The header of these bytes, which `sender` sent, the place of their body's schema in [`TABLE`](etp_schema::TABLE), and the
@@ -56,7 +109,7 @@ pub fn read_tree(
         Ok(front) => front,
         Err(error) => return Err(error),
     };
-    match read_body(alloc, header, place, length, bytes) {
+    match read_body_tree(alloc, header, place, length, bytes) {
         Ok(tree) => Ok((header, place, tree)),
         Err(error) => Err(error),
     }
@@ -91,11 +144,8 @@ fn read_header(alloc: Global, bytes: &[u8]) -> Result<(Header, usize), FrameErro
     ensures gives { Gives f.NoMemory result (header_in bytes.now) }
     ensures within { IfOk result (λ r. r.1 ≤ length bytes.now) }
 {
-    match decode(alloc, schema_table(), places::MESSAGE_HEADER, bytes) {
-        Ok((tree, length)) => match Header::from_tree(alloc, tree) {
-            Ok(header) => Ok((header, length)),
-            Err(_) => Err(FrameError::NoMemory),
-        },
+    match read_body::<Header>(alloc, bytes) {
+        Ok(front) => Ok(front),
         Err(refusal) => Err(header_error(refusal)),
     }
 }
@@ -133,7 +183,7 @@ fn body_place(header: &Header, sender: Side) -> Option<u32>
 }
 
 /// The body's tree behind so many bytes, where it ends with them.
-fn read_body(
+fn read_body_tree(
     alloc: Global,
     header: Header,
     place: u32,

@@ -8,8 +8,7 @@ ghost use Rattle.etp_frame.specs.Wire.{IsPlain, Sends, IsMessage, message_bytes}
 
 use crate::header::Header;
 use crate::message::Message;
-use avro_bin::encode;
-use etp_schema::{InTree, places, schema_table};
+use etp_schema::OnWire;
 use etp_values::{Blob, NoMemory};
 use std::alloc::Global;
 
@@ -21,12 +20,10 @@ pub fn write_message(alloc: Global, header: &Header, message: &Message) -> Resul
     ensures form { IfOk result (λ b. (side : Side) → Sends side header.now message.now → nodes (message_body message.now).value ≤ node_limit
         → IsMessage side header.now message.now b) }
 {
-    let mut bytes = Vec::new(alloc);
-    let front = header.to_tree(alloc)?;
-    let body = message.to_tree(alloc)?;
-    encode(schema_table(), places::MESSAGE_HEADER, &front, &mut bytes)?;
-    // A tree says by itself how it is written; the place names a schema for readers of the clauses alone.
-    encode(schema_table(), places::NULL, &body, &mut bytes)?;
+    let size = header.measure().plus(message.measure()).bytes;
+    let mut bytes = Vec::with_capacity(alloc, size as usize)?;
+    header.write(&mut bytes)?;
+    message.write(&mut bytes)?;
     let blob = Blob::from_vec(bytes)?;
     Ok(blob)
 }

@@ -2,7 +2,7 @@
 use Rattle.std.proofs.Common.{ap}
 use Rattle.std.specs.Prelude.{refl, List, [], ◌∷◌}
 use Rattle.std.specs.List.{AllByRecursion}
-use Rattle.etp_schema.specs.Form.{Form, Holds, boolean_form, long_form, text_form, list_form, named_form, fields, ◌&◌, done}
+use Rattle.etp_schema.specs.Form.{Form, boolean_form, long_form, text_form, list_form, named_form, fields, ◌&◌, done}
 use Rattle.etp_schema.specs.Family.{Kind, Body, message, body, IsFound, IsAgain, again}
 use Rattle.msg_channel.specs.ChannelRecords.{index_interval_form, channel_metadata_record_form, data_item_form, truncate_info_form}
 use Rattle.msg_channel.specs.declared.channel_data_load_messages.OpenChannelInfo.{OpenChannelInfo}
@@ -26,10 +26,6 @@ open_channel_info_form =
     (λ p. record { metadata = p.0; prefer_realtime = p.1.0; data_changes = p.1.1.0 })
     (λ x. refl) (λ p. refl)
 
-pub open_channel_info_holds : (x : OpenChannelInfo) → Holds channel_metadata_record_form x.metadata → Holds boolean_form x.prefer_realtime → Holds boolean_form x.data_changes → Holds open_channel_info_form x
-unfolding Holds
-open_channel_info_holds x h0 h1 h2 = (h0, (h1, (h2, tt)))
-
 -- uris
 abbrev pub open_channels_form : Form OpenChannels
 open_channels_form =
@@ -37,10 +33,6 @@ open_channels_form =
     (λ x. (x.uris, tt))
     (λ p. record { uris = p.0 })
     (λ x. refl) (λ p. refl)
-
-pub open_channels_holds : (x : OpenChannels) → Holds (named_form text_form) x.uris → Holds open_channels_form x
-unfolding Holds
-open_channels_holds x h = (h, tt)
 
 -- channels
 abbrev pub open_channels_response_form : Form OpenChannelsResponse
@@ -50,10 +42,6 @@ open_channels_response_form =
     (λ p. record { channels = p.0 })
     (λ x. refl) (λ p. refl)
 
-pub open_channels_response_holds : (x : OpenChannelsResponse) → Holds (named_form open_channel_info_form) x.channels → Holds open_channels_response_form x
-unfolding Holds
-open_channels_response_holds x h = (h, tt)
-
 -- id
 abbrev pub close_channels_form : Form CloseChannels
 close_channels_form =
@@ -61,10 +49,6 @@ close_channels_form =
     (λ x. (x.id, tt))
     (λ p. record { id = p.0 })
     (λ x. refl) (λ p. refl)
-
-pub close_channels_holds : (x : CloseChannels) → Holds (named_form long_form) x.id → Holds close_channels_form x
-unfolding Holds
-close_channels_holds x h = (h, tt)
 
 -- data
 abbrev pub load_channel_data_form : Form LoadChannelData
@@ -74,10 +58,6 @@ load_channel_data_form =
     (λ p. record { payload = p.0 })
     (λ x. refl) (λ p. refl)
 
-pub load_channel_data_holds : (x : LoadChannelData) → Holds (list_form data_item_form) x.payload → Holds load_channel_data_form x
-unfolding Holds
-load_channel_data_holds x h = (h, tt)
-
 -- changedInterval, channelIds, data
 abbrev pub replace_range_form : Form ReplaceRange
 replace_range_form =
@@ -85,10 +65,6 @@ replace_range_form =
     (λ x. (x.changed_interval, (x.channel_ids, (x.payload, tt))))
     (λ p. record { changed_interval = p.0; channel_ids = p.1.0; payload = p.1.1.0 })
     (λ x. refl) (λ p. refl)
-
-pub replace_range_holds : (x : ReplaceRange) → Holds index_interval_form x.changed_interval → Holds (list_form long_form) x.channel_ids → Holds (list_form data_item_form) x.payload → Holds replace_range_form x
-unfolding Holds
-replace_range_holds x h0 h1 h2 = (h0, (h1, (h2, tt)))
 
 -- reason, id
 abbrev pub channels_closed_form : Form ChannelsClosed
@@ -98,10 +74,6 @@ channels_closed_form =
     (λ p. record { reason = p.0; id = p.1.0 })
     (λ x. refl) (λ p. refl)
 
-pub channels_closed_holds : (x : ChannelsClosed) → Holds text_form x.reason → Holds (named_form long_form) x.id → Holds channels_closed_form x
-unfolding Holds
-channels_closed_holds x h0 h1 = (h0, (h1, tt))
-
 -- channelChangeTime
 abbrev pub replace_range_response_form : Form ReplaceRangeResponse
 replace_range_response_form =
@@ -109,10 +81,6 @@ replace_range_response_form =
     (λ x. (x.channel_change_time, tt))
     (λ p. record { channel_change_time = p.0 })
     (λ x. refl) (λ p. refl)
-
-pub replace_range_response_holds : (x : ReplaceRangeResponse) → Holds long_form x.channel_change_time → Holds replace_range_response_form x
-unfolding Holds
-replace_range_response_holds x h = (h, tt)
 
 -- channels
 abbrev pub truncate_channels_form : Form TruncateChannels
@@ -122,10 +90,6 @@ truncate_channels_form =
     (λ p. record { channels = p.0 })
     (λ x. refl) (λ p. refl)
 
-pub truncate_channels_holds : (x : TruncateChannels) → Holds (named_form truncate_info_form) x.channels → Holds truncate_channels_form x
-unfolding Holds
-truncate_channels_holds x h = (h, tt)
-
 -- channelsTruncatedTime
 abbrev pub truncate_channels_response_form : Form TruncateChannelsResponse
 truncate_channels_response_form =
@@ -133,10 +97,6 @@ truncate_channels_response_form =
     (λ x. (x.channels_truncated_time, tt))
     (λ p. record { channels_truncated_time = p.0 })
     (λ x. refl) (λ p. refl)
-
-pub truncate_channels_response_holds : (x : TruncateChannelsResponse) → Holds (named_form long_form) x.channels_truncated_time → Holds truncate_channels_response_form x
-unfolding Holds
-truncate_channels_response_holds x h = (h, tt)
 
 -- the messages by number
 abbrev pub channel_data_load_kinds : List (Kind ChannelDataLoadMessage)

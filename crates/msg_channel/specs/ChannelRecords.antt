@@ -2,7 +2,7 @@
 use Rattle.std.proofs.Common.{inl, inr}
 use Rattle.std.specs.Prelude.{◌≡◌, refl, ℕ, ℤ, List, [], ◌∷◌, ◌⊎◌, get_or}
 use Rattle.etp_values.specs.declared.bits.Bits64.{Bits64}
-use Rattle.etp_schema.specs.Form.{Form, Holds, null_form, boolean_form, int_form, long_form, double_form, text_form, list_form, named_form, symbols, fields, ◌&◌, done, wrapped, union, last, ◌or◌}
+use Rattle.etp_schema.specs.Form.{Form, null_form, boolean_form, int_form, long_form, double_form, text_form, list_form, named_form, symbols, fields, ◌&◌, done, wrapped, union, last, ◌or◌}
 use Rattle.etp_schema.specs.DataValue.{data_value_form}
 use Rattle.etp_schema.specs.Status.{active_status_kind_form}
 use Rattle.msg_channel.specs.declared.indexes.PassDirection.{PassDirection}
@@ -49,10 +49,6 @@ pass_indexed_depth_form =
     (λ p. record { pass = p.0; direction = p.1.0; depth = p.1.1.0 })
     (λ x. refl) (λ p. refl)
 
-pub pass_indexed_depth_holds : (x : PassIndexedDepth) → Holds long_form x.pass → Holds pass_direction_form x.direction → Holds double_form x.depth → Holds pass_indexed_depth_form x
-unfolding Holds
-pass_indexed_depth_holds x h0 h1 h2 = (h0, (h1, (h2, tt)))
-
 -- which kind an index value is of, as a choice
 abbrev pub index_value_parts : IndexValue → Unit {0} ⊎ (ℤ ⊎ (Bits64 ⊎ PassIndexedDepth))
 index_value_parts index_item.Null = inl tt
@@ -90,10 +86,6 @@ index_interval_form =
     (λ x. (x.start_index, (x.end_index, (x.uom, (x.depth_datum, tt)))))
     (λ p. record { start_index = p.0; end_index = p.1.0; uom = p.1.1.0; depth_datum = p.1.1.1.0 })
     (λ x. refl) (λ p. refl)
-
-pub index_interval_holds : (x : IndexInterval) → Holds index_value_form x.start_index → Holds index_value_form x.end_index → Holds text_form x.uom → Holds text_form x.depth_datum → Holds index_interval_form x
-unfolding Holds
-index_interval_holds x h0 h1 h2 h3 = (h0, (h1, (h2, (h3, tt))))
 
 -- DateTime, ElapsedTime, MeasuredDepth, TrueVerticalDepth, PassIndexedDepth, Pressure, Temperature, Scalar
 abbrev pub channel_index_kinds : List ChannelIndexKind
@@ -182,10 +174,6 @@ index_metadata_record_form =
     (λ p. record { index_kind = p.0; interval = p.1.0; direction = p.1.1.0; name = p.1.1.1.0; uom = p.1.1.1.1.0; depth_datum = p.1.1.1.1.1.0; index_property_kind_uri = p.1.1.1.1.1.1.0; filterable = p.1.1.1.1.1.1.1.0 })
     (λ x. refl) (λ p. refl)
 
-pub index_metadata_record_holds : (x : IndexMetadataRecord) → Holds channel_index_kind_form x.index_kind → Holds index_interval_form x.interval → Holds index_direction_form x.direction → Holds text_form x.name → Holds text_form x.uom → Holds text_form x.depth_datum → Holds text_form x.index_property_kind_uri → Holds boolean_form x.filterable → Holds index_metadata_record_form x
-unfolding Holds
-index_metadata_record_holds x h0 h1 h2 h3 h4 h5 h6 h7 = (h0, (h1, (h2, (h3, (h4, (h5, (h6, (h7, tt))))))))
-
 -- attributeId, attributeName, dataKind, uom, depthDatum, attributePropertyKindUri, axisVectorLengths
 abbrev pub attribute_metadata_record_form : Form AttributeMetadataRecord
 attribute_metadata_record_form =
@@ -193,10 +181,6 @@ attribute_metadata_record_form =
     (λ x. (x.attribute_id, (x.attribute_name, (x.data_kind, (x.uom, (x.depth_datum, (x.attribute_property_kind_uri, (x.axis_vector_lengths, tt))))))))
     (λ p. record { attribute_id = p.0; attribute_name = p.1.0; data_kind = p.1.1.0; uom = p.1.1.1.0; depth_datum = p.1.1.1.1.0; attribute_property_kind_uri = p.1.1.1.1.1.0; axis_vector_lengths = p.1.1.1.1.1.1.0 })
     (λ x. refl) (λ p. refl)
-
-pub attribute_metadata_record_holds : (x : AttributeMetadataRecord) → Holds int_form x.attribute_id → Holds text_form x.attribute_name → Holds channel_data_kind_form x.data_kind → Holds text_form x.uom → Holds text_form x.depth_datum → Holds text_form x.attribute_property_kind_uri → Holds (list_form int_form) x.axis_vector_lengths → Holds attribute_metadata_record_form x
-unfolding Holds
-attribute_metadata_record_holds x h0 h1 h2 h3 h4 h5 h6 = (h0, (h1, (h2, (h3, (h4, (h5, (h6, tt)))))))
 
 -- uri, id, indexes, channelName, dataKind, uom, depthDatum, channelClassUri, status, source, axisVectorLengths, attributeMetadata, customData
 abbrev pub channel_metadata_record_form : Form ChannelMetadataRecord
@@ -206,10 +190,6 @@ channel_metadata_record_form =
     (λ p. record { uri = p.0; id = p.1.0; indexes = p.1.1.0; channel_name = p.1.1.1.0; data_kind = p.1.1.1.1.0; uom = p.1.1.1.1.1.0; depth_datum = p.1.1.1.1.1.1.0; channel_class_uri = p.1.1.1.1.1.1.1.0; status = p.1.1.1.1.1.1.1.1.0; source = p.1.1.1.1.1.1.1.1.1.0; axis_vector_lengths = p.1.1.1.1.1.1.1.1.1.1.0; attribute_metadata = p.1.1.1.1.1.1.1.1.1.1.1.0; custom_data = p.1.1.1.1.1.1.1.1.1.1.1.1.0 })
     (λ x. refl) (λ p. refl)
 
-pub channel_metadata_record_holds : (x : ChannelMetadataRecord) → Holds text_form x.uri → Holds long_form x.id → Holds (list_form index_metadata_record_form) x.indexes → Holds text_form x.channel_name → Holds channel_data_kind_form x.data_kind → Holds text_form x.uom → Holds text_form x.depth_datum → Holds text_form x.channel_class_uri → Holds active_status_kind_form x.status → Holds text_form x.source → Holds (list_form int_form) x.axis_vector_lengths → Holds (list_form attribute_metadata_record_form) x.attribute_metadata → Holds (named_form data_value_form) x.custom_data → Holds channel_metadata_record_form x
-unfolding Holds
-channel_metadata_record_holds x h0 h1 h2 h3 h4 h5 h6 h7 h8 h9 h10 h11 h12 = (h0, (h1, (h2, (h3, (h4, (h5, (h6, (h7, (h8, (h9, (h10, (h11, (h12, tt)))))))))))))
-
 -- attributeId, attributeValue
 abbrev pub data_attribute_form : Form DataAttribute
 data_attribute_form =
@@ -217,10 +197,6 @@ data_attribute_form =
     (λ x. (x.attribute_id, (x.attribute_value, tt)))
     (λ p. record { attribute_id = p.0; attribute_value = p.1.0 })
     (λ x. refl) (λ p. refl)
-
-pub data_attribute_holds : (x : DataAttribute) → Holds int_form x.attribute_id → Holds data_value_form x.attribute_value → Holds data_attribute_form x
-unfolding Holds
-data_attribute_holds x h0 h1 = (h0, (h1, tt))
 
 -- channelId, indexes, value, valueAttributes
 abbrev pub data_item_form : Form DataItem
@@ -230,10 +206,6 @@ data_item_form =
     (λ p. record { channel_id = p.0; indexes = p.1.0; value = p.1.1.0; value_attributes = p.1.1.1.0 })
     (λ x. refl) (λ p. refl)
 
-pub data_item_holds : (x : DataItem) → Holds long_form x.channel_id → Holds (list_form index_value_form) x.indexes → Holds data_value_form x.value → Holds (list_form data_attribute_form) x.value_attributes → Holds data_item_form x
-unfolding Holds
-data_item_holds x h0 h1 h2 h3 = (h0, (h1, (h2, (h3, tt))))
-
 -- channelId, newEndIndex
 abbrev pub truncate_info_form : Form TruncateInfo
 truncate_info_form =
@@ -241,7 +213,3 @@ truncate_info_form =
     (λ x. (x.channel_id, (x.new_end_index, tt)))
     (λ p. record { channel_id = p.0; new_end_index = p.1.0 })
     (λ x. refl) (λ p. refl)
-
-pub truncate_info_holds : (x : TruncateInfo) → Holds long_form x.channel_id → Holds index_value_form x.new_end_index → Holds truncate_info_form x
-unfolding Holds
-truncate_info_holds x h0 h1 = (h0, (h1, tt))

@@ -2,7 +2,7 @@
 use Rattle.std.proofs.Common.{ap}
 use Rattle.std.specs.Prelude.{refl, List, [], ◌∷◌}
 use Rattle.std.specs.List.{AllByRecursion}
-use Rattle.etp_schema.specs.Form.{Form, Holds, boolean_form, id_form, int_form, long_form, text_form, list_form, named_form, option_form, fields, ◌&◌, done}
+use Rattle.etp_schema.specs.Form.{Form, boolean_form, id_form, int_form, long_form, text_form, list_form, named_form, option_form, fields, ◌&◌, done}
 use Rattle.etp_schema.specs.Family.{Kind, Body, message, body, IsFound, IsAgain, again}
 use Rattle.msg_channel.specs.ChannelRecords.{index_value_form, index_interval_form, channel_metadata_record_form, data_item_form, truncate_info_form}
 use Rattle.msg_channel.specs.declared.channel_subscribe_messages.ChannelSubscribeInfo.{ChannelSubscribeInfo}
@@ -29,10 +29,6 @@ channel_subscribe_info_form =
     (λ p. record { channel_id = p.0; start_index = p.1.0; data_changes = p.1.1.0; request_latest_index_count = p.1.1.1.0 })
     (λ x. refl) (λ p. refl)
 
-pub channel_subscribe_info_holds : (x : ChannelSubscribeInfo) → Holds long_form x.channel_id → Holds index_value_form x.start_index → Holds boolean_form x.data_changes → Holds (option_form int_form) x.request_latest_index_count → Holds channel_subscribe_info_form x
-unfolding Holds
-channel_subscribe_info_holds x h0 h1 h2 h3 = (h0, (h1, (h2, (h3, tt))))
-
 -- channelIds, interval, secondaryIntervals
 abbrev pub channel_range_info_form : Form ChannelRangeInfo
 channel_range_info_form =
@@ -40,10 +36,6 @@ channel_range_info_form =
     (λ x. (x.channel_ids, (x.interval, (x.secondary_intervals, tt))))
     (λ p. record { channel_ids = p.0; interval = p.1.0; secondary_intervals = p.1.1.0 })
     (λ x. refl) (λ p. refl)
-
-pub channel_range_info_holds : (x : ChannelRangeInfo) → Holds (list_form long_form) x.channel_ids → Holds index_interval_form x.interval → Holds (list_form index_interval_form) x.secondary_intervals → Holds channel_range_info_form x
-unfolding Holds
-channel_range_info_holds x h0 h1 h2 = (h0, (h1, (h2, tt)))
 
 -- uris
 abbrev pub get_channel_metadata_form : Form GetChannelMetadata
@@ -53,10 +45,6 @@ get_channel_metadata_form =
     (λ p. record { uris = p.0 })
     (λ x. refl) (λ p. refl)
 
-pub get_channel_metadata_holds : (x : GetChannelMetadata) → Holds (named_form text_form) x.uris → Holds get_channel_metadata_form x
-unfolding Holds
-get_channel_metadata_holds x h = (h, tt)
-
 -- metadata
 abbrev pub get_channel_metadata_response_form : Form GetChannelMetadataResponse
 get_channel_metadata_response_form =
@@ -64,10 +52,6 @@ get_channel_metadata_response_form =
     (λ x. (x.metadata, tt))
     (λ p. record { metadata = p.0 })
     (λ x. refl) (λ p. refl)
-
-pub get_channel_metadata_response_holds : (x : GetChannelMetadataResponse) → Holds (named_form channel_metadata_record_form) x.metadata → Holds get_channel_metadata_response_form x
-unfolding Holds
-get_channel_metadata_response_holds x h = (h, tt)
 
 -- channels
 abbrev pub subscribe_channels_form : Form SubscribeChannels
@@ -77,10 +61,6 @@ subscribe_channels_form =
     (λ p. record { channels = p.0 })
     (λ x. refl) (λ p. refl)
 
-pub subscribe_channels_holds : (x : SubscribeChannels) → Holds (named_form channel_subscribe_info_form) x.channels → Holds subscribe_channels_form x
-unfolding Holds
-subscribe_channels_holds x h = (h, tt)
-
 -- data
 abbrev pub channel_data_form : Form ChannelData
 channel_data_form =
@@ -88,10 +68,6 @@ channel_data_form =
     (λ x. (x.payload, tt))
     (λ p. record { payload = p.0 })
     (λ x. refl) (λ p. refl)
-
-pub channel_data_holds : (x : ChannelData) → Holds (list_form data_item_form) x.payload → Holds channel_data_form x
-unfolding Holds
-channel_data_holds x h = (h, tt)
 
 -- changeTime, channelIds, changedInterval, data
 abbrev pub range_replaced_form : Form RangeReplaced
@@ -101,10 +77,6 @@ range_replaced_form =
     (λ p. record { change_time = p.0; channel_ids = p.1.0; changed_interval = p.1.1.0; payload = p.1.1.1.0 })
     (λ x. refl) (λ p. refl)
 
-pub range_replaced_holds : (x : RangeReplaced) → Holds long_form x.change_time → Holds (list_form long_form) x.channel_ids → Holds index_interval_form x.changed_interval → Holds (list_form data_item_form) x.payload → Holds range_replaced_form x
-unfolding Holds
-range_replaced_holds x h0 h1 h2 h3 = (h0, (h1, (h2, (h3, tt))))
-
 -- channelIds
 abbrev pub unsubscribe_channels_form : Form UnsubscribeChannels
 unsubscribe_channels_form =
@@ -112,10 +84,6 @@ unsubscribe_channels_form =
     (λ x. (x.channel_ids, tt))
     (λ p. record { channel_ids = p.0 })
     (λ x. refl) (λ p. refl)
-
-pub unsubscribe_channels_holds : (x : UnsubscribeChannels) → Holds (named_form long_form) x.channel_ids → Holds unsubscribe_channels_form x
-unfolding Holds
-unsubscribe_channels_holds x h = (h, tt)
 
 -- reason, channelIds
 abbrev pub subscriptions_stopped_form : Form SubscriptionsStopped
@@ -125,10 +93,6 @@ subscriptions_stopped_form =
     (λ p. record { reason = p.0; channel_ids = p.1.0 })
     (λ x. refl) (λ p. refl)
 
-pub subscriptions_stopped_holds : (x : SubscriptionsStopped) → Holds text_form x.reason → Holds (named_form long_form) x.channel_ids → Holds subscriptions_stopped_form x
-unfolding Holds
-subscriptions_stopped_holds x h0 h1 = (h0, (h1, tt))
-
 -- requestUuid, channelRanges
 abbrev pub get_ranges_form : Form GetRanges
 get_ranges_form =
@@ -136,10 +100,6 @@ get_ranges_form =
     (λ x. (x.request_uuid, (x.channel_ranges, tt)))
     (λ p. record { request_uuid = p.0; channel_ranges = p.1.0 })
     (λ x. refl) (λ p. refl)
-
-pub get_ranges_holds : (x : GetRanges) → Holds id_form x.request_uuid → Holds (list_form channel_range_info_form) x.channel_ranges → Holds get_ranges_form x
-unfolding Holds
-get_ranges_holds x h0 h1 = (h0, (h1, tt))
 
 -- data
 abbrev pub get_ranges_response_form : Form GetRangesResponse
@@ -149,10 +109,6 @@ get_ranges_response_form =
     (λ p. record { payload = p.0 })
     (λ x. refl) (λ p. refl)
 
-pub get_ranges_response_holds : (x : GetRangesResponse) → Holds (list_form data_item_form) x.payload → Holds get_ranges_response_form x
-unfolding Holds
-get_ranges_response_holds x h = (h, tt)
-
 -- success
 abbrev pub subscribe_channels_response_form : Form SubscribeChannelsResponse
 subscribe_channels_response_form =
@@ -161,10 +117,6 @@ subscribe_channels_response_form =
     (λ p. record { success = p.0 })
     (λ x. refl) (λ p. refl)
 
-pub subscribe_channels_response_holds : (x : SubscribeChannelsResponse) → Holds (named_form text_form) x.success → Holds subscribe_channels_response_form x
-unfolding Holds
-subscribe_channels_response_holds x h = (h, tt)
-
 -- changeTime, channels
 abbrev pub channels_truncated_form : Form ChannelsTruncated
 channels_truncated_form =
@@ -172,10 +124,6 @@ channels_truncated_form =
     (λ x. (x.change_time, (x.channels, tt)))
     (λ p. record { change_time = p.0; channels = p.1.0 })
     (λ x. refl) (λ p. refl)
-
-pub channels_truncated_holds : (x : ChannelsTruncated) → Holds long_form x.change_time → Holds (list_form truncate_info_form) x.channels → Holds channels_truncated_form x
-unfolding Holds
-channels_truncated_holds x h0 h1 = (h0, (h1, tt))
 
 -- the messages by number
 abbrev pub channel_subscribe_kinds : List (Kind ChannelSubscribeMessage)

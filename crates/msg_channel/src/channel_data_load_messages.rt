@@ -10,7 +10,7 @@ use crate::channel_records::ChannelMetadataRecord;
 use crate::indexes::IndexInterval;
 use crate::points::{DataItem, TruncateInfo};
 use avro_bin::Tree;
-use etp_schema::{Fields, InTree, record_of};
+use etp_schema::{InTree, fields_of, tree_of};
 use etp_values::{List, Named, NoMemory, Text};
 use std::alloc::Global;
 
@@ -30,21 +30,23 @@ impl InTree for OpenChannelInfo {
 
     ghost form = { open_channel_info_form };
 
-    #[tactic(auto, using(crate::specs::ChannelDataLoad::open_channel_info_holds))]
+    #[tactic(auto, unfolding(etp_schema::specs::Form::Holds))]
     fn to_tree(&self, alloc: Global) -> Result<Tree, NoMemory> {
-        Ok(record_of(vec![in alloc;
-            self.metadata.to_tree(alloc)?,
-            self.prefer_realtime.to_tree(alloc)?,
-            self.data_changes.to_tree(alloc)?,
-        ]?))
+        tree_of(
+            alloc,
+            (
+                &self.metadata,
+                (&self.prefer_realtime, (&self.data_changes, ())),
+            ),
+        )
     }
 
     fn from_tree(alloc: Global, tree: Tree) -> Result<OpenChannelInfo, NoMemory> {
-        let mut fields = Fields::of(alloc, tree);
+        let (metadata, (prefer_realtime, (data_changes, ()))) = fields_of(alloc, tree)?;
         Ok(OpenChannelInfo {
-            metadata: fields.take()?,
-            prefer_realtime: fields.take()?,
-            data_changes: fields.take()?,
+            metadata,
+            prefer_realtime,
+            data_changes,
         })
     }
 }
@@ -61,16 +63,14 @@ impl InTree for OpenChannels {
 
     ghost form = { open_channels_form };
 
-    #[tactic(auto, using(crate::specs::ChannelDataLoad::open_channels_holds))]
+    #[tactic(auto, unfolding(etp_schema::specs::Form::Holds))]
     fn to_tree(&self, alloc: Global) -> Result<Tree, NoMemory> {
-        Ok(record_of(vec![in alloc; self.uris.to_tree(alloc)?]?))
+        tree_of(alloc, (&self.uris, ()))
     }
 
     fn from_tree(alloc: Global, tree: Tree) -> Result<OpenChannels, NoMemory> {
-        let mut fields = Fields::of(alloc, tree);
-        Ok(OpenChannels {
-            uris: fields.take()?,
-        })
+        let (uris, ()) = fields_of(alloc, tree)?;
+        Ok(OpenChannels { uris })
     }
 }
 
@@ -86,16 +86,14 @@ impl InTree for OpenChannelsResponse {
 
     ghost form = { open_channels_response_form };
 
-    #[tactic(auto, using(crate::specs::ChannelDataLoad::open_channels_response_holds))]
+    #[tactic(auto, unfolding(etp_schema::specs::Form::Holds))]
     fn to_tree(&self, alloc: Global) -> Result<Tree, NoMemory> {
-        Ok(record_of(vec![in alloc; self.channels.to_tree(alloc)?]?))
+        tree_of(alloc, (&self.channels, ()))
     }
 
     fn from_tree(alloc: Global, tree: Tree) -> Result<OpenChannelsResponse, NoMemory> {
-        let mut fields = Fields::of(alloc, tree);
-        Ok(OpenChannelsResponse {
-            channels: fields.take()?,
-        })
+        let (channels, ()) = fields_of(alloc, tree)?;
+        Ok(OpenChannelsResponse { channels })
     }
 }
 
@@ -111,14 +109,14 @@ impl InTree for CloseChannels {
 
     ghost form = { close_channels_form };
 
-    #[tactic(auto, using(crate::specs::ChannelDataLoad::close_channels_holds))]
+    #[tactic(auto, unfolding(etp_schema::specs::Form::Holds))]
     fn to_tree(&self, alloc: Global) -> Result<Tree, NoMemory> {
-        Ok(record_of(vec![in alloc; self.id.to_tree(alloc)?]?))
+        tree_of(alloc, (&self.id, ()))
     }
 
     fn from_tree(alloc: Global, tree: Tree) -> Result<CloseChannels, NoMemory> {
-        let mut fields = Fields::of(alloc, tree);
-        Ok(CloseChannels { id: fields.take()? })
+        let (id, ()) = fields_of(alloc, tree)?;
+        Ok(CloseChannels { id })
     }
 }
 
@@ -134,16 +132,14 @@ impl InTree for LoadChannelData {
 
     ghost form = { load_channel_data_form };
 
-    #[tactic(auto, using(crate::specs::ChannelDataLoad::load_channel_data_holds))]
+    #[tactic(auto, unfolding(etp_schema::specs::Form::Holds))]
     fn to_tree(&self, alloc: Global) -> Result<Tree, NoMemory> {
-        Ok(record_of(vec![in alloc; self.payload.to_tree(alloc)?]?))
+        tree_of(alloc, (&self.payload, ()))
     }
 
     fn from_tree(alloc: Global, tree: Tree) -> Result<LoadChannelData, NoMemory> {
-        let mut fields = Fields::of(alloc, tree);
-        Ok(LoadChannelData {
-            payload: fields.take()?,
-        })
+        let (payload, ()) = fields_of(alloc, tree)?;
+        Ok(LoadChannelData { payload })
     }
 }
 
@@ -163,21 +159,23 @@ impl InTree for ReplaceRange {
 
     ghost form = { replace_range_form };
 
-    #[tactic(auto, using(crate::specs::ChannelDataLoad::replace_range_holds))]
+    #[tactic(auto, unfolding(etp_schema::specs::Form::Holds))]
     fn to_tree(&self, alloc: Global) -> Result<Tree, NoMemory> {
-        Ok(record_of(vec![in alloc;
-            self.changed_interval.to_tree(alloc)?,
-            self.channel_ids.to_tree(alloc)?,
-            self.payload.to_tree(alloc)?,
-        ]?))
+        tree_of(
+            alloc,
+            (
+                &self.changed_interval,
+                (&self.channel_ids, (&self.payload, ())),
+            ),
+        )
     }
 
     fn from_tree(alloc: Global, tree: Tree) -> Result<ReplaceRange, NoMemory> {
-        let mut fields = Fields::of(alloc, tree);
+        let (changed_interval, (channel_ids, (payload, ()))) = fields_of(alloc, tree)?;
         Ok(ReplaceRange {
-            changed_interval: fields.take()?,
-            channel_ids: fields.take()?,
-            payload: fields.take()?,
+            changed_interval,
+            channel_ids,
+            payload,
         })
     }
 }
@@ -196,17 +194,14 @@ impl InTree for ChannelsClosed {
 
     ghost form = { channels_closed_form };
 
-    #[tactic(auto, using(crate::specs::ChannelDataLoad::channels_closed_holds))]
+    #[tactic(auto, unfolding(etp_schema::specs::Form::Holds))]
     fn to_tree(&self, alloc: Global) -> Result<Tree, NoMemory> {
-        Ok(record_of(vec![in alloc; self.reason.to_tree(alloc)?, self.id.to_tree(alloc)?]?))
+        tree_of(alloc, (&self.reason, (&self.id, ())))
     }
 
     fn from_tree(alloc: Global, tree: Tree) -> Result<ChannelsClosed, NoMemory> {
-        let mut fields = Fields::of(alloc, tree);
-        Ok(ChannelsClosed {
-            reason: fields.take()?,
-            id: fields.take()?,
-        })
+        let (reason, (id, ())) = fields_of(alloc, tree)?;
+        Ok(ChannelsClosed { reason, id })
     }
 }
 
@@ -222,15 +217,15 @@ impl InTree for ReplaceRangeResponse {
 
     ghost form = { replace_range_response_form };
 
-    #[tactic(auto, using(crate::specs::ChannelDataLoad::replace_range_response_holds))]
+    #[tactic(auto, unfolding(etp_schema::specs::Form::Holds))]
     fn to_tree(&self, alloc: Global) -> Result<Tree, NoMemory> {
-        Ok(record_of(vec![in alloc; self.channel_change_time.to_tree(alloc)?]?))
+        tree_of(alloc, (&self.channel_change_time, ()))
     }
 
     fn from_tree(alloc: Global, tree: Tree) -> Result<ReplaceRangeResponse, NoMemory> {
-        let mut fields = Fields::of(alloc, tree);
+        let (channel_change_time, ()) = fields_of(alloc, tree)?;
         Ok(ReplaceRangeResponse {
-            channel_change_time: fields.take()?,
+            channel_change_time,
         })
     }
 }
@@ -247,16 +242,14 @@ impl InTree for TruncateChannels {
 
     ghost form = { truncate_channels_form };
 
-    #[tactic(auto, using(crate::specs::ChannelDataLoad::truncate_channels_holds))]
+    #[tactic(auto, unfolding(etp_schema::specs::Form::Holds))]
     fn to_tree(&self, alloc: Global) -> Result<Tree, NoMemory> {
-        Ok(record_of(vec![in alloc; self.channels.to_tree(alloc)?]?))
+        tree_of(alloc, (&self.channels, ()))
     }
 
     fn from_tree(alloc: Global, tree: Tree) -> Result<TruncateChannels, NoMemory> {
-        let mut fields = Fields::of(alloc, tree);
-        Ok(TruncateChannels {
-            channels: fields.take()?,
-        })
+        let (channels, ()) = fields_of(alloc, tree)?;
+        Ok(TruncateChannels { channels })
     }
 }
 
@@ -272,15 +265,15 @@ impl InTree for TruncateChannelsResponse {
 
     ghost form = { truncate_channels_response_form };
 
-    #[tactic(auto, using(crate::specs::ChannelDataLoad::truncate_channels_response_holds))]
+    #[tactic(auto, unfolding(etp_schema::specs::Form::Holds))]
     fn to_tree(&self, alloc: Global) -> Result<Tree, NoMemory> {
-        Ok(record_of(vec![in alloc; self.channels_truncated_time.to_tree(alloc)?]?))
+        tree_of(alloc, (&self.channels_truncated_time, ()))
     }
 
     fn from_tree(alloc: Global, tree: Tree) -> Result<TruncateChannelsResponse, NoMemory> {
-        let mut fields = Fields::of(alloc, tree);
+        let (channels_truncated_time, ()) = fields_of(alloc, tree)?;
         Ok(TruncateChannelsResponse {
-            channels_truncated_time: fields.take()?,
+            channels_truncated_time,
         })
     }
 }

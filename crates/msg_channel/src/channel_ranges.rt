@@ -2,7 +2,7 @@
 use crate::indexes::IndexInterval;
 use crate::points::{DataItem, TruncateInfo};
 use avro_bin::Tree;
-use etp_schema::{Fields, InTree, record_of};
+use etp_schema::{InTree, fields_of, tree_of};
 use etp_values::{Id16, List, NoMemory};
 use std::alloc::Global;
 
@@ -22,21 +22,23 @@ impl InTree for ChannelRangeInfo {
 
     ghost form = { channel_range_info_form };
 
-    #[tactic(auto, using(crate::specs::ChannelSubscribe::channel_range_info_holds))]
+    #[tactic(auto, unfolding(etp_schema::specs::Form::Holds))]
     fn to_tree(&self, alloc: Global) -> Result<Tree, NoMemory> {
-        Ok(record_of(vec![in alloc;
-            self.channel_ids.to_tree(alloc)?,
-            self.interval.to_tree(alloc)?,
-            self.secondary_intervals.to_tree(alloc)?,
-        ]?))
+        tree_of(
+            alloc,
+            (
+                &self.channel_ids,
+                (&self.interval, (&self.secondary_intervals, ())),
+            ),
+        )
     }
 
     fn from_tree(alloc: Global, tree: Tree) -> Result<ChannelRangeInfo, NoMemory> {
-        let mut fields = Fields::of(alloc, tree);
+        let (channel_ids, (interval, (secondary_intervals, ()))) = fields_of(alloc, tree)?;
         Ok(ChannelRangeInfo {
-            channel_ids: fields.take()?,
-            interval: fields.take()?,
-            secondary_intervals: fields.take()?,
+            channel_ids,
+            interval,
+            secondary_intervals,
         })
     }
 }
@@ -55,19 +57,16 @@ impl InTree for GetRanges {
 
     ghost form = { get_ranges_form };
 
-    #[tactic(auto, using(crate::specs::ChannelSubscribe::get_ranges_holds))]
+    #[tactic(auto, unfolding(etp_schema::specs::Form::Holds))]
     fn to_tree(&self, alloc: Global) -> Result<Tree, NoMemory> {
-        Ok(record_of(vec![in alloc;
-            self.request_uuid.to_tree(alloc)?,
-            self.channel_ranges.to_tree(alloc)?,
-        ]?))
+        tree_of(alloc, (&self.request_uuid, (&self.channel_ranges, ())))
     }
 
     fn from_tree(alloc: Global, tree: Tree) -> Result<GetRanges, NoMemory> {
-        let mut fields = Fields::of(alloc, tree);
+        let (request_uuid, (channel_ranges, ())) = fields_of(alloc, tree)?;
         Ok(GetRanges {
-            request_uuid: fields.take()?,
-            channel_ranges: fields.take()?,
+            request_uuid,
+            channel_ranges,
         })
     }
 }
@@ -84,16 +83,14 @@ impl InTree for GetRangesResponse {
 
     ghost form = { get_ranges_response_form };
 
-    #[tactic(auto, using(crate::specs::ChannelSubscribe::get_ranges_response_holds))]
+    #[tactic(auto, unfolding(etp_schema::specs::Form::Holds))]
     fn to_tree(&self, alloc: Global) -> Result<Tree, NoMemory> {
-        Ok(record_of(vec![in alloc; self.payload.to_tree(alloc)?]?))
+        tree_of(alloc, (&self.payload, ()))
     }
 
     fn from_tree(alloc: Global, tree: Tree) -> Result<GetRangesResponse, NoMemory> {
-        let mut fields = Fields::of(alloc, tree);
-        Ok(GetRangesResponse {
-            payload: fields.take()?,
-        })
+        let (payload, ()) = fields_of(alloc, tree)?;
+        Ok(GetRangesResponse { payload })
     }
 }
 
@@ -115,23 +112,29 @@ impl InTree for RangeReplaced {
 
     ghost form = { range_replaced_form };
 
-    #[tactic(auto, using(crate::specs::ChannelSubscribe::range_replaced_holds))]
+    #[tactic(auto, unfolding(etp_schema::specs::Form::Holds))]
     fn to_tree(&self, alloc: Global) -> Result<Tree, NoMemory> {
-        Ok(record_of(vec![in alloc;
-            self.change_time.to_tree(alloc)?,
-            self.channel_ids.to_tree(alloc)?,
-            self.changed_interval.to_tree(alloc)?,
-            self.payload.to_tree(alloc)?,
-        ]?))
+        tree_of(
+            alloc,
+            (
+                &self.change_time,
+                (
+                    &self.channel_ids,
+                    (&self.changed_interval, (&self.payload, ())),
+                ),
+            ),
+        )
     }
 
     fn from_tree(alloc: Global, tree: Tree) -> Result<RangeReplaced, NoMemory> {
-        let mut fields = Fields::of(alloc, tree);
+        let (change_time, (channel_ids, (changed_interval, (payload, ())))) = fields_of(
+            alloc, tree,
+        )?;
         Ok(RangeReplaced {
-            change_time: fields.take()?,
-            channel_ids: fields.take()?,
-            changed_interval: fields.take()?,
-            payload: fields.take()?,
+            change_time,
+            channel_ids,
+            changed_interval,
+            payload,
         })
     }
 }
@@ -150,19 +153,16 @@ impl InTree for ChannelsTruncated {
 
     ghost form = { channels_truncated_form };
 
-    #[tactic(auto, using(crate::specs::ChannelSubscribe::channels_truncated_holds))]
+    #[tactic(auto, unfolding(etp_schema::specs::Form::Holds))]
     fn to_tree(&self, alloc: Global) -> Result<Tree, NoMemory> {
-        Ok(record_of(vec![in alloc;
-            self.change_time.to_tree(alloc)?,
-            self.channels.to_tree(alloc)?,
-        ]?))
+        tree_of(alloc, (&self.change_time, (&self.channels, ())))
     }
 
     fn from_tree(alloc: Global, tree: Tree) -> Result<ChannelsTruncated, NoMemory> {
-        let mut fields = Fields::of(alloc, tree);
+        let (change_time, (channels, ())) = fields_of(alloc, tree)?;
         Ok(ChannelsTruncated {
-            change_time: fields.take()?,
-            channels: fields.take()?,
+            change_time,
+            channels,
         })
     }
 }

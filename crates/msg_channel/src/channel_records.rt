@@ -1,12 +1,7 @@
 //! What a channel is: its indexes, its attributes and the rest of its metadata.
-ghost use Rattle.std.specs.Prelude.{◌≡◌, ◌++◌, OnOk, [], ◌∷◌, map};
-ghost use Rattle.avro_bin.specs.Value.{VText};
-ghost use Rattle.avro_bin.specs.View.{value_of};
-ghost use Rattle.etp_schema.specs.Form.{Holds, text_form};
-
 use crate::indexes::IndexInterval;
 use avro_bin::Tree;
-use etp_schema::{ActiveStatusKind, Fields, InTree, record_of, symbol_of};
+use etp_schema::{ActiveStatusKind, InTree, fields_of, symbol_of, tree_of};
 use etp_values::{DataValue, List, Named, NoMemory, Text};
 use std::alloc::Global;
 
@@ -188,65 +183,57 @@ pub struct IndexMetadataRecord {
     pub filterable: bool,
 }
 
-impl IndexMetadataRecord {
-    ghost use Rattle.msg_channel.specs.ChannelRecords.{channel_index_kind_form, index_interval_form, index_direction_form};
-
-    /// Appends the trees of the fields that say how the index goes.
-    fn push_course(&self, alloc: Global, trees: &mut Vec<Tree>) -> Result<(), NoMemory>
-        ensures values { OnOk result (map value_of trees.new.items ≡ map value_of trees.old.items ++ (channel_index_kind_form.as_value self.now.index_kind
-            ∷ index_interval_form.as_value self.now.interval ∷ index_direction_form.as_value self.now.direction ∷ [])) }
-        ensures kind { OnOk result (Holds channel_index_kind_form self.now.index_kind) }
-        ensures interval { OnOk result (Holds index_interval_form self.now.interval) }
-        ensures direction { OnOk result (Holds index_direction_form self.now.direction) }
-    {
-        trees.push(self.index_kind.to_tree(alloc)?)?;
-        trees.push(self.interval.to_tree(alloc)?)?;
-        trees.push(self.direction.to_tree(alloc)?)?;
-        Ok(())
-    }
-
-    /// Appends the trees of the texts.
-    fn push_texts(&self, alloc: Global, trees: &mut Vec<Tree>) -> Result<(), NoMemory>
-        ensures values { OnOk result (map value_of trees.new.items ≡ map value_of trees.old.items ++ (VText self.now.name ∷ VText self.now.uom
-            ∷ VText self.now.depth_datum ∷ VText self.now.index_property_kind_uri ∷ [])) }
-        ensures name { OnOk result (Holds text_form self.now.name) }
-        ensures uom { OnOk result (Holds text_form self.now.uom) }
-        ensures depth_datum { OnOk result (Holds text_form self.now.depth_datum) }
-        ensures property_kind { OnOk result (Holds text_form self.now.index_property_kind_uri) }
-    {
-        trees.push(self.name.to_tree(alloc)?)?;
-        trees.push(self.uom.to_tree(alloc)?)?;
-        trees.push(self.depth_datum.to_tree(alloc)?)?;
-        trees.push(self.index_property_kind_uri.to_tree(alloc)?)?;
-        Ok(())
-    }
-}
-
 impl InTree for IndexMetadataRecord {
     ghost use Rattle.msg_channel.specs.ChannelRecords.{index_metadata_record_form};
 
     ghost form = { index_metadata_record_form };
 
-    #[tactic(auto, using(crate::specs::ChannelRecords::index_metadata_record_holds))]
+    #[tactic(auto, unfolding(etp_schema::specs::Form::Holds))]
     fn to_tree(&self, alloc: Global) -> Result<Tree, NoMemory> {
-        let mut trees = Vec::with_capacity(alloc, 8)?;
-        self.push_course(alloc, &mut trees)?;
-        self.push_texts(alloc, &mut trees)?;
-        trees.push(self.filterable.to_tree(alloc)?)?;
-        Ok(record_of(trees))
+        tree_of(
+            alloc,
+            (
+                &self.index_kind,
+                (
+                    &self.interval,
+                    (
+                        &self.direction,
+                        (
+                            &self.name,
+                            (
+                                &self.uom,
+                                (
+                                    &self.depth_datum,
+                                    (&self.index_property_kind_uri, (&self.filterable, ())),
+                                ),
+                            ),
+                        ),
+                    ),
+                ),
+            ),
+        )
     }
 
     fn from_tree(alloc: Global, tree: Tree) -> Result<IndexMetadataRecord, NoMemory> {
-        let mut fields = Fields::of(alloc, tree);
+        let (
+            index_kind,
+            (
+                interval,
+                (
+                    direction,
+                    (name, (uom, (depth_datum, (index_property_kind_uri, (filterable, ()))))),
+                ),
+            ),
+        ) = fields_of(alloc, tree)?;
         Ok(IndexMetadataRecord {
-            index_kind: fields.take()?,
-            interval: fields.take()?,
-            direction: fields.take()?,
-            name: fields.take()?,
-            uom: fields.take()?,
-            depth_datum: fields.take()?,
-            index_property_kind_uri: fields.take()?,
-            filterable: fields.take()?,
+            index_kind,
+            interval,
+            direction,
+            name,
+            uom,
+            depth_datum,
+            index_property_kind_uri,
+            filterable,
         })
     }
 }
@@ -274,29 +261,51 @@ impl InTree for AttributeMetadataRecord {
 
     ghost form = { attribute_metadata_record_form };
 
-    #[tactic(auto, using(crate::specs::ChannelRecords::attribute_metadata_record_holds))]
+    #[tactic(auto, unfolding(etp_schema::specs::Form::Holds))]
     fn to_tree(&self, alloc: Global) -> Result<Tree, NoMemory> {
-        Ok(record_of(vec![in alloc;
-            self.attribute_id.to_tree(alloc)?,
-            self.attribute_name.to_tree(alloc)?,
-            self.data_kind.to_tree(alloc)?,
-            self.uom.to_tree(alloc)?,
-            self.depth_datum.to_tree(alloc)?,
-            self.attribute_property_kind_uri.to_tree(alloc)?,
-            self.axis_vector_lengths.to_tree(alloc)?,
-        ]?))
+        tree_of(
+            alloc,
+            (
+                &self.attribute_id,
+                (
+                    &self.attribute_name,
+                    (
+                        &self.data_kind,
+                        (
+                            &self.uom,
+                            (
+                                &self.depth_datum,
+                                (
+                                    &self.attribute_property_kind_uri,
+                                    (&self.axis_vector_lengths, ()),
+                                ),
+                            ),
+                        ),
+                    ),
+                ),
+            ),
+        )
     }
 
     fn from_tree(alloc: Global, tree: Tree) -> Result<AttributeMetadataRecord, NoMemory> {
-        let mut fields = Fields::of(alloc, tree);
+        let (
+            attribute_id,
+            (
+                attribute_name,
+                (
+                    data_kind,
+                    (uom, (depth_datum, (attribute_property_kind_uri, (axis_vector_lengths, ())))),
+                ),
+            ),
+        ) = fields_of(alloc, tree)?;
         Ok(AttributeMetadataRecord {
-            attribute_id: fields.take()?,
-            attribute_name: fields.take()?,
-            data_kind: fields.take()?,
-            uom: fields.take()?,
-            depth_datum: fields.take()?,
-            attribute_property_kind_uri: fields.take()?,
-            axis_vector_lengths: fields.take()?,
+            attribute_id,
+            attribute_name,
+            data_kind,
+            uom,
+            depth_datum,
+            attribute_property_kind_uri,
+            axis_vector_lengths,
         })
     }
 }
@@ -336,41 +345,99 @@ impl InTree for ChannelMetadataRecord {
 
     ghost form = { channel_metadata_record_form };
 
-    #[tactic(auto, using(crate::specs::ChannelRecords::channel_metadata_record_holds))]
+    #[tactic(auto, unfolding(etp_schema::specs::Form::Holds))]
     fn to_tree(&self, alloc: Global) -> Result<Tree, NoMemory> {
-        Ok(record_of(vec![in alloc;
-            self.uri.to_tree(alloc)?,
-            self.id.to_tree(alloc)?,
-            self.indexes.to_tree(alloc)?,
-            self.channel_name.to_tree(alloc)?,
-            self.data_kind.to_tree(alloc)?,
-            self.uom.to_tree(alloc)?,
-            self.depth_datum.to_tree(alloc)?,
-            self.channel_class_uri.to_tree(alloc)?,
-            self.status.to_tree(alloc)?,
-            self.source.to_tree(alloc)?,
-            self.axis_vector_lengths.to_tree(alloc)?,
-            self.attribute_metadata.to_tree(alloc)?,
-            self.custom_data.to_tree(alloc)?,
-        ]?))
+        tree_of(
+            alloc,
+            (
+                &self.uri,
+                (
+                    &self.id,
+                    (
+                        &self.indexes,
+                        (
+                            &self.channel_name,
+                            (
+                                &self.data_kind,
+                                (
+                                    &self.uom,
+                                    (
+                                        &self.depth_datum,
+                                        (
+                                            &self.channel_class_uri,
+                                            (
+                                                &self.status,
+                                                (
+                                                    &self.source,
+                                                    (
+                                                        &self.axis_vector_lengths,
+                                                        (
+                                                            &self.attribute_metadata,
+                                                            (&self.custom_data, ()),
+                                                        ),
+                                                    ),
+                                                ),
+                                            ),
+                                        ),
+                                    ),
+                                ),
+                            ),
+                        ),
+                    ),
+                ),
+            ),
+        )
     }
 
     fn from_tree(alloc: Global, tree: Tree) -> Result<ChannelMetadataRecord, NoMemory> {
-        let mut fields = Fields::of(alloc, tree);
+        let (
+            uri,
+            (
+                id,
+                (
+                    indexes,
+                    (
+                        channel_name,
+                        (
+                            data_kind,
+                            (
+                                uom,
+                                (
+                                    depth_datum,
+                                    (
+                                        channel_class_uri,
+                                        (
+                                            status,
+                                            (
+                                                source,
+                                                (
+                                                    axis_vector_lengths,
+                                                    (attribute_metadata, (custom_data, ())),
+                                                ),
+                                            ),
+                                        ),
+                                    ),
+                                ),
+                            ),
+                        ),
+                    ),
+                ),
+            ),
+        ) = fields_of(alloc, tree)?;
         Ok(ChannelMetadataRecord {
-            uri: fields.take()?,
-            id: fields.take()?,
-            indexes: fields.take()?,
-            channel_name: fields.take()?,
-            data_kind: fields.take()?,
-            uom: fields.take()?,
-            depth_datum: fields.take()?,
-            channel_class_uri: fields.take()?,
-            status: fields.take()?,
-            source: fields.take()?,
-            axis_vector_lengths: fields.take()?,
-            attribute_metadata: fields.take()?,
-            custom_data: fields.take()?,
+            uri,
+            id,
+            indexes,
+            channel_name,
+            data_kind,
+            uom,
+            depth_datum,
+            channel_class_uri,
+            status,
+            source,
+            axis_vector_lengths,
+            attribute_metadata,
+            custom_data,
         })
     }
 }

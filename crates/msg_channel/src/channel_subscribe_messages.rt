@@ -11,7 +11,7 @@ use crate::channel_records::ChannelMetadataRecord;
 use crate::indexes::IndexValue;
 use crate::points::DataItem;
 use avro_bin::Tree;
-use etp_schema::{Fields, InTree, record_of};
+use etp_schema::{InTree, fields_of, tree_of};
 use etp_values::{List, Named, NoMemory, Text};
 use std::alloc::Global;
 
@@ -33,23 +33,28 @@ impl InTree for ChannelSubscribeInfo {
 
     ghost form = { channel_subscribe_info_form };
 
-    #[tactic(auto, using(crate::specs::ChannelSubscribe::channel_subscribe_info_holds))]
+    #[tactic(auto, unfolding(etp_schema::specs::Form::Holds))]
     fn to_tree(&self, alloc: Global) -> Result<Tree, NoMemory> {
-        Ok(record_of(vec![in alloc;
-            self.channel_id.to_tree(alloc)?,
-            self.start_index.to_tree(alloc)?,
-            self.data_changes.to_tree(alloc)?,
-            self.request_latest_index_count.to_tree(alloc)?,
-        ]?))
+        tree_of(
+            alloc,
+            (
+                &self.channel_id,
+                (
+                    &self.start_index,
+                    (&self.data_changes, (&self.request_latest_index_count, ())),
+                ),
+            ),
+        )
     }
 
     fn from_tree(alloc: Global, tree: Tree) -> Result<ChannelSubscribeInfo, NoMemory> {
-        let mut fields = Fields::of(alloc, tree);
+        let (channel_id, (start_index, (data_changes, (request_latest_index_count, ())))) =
+            fields_of(alloc, tree)?;
         Ok(ChannelSubscribeInfo {
-            channel_id: fields.take()?,
-            start_index: fields.take()?,
-            data_changes: fields.take()?,
-            request_latest_index_count: fields.take()?,
+            channel_id,
+            start_index,
+            data_changes,
+            request_latest_index_count,
         })
     }
 }
@@ -66,16 +71,14 @@ impl InTree for GetChannelMetadata {
 
     ghost form = { get_channel_metadata_form };
 
-    #[tactic(auto, using(crate::specs::ChannelSubscribe::get_channel_metadata_holds))]
+    #[tactic(auto, unfolding(etp_schema::specs::Form::Holds))]
     fn to_tree(&self, alloc: Global) -> Result<Tree, NoMemory> {
-        Ok(record_of(vec![in alloc; self.uris.to_tree(alloc)?]?))
+        tree_of(alloc, (&self.uris, ()))
     }
 
     fn from_tree(alloc: Global, tree: Tree) -> Result<GetChannelMetadata, NoMemory> {
-        let mut fields = Fields::of(alloc, tree);
-        Ok(GetChannelMetadata {
-            uris: fields.take()?,
-        })
+        let (uris, ()) = fields_of(alloc, tree)?;
+        Ok(GetChannelMetadata { uris })
     }
 }
 
@@ -91,16 +94,14 @@ impl InTree for GetChannelMetadataResponse {
 
     ghost form = { get_channel_metadata_response_form };
 
-    #[tactic(auto, using(crate::specs::ChannelSubscribe::get_channel_metadata_response_holds))]
+    #[tactic(auto, unfolding(etp_schema::specs::Form::Holds))]
     fn to_tree(&self, alloc: Global) -> Result<Tree, NoMemory> {
-        Ok(record_of(vec![in alloc; self.metadata.to_tree(alloc)?]?))
+        tree_of(alloc, (&self.metadata, ()))
     }
 
     fn from_tree(alloc: Global, tree: Tree) -> Result<GetChannelMetadataResponse, NoMemory> {
-        let mut fields = Fields::of(alloc, tree);
-        Ok(GetChannelMetadataResponse {
-            metadata: fields.take()?,
-        })
+        let (metadata, ()) = fields_of(alloc, tree)?;
+        Ok(GetChannelMetadataResponse { metadata })
     }
 }
 
@@ -116,16 +117,14 @@ impl InTree for SubscribeChannels {
 
     ghost form = { subscribe_channels_form };
 
-    #[tactic(auto, using(crate::specs::ChannelSubscribe::subscribe_channels_holds))]
+    #[tactic(auto, unfolding(etp_schema::specs::Form::Holds))]
     fn to_tree(&self, alloc: Global) -> Result<Tree, NoMemory> {
-        Ok(record_of(vec![in alloc; self.channels.to_tree(alloc)?]?))
+        tree_of(alloc, (&self.channels, ()))
     }
 
     fn from_tree(alloc: Global, tree: Tree) -> Result<SubscribeChannels, NoMemory> {
-        let mut fields = Fields::of(alloc, tree);
-        Ok(SubscribeChannels {
-            channels: fields.take()?,
-        })
+        let (channels, ()) = fields_of(alloc, tree)?;
+        Ok(SubscribeChannels { channels })
     }
 }
 
@@ -141,16 +140,14 @@ impl InTree for ChannelData {
 
     ghost form = { channel_data_form };
 
-    #[tactic(auto, using(crate::specs::ChannelSubscribe::channel_data_holds))]
+    #[tactic(auto, unfolding(etp_schema::specs::Form::Holds))]
     fn to_tree(&self, alloc: Global) -> Result<Tree, NoMemory> {
-        Ok(record_of(vec![in alloc; self.payload.to_tree(alloc)?]?))
+        tree_of(alloc, (&self.payload, ()))
     }
 
     fn from_tree(alloc: Global, tree: Tree) -> Result<ChannelData, NoMemory> {
-        let mut fields = Fields::of(alloc, tree);
-        Ok(ChannelData {
-            payload: fields.take()?,
-        })
+        let (payload, ()) = fields_of(alloc, tree)?;
+        Ok(ChannelData { payload })
     }
 }
 
@@ -166,16 +163,14 @@ impl InTree for UnsubscribeChannels {
 
     ghost form = { unsubscribe_channels_form };
 
-    #[tactic(auto, using(crate::specs::ChannelSubscribe::unsubscribe_channels_holds))]
+    #[tactic(auto, unfolding(etp_schema::specs::Form::Holds))]
     fn to_tree(&self, alloc: Global) -> Result<Tree, NoMemory> {
-        Ok(record_of(vec![in alloc; self.channel_ids.to_tree(alloc)?]?))
+        tree_of(alloc, (&self.channel_ids, ()))
     }
 
     fn from_tree(alloc: Global, tree: Tree) -> Result<UnsubscribeChannels, NoMemory> {
-        let mut fields = Fields::of(alloc, tree);
-        Ok(UnsubscribeChannels {
-            channel_ids: fields.take()?,
-        })
+        let (channel_ids, ()) = fields_of(alloc, tree)?;
+        Ok(UnsubscribeChannels { channel_ids })
     }
 }
 
@@ -193,19 +188,16 @@ impl InTree for SubscriptionsStopped {
 
     ghost form = { subscriptions_stopped_form };
 
-    #[tactic(auto, using(crate::specs::ChannelSubscribe::subscriptions_stopped_holds))]
+    #[tactic(auto, unfolding(etp_schema::specs::Form::Holds))]
     fn to_tree(&self, alloc: Global) -> Result<Tree, NoMemory> {
-        Ok(record_of(vec![in alloc;
-            self.reason.to_tree(alloc)?,
-            self.channel_ids.to_tree(alloc)?,
-        ]?))
+        tree_of(alloc, (&self.reason, (&self.channel_ids, ())))
     }
 
     fn from_tree(alloc: Global, tree: Tree) -> Result<SubscriptionsStopped, NoMemory> {
-        let mut fields = Fields::of(alloc, tree);
+        let (reason, (channel_ids, ())) = fields_of(alloc, tree)?;
         Ok(SubscriptionsStopped {
-            reason: fields.take()?,
-            channel_ids: fields.take()?,
+            reason,
+            channel_ids,
         })
     }
 }
@@ -222,16 +214,14 @@ impl InTree for SubscribeChannelsResponse {
 
     ghost form = { subscribe_channels_response_form };
 
-    #[tactic(auto, using(crate::specs::ChannelSubscribe::subscribe_channels_response_holds))]
+    #[tactic(auto, unfolding(etp_schema::specs::Form::Holds))]
     fn to_tree(&self, alloc: Global) -> Result<Tree, NoMemory> {
-        Ok(record_of(vec![in alloc; self.success.to_tree(alloc)?]?))
+        tree_of(alloc, (&self.success, ()))
     }
 
     fn from_tree(alloc: Global, tree: Tree) -> Result<SubscribeChannelsResponse, NoMemory> {
-        let mut fields = Fields::of(alloc, tree);
-        Ok(SubscribeChannelsResponse {
-            success: fields.take()?,
-        })
+        let (success, ()) = fields_of(alloc, tree)?;
+        Ok(SubscribeChannelsResponse { success })
     }
 }
 

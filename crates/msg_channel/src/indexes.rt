@@ -1,6 +1,6 @@
 //! Indexes: the values of one, and intervals of them.
 use avro_bin::Tree;
-use etp_schema::{Fields, InTree, branch_of, branch_record, record_of, symbol_of};
+use etp_schema::{InTree, branch_of, branch_record, fields_of, symbol_of, tree_of};
 use etp_values::{Bits64, NoMemory, Text};
 use std::alloc::Global;
 
@@ -56,21 +56,17 @@ impl InTree for PassIndexedDepth {
 
     ghost form = { pass_indexed_depth_form };
 
-    #[tactic(auto, using(crate::specs::ChannelRecords::pass_indexed_depth_holds))]
+    #[tactic(auto, unfolding(etp_schema::specs::Form::Holds))]
     fn to_tree(&self, alloc: Global) -> Result<Tree, NoMemory> {
-        Ok(record_of(vec![in alloc;
-            self.pass.to_tree(alloc)?,
-            self.direction.to_tree(alloc)?,
-            self.depth.to_tree(alloc)?,
-        ]?))
+        tree_of(alloc, (&self.pass, (&self.direction, (&self.depth, ()))))
     }
 
     fn from_tree(alloc: Global, tree: Tree) -> Result<PassIndexedDepth, NoMemory> {
-        let mut fields = Fields::of(alloc, tree);
+        let (pass, (direction, (depth, ()))) = fields_of(alloc, tree)?;
         Ok(PassIndexedDepth {
-            pass: fields.take()?,
-            direction: fields.take()?,
-            depth: fields.take()?,
+            pass,
+            direction,
+            depth,
         })
     }
 }
@@ -132,23 +128,24 @@ impl InTree for IndexInterval {
 
     ghost form = { index_interval_form };
 
-    #[tactic(auto, using(crate::specs::ChannelRecords::index_interval_holds))]
+    #[tactic(auto, unfolding(etp_schema::specs::Form::Holds))]
     fn to_tree(&self, alloc: Global) -> Result<Tree, NoMemory> {
-        Ok(record_of(vec![in alloc;
-            self.start_index.to_tree(alloc)?,
-            self.end_index.to_tree(alloc)?,
-            self.uom.to_tree(alloc)?,
-            self.depth_datum.to_tree(alloc)?,
-        ]?))
+        tree_of(
+            alloc,
+            (
+                &self.start_index,
+                (&self.end_index, (&self.uom, (&self.depth_datum, ()))),
+            ),
+        )
     }
 
     fn from_tree(alloc: Global, tree: Tree) -> Result<IndexInterval, NoMemory> {
-        let mut fields = Fields::of(alloc, tree);
+        let (start_index, (end_index, (uom, (depth_datum, ())))) = fields_of(alloc, tree)?;
         Ok(IndexInterval {
-            start_index: fields.take()?,
-            end_index: fields.take()?,
-            uom: fields.take()?,
-            depth_datum: fields.take()?,
+            start_index,
+            end_index,
+            uom,
+            depth_datum,
         })
     }
 }

@@ -10,11 +10,17 @@
 #![tactic(auto)]
 
 mod channel_data_load_messages;
+mod channel_data_load_on_wire;
 mod channel_ranges;
+mod channel_ranges_on_wire;
 mod channel_records;
+mod channel_records_on_wire;
 mod channel_subscribe_messages;
+mod channel_subscribe_on_wire;
 mod indexes;
+mod indexes_on_wire;
 mod points;
+mod points_on_wire;
 
 pub use channel_data_load_messages::{
     ChannelDataLoadMessage, ChannelsClosed, CloseChannels, LoadChannelData, OpenChannelInfo,

@@ -1,7 +1,7 @@
 //! Points of channels, and where channels are cut off.
 use crate::indexes::IndexValue;
 use avro_bin::Tree;
-use etp_schema::{Fields, InTree, record_of};
+use etp_schema::{InTree, fields_of, tree_of};
 use etp_values::{DataValue, List, NoMemory};
 use std::alloc::Global;
 
@@ -18,19 +18,16 @@ impl InTree for DataAttribute {
 
     ghost form = { data_attribute_form };
 
-    #[tactic(auto, using(crate::specs::ChannelRecords::data_attribute_holds))]
+    #[tactic(auto, unfolding(etp_schema::specs::Form::Holds))]
     fn to_tree(&self, alloc: Global) -> Result<Tree, NoMemory> {
-        Ok(record_of(vec![in alloc;
-            self.attribute_id.to_tree(alloc)?,
-            self.attribute_value.to_tree(alloc)?,
-        ]?))
+        tree_of(alloc, (&self.attribute_id, (&self.attribute_value, ())))
     }
 
     fn from_tree(alloc: Global, tree: Tree) -> Result<DataAttribute, NoMemory> {
-        let mut fields = Fields::of(alloc, tree);
+        let (attribute_id, (attribute_value, ())) = fields_of(alloc, tree)?;
         Ok(DataAttribute {
-            attribute_id: fields.take()?,
-            attribute_value: fields.take()?,
+            attribute_id,
+            attribute_value,
         })
     }
 }
@@ -53,23 +50,24 @@ impl InTree for DataItem {
 
     ghost form = { data_item_form };
 
-    #[tactic(auto, using(crate::specs::ChannelRecords::data_item_holds))]
+    #[tactic(auto, unfolding(etp_schema::specs::Form::Holds))]
     fn to_tree(&self, alloc: Global) -> Result<Tree, NoMemory> {
-        Ok(record_of(vec![in alloc;
-            self.channel_id.to_tree(alloc)?,
-            self.indexes.to_tree(alloc)?,
-            self.value.to_tree(alloc)?,
-            self.value_attributes.to_tree(alloc)?,
-        ]?))
+        tree_of(
+            alloc,
+            (
+                &self.channel_id,
+                (&self.indexes, (&self.value, (&self.value_attributes, ()))),
+            ),
+        )
     }
 
     fn from_tree(alloc: Global, tree: Tree) -> Result<DataItem, NoMemory> {
-        let mut fields = Fields::of(alloc, tree);
+        let (channel_id, (indexes, (value, (value_attributes, ())))) = fields_of(alloc, tree)?;
         Ok(DataItem {
-            channel_id: fields.take()?,
-            indexes: fields.take()?,
-            value: fields.take()?,
-            value_attributes: fields.take()?,
+            channel_id,
+            indexes,
+            value,
+            value_attributes,
         })
     }
 }
@@ -88,19 +86,16 @@ impl InTree for TruncateInfo {
 
     ghost form = { truncate_info_form };
 
-    #[tactic(auto, using(crate::specs::ChannelRecords::truncate_info_holds))]
+    #[tactic(auto, unfolding(etp_schema::specs::Form::Holds))]
     fn to_tree(&self, alloc: Global) -> Result<Tree, NoMemory> {
-        Ok(record_of(vec![in alloc;
-            self.channel_id.to_tree(alloc)?,
-            self.new_end_index.to_tree(alloc)?,
-        ]?))
+        tree_of(alloc, (&self.channel_id, (&self.new_end_index, ())))
     }
 
     fn from_tree(alloc: Global, tree: Tree) -> Result<TruncateInfo, NoMemory> {
-        let mut fields = Fields::of(alloc, tree);
+        let (channel_id, (new_end_index, ())) = fields_of(alloc, tree)?;
         Ok(TruncateInfo {
-            channel_id: fields.take()?,
-            new_end_index: fields.take()?,
+            channel_id,
+            new_end_index,
         })
     }
 }

@@ -2,7 +2,7 @@
 use Rattle.std.proofs.Common.{ap}
 use Rattle.std.specs.Prelude.{refl, List, [], ◌∷◌}
 use Rattle.std.specs.List.{AllByRecursion}
-use Rattle.etp_schema.specs.Form.{Form, Holds, boolean_form, id_form, int_form, long_form, text_form, list_form, named_form, option_form, fields, ◌&◌, done}
+use Rattle.etp_schema.specs.Form.{Form, boolean_form, id_form, int_form, long_form, text_form, list_form, named_form, option_form, fields, ◌&◌, done}
 use Rattle.etp_schema.specs.Family.{Kind, Body, message, body, IsFound, IsAgain, again}
 use Rattle.etp_schema.specs.DataValue.{data_value_form}
 use Rattle.msg_core.specs.declared.core_messages.Version.{Version}
@@ -27,10 +27,6 @@ version_form =
     (λ p. record { major = p.0; minor = p.1.0; revision = p.1.1.0; patch = p.1.1.1.0 })
     (λ x. refl) (λ p. refl)
 
-pub version_holds : (x : Version) → Holds int_form x.major → Holds int_form x.minor → Holds int_form x.revision → Holds int_form x.patch → Holds version_form x
-unfolding Holds
-version_holds x h0 h1 h2 h3 = (h0, (h1, (h2, (h3, tt))))
-
 -- protocol, protocolVersion, role, protocolCapabilities
 abbrev pub supported_protocol_form : Form SupportedProtocol
 supported_protocol_form =
@@ -38,10 +34,6 @@ supported_protocol_form =
     (λ x. (x.protocol, (x.protocol_version, (x.role, (x.protocol_capabilities, tt)))))
     (λ p. record { protocol = p.0; protocol_version = p.1.0; role = p.1.1.0; protocol_capabilities = p.1.1.1.0 })
     (λ x. refl) (λ p. refl)
-
-pub supported_protocol_holds : (x : SupportedProtocol) → Holds int_form x.protocol → Holds version_form x.protocol_version → Holds text_form x.role → Holds (named_form data_value_form) x.protocol_capabilities → Holds supported_protocol_form x
-unfolding Holds
-supported_protocol_holds x h0 h1 h2 h3 = (h0, (h1, (h2, (h3, tt))))
 
 -- qualifiedType, dataObjectCapabilities
 abbrev pub supported_data_object_form : Form SupportedDataObject
@@ -51,10 +43,6 @@ supported_data_object_form =
     (λ p. record { qualified_type = p.0; data_object_capabilities = p.1.0 })
     (λ x. refl) (λ p. refl)
 
-pub supported_data_object_holds : (x : SupportedDataObject) → Holds text_form x.qualified_type → Holds (named_form data_value_form) x.data_object_capabilities → Holds supported_data_object_form x
-unfolding Holds
-supported_data_object_holds x h0 h1 = (h0, (h1, tt))
-
 -- message, code
 abbrev pub error_info_form : Form ErrorInfo
 error_info_form =
@@ -62,10 +50,6 @@ error_info_form =
     (λ x. (x.message, (x.code, tt)))
     (λ p. record { message = p.0; code = p.1.0 })
     (λ x. refl) (λ p. refl)
-
-pub error_info_holds : (x : ErrorInfo) → Holds text_form x.message → Holds int_form x.code → Holds error_info_form x
-unfolding Holds
-error_info_holds x h0 h1 = (h0, (h1, tt))
 
 -- applicationName, applicationVersion, clientInstanceId, requestedProtocols, supportedDataObjects, supportedCompression, supportedFormats, currentDateTime, earliestRetainedChangeTime, serverAuthorizationRequired, endpointCapabilities
 abbrev pub request_session_form : Form RequestSession
@@ -75,10 +59,6 @@ request_session_form =
     (λ p. record { application_name = p.0; application_version = p.1.0; client_instance_id = p.1.1.0; requested_protocols = p.1.1.1.0; supported_data_objects = p.1.1.1.1.0; supported_compression = p.1.1.1.1.1.0; supported_formats = p.1.1.1.1.1.1.0; current_date_time = p.1.1.1.1.1.1.1.0; earliest_retained_change_time = p.1.1.1.1.1.1.1.1.0; server_authorization_required = p.1.1.1.1.1.1.1.1.1.0; endpoint_capabilities = p.1.1.1.1.1.1.1.1.1.1.0 })
     (λ x. refl) (λ p. refl)
 
-pub request_session_holds : (x : RequestSession) → Holds text_form x.application_name → Holds text_form x.application_version → Holds id_form x.client_instance_id → Holds (list_form supported_protocol_form) x.requested_protocols → Holds (list_form supported_data_object_form) x.supported_data_objects → Holds (list_form text_form) x.supported_compression → Holds (list_form text_form) x.supported_formats → Holds long_form x.current_date_time → Holds long_form x.earliest_retained_change_time → Holds boolean_form x.server_authorization_required → Holds (named_form data_value_form) x.endpoint_capabilities → Holds request_session_form x
-unfolding Holds
-request_session_holds x h0 h1 h2 h3 h4 h5 h6 h7 h8 h9 h10 = (h0, (h1, (h2, (h3, (h4, (h5, (h6, (h7, (h8, (h9, (h10, tt)))))))))))
-
 -- applicationName, applicationVersion, serverInstanceId, supportedProtocols, supportedDataObjects, supportedCompression, supportedFormats, currentDateTime, earliestRetainedChangeTime, sessionId, endpointCapabilities
 abbrev pub open_session_form : Form OpenSession
 open_session_form =
@@ -86,10 +66,6 @@ open_session_form =
     (λ x. (x.application_name, (x.application_version, (x.server_instance_id, (x.supported_protocols, (x.supported_data_objects, (x.supported_compression, (x.supported_formats, (x.current_date_time, (x.earliest_retained_change_time, (x.session_id, (x.endpoint_capabilities, tt))))))))))))
     (λ p. record { application_name = p.0; application_version = p.1.0; server_instance_id = p.1.1.0; supported_protocols = p.1.1.1.0; supported_data_objects = p.1.1.1.1.0; supported_compression = p.1.1.1.1.1.0; supported_formats = p.1.1.1.1.1.1.0; current_date_time = p.1.1.1.1.1.1.1.0; earliest_retained_change_time = p.1.1.1.1.1.1.1.1.0; session_id = p.1.1.1.1.1.1.1.1.1.0; endpoint_capabilities = p.1.1.1.1.1.1.1.1.1.1.0 })
     (λ x. refl) (λ p. refl)
-
-pub open_session_holds : (x : OpenSession) → Holds text_form x.application_name → Holds text_form x.application_version → Holds id_form x.server_instance_id → Holds (list_form supported_protocol_form) x.supported_protocols → Holds (list_form supported_data_object_form) x.supported_data_objects → Holds text_form x.supported_compression → Holds (list_form text_form) x.supported_formats → Holds long_form x.current_date_time → Holds long_form x.earliest_retained_change_time → Holds id_form x.session_id → Holds (named_form data_value_form) x.endpoint_capabilities → Holds open_session_form x
-unfolding Holds
-open_session_holds x h0 h1 h2 h3 h4 h5 h6 h7 h8 h9 h10 = (h0, (h1, (h2, (h3, (h4, (h5, (h6, (h7, (h8, (h9, (h10, tt)))))))))))
 
 -- reason
 abbrev pub close_session_form : Form CloseSession
@@ -99,10 +75,6 @@ close_session_form =
     (λ p. record { reason = p.0 })
     (λ x. refl) (λ p. refl)
 
-pub close_session_holds : (x : CloseSession) → Holds text_form x.reason → Holds close_session_form x
-unfolding Holds
-close_session_holds x h = (h, tt)
-
 -- currentDateTime
 abbrev pub ping_form : Form Ping
 ping_form =
@@ -110,10 +82,6 @@ ping_form =
     (λ x. (x.current_date_time, tt))
     (λ p. record { current_date_time = p.0 })
     (λ x. refl) (λ p. refl)
-
-pub ping_holds : (x : Ping) → Holds long_form x.current_date_time → Holds ping_form x
-unfolding Holds
-ping_holds x h = (h, tt)
 
 -- currentDateTime
 abbrev pub pong_form : Form Pong
@@ -123,10 +91,6 @@ pong_form =
     (λ p. record { current_date_time = p.0 })
     (λ x. refl) (λ p. refl)
 
-pub pong_holds : (x : Pong) → Holds long_form x.current_date_time → Holds pong_form x
-unfolding Holds
-pong_holds x h = (h, tt)
-
 -- error, errors
 abbrev pub protocol_exception_form : Form ProtocolException
 protocol_exception_form =
@@ -135,17 +99,9 @@ protocol_exception_form =
     (λ p. record { error = p.0; errors = p.1.0 })
     (λ x. refl) (λ p. refl)
 
-pub protocol_exception_holds : (x : ProtocolException) → Holds (option_form error_info_form) x.error → Holds (named_form error_info_form) x.errors → Holds protocol_exception_form x
-unfolding Holds
-protocol_exception_holds x h0 h1 = (h0, (h1, tt))
-
 -- no fields
 abbrev pub acknowledge_form : Form Acknowledge
 acknowledge_form = fields done (λ x. tt) (λ p. record {}) (λ x. refl) (λ p. refl)
-
-pub acknowledge_holds : (x : Acknowledge) → Holds acknowledge_form x
-unfolding Holds
-acknowledge_holds x = tt
 
 -- the messages by number
 abbrev pub core_kinds : List (Kind CoreMessage)

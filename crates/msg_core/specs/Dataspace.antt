@@ -2,7 +2,7 @@
 use Rattle.std.proofs.Common.{ap}
 use Rattle.std.specs.Prelude.{refl, List, [], ◌∷◌}
 use Rattle.std.specs.List.{AllByRecursion}
-use Rattle.etp_schema.specs.Form.{Form, Holds, long_form, text_form, list_form, named_form, option_form, fields, ◌&◌, done}
+use Rattle.etp_schema.specs.Form.{Form, long_form, text_form, list_form, named_form, option_form, fields, ◌&◌, done}
 use Rattle.etp_schema.specs.Family.{Kind, Body, message, body, IsFound, IsAgain, again}
 use Rattle.etp_schema.specs.DataValue.{data_value_form}
 use Rattle.msg_core.specs.declared.dataspace_messages.Dataspace.{Dataspace}
@@ -23,10 +23,6 @@ dataspace_form =
     (λ p. record { uri = p.0; path = p.1.0; store_last_write = p.1.1.0; store_created = p.1.1.1.0; custom_data = p.1.1.1.1.0 })
     (λ x. refl) (λ p. refl)
 
-pub dataspace_holds : (x : Dataspace) → Holds text_form x.uri → Holds text_form x.path → Holds long_form x.store_last_write → Holds long_form x.store_created → Holds (named_form data_value_form) x.custom_data → Holds dataspace_form x
-unfolding Holds
-dataspace_holds x h0 h1 h2 h3 h4 = (h0, (h1, (h2, (h3, (h4, tt)))))
-
 -- storeLastWriteFilter
 abbrev pub get_dataspaces_form : Form GetDataspaces
 get_dataspaces_form =
@@ -34,10 +30,6 @@ get_dataspaces_form =
     (λ x. (x.store_last_write_filter, tt))
     (λ p. record { store_last_write_filter = p.0 })
     (λ x. refl) (λ p. refl)
-
-pub get_dataspaces_holds : (x : GetDataspaces) → Holds (option_form long_form) x.store_last_write_filter → Holds get_dataspaces_form x
-unfolding Holds
-get_dataspaces_holds x h = (h, tt)
 
 -- dataspaces
 abbrev pub get_dataspaces_response_form : Form GetDataspacesResponse
@@ -47,10 +39,6 @@ get_dataspaces_response_form =
     (λ p. record { dataspaces = p.0 })
     (λ x. refl) (λ p. refl)
 
-pub get_dataspaces_response_holds : (x : GetDataspacesResponse) → Holds (list_form dataspace_form) x.dataspaces → Holds get_dataspaces_response_form x
-unfolding Holds
-get_dataspaces_response_holds x h = (h, tt)
-
 -- dataspaces
 abbrev pub put_dataspaces_form : Form PutDataspaces
 put_dataspaces_form =
@@ -58,10 +46,6 @@ put_dataspaces_form =
     (λ x. (x.dataspaces, tt))
     (λ p. record { dataspaces = p.0 })
     (λ x. refl) (λ p. refl)
-
-pub put_dataspaces_holds : (x : PutDataspaces) → Holds (named_form dataspace_form) x.dataspaces → Holds put_dataspaces_form x
-unfolding Holds
-put_dataspaces_holds x h = (h, tt)
 
 -- uris
 abbrev pub delete_dataspaces_form : Form DeleteDataspaces
@@ -71,10 +55,6 @@ delete_dataspaces_form =
     (λ p. record { uris = p.0 })
     (λ x. refl) (λ p. refl)
 
-pub delete_dataspaces_holds : (x : DeleteDataspaces) → Holds (named_form text_form) x.uris → Holds delete_dataspaces_form x
-unfolding Holds
-delete_dataspaces_holds x h = (h, tt)
-
 -- success
 abbrev pub delete_dataspaces_response_form : Form DeleteDataspacesResponse
 delete_dataspaces_response_form =
@@ -83,10 +63,6 @@ delete_dataspaces_response_form =
     (λ p. record { success = p.0 })
     (λ x. refl) (λ p. refl)
 
-pub delete_dataspaces_response_holds : (x : DeleteDataspacesResponse) → Holds (named_form text_form) x.success → Holds delete_dataspaces_response_form x
-unfolding Holds
-delete_dataspaces_response_holds x h = (h, tt)
-
 -- success
 abbrev pub put_dataspaces_response_form : Form PutDataspacesResponse
 put_dataspaces_response_form =
@@ -94,10 +70,6 @@ put_dataspaces_response_form =
     (λ x. (x.success, tt))
     (λ p. record { success = p.0 })
     (λ x. refl) (λ p. refl)
-
-pub put_dataspaces_response_holds : (x : PutDataspacesResponse) → Holds (named_form text_form) x.success → Holds put_dataspaces_response_form x
-unfolding Holds
-put_dataspaces_response_holds x h = (h, tt)
 
 -- the messages by number
 abbrev pub dataspace_kinds : List (Kind DataspaceMessage)

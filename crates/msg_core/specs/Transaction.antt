@@ -2,7 +2,7 @@
 use Rattle.std.proofs.Common.{ap}
 use Rattle.std.specs.Prelude.{refl, List, [], ◌∷◌}
 use Rattle.std.specs.List.{AllByRecursion}
-use Rattle.etp_schema.specs.Form.{Form, Holds, boolean_form, id_form, text_form, list_form, fields, ◌&◌, done}
+use Rattle.etp_schema.specs.Form.{Form, boolean_form, id_form, text_form, list_form, fields, ◌&◌, done}
 use Rattle.etp_schema.specs.Family.{Kind, Body, message, body, IsFound, IsAgain, again}
 use Rattle.msg_core.specs.declared.transaction_messages.StartTransaction.{StartTransaction}
 use Rattle.msg_core.specs.declared.transaction_messages.StartTransactionResponse.{StartTransactionResponse}
@@ -21,10 +21,6 @@ start_transaction_form =
     (λ p. record { read_only = p.0; message = p.1.0; dataspace_uris = p.1.1.0 })
     (λ x. refl) (λ p. refl)
 
-pub start_transaction_holds : (x : StartTransaction) → Holds boolean_form x.read_only → Holds text_form x.message → Holds (list_form text_form) x.dataspace_uris → Holds start_transaction_form x
-unfolding Holds
-start_transaction_holds x h0 h1 h2 = (h0, (h1, (h2, tt)))
-
 -- transactionUuid, successful, failureReason
 abbrev pub start_transaction_response_form : Form StartTransactionResponse
 start_transaction_response_form =
@@ -32,10 +28,6 @@ start_transaction_response_form =
     (λ x. (x.transaction_uuid, (x.successful, (x.failure_reason, tt))))
     (λ p. record { transaction_uuid = p.0; successful = p.1.0; failure_reason = p.1.1.0 })
     (λ x. refl) (λ p. refl)
-
-pub start_transaction_response_holds : (x : StartTransactionResponse) → Holds id_form x.transaction_uuid → Holds boolean_form x.successful → Holds text_form x.failure_reason → Holds start_transaction_response_form x
-unfolding Holds
-start_transaction_response_holds x h0 h1 h2 = (h0, (h1, (h2, tt)))
 
 -- transactionUuid
 abbrev pub commit_transaction_form : Form CommitTransaction
@@ -45,10 +37,6 @@ commit_transaction_form =
     (λ p. record { transaction_uuid = p.0 })
     (λ x. refl) (λ p. refl)
 
-pub commit_transaction_holds : (x : CommitTransaction) → Holds id_form x.transaction_uuid → Holds commit_transaction_form x
-unfolding Holds
-commit_transaction_holds x h = (h, tt)
-
 -- transactionUuid
 abbrev pub rollback_transaction_form : Form RollbackTransaction
 rollback_transaction_form =
@@ -56,10 +44,6 @@ rollback_transaction_form =
     (λ x. (x.transaction_uuid, tt))
     (λ p. record { transaction_uuid = p.0 })
     (λ x. refl) (λ p. refl)
-
-pub rollback_transaction_holds : (x : RollbackTransaction) → Holds id_form x.transaction_uuid → Holds rollback_transaction_form x
-unfolding Holds
-rollback_transaction_holds x h = (h, tt)
 
 -- transactionUuid, successful, failureReason
 abbrev pub commit_transaction_response_form : Form CommitTransactionResponse
@@ -69,10 +53,6 @@ commit_transaction_response_form =
     (λ p. record { transaction_uuid = p.0; successful = p.1.0; failure_reason = p.1.1.0 })
     (λ x. refl) (λ p. refl)
 
-pub commit_transaction_response_holds : (x : CommitTransactionResponse) → Holds id_form x.transaction_uuid → Holds boolean_form x.successful → Holds text_form x.failure_reason → Holds commit_transaction_response_form x
-unfolding Holds
-commit_transaction_response_holds x h0 h1 h2 = (h0, (h1, (h2, tt)))
-
 -- transactionUuid, successful, failureReason
 abbrev pub rollback_transaction_response_form : Form RollbackTransactionResponse
 rollback_transaction_response_form =
@@ -80,10 +60,6 @@ rollback_transaction_response_form =
     (λ x. (x.transaction_uuid, (x.successful, (x.failure_reason, tt))))
     (λ p. record { transaction_uuid = p.0; successful = p.1.0; failure_reason = p.1.1.0 })
     (λ x. refl) (λ p. refl)
-
-pub rollback_transaction_response_holds : (x : RollbackTransactionResponse) → Holds id_form x.transaction_uuid → Holds boolean_form x.successful → Holds text_form x.failure_reason → Holds rollback_transaction_response_form x
-unfolding Holds
-rollback_transaction_response_holds x h0 h1 h2 = (h0, (h1, (h2, tt)))
 
 -- the messages by number
 abbrev pub transaction_kinds : List (Kind TransactionMessage)

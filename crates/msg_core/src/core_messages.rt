@@ -7,7 +7,7 @@ ghost use Rattle.etp_schema.specs.Family.{read_kind, IsFound, IsAgain};
 ghost use Rattle.msg_core.specs.Core.{core_body, core_kinds};
 
 use avro_bin::Tree;
-use etp_schema::{Fields, InTree, record_of};
+use etp_schema::{InTree, fields_of, tree_of};
 use etp_values::{DataValue, Id16, List, Named, NoMemory, Text};
 use std::alloc::Global;
 
@@ -25,23 +25,24 @@ impl InTree for Version {
 
     ghost form = { version_form };
 
-    #[tactic(auto, using(crate::specs::Core::version_holds))]
+    #[tactic(auto, unfolding(etp_schema::specs::Form::Holds))]
     fn to_tree(&self, alloc: Global) -> Result<Tree, NoMemory> {
-        Ok(record_of(vec![in alloc;
-            self.major.to_tree(alloc)?,
-            self.minor.to_tree(alloc)?,
-            self.revision.to_tree(alloc)?,
-            self.patch.to_tree(alloc)?,
-        ]?))
+        tree_of(
+            alloc,
+            (
+                &self.major,
+                (&self.minor, (&self.revision, (&self.patch, ()))),
+            ),
+        )
     }
 
     fn from_tree(alloc: Global, tree: Tree) -> Result<Version, NoMemory> {
-        let mut fields = Fields::of(alloc, tree);
+        let (major, (minor, (revision, (patch, ())))) = fields_of(alloc, tree)?;
         Ok(Version {
-            major: fields.take()?,
-            minor: fields.take()?,
-            revision: fields.take()?,
-            patch: fields.take()?,
+            major,
+            minor,
+            revision,
+            patch,
         })
     }
 }
@@ -64,23 +65,29 @@ impl InTree for SupportedProtocol {
 
     ghost form = { supported_protocol_form };
 
-    #[tactic(auto, using(crate::specs::Core::supported_protocol_holds))]
+    #[tactic(auto, unfolding(etp_schema::specs::Form::Holds))]
     fn to_tree(&self, alloc: Global) -> Result<Tree, NoMemory> {
-        Ok(record_of(vec![in alloc;
-            self.protocol.to_tree(alloc)?,
-            self.protocol_version.to_tree(alloc)?,
-            self.role.to_tree(alloc)?,
-            self.protocol_capabilities.to_tree(alloc)?,
-        ]?))
+        tree_of(
+            alloc,
+            (
+                &self.protocol,
+                (
+                    &self.protocol_version,
+                    (&self.role, (&self.protocol_capabilities, ())),
+                ),
+            ),
+        )
     }
 
     fn from_tree(alloc: Global, tree: Tree) -> Result<SupportedProtocol, NoMemory> {
-        let mut fields = Fields::of(alloc, tree);
+        let (protocol, (protocol_version, (role, (protocol_capabilities, ())))) = fields_of(
+            alloc, tree,
+        )?;
         Ok(SupportedProtocol {
-            protocol: fields.take()?,
-            protocol_version: fields.take()?,
-            role: fields.take()?,
-            protocol_capabilities: fields.take()?,
+            protocol,
+            protocol_version,
+            role,
+            protocol_capabilities,
         })
     }
 }
@@ -99,19 +106,19 @@ impl InTree for SupportedDataObject {
 
     ghost form = { supported_data_object_form };
 
-    #[tactic(auto, using(crate::specs::Core::supported_data_object_holds))]
+    #[tactic(auto, unfolding(etp_schema::specs::Form::Holds))]
     fn to_tree(&self, alloc: Global) -> Result<Tree, NoMemory> {
-        Ok(record_of(vec![in alloc;
-            self.qualified_type.to_tree(alloc)?,
-            self.data_object_capabilities.to_tree(alloc)?,
-        ]?))
+        tree_of(
+            alloc,
+            (&self.qualified_type, (&self.data_object_capabilities, ())),
+        )
     }
 
     fn from_tree(alloc: Global, tree: Tree) -> Result<SupportedDataObject, NoMemory> {
-        let mut fields = Fields::of(alloc, tree);
+        let (qualified_type, (data_object_capabilities, ())) = fields_of(alloc, tree)?;
         Ok(SupportedDataObject {
-            qualified_type: fields.take()?,
-            data_object_capabilities: fields.take()?,
+            qualified_type,
+            data_object_capabilities,
         })
     }
 }
@@ -130,17 +137,14 @@ impl InTree for ErrorInfo {
 
     ghost form = { error_info_form };
 
-    #[tactic(auto, using(crate::specs::Core::error_info_holds))]
+    #[tactic(auto, unfolding(etp_schema::specs::Form::Holds))]
     fn to_tree(&self, alloc: Global) -> Result<Tree, NoMemory> {
-        Ok(record_of(vec![in alloc; self.message.to_tree(alloc)?, self.code.to_tree(alloc)?]?))
+        tree_of(alloc, (&self.message, (&self.code, ())))
     }
 
     fn from_tree(alloc: Global, tree: Tree) -> Result<ErrorInfo, NoMemory> {
-        let mut fields = Fields::of(alloc, tree);
-        Ok(ErrorInfo {
-            message: fields.take()?,
-            code: fields.take()?,
-        })
+        let (message, (code, ())) = fields_of(alloc, tree)?;
+        Ok(ErrorInfo { message, code })
     }
 }
 
@@ -174,37 +178,88 @@ impl InTree for RequestSession {
 
     ghost form = { request_session_form };
 
-    #[tactic(auto, using(crate::specs::Core::request_session_holds))]
+    #[tactic(auto, unfolding(etp_schema::specs::Form::Holds))]
     fn to_tree(&self, alloc: Global) -> Result<Tree, NoMemory> {
-        Ok(record_of(vec![in alloc;
-            self.application_name.to_tree(alloc)?,
-            self.application_version.to_tree(alloc)?,
-            self.client_instance_id.to_tree(alloc)?,
-            self.requested_protocols.to_tree(alloc)?,
-            self.supported_data_objects.to_tree(alloc)?,
-            self.supported_compression.to_tree(alloc)?,
-            self.supported_formats.to_tree(alloc)?,
-            self.current_date_time.to_tree(alloc)?,
-            self.earliest_retained_change_time.to_tree(alloc)?,
-            self.server_authorization_required.to_tree(alloc)?,
-            self.endpoint_capabilities.to_tree(alloc)?,
-        ]?))
+        tree_of(
+            alloc,
+            (
+                &self.application_name,
+                (
+                    &self.application_version,
+                    (
+                        &self.client_instance_id,
+                        (
+                            &self.requested_protocols,
+                            (
+                                &self.supported_data_objects,
+                                (
+                                    &self.supported_compression,
+                                    (
+                                        &self.supported_formats,
+                                        (
+                                            &self.current_date_time,
+                                            (
+                                                &self.earliest_retained_change_time,
+                                                (
+                                                    &self.server_authorization_required,
+                                                    (&self.endpoint_capabilities, ()),
+                                                ),
+                                            ),
+                                        ),
+                                    ),
+                                ),
+                            ),
+                        ),
+                    ),
+                ),
+            ),
+        )
     }
 
     fn from_tree(alloc: Global, tree: Tree) -> Result<RequestSession, NoMemory> {
-        let mut fields = Fields::of(alloc, tree);
+        let (
+            application_name,
+            (
+                application_version,
+                (
+                    client_instance_id,
+                    (
+                        requested_protocols,
+                        (
+                            supported_data_objects,
+                            (
+                                supported_compression,
+                                (
+                                    supported_formats,
+                                    (
+                                        current_date_time,
+                                        (
+                                            earliest_retained_change_time,
+                                            (
+                                                server_authorization_required,
+                                                (endpoint_capabilities, ()),
+                                            ),
+                                        ),
+                                    ),
+                                ),
+                            ),
+                        ),
+                    ),
+                ),
+            ),
+        ) = fields_of(alloc, tree)?;
         Ok(RequestSession {
-            application_name: fields.take()?,
-            application_version: fields.take()?,
-            client_instance_id: fields.take()?,
-            requested_protocols: fields.take()?,
-            supported_data_objects: fields.take()?,
-            supported_compression: fields.take()?,
-            supported_formats: fields.take()?,
-            current_date_time: fields.take()?,
-            earliest_retained_change_time: fields.take()?,
-            server_authorization_required: fields.take()?,
-            endpoint_capabilities: fields.take()?,
+            application_name,
+            application_version,
+            client_instance_id,
+            requested_protocols,
+            supported_data_objects,
+            supported_compression,
+            supported_formats,
+            current_date_time,
+            earliest_retained_change_time,
+            server_authorization_required,
+            endpoint_capabilities,
         })
     }
 }
@@ -239,37 +294,85 @@ impl InTree for OpenSession {
 
     ghost form = { open_session_form };
 
-    #[tactic(auto, using(crate::specs::Core::open_session_holds))]
+    #[tactic(auto, unfolding(etp_schema::specs::Form::Holds))]
     fn to_tree(&self, alloc: Global) -> Result<Tree, NoMemory> {
-        Ok(record_of(vec![in alloc;
-            self.application_name.to_tree(alloc)?,
-            self.application_version.to_tree(alloc)?,
-            self.server_instance_id.to_tree(alloc)?,
-            self.supported_protocols.to_tree(alloc)?,
-            self.supported_data_objects.to_tree(alloc)?,
-            self.supported_compression.to_tree(alloc)?,
-            self.supported_formats.to_tree(alloc)?,
-            self.current_date_time.to_tree(alloc)?,
-            self.earliest_retained_change_time.to_tree(alloc)?,
-            self.session_id.to_tree(alloc)?,
-            self.endpoint_capabilities.to_tree(alloc)?,
-        ]?))
+        tree_of(
+            alloc,
+            (
+                &self.application_name,
+                (
+                    &self.application_version,
+                    (
+                        &self.server_instance_id,
+                        (
+                            &self.supported_protocols,
+                            (
+                                &self.supported_data_objects,
+                                (
+                                    &self.supported_compression,
+                                    (
+                                        &self.supported_formats,
+                                        (
+                                            &self.current_date_time,
+                                            (
+                                                &self.earliest_retained_change_time,
+                                                (
+                                                    &self.session_id,
+                                                    (&self.endpoint_capabilities, ()),
+                                                ),
+                                            ),
+                                        ),
+                                    ),
+                                ),
+                            ),
+                        ),
+                    ),
+                ),
+            ),
+        )
     }
 
     fn from_tree(alloc: Global, tree: Tree) -> Result<OpenSession, NoMemory> {
-        let mut fields = Fields::of(alloc, tree);
+        let (
+            application_name,
+            (
+                application_version,
+                (
+                    server_instance_id,
+                    (
+                        supported_protocols,
+                        (
+                            supported_data_objects,
+                            (
+                                supported_compression,
+                                (
+                                    supported_formats,
+                                    (
+                                        current_date_time,
+                                        (
+                                            earliest_retained_change_time,
+                                            (session_id, (endpoint_capabilities, ())),
+                                        ),
+                                    ),
+                                ),
+                            ),
+                        ),
+                    ),
+                ),
+            ),
+        ) = fields_of(alloc, tree)?;
         Ok(OpenSession {
-            application_name: fields.take()?,
-            application_version: fields.take()?,
-            server_instance_id: fields.take()?,
-            supported_protocols: fields.take()?,
-            supported_data_objects: fields.take()?,
-            supported_compression: fields.take()?,
-            supported_formats: fields.take()?,
-            current_date_time: fields.take()?,
-            earliest_retained_change_time: fields.take()?,
-            session_id: fields.take()?,
-            endpoint_capabilities: fields.take()?,
+            application_name,
+            application_version,
+            server_instance_id,
+            supported_protocols,
+            supported_data_objects,
+            supported_compression,
+            supported_formats,
+            current_date_time,
+            earliest_retained_change_time,
+            session_id,
+            endpoint_capabilities,
         })
     }
 }
@@ -286,16 +389,14 @@ impl InTree for CloseSession {
 
     ghost form = { close_session_form };
 
-    #[tactic(auto, using(crate::specs::Core::close_session_holds))]
+    #[tactic(auto, unfolding(etp_schema::specs::Form::Holds))]
     fn to_tree(&self, alloc: Global) -> Result<Tree, NoMemory> {
-        Ok(record_of(vec![in alloc; self.reason.to_tree(alloc)?]?))
+        tree_of(alloc, (&self.reason, ()))
     }
 
     fn from_tree(alloc: Global, tree: Tree) -> Result<CloseSession, NoMemory> {
-        let mut fields = Fields::of(alloc, tree);
-        Ok(CloseSession {
-            reason: fields.take()?,
-        })
+        let (reason, ()) = fields_of(alloc, tree)?;
+        Ok(CloseSession { reason })
     }
 }
 
@@ -311,16 +412,14 @@ impl InTree for Ping {
 
     ghost form = { ping_form };
 
-    #[tactic(auto, using(crate::specs::Core::ping_holds))]
+    #[tactic(auto, unfolding(etp_schema::specs::Form::Holds))]
     fn to_tree(&self, alloc: Global) -> Result<Tree, NoMemory> {
-        Ok(record_of(vec![in alloc; self.current_date_time.to_tree(alloc)?]?))
+        tree_of(alloc, (&self.current_date_time, ()))
     }
 
     fn from_tree(alloc: Global, tree: Tree) -> Result<Ping, NoMemory> {
-        let mut fields = Fields::of(alloc, tree);
-        Ok(Ping {
-            current_date_time: fields.take()?,
-        })
+        let (current_date_time, ()) = fields_of(alloc, tree)?;
+        Ok(Ping { current_date_time })
     }
 }
 
@@ -336,16 +435,14 @@ impl InTree for Pong {
 
     ghost form = { pong_form };
 
-    #[tactic(auto, using(crate::specs::Core::pong_holds))]
+    #[tactic(auto, unfolding(etp_schema::specs::Form::Holds))]
     fn to_tree(&self, alloc: Global) -> Result<Tree, NoMemory> {
-        Ok(record_of(vec![in alloc; self.current_date_time.to_tree(alloc)?]?))
+        tree_of(alloc, (&self.current_date_time, ()))
     }
 
     fn from_tree(alloc: Global, tree: Tree) -> Result<Pong, NoMemory> {
-        let mut fields = Fields::of(alloc, tree);
-        Ok(Pong {
-            current_date_time: fields.take()?,
-        })
+        let (current_date_time, ()) = fields_of(alloc, tree)?;
+        Ok(Pong { current_date_time })
     }
 }
 
@@ -363,17 +460,14 @@ impl InTree for ProtocolException {
 
     ghost form = { protocol_exception_form };
 
-    #[tactic(auto, using(crate::specs::Core::protocol_exception_holds))]
+    #[tactic(auto, unfolding(etp_schema::specs::Form::Holds))]
     fn to_tree(&self, alloc: Global) -> Result<Tree, NoMemory> {
-        Ok(record_of(vec![in alloc; self.error.to_tree(alloc)?, self.errors.to_tree(alloc)?]?))
+        tree_of(alloc, (&self.error, (&self.errors, ())))
     }
 
     fn from_tree(alloc: Global, tree: Tree) -> Result<ProtocolException, NoMemory> {
-        let mut fields = Fields::of(alloc, tree);
-        Ok(ProtocolException {
-            error: fields.take()?,
-            errors: fields.take()?,
-        })
+        let (error, (errors, ())) = fields_of(alloc, tree)?;
+        Ok(ProtocolException { error, errors })
     }
 }
 
@@ -386,9 +480,9 @@ impl InTree for Acknowledge {
 
     ghost form = { acknowledge_form };
 
-    #[tactic(auto, using(crate::specs::Core::acknowledge_holds))]
+    #[tactic(auto, unfolding(etp_schema::specs::Form::Holds))]
     fn to_tree(&self, alloc: Global) -> Result<Tree, NoMemory> {
-        Ok(record_of(Vec::new(alloc)))
+        tree_of(alloc, ())
     }
 
     fn from_tree(_alloc: Global, _tree: Tree) -> Result<Acknowledge, NoMemory> {

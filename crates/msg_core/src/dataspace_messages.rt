@@ -7,7 +7,7 @@ ghost use Rattle.etp_schema.specs.Family.{read_kind, IsFound, IsAgain};
 ghost use Rattle.msg_core.specs.Dataspace.{dataspace_body, dataspace_kinds};
 
 use avro_bin::Tree;
-use etp_schema::{Fields, InTree, record_of};
+use etp_schema::{InTree, fields_of, tree_of};
 use etp_values::{DataValue, List, Named, NoMemory, Text};
 use std::alloc::Global;
 
@@ -31,25 +31,33 @@ impl InTree for Dataspace {
 
     ghost form = { dataspace_form };
 
-    #[tactic(auto, using(crate::specs::Dataspace::dataspace_holds))]
+    #[tactic(auto, unfolding(etp_schema::specs::Form::Holds))]
     fn to_tree(&self, alloc: Global) -> Result<Tree, NoMemory> {
-        Ok(record_of(vec![in alloc;
-            self.uri.to_tree(alloc)?,
-            self.path.to_tree(alloc)?,
-            self.store_last_write.to_tree(alloc)?,
-            self.store_created.to_tree(alloc)?,
-            self.custom_data.to_tree(alloc)?,
-        ]?))
+        tree_of(
+            alloc,
+            (
+                &self.uri,
+                (
+                    &self.path,
+                    (
+                        &self.store_last_write,
+                        (&self.store_created, (&self.custom_data, ())),
+                    ),
+                ),
+            ),
+        )
     }
 
     fn from_tree(alloc: Global, tree: Tree) -> Result<Dataspace, NoMemory> {
-        let mut fields = Fields::of(alloc, tree);
+        let (uri, (path, (store_last_write, (store_created, (custom_data, ()))))) = fields_of(
+            alloc, tree,
+        )?;
         Ok(Dataspace {
-            uri: fields.take()?,
-            path: fields.take()?,
-            store_last_write: fields.take()?,
-            store_created: fields.take()?,
-            custom_data: fields.take()?,
+            uri,
+            path,
+            store_last_write,
+            store_created,
+            custom_data,
         })
     }
 }
@@ -67,15 +75,15 @@ impl InTree for GetDataspaces {
 
     ghost form = { get_dataspaces_form };
 
-    #[tactic(auto, using(crate::specs::Dataspace::get_dataspaces_holds))]
+    #[tactic(auto, unfolding(etp_schema::specs::Form::Holds))]
     fn to_tree(&self, alloc: Global) -> Result<Tree, NoMemory> {
-        Ok(record_of(vec![in alloc; self.store_last_write_filter.to_tree(alloc)?]?))
+        tree_of(alloc, (&self.store_last_write_filter, ()))
     }
 
     fn from_tree(alloc: Global, tree: Tree) -> Result<GetDataspaces, NoMemory> {
-        let mut fields = Fields::of(alloc, tree);
+        let (store_last_write_filter, ()) = fields_of(alloc, tree)?;
         Ok(GetDataspaces {
-            store_last_write_filter: fields.take()?,
+            store_last_write_filter,
         })
     }
 }
@@ -92,16 +100,14 @@ impl InTree for GetDataspacesResponse {
 
     ghost form = { get_dataspaces_response_form };
 
-    #[tactic(auto, using(crate::specs::Dataspace::get_dataspaces_response_holds))]
+    #[tactic(auto, unfolding(etp_schema::specs::Form::Holds))]
     fn to_tree(&self, alloc: Global) -> Result<Tree, NoMemory> {
-        Ok(record_of(vec![in alloc; self.dataspaces.to_tree(alloc)?]?))
+        tree_of(alloc, (&self.dataspaces, ()))
     }
 
     fn from_tree(alloc: Global, tree: Tree) -> Result<GetDataspacesResponse, NoMemory> {
-        let mut fields = Fields::of(alloc, tree);
-        Ok(GetDataspacesResponse {
-            dataspaces: fields.take()?,
-        })
+        let (dataspaces, ()) = fields_of(alloc, tree)?;
+        Ok(GetDataspacesResponse { dataspaces })
     }
 }
 
@@ -117,16 +123,14 @@ impl InTree for PutDataspaces {
 
     ghost form = { put_dataspaces_form };
 
-    #[tactic(auto, using(crate::specs::Dataspace::put_dataspaces_holds))]
+    #[tactic(auto, unfolding(etp_schema::specs::Form::Holds))]
     fn to_tree(&self, alloc: Global) -> Result<Tree, NoMemory> {
-        Ok(record_of(vec![in alloc; self.dataspaces.to_tree(alloc)?]?))
+        tree_of(alloc, (&self.dataspaces, ()))
     }
 
     fn from_tree(alloc: Global, tree: Tree) -> Result<PutDataspaces, NoMemory> {
-        let mut fields = Fields::of(alloc, tree);
-        Ok(PutDataspaces {
-            dataspaces: fields.take()?,
-        })
+        let (dataspaces, ()) = fields_of(alloc, tree)?;
+        Ok(PutDataspaces { dataspaces })
     }
 }
 
@@ -142,16 +146,14 @@ impl InTree for DeleteDataspaces {
 
     ghost form = { delete_dataspaces_form };
 
-    #[tactic(auto, using(crate::specs::Dataspace::delete_dataspaces_holds))]
+    #[tactic(auto, unfolding(etp_schema::specs::Form::Holds))]
     fn to_tree(&self, alloc: Global) -> Result<Tree, NoMemory> {
-        Ok(record_of(vec![in alloc; self.uris.to_tree(alloc)?]?))
+        tree_of(alloc, (&self.uris, ()))
     }
 
     fn from_tree(alloc: Global, tree: Tree) -> Result<DeleteDataspaces, NoMemory> {
-        let mut fields = Fields::of(alloc, tree);
-        Ok(DeleteDataspaces {
-            uris: fields.take()?,
-        })
+        let (uris, ()) = fields_of(alloc, tree)?;
+        Ok(DeleteDataspaces { uris })
     }
 }
 
@@ -167,16 +169,14 @@ impl InTree for DeleteDataspacesResponse {
 
     ghost form = { delete_dataspaces_response_form };
 
-    #[tactic(auto, using(crate::specs::Dataspace::delete_dataspaces_response_holds))]
+    #[tactic(auto, unfolding(etp_schema::specs::Form::Holds))]
     fn to_tree(&self, alloc: Global) -> Result<Tree, NoMemory> {
-        Ok(record_of(vec![in alloc; self.success.to_tree(alloc)?]?))
+        tree_of(alloc, (&self.success, ()))
     }
 
     fn from_tree(alloc: Global, tree: Tree) -> Result<DeleteDataspacesResponse, NoMemory> {
-        let mut fields = Fields::of(alloc, tree);
-        Ok(DeleteDataspacesResponse {
-            success: fields.take()?,
-        })
+        let (success, ()) = fields_of(alloc, tree)?;
+        Ok(DeleteDataspacesResponse { success })
     }
 }
 
@@ -192,16 +192,14 @@ impl InTree for PutDataspacesResponse {
 
     ghost form = { put_dataspaces_response_form };
 
-    #[tactic(auto, using(crate::specs::Dataspace::put_dataspaces_response_holds))]
+    #[tactic(auto, unfolding(etp_schema::specs::Form::Holds))]
     fn to_tree(&self, alloc: Global) -> Result<Tree, NoMemory> {
-        Ok(record_of(vec![in alloc; self.success.to_tree(alloc)?]?))
+        tree_of(alloc, (&self.success, ()))
     }
 
     fn from_tree(alloc: Global, tree: Tree) -> Result<PutDataspacesResponse, NoMemory> {
-        let mut fields = Fields::of(alloc, tree);
-        Ok(PutDataspacesResponse {
-            success: fields.take()?,
-        })
+        let (success, ()) = fields_of(alloc, tree)?;
+        Ok(PutDataspacesResponse { success })
     }
 }
 

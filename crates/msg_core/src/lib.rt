@@ -9,8 +9,11 @@
 #![tactic(auto)]
 
 mod core_messages;
+mod core_on_wire;
 mod dataspace_messages;
+mod dataspace_on_wire;
 mod transaction_messages;
+mod transaction_on_wire;
 
 pub use core_messages::{
     Acknowledge, CloseSession, CoreMessage, ErrorInfo, OpenSession, Ping, Pong, ProtocolException,

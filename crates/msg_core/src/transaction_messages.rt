@@ -7,7 +7,7 @@ ghost use Rattle.etp_schema.specs.Family.{read_kind, IsFound, IsAgain};
 ghost use Rattle.msg_core.specs.Transaction.{transaction_body, transaction_kinds};
 
 use avro_bin::Tree;
-use etp_schema::{Fields, InTree, record_of};
+use etp_schema::{InTree, fields_of, tree_of};
 use etp_values::{Id16, List, NoMemory, Text};
 use std::alloc::Global;
 
@@ -27,21 +27,20 @@ impl InTree for StartTransaction {
 
     ghost form = { start_transaction_form };
 
-    #[tactic(auto, using(crate::specs::Transaction::start_transaction_holds))]
+    #[tactic(auto, unfolding(etp_schema::specs::Form::Holds))]
     fn to_tree(&self, alloc: Global) -> Result<Tree, NoMemory> {
-        Ok(record_of(vec![in alloc;
-            self.read_only.to_tree(alloc)?,
-            self.message.to_tree(alloc)?,
-            self.dataspace_uris.to_tree(alloc)?,
-        ]?))
+        tree_of(
+            alloc,
+            (&self.read_only, (&self.message, (&self.dataspace_uris, ()))),
+        )
     }
 
     fn from_tree(alloc: Global, tree: Tree) -> Result<StartTransaction, NoMemory> {
-        let mut fields = Fields::of(alloc, tree);
+        let (read_only, (message, (dataspace_uris, ()))) = fields_of(alloc, tree)?;
         Ok(StartTransaction {
-            read_only: fields.take()?,
-            message: fields.take()?,
-            dataspace_uris: fields.take()?,
+            read_only,
+            message,
+            dataspace_uris,
         })
     }
 }
@@ -62,21 +61,23 @@ impl InTree for StartTransactionResponse {
 
     ghost form = { start_transaction_response_form };
 
-    #[tactic(auto, using(crate::specs::Transaction::start_transaction_response_holds))]
+    #[tactic(auto, unfolding(etp_schema::specs::Form::Holds))]
     fn to_tree(&self, alloc: Global) -> Result<Tree, NoMemory> {
-        Ok(record_of(vec![in alloc;
-            self.transaction_uuid.to_tree(alloc)?,
-            self.successful.to_tree(alloc)?,
-            self.failure_reason.to_tree(alloc)?,
-        ]?))
+        tree_of(
+            alloc,
+            (
+                &self.transaction_uuid,
+                (&self.successful, (&self.failure_reason, ())),
+            ),
+        )
     }
 
     fn from_tree(alloc: Global, tree: Tree) -> Result<StartTransactionResponse, NoMemory> {
-        let mut fields = Fields::of(alloc, tree);
+        let (transaction_uuid, (successful, (failure_reason, ()))) = fields_of(alloc, tree)?;
         Ok(StartTransactionResponse {
-            transaction_uuid: fields.take()?,
-            successful: fields.take()?,
-            failure_reason: fields.take()?,
+            transaction_uuid,
+            successful,
+            failure_reason,
         })
     }
 }
@@ -93,16 +94,14 @@ impl InTree for CommitTransaction {
 
     ghost form = { commit_transaction_form };
 
-    #[tactic(auto, using(crate::specs::Transaction::commit_transaction_holds))]
+    #[tactic(auto, unfolding(etp_schema::specs::Form::Holds))]
     fn to_tree(&self, alloc: Global) -> Result<Tree, NoMemory> {
-        Ok(record_of(vec![in alloc; self.transaction_uuid.to_tree(alloc)?]?))
+        tree_of(alloc, (&self.transaction_uuid, ()))
     }
 
     fn from_tree(alloc: Global, tree: Tree) -> Result<CommitTransaction, NoMemory> {
-        let mut fields = Fields::of(alloc, tree);
-        Ok(CommitTransaction {
-            transaction_uuid: fields.take()?,
-        })
+        let (transaction_uuid, ()) = fields_of(alloc, tree)?;
+        Ok(CommitTransaction { transaction_uuid })
     }
 }
 
@@ -118,16 +117,14 @@ impl InTree for RollbackTransaction {
 
     ghost form = { rollback_transaction_form };
 
-    #[tactic(auto, using(crate::specs::Transaction::rollback_transaction_holds))]
+    #[tactic(auto, unfolding(etp_schema::specs::Form::Holds))]
     fn to_tree(&self, alloc: Global) -> Result<Tree, NoMemory> {
-        Ok(record_of(vec![in alloc; self.transaction_uuid.to_tree(alloc)?]?))
+        tree_of(alloc, (&self.transaction_uuid, ()))
     }
 
     fn from_tree(alloc: Global, tree: Tree) -> Result<RollbackTransaction, NoMemory> {
-        let mut fields = Fields::of(alloc, tree);
-        Ok(RollbackTransaction {
-            transaction_uuid: fields.take()?,
-        })
+        let (transaction_uuid, ()) = fields_of(alloc, tree)?;
+        Ok(RollbackTransaction { transaction_uuid })
     }
 }
 
@@ -147,21 +144,23 @@ impl InTree for CommitTransactionResponse {
 
     ghost form = { commit_transaction_response_form };
 
-    #[tactic(auto, using(crate::specs::Transaction::commit_transaction_response_holds))]
+    #[tactic(auto, unfolding(etp_schema::specs::Form::Holds))]
     fn to_tree(&self, alloc: Global) -> Result<Tree, NoMemory> {
-        Ok(record_of(vec![in alloc;
-            self.transaction_uuid.to_tree(alloc)?,
-            self.successful.to_tree(alloc)?,
-            self.failure_reason.to_tree(alloc)?,
-        ]?))
+        tree_of(
+            alloc,
+            (
+                &self.transaction_uuid,
+                (&self.successful, (&self.failure_reason, ())),
+            ),
+        )
     }
 
     fn from_tree(alloc: Global, tree: Tree) -> Result<CommitTransactionResponse, NoMemory> {
-        let mut fields = Fields::of(alloc, tree);
+        let (transaction_uuid, (successful, (failure_reason, ()))) = fields_of(alloc, tree)?;
         Ok(CommitTransactionResponse {
-            transaction_uuid: fields.take()?,
-            successful: fields.take()?,
-            failure_reason: fields.take()?,
+            transaction_uuid,
+            successful,
+            failure_reason,
         })
     }
 }
@@ -182,21 +181,23 @@ impl InTree for RollbackTransactionResponse {
 
     ghost form = { rollback_transaction_response_form };
 
-    #[tactic(auto, using(crate::specs::Transaction::rollback_transaction_response_holds))]
+    #[tactic(auto, unfolding(etp_schema::specs::Form::Holds))]
     fn to_tree(&self, alloc: Global) -> Result<Tree, NoMemory> {
-        Ok(record_of(vec![in alloc;
-            self.transaction_uuid.to_tree(alloc)?,
-            self.successful.to_tree(alloc)?,
-            self.failure_reason.to_tree(alloc)?,
-        ]?))
+        tree_of(
+            alloc,
+            (
+                &self.transaction_uuid,
+                (&self.successful, (&self.failure_reason, ())),
+            ),
+        )
     }
 
     fn from_tree(alloc: Global, tree: Tree) -> Result<RollbackTransactionResponse, NoMemory> {
-        let mut fields = Fields::of(alloc, tree);
+        let (transaction_uuid, (successful, (failure_reason, ()))) = fields_of(alloc, tree)?;
         Ok(RollbackTransactionResponse {
-            transaction_uuid: fields.take()?,
-            successful: fields.take()?,
-            failure_reason: fields.take()?,
+            transaction_uuid,
+            successful,
+            failure_reason,
         })
     }
 }

@@ -1,6 +1,6 @@
 -- The records of the DataArray protocol (9).
 use Rattle.std.specs.Prelude.{refl}
-use Rattle.etp_schema.specs.Form.{Form, Holds, long_form, text_form, list_form, named_form, fields, ◌&◌, done}
+use Rattle.etp_schema.specs.Form.{Form, long_form, text_form, list_form, named_form, fields, ◌&◌, done}
 use Rattle.etp_schema.specs.AnyArray.{any_array_form}
 use Rattle.etp_schema.specs.DataValue.{data_value_form}
 use Rattle.msg_store.specs.ArrayTypes.{any_array_type_form, any_logical_array_type_form}
@@ -20,10 +20,6 @@ data_array_identifier_form =
     (λ p. record { uri = p.0; path_in_resource = p.1.0 })
     (λ x. refl) (λ p. refl)
 
-pub data_array_identifier_holds : (x : DataArrayIdentifier) → Holds text_form x.uri → Holds text_form x.path_in_resource → Holds data_array_identifier_form x
-unfolding Holds
-data_array_identifier_holds x h0 h1 = (h0, (h1, tt))
-
 -- dimensions, data
 abbrev pub data_array_form : Form DataArray
 data_array_form =
@@ -31,10 +27,6 @@ data_array_form =
     (λ x. (x.dimensions, (x.payload, tt)))
     (λ p. record { dimensions = p.0; payload = p.1.0 })
     (λ x. refl) (λ p. refl)
-
-pub data_array_holds : (x : DataArray) → Holds (list_form long_form) x.dimensions → Holds any_array_form x.payload → Holds data_array_form x
-unfolding Holds
-data_array_holds x h0 h1 = (h0, (h1, tt))
 
 -- dimensions, preferredSubarrayDimensions, transportArrayType, logicalArrayType, storeLastWrite, storeCreated, customData
 abbrev pub data_array_metadata_form : Form DataArrayMetadata
@@ -44,10 +36,6 @@ data_array_metadata_form =
     (λ p. record { dimensions = p.0; preferred_subarray_dimensions = p.1.0; transport_array_type = p.1.1.0; logical_array_type = p.1.1.1.0; store_last_write = p.1.1.1.1.0; store_created = p.1.1.1.1.1.0; custom_data = p.1.1.1.1.1.1.0 })
     (λ x. refl) (λ p. refl)
 
-pub data_array_metadata_holds : (x : DataArrayMetadata) → Holds (list_form long_form) x.dimensions → Holds (list_form long_form) x.preferred_subarray_dimensions → Holds any_array_type_form x.transport_array_type → Holds any_logical_array_type_form x.logical_array_type → Holds long_form x.store_last_write → Holds long_form x.store_created → Holds (named_form data_value_form) x.custom_data → Holds data_array_metadata_form x
-unfolding Holds
-data_array_metadata_holds x h0 h1 h2 h3 h4 h5 h6 = (h0, (h1, (h2, (h3, (h4, (h5, (h6, tt)))))))
-
 -- uid, starts, counts
 abbrev pub get_data_subarrays_type_form : Form GetDataSubarraysType
 get_data_subarrays_type_form =
@@ -55,10 +43,6 @@ get_data_subarrays_type_form =
     (λ x. (x.uid, (x.starts, (x.counts, tt))))
     (λ p. record { uid = p.0; starts = p.1.0; counts = p.1.1.0 })
     (λ x. refl) (λ p. refl)
-
-pub get_data_subarrays_type_holds : (x : GetDataSubarraysType) → Holds data_array_identifier_form x.uid → Holds (list_form long_form) x.starts → Holds (list_form long_form) x.counts → Holds get_data_subarrays_type_form x
-unfolding Holds
-get_data_subarrays_type_holds x h0 h1 h2 = (h0, (h1, (h2, tt)))
 
 -- uid, array, customData
 abbrev pub put_data_arrays_type_form : Form PutDataArraysType
@@ -68,10 +52,6 @@ put_data_arrays_type_form =
     (λ p. record { uid = p.0; array = p.1.0; custom_data = p.1.1.0 })
     (λ x. refl) (λ p. refl)
 
-pub put_data_arrays_type_holds : (x : PutDataArraysType) → Holds data_array_identifier_form x.uid → Holds data_array_form x.array → Holds (named_form data_value_form) x.custom_data → Holds put_data_arrays_type_form x
-unfolding Holds
-put_data_arrays_type_holds x h0 h1 h2 = (h0, (h1, (h2, tt)))
-
 -- uid, data, starts, counts
 abbrev pub put_data_subarrays_type_form : Form PutDataSubarraysType
 put_data_subarrays_type_form =
@@ -80,10 +60,6 @@ put_data_subarrays_type_form =
     (λ p. record { uid = p.0; payload = p.1.0; starts = p.1.1.0; counts = p.1.1.1.0 })
     (λ x. refl) (λ p. refl)
 
-pub put_data_subarrays_type_holds : (x : PutDataSubarraysType) → Holds data_array_identifier_form x.uid → Holds any_array_form x.payload → Holds (list_form long_form) x.starts → Holds (list_form long_form) x.counts → Holds put_data_subarrays_type_form x
-unfolding Holds
-put_data_subarrays_type_holds x h0 h1 h2 h3 = (h0, (h1, (h2, (h3, tt))))
-
 -- uid, metadata
 abbrev pub put_uninitialized_data_array_type_form : Form PutUninitializedDataArrayType
 put_uninitialized_data_array_type_form =
@@ -91,7 +67,3 @@ put_uninitialized_data_array_type_form =
     (λ x. (x.uid, (x.metadata, tt)))
     (λ p. record { uid = p.0; metadata = p.1.0 })
     (λ x. refl) (λ p. refl)
-
-pub put_uninitialized_data_array_type_holds : (x : PutUninitializedDataArrayType) → Holds data_array_identifier_form x.uid → Holds data_array_metadata_form x.metadata → Holds put_uninitialized_data_array_type_form x
-unfolding Holds
-put_uninitialized_data_array_type_holds x h0 h1 = (h0, (h1, tt))

@@ -2,7 +2,7 @@
 use Rattle.std.proofs.Common.{ap}
 use Rattle.std.specs.Prelude.{refl, List, [], ◌∷◌}
 use Rattle.std.specs.List.{AllByRecursion}
-use Rattle.etp_schema.specs.Form.{Form, Holds, text_form, named_form, fields, ◌&◌, done}
+use Rattle.etp_schema.specs.Form.{Form, text_form, named_form, fields, ◌&◌, done}
 use Rattle.etp_schema.specs.Family.{Kind, Body, message, body, IsFound, IsAgain, again}
 use Rattle.msg_store.specs.ArrayRecords.{data_array_form, data_array_identifier_form, data_array_metadata_form, get_data_subarrays_type_form, put_data_arrays_type_form, put_data_subarrays_type_form, put_uninitialized_data_array_type_form}
 use Rattle.msg_store.specs.declared.data_array_messages.GetDataArraysResponse.{GetDataArraysResponse}
@@ -28,10 +28,6 @@ get_data_arrays_response_form =
     (λ p. record { data_arrays = p.0 })
     (λ x. refl) (λ p. refl)
 
-pub get_data_arrays_response_holds : (x : GetDataArraysResponse) → Holds (named_form data_array_form) x.data_arrays → Holds get_data_arrays_response_form x
-unfolding Holds
-get_data_arrays_response_holds x h = (h, tt)
-
 -- dataArrays
 abbrev pub get_data_arrays_form : Form GetDataArrays
 get_data_arrays_form =
@@ -39,10 +35,6 @@ get_data_arrays_form =
     (λ x. (x.data_arrays, tt))
     (λ p. record { data_arrays = p.0 })
     (λ x. refl) (λ p. refl)
-
-pub get_data_arrays_holds : (x : GetDataArrays) → Holds (named_form data_array_identifier_form) x.data_arrays → Holds get_data_arrays_form x
-unfolding Holds
-get_data_arrays_holds x h = (h, tt)
 
 -- dataSubarrays
 abbrev pub get_data_subarrays_form : Form GetDataSubarrays
@@ -52,10 +44,6 @@ get_data_subarrays_form =
     (λ p. record { data_subarrays = p.0 })
     (λ x. refl) (λ p. refl)
 
-pub get_data_subarrays_holds : (x : GetDataSubarrays) → Holds (named_form get_data_subarrays_type_form) x.data_subarrays → Holds get_data_subarrays_form x
-unfolding Holds
-get_data_subarrays_holds x h = (h, tt)
-
 -- dataArrays
 abbrev pub put_data_arrays_form : Form PutDataArrays
 put_data_arrays_form =
@@ -63,10 +51,6 @@ put_data_arrays_form =
     (λ x. (x.data_arrays, tt))
     (λ p. record { data_arrays = p.0 })
     (λ x. refl) (λ p. refl)
-
-pub put_data_arrays_holds : (x : PutDataArrays) → Holds (named_form put_data_arrays_type_form) x.data_arrays → Holds put_data_arrays_form x
-unfolding Holds
-put_data_arrays_holds x h = (h, tt)
 
 -- dataSubarrays
 abbrev pub put_data_subarrays_form : Form PutDataSubarrays
@@ -76,10 +60,6 @@ put_data_subarrays_form =
     (λ p. record { data_subarrays = p.0 })
     (λ x. refl) (λ p. refl)
 
-pub put_data_subarrays_holds : (x : PutDataSubarrays) → Holds (named_form put_data_subarrays_type_form) x.data_subarrays → Holds put_data_subarrays_form x
-unfolding Holds
-put_data_subarrays_holds x h = (h, tt)
-
 -- dataArrays
 abbrev pub get_data_array_metadata_form : Form GetDataArrayMetadata
 get_data_array_metadata_form =
@@ -87,10 +67,6 @@ get_data_array_metadata_form =
     (λ x. (x.data_arrays, tt))
     (λ p. record { data_arrays = p.0 })
     (λ x. refl) (λ p. refl)
-
-pub get_data_array_metadata_holds : (x : GetDataArrayMetadata) → Holds (named_form data_array_identifier_form) x.data_arrays → Holds get_data_array_metadata_form x
-unfolding Holds
-get_data_array_metadata_holds x h = (h, tt)
 
 -- arrayMetadata
 abbrev pub get_data_array_metadata_response_form : Form GetDataArrayMetadataResponse
@@ -100,10 +76,6 @@ get_data_array_metadata_response_form =
     (λ p. record { array_metadata = p.0 })
     (λ x. refl) (λ p. refl)
 
-pub get_data_array_metadata_response_holds : (x : GetDataArrayMetadataResponse) → Holds (named_form data_array_metadata_form) x.array_metadata → Holds get_data_array_metadata_response_form x
-unfolding Holds
-get_data_array_metadata_response_holds x h = (h, tt)
-
 -- dataSubarrays
 abbrev pub get_data_subarrays_response_form : Form GetDataSubarraysResponse
 get_data_subarrays_response_form =
@@ -111,10 +83,6 @@ get_data_subarrays_response_form =
     (λ x. (x.data_subarrays, tt))
     (λ p. record { data_subarrays = p.0 })
     (λ x. refl) (λ p. refl)
-
-pub get_data_subarrays_response_holds : (x : GetDataSubarraysResponse) → Holds (named_form data_array_form) x.data_subarrays → Holds get_data_subarrays_response_form x
-unfolding Holds
-get_data_subarrays_response_holds x h = (h, tt)
 
 -- dataArrays
 abbrev pub put_uninitialized_data_arrays_form : Form PutUninitializedDataArrays
@@ -124,10 +92,6 @@ put_uninitialized_data_arrays_form =
     (λ p. record { data_arrays = p.0 })
     (λ x. refl) (λ p. refl)
 
-pub put_uninitialized_data_arrays_holds : (x : PutUninitializedDataArrays) → Holds (named_form put_uninitialized_data_array_type_form) x.data_arrays → Holds put_uninitialized_data_arrays_form x
-unfolding Holds
-put_uninitialized_data_arrays_holds x h = (h, tt)
-
 -- success
 abbrev pub put_data_arrays_response_form : Form PutDataArraysResponse
 put_data_arrays_response_form =
@@ -135,10 +99,6 @@ put_data_arrays_response_form =
     (λ x. (x.success, tt))
     (λ p. record { success = p.0 })
     (λ x. refl) (λ p. refl)
-
-pub put_data_arrays_response_holds : (x : PutDataArraysResponse) → Holds (named_form text_form) x.success → Holds put_data_arrays_response_form x
-unfolding Holds
-put_data_arrays_response_holds x h = (h, tt)
 
 -- success
 abbrev pub put_data_subarrays_response_form : Form PutDataSubarraysResponse
@@ -148,10 +108,6 @@ put_data_subarrays_response_form =
     (λ p. record { success = p.0 })
     (λ x. refl) (λ p. refl)
 
-pub put_data_subarrays_response_holds : (x : PutDataSubarraysResponse) → Holds (named_form text_form) x.success → Holds put_data_subarrays_response_form x
-unfolding Holds
-put_data_subarrays_response_holds x h = (h, tt)
-
 -- success
 abbrev pub put_uninitialized_data_arrays_response_form : Form PutUninitializedDataArraysResponse
 put_uninitialized_data_arrays_response_form =
@@ -159,10 +115,6 @@ put_uninitialized_data_arrays_response_form =
     (λ x. (x.success, tt))
     (λ p. record { success = p.0 })
     (λ x. refl) (λ p. refl)
-
-pub put_uninitialized_data_arrays_response_holds : (x : PutUninitializedDataArraysResponse) → Holds (named_form text_form) x.success → Holds put_uninitialized_data_arrays_response_form x
-unfolding Holds
-put_uninitialized_data_arrays_response_holds x h = (h, tt)
 
 -- the messages by number
 abbrev pub data_array_kinds : List (Kind DataArrayMessage)

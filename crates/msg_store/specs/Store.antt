@@ -2,7 +2,7 @@
 use Rattle.std.proofs.Common.{ap}
 use Rattle.std.specs.Prelude.{refl, List, [], ◌∷◌}
 use Rattle.std.specs.List.{AllByRecursion}
-use Rattle.etp_schema.specs.Form.{Form, Holds, boolean_form, bytes_form, id_form, int_form, long_form, text_form, list_form, named_form, option_form, fields, ◌&◌, done}
+use Rattle.etp_schema.specs.Form.{Form, boolean_form, bytes_form, id_form, int_form, long_form, text_form, list_form, named_form, option_form, fields, ◌&◌, done}
 use Rattle.etp_schema.specs.Family.{Kind, Body, message, body, IsFound, IsAgain, again}
 use Rattle.etp_schema.specs.DataValue.{data_value_form}
 use Rattle.etp_schema.specs.Status.{active_status_kind_form}
@@ -28,10 +28,6 @@ resource_form =
     (λ p. record { uri = p.0; alternate_uris = p.1.0; name = p.1.1.0; source_count = p.1.1.1.0; target_count = p.1.1.1.1.0; last_changed = p.1.1.1.1.1.0; store_last_write = p.1.1.1.1.1.1.0; store_created = p.1.1.1.1.1.1.1.0; active_status = p.1.1.1.1.1.1.1.1.0; custom_data = p.1.1.1.1.1.1.1.1.1.0 })
     (λ x. refl) (λ p. refl)
 
-pub resource_holds : (x : Resource) → Holds text_form x.uri → Holds (list_form text_form) x.alternate_uris → Holds text_form x.name → Holds (option_form int_form) x.source_count → Holds (option_form int_form) x.target_count → Holds long_form x.last_changed → Holds long_form x.store_last_write → Holds long_form x.store_created → Holds active_status_kind_form x.active_status → Holds (named_form data_value_form) x.custom_data → Holds resource_form x
-unfolding Holds
-resource_holds x h0 h1 h2 h3 h4 h5 h6 h7 h8 h9 = (h0, (h1, (h2, (h3, (h4, (h5, (h6, (h7, (h8, (h9, tt))))))))))
-
 -- resource, format, blobId, data
 abbrev pub data_object_form : Form DataObject
 data_object_form =
@@ -39,10 +35,6 @@ data_object_form =
     (λ x. (x.resource, (x.format, (x.blob_id, (x.payload, tt)))))
     (λ p. record { resource = p.0; format = p.1.0; blob_id = p.1.1.0; payload = p.1.1.1.0 })
     (λ x. refl) (λ p. refl)
-
-pub data_object_holds : (x : DataObject) → Holds resource_form x.resource → Holds text_form x.format → Holds (option_form id_form) x.blob_id → Holds bytes_form x.payload → Holds data_object_form x
-unfolding Holds
-data_object_holds x h0 h1 h2 h3 = (h0, (h1, (h2, (h3, tt))))
 
 -- createdContainedObjectUris, deletedContainedObjectUris, joinedContainedObjectUris, unjoinedContainedObjectUris
 abbrev pub put_response_form : Form PutResponse
@@ -52,10 +44,6 @@ put_response_form =
     (λ p. record { created_contained_object_uris = p.0; deleted_contained_object_uris = p.1.0; joined_contained_object_uris = p.1.1.0; unjoined_contained_object_uris = p.1.1.1.0 })
     (λ x. refl) (λ p. refl)
 
-pub put_response_holds : (x : PutResponse) → Holds (list_form text_form) x.created_contained_object_uris → Holds (list_form text_form) x.deleted_contained_object_uris → Holds (list_form text_form) x.joined_contained_object_uris → Holds (list_form text_form) x.unjoined_contained_object_uris → Holds put_response_form x
-unfolding Holds
-put_response_holds x h0 h1 h2 h3 = (h0, (h1, (h2, (h3, tt))))
-
 -- values
 abbrev pub array_of_string_form : Form ArrayOfString
 array_of_string_form =
@@ -63,10 +51,6 @@ array_of_string_form =
     (λ x. (x.values, tt))
     (λ p. record { values = p.0 })
     (λ x. refl) (λ p. refl)
-
-pub array_of_string_holds : (x : ArrayOfString) → Holds (list_form text_form) x.values → Holds array_of_string_form x
-unfolding Holds
-array_of_string_holds x h = (h, tt)
 
 -- uris, format
 abbrev pub get_data_objects_form : Form GetDataObjects
@@ -76,10 +60,6 @@ get_data_objects_form =
     (λ p. record { uris = p.0; format = p.1.0 })
     (λ x. refl) (λ p. refl)
 
-pub get_data_objects_holds : (x : GetDataObjects) → Holds (named_form text_form) x.uris → Holds text_form x.format → Holds get_data_objects_form x
-unfolding Holds
-get_data_objects_holds x h0 h1 = (h0, (h1, tt))
-
 -- dataObjects, pruneContainedObjects
 abbrev pub put_data_objects_form : Form PutDataObjects
 put_data_objects_form =
@@ -87,10 +67,6 @@ put_data_objects_form =
     (λ x. (x.data_objects, (x.prune_contained_objects, tt)))
     (λ p. record { data_objects = p.0; prune_contained_objects = p.1.0 })
     (λ x. refl) (λ p. refl)
-
-pub put_data_objects_holds : (x : PutDataObjects) → Holds (named_form data_object_form) x.data_objects → Holds boolean_form x.prune_contained_objects → Holds put_data_objects_form x
-unfolding Holds
-put_data_objects_holds x h0 h1 = (h0, (h1, tt))
 
 -- uris, pruneContainedObjects
 abbrev pub delete_data_objects_form : Form DeleteDataObjects
@@ -100,10 +76,6 @@ delete_data_objects_form =
     (λ p. record { uris = p.0; prune_contained_objects = p.1.0 })
     (λ x. refl) (λ p. refl)
 
-pub delete_data_objects_holds : (x : DeleteDataObjects) → Holds (named_form text_form) x.uris → Holds boolean_form x.prune_contained_objects → Holds delete_data_objects_form x
-unfolding Holds
-delete_data_objects_holds x h0 h1 = (h0, (h1, tt))
-
 -- dataObjects
 abbrev pub get_data_objects_response_form : Form GetDataObjectsResponse
 get_data_objects_response_form =
@@ -111,10 +83,6 @@ get_data_objects_response_form =
     (λ x. (x.data_objects, tt))
     (λ p. record { data_objects = p.0 })
     (λ x. refl) (λ p. refl)
-
-pub get_data_objects_response_holds : (x : GetDataObjectsResponse) → Holds (named_form data_object_form) x.data_objects → Holds get_data_objects_response_form x
-unfolding Holds
-get_data_objects_response_holds x h = (h, tt)
 
 -- blobId, data, final
 abbrev pub chunk_form : Form Chunk
@@ -124,10 +92,6 @@ chunk_form =
     (λ p. record { blob_id = p.0; payload = p.1.0; last = p.1.1.0 })
     (λ x. refl) (λ p. refl)
 
-pub chunk_holds : (x : Chunk) → Holds id_form x.blob_id → Holds bytes_form x.payload → Holds boolean_form x.last → Holds chunk_form x
-unfolding Holds
-chunk_holds x h0 h1 h2 = (h0, (h1, (h2, tt)))
-
 -- success
 abbrev pub put_data_objects_response_form : Form PutDataObjectsResponse
 put_data_objects_response_form =
@@ -136,10 +100,6 @@ put_data_objects_response_form =
     (λ p. record { success = p.0 })
     (λ x. refl) (λ p. refl)
 
-pub put_data_objects_response_holds : (x : PutDataObjectsResponse) → Holds (named_form put_response_form) x.success → Holds put_data_objects_response_form x
-unfolding Holds
-put_data_objects_response_holds x h = (h, tt)
-
 -- deletedUris
 abbrev pub delete_data_objects_response_form : Form DeleteDataObjectsResponse
 delete_data_objects_response_form =
@@ -147,10 +107,6 @@ delete_data_objects_response_form =
     (λ x. (x.deleted_uris, tt))
     (λ p. record { deleted_uris = p.0 })
     (λ x. refl) (λ p. refl)
-
-pub delete_data_objects_response_holds : (x : DeleteDataObjectsResponse) → Holds (named_form array_of_string_form) x.deleted_uris → Holds delete_data_objects_response_form x
-unfolding Holds
-delete_data_objects_response_holds x h = (h, tt)
 
 -- the messages by number
 abbrev pub store_kinds : List (Kind StoreMessage)

@@ -1,7 +1,7 @@
 //! Records of the DataArray protocol (9): arrays, what is known of them, and what is asked of them.
 use crate::array_types::{AnyArrayType, AnyLogicalArrayType};
 use avro_bin::Tree;
-use etp_schema::{Fields, InTree, record_of};
+use etp_schema::{InTree, fields_of, tree_of};
 use etp_values::{AnyArray, DataValue, List, Named, NoMemory, Text};
 use std::alloc::Global;
 
@@ -19,19 +19,16 @@ impl InTree for DataArrayIdentifier {
 
     ghost form = { data_array_identifier_form };
 
-    #[tactic(auto, using(crate::specs::ArrayRecords::data_array_identifier_holds))]
+    #[tactic(auto, unfolding(etp_schema::specs::Form::Holds))]
     fn to_tree(&self, alloc: Global) -> Result<Tree, NoMemory> {
-        Ok(record_of(vec![in alloc;
-            self.uri.to_tree(alloc)?,
-            self.path_in_resource.to_tree(alloc)?,
-        ]?))
+        tree_of(alloc, (&self.uri, (&self.path_in_resource, ())))
     }
 
     fn from_tree(alloc: Global, tree: Tree) -> Result<DataArrayIdentifier, NoMemory> {
-        let mut fields = Fields::of(alloc, tree);
+        let (uri, (path_in_resource, ())) = fields_of(alloc, tree)?;
         Ok(DataArrayIdentifier {
-            uri: fields.take()?,
-            path_in_resource: fields.take()?,
+            uri,
+            path_in_resource,
         })
     }
 }
@@ -50,19 +47,16 @@ impl InTree for DataArray {
 
     ghost form = { data_array_form };
 
-    #[tactic(auto, using(crate::specs::ArrayRecords::data_array_holds))]
+    #[tactic(auto, unfolding(etp_schema::specs::Form::Holds))]
     fn to_tree(&self, alloc: Global) -> Result<Tree, NoMemory> {
-        Ok(record_of(vec![in alloc;
-            self.dimensions.to_tree(alloc)?,
-            self.payload.to_tree(alloc)?,
-        ]?))
+        tree_of(alloc, (&self.dimensions, (&self.payload, ())))
     }
 
     fn from_tree(alloc: Global, tree: Tree) -> Result<DataArray, NoMemory> {
-        let mut fields = Fields::of(alloc, tree);
+        let (dimensions, (payload, ())) = fields_of(alloc, tree)?;
         Ok(DataArray {
-            dimensions: fields.take()?,
-            payload: fields.take()?,
+            dimensions,
+            payload,
         })
     }
 }
@@ -91,29 +85,48 @@ impl InTree for DataArrayMetadata {
 
     ghost form = { data_array_metadata_form };
 
-    #[tactic(auto, using(crate::specs::ArrayRecords::data_array_metadata_holds))]
+    #[tactic(auto, unfolding(etp_schema::specs::Form::Holds))]
     fn to_tree(&self, alloc: Global) -> Result<Tree, NoMemory> {
-        Ok(record_of(vec![in alloc;
-            self.dimensions.to_tree(alloc)?,
-            self.preferred_subarray_dimensions.to_tree(alloc)?,
-            self.transport_array_type.to_tree(alloc)?,
-            self.logical_array_type.to_tree(alloc)?,
-            self.store_last_write.to_tree(alloc)?,
-            self.store_created.to_tree(alloc)?,
-            self.custom_data.to_tree(alloc)?,
-        ]?))
+        tree_of(
+            alloc,
+            (
+                &self.dimensions,
+                (
+                    &self.preferred_subarray_dimensions,
+                    (
+                        &self.transport_array_type,
+                        (
+                            &self.logical_array_type,
+                            (
+                                &self.store_last_write,
+                                (&self.store_created, (&self.custom_data, ())),
+                            ),
+                        ),
+                    ),
+                ),
+            ),
+        )
     }
 
     fn from_tree(alloc: Global, tree: Tree) -> Result<DataArrayMetadata, NoMemory> {
-        let mut fields = Fields::of(alloc, tree);
+        let (
+            dimensions,
+            (
+                preferred_subarray_dimensions,
+                (
+                    transport_array_type,
+                    (logical_array_type, (store_last_write, (store_created, (custom_data, ())))),
+                ),
+            ),
+        ) = fields_of(alloc, tree)?;
         Ok(DataArrayMetadata {
-            dimensions: fields.take()?,
-            preferred_subarray_dimensions: fields.take()?,
-            transport_array_type: fields.take()?,
-            logical_array_type: fields.take()?,
-            store_last_write: fields.take()?,
-            store_created: fields.take()?,
-            custom_data: fields.take()?,
+            dimensions,
+            preferred_subarray_dimensions,
+            transport_array_type,
+            logical_array_type,
+            store_last_write,
+            store_created,
+            custom_data,
         })
     }
 }
@@ -133,21 +146,17 @@ impl InTree for GetDataSubarraysType {
 
     ghost form = { get_data_subarrays_type_form };
 
-    #[tactic(auto, using(crate::specs::ArrayRecords::get_data_subarrays_type_holds))]
+    #[tactic(auto, unfolding(etp_schema::specs::Form::Holds))]
     fn to_tree(&self, alloc: Global) -> Result<Tree, NoMemory> {
-        Ok(record_of(vec![in alloc;
-            self.uid.to_tree(alloc)?,
-            self.starts.to_tree(alloc)?,
-            self.counts.to_tree(alloc)?,
-        ]?))
+        tree_of(alloc, (&self.uid, (&self.starts, (&self.counts, ()))))
     }
 
     fn from_tree(alloc: Global, tree: Tree) -> Result<GetDataSubarraysType, NoMemory> {
-        let mut fields = Fields::of(alloc, tree);
+        let (uid, (starts, (counts, ()))) = fields_of(alloc, tree)?;
         Ok(GetDataSubarraysType {
-            uid: fields.take()?,
-            starts: fields.take()?,
-            counts: fields.take()?,
+            uid,
+            starts,
+            counts,
         })
     }
 }
@@ -166,21 +175,17 @@ impl InTree for PutDataArraysType {
 
     ghost form = { put_data_arrays_type_form };
 
-    #[tactic(auto, using(crate::specs::ArrayRecords::put_data_arrays_type_holds))]
+    #[tactic(auto, unfolding(etp_schema::specs::Form::Holds))]
     fn to_tree(&self, alloc: Global) -> Result<Tree, NoMemory> {
-        Ok(record_of(vec![in alloc;
-            self.uid.to_tree(alloc)?,
-            self.array.to_tree(alloc)?,
-            self.custom_data.to_tree(alloc)?,
-        ]?))
+        tree_of(alloc, (&self.uid, (&self.array, (&self.custom_data, ()))))
     }
 
     fn from_tree(alloc: Global, tree: Tree) -> Result<PutDataArraysType, NoMemory> {
-        let mut fields = Fields::of(alloc, tree);
+        let (uid, (array, (custom_data, ()))) = fields_of(alloc, tree)?;
         Ok(PutDataArraysType {
-            uid: fields.take()?,
-            array: fields.take()?,
-            custom_data: fields.take()?,
+            uid,
+            array,
+            custom_data,
         })
     }
 }
@@ -202,23 +207,24 @@ impl InTree for PutDataSubarraysType {
 
     ghost form = { put_data_subarrays_type_form };
 
-    #[tactic(auto, using(crate::specs::ArrayRecords::put_data_subarrays_type_holds))]
+    #[tactic(auto, unfolding(etp_schema::specs::Form::Holds))]
     fn to_tree(&self, alloc: Global) -> Result<Tree, NoMemory> {
-        Ok(record_of(vec![in alloc;
-            self.uid.to_tree(alloc)?,
-            self.payload.to_tree(alloc)?,
-            self.starts.to_tree(alloc)?,
-            self.counts.to_tree(alloc)?,
-        ]?))
+        tree_of(
+            alloc,
+            (
+                &self.uid,
+                (&self.payload, (&self.starts, (&self.counts, ()))),
+            ),
+        )
     }
 
     fn from_tree(alloc: Global, tree: Tree) -> Result<PutDataSubarraysType, NoMemory> {
-        let mut fields = Fields::of(alloc, tree);
+        let (uid, (payload, (starts, (counts, ())))) = fields_of(alloc, tree)?;
         Ok(PutDataSubarraysType {
-            uid: fields.take()?,
-            payload: fields.take()?,
-            starts: fields.take()?,
-            counts: fields.take()?,
+            uid,
+            payload,
+            starts,
+            counts,
         })
     }
 }
@@ -236,16 +242,13 @@ impl InTree for PutUninitializedDataArrayType {
 
     ghost form = { put_uninitialized_data_array_type_form };
 
-    #[tactic(auto, using(crate::specs::ArrayRecords::put_uninitialized_data_array_type_holds))]
+    #[tactic(auto, unfolding(etp_schema::specs::Form::Holds))]
     fn to_tree(&self, alloc: Global) -> Result<Tree, NoMemory> {
-        Ok(record_of(vec![in alloc; self.uid.to_tree(alloc)?, self.metadata.to_tree(alloc)?]?))
+        tree_of(alloc, (&self.uid, (&self.metadata, ())))
     }
 
     fn from_tree(alloc: Global, tree: Tree) -> Result<PutUninitializedDataArrayType, NoMemory> {
-        let mut fields = Fields::of(alloc, tree);
-        Ok(PutUninitializedDataArrayType {
-            uid: fields.take()?,
-            metadata: fields.take()?,
-        })
+        let (uid, (metadata, ())) = fields_of(alloc, tree)?;
+        Ok(PutUninitializedDataArrayType { uid, metadata })
     }
 }

@@ -11,7 +11,7 @@ use crate::array_records::{
     PutDataSubarraysType, PutUninitializedDataArrayType,
 };
 use avro_bin::Tree;
-use etp_schema::{Fields, InTree, record_of};
+use etp_schema::{InTree, fields_of, tree_of};
 use etp_values::{Named, NoMemory, Text};
 use std::alloc::Global;
 
@@ -27,16 +27,14 @@ impl InTree for GetDataArraysResponse {
 
     ghost form = { get_data_arrays_response_form };
 
-    #[tactic(auto, using(crate::specs::DataArray::get_data_arrays_response_holds))]
+    #[tactic(auto, unfolding(etp_schema::specs::Form::Holds))]
     fn to_tree(&self, alloc: Global) -> Result<Tree, NoMemory> {
-        Ok(record_of(vec![in alloc; self.data_arrays.to_tree(alloc)?]?))
+        tree_of(alloc, (&self.data_arrays, ()))
     }
 
     fn from_tree(alloc: Global, tree: Tree) -> Result<GetDataArraysResponse, NoMemory> {
-        let mut fields = Fields::of(alloc, tree);
-        Ok(GetDataArraysResponse {
-            data_arrays: fields.take()?,
-        })
+        let (data_arrays, ()) = fields_of(alloc, tree)?;
+        Ok(GetDataArraysResponse { data_arrays })
     }
 }
 
@@ -52,16 +50,14 @@ impl InTree for GetDataArrays {
 
     ghost form = { get_data_arrays_form };
 
-    #[tactic(auto, using(crate::specs::DataArray::get_data_arrays_holds))]
+    #[tactic(auto, unfolding(etp_schema::specs::Form::Holds))]
     fn to_tree(&self, alloc: Global) -> Result<Tree, NoMemory> {
-        Ok(record_of(vec![in alloc; self.data_arrays.to_tree(alloc)?]?))
+        tree_of(alloc, (&self.data_arrays, ()))
     }
 
     fn from_tree(alloc: Global, tree: Tree) -> Result<GetDataArrays, NoMemory> {
-        let mut fields = Fields::of(alloc, tree);
-        Ok(GetDataArrays {
-            data_arrays: fields.take()?,
-        })
+        let (data_arrays, ()) = fields_of(alloc, tree)?;
+        Ok(GetDataArrays { data_arrays })
     }
 }
 
@@ -77,16 +73,14 @@ impl InTree for GetDataSubarrays {
 
     ghost form = { get_data_subarrays_form };
 
-    #[tactic(auto, using(crate::specs::DataArray::get_data_subarrays_holds))]
+    #[tactic(auto, unfolding(etp_schema::specs::Form::Holds))]
     fn to_tree(&self, alloc: Global) -> Result<Tree, NoMemory> {
-        Ok(record_of(vec![in alloc; self.data_subarrays.to_tree(alloc)?]?))
+        tree_of(alloc, (&self.data_subarrays, ()))
     }
 
     fn from_tree(alloc: Global, tree: Tree) -> Result<GetDataSubarrays, NoMemory> {
-        let mut fields = Fields::of(alloc, tree);
-        Ok(GetDataSubarrays {
-            data_subarrays: fields.take()?,
-        })
+        let (data_subarrays, ()) = fields_of(alloc, tree)?;
+        Ok(GetDataSubarrays { data_subarrays })
     }
 }
 
@@ -102,16 +96,14 @@ impl InTree for PutDataArrays {
 
     ghost form = { put_data_arrays_form };
 
-    #[tactic(auto, using(crate::specs::DataArray::put_data_arrays_holds))]
+    #[tactic(auto, unfolding(etp_schema::specs::Form::Holds))]
     fn to_tree(&self, alloc: Global) -> Result<Tree, NoMemory> {
-        Ok(record_of(vec![in alloc; self.data_arrays.to_tree(alloc)?]?))
+        tree_of(alloc, (&self.data_arrays, ()))
     }
 
     fn from_tree(alloc: Global, tree: Tree) -> Result<PutDataArrays, NoMemory> {
-        let mut fields = Fields::of(alloc, tree);
-        Ok(PutDataArrays {
-            data_arrays: fields.take()?,
-        })
+        let (data_arrays, ()) = fields_of(alloc, tree)?;
+        Ok(PutDataArrays { data_arrays })
     }
 }
 
@@ -127,16 +119,14 @@ impl InTree for PutDataSubarrays {
 
     ghost form = { put_data_subarrays_form };
 
-    #[tactic(auto, using(crate::specs::DataArray::put_data_subarrays_holds))]
+    #[tactic(auto, unfolding(etp_schema::specs::Form::Holds))]
     fn to_tree(&self, alloc: Global) -> Result<Tree, NoMemory> {
-        Ok(record_of(vec![in alloc; self.data_subarrays.to_tree(alloc)?]?))
+        tree_of(alloc, (&self.data_subarrays, ()))
     }
 
     fn from_tree(alloc: Global, tree: Tree) -> Result<PutDataSubarrays, NoMemory> {
-        let mut fields = Fields::of(alloc, tree);
-        Ok(PutDataSubarrays {
-            data_subarrays: fields.take()?,
-        })
+        let (data_subarrays, ()) = fields_of(alloc, tree)?;
+        Ok(PutDataSubarrays { data_subarrays })
     }
 }
 
@@ -152,16 +142,14 @@ impl InTree for GetDataArrayMetadata {
 
     ghost form = { get_data_array_metadata_form };
 
-    #[tactic(auto, using(crate::specs::DataArray::get_data_array_metadata_holds))]
+    #[tactic(auto, unfolding(etp_schema::specs::Form::Holds))]
     fn to_tree(&self, alloc: Global) -> Result<Tree, NoMemory> {
-        Ok(record_of(vec![in alloc; self.data_arrays.to_tree(alloc)?]?))
+        tree_of(alloc, (&self.data_arrays, ()))
     }
 
     fn from_tree(alloc: Global, tree: Tree) -> Result<GetDataArrayMetadata, NoMemory> {
-        let mut fields = Fields::of(alloc, tree);
-        Ok(GetDataArrayMetadata {
-            data_arrays: fields.take()?,
-        })
+        let (data_arrays, ()) = fields_of(alloc, tree)?;
+        Ok(GetDataArrayMetadata { data_arrays })
     }
 }
 
@@ -177,16 +165,14 @@ impl InTree for GetDataArrayMetadataResponse {
 
     ghost form = { get_data_array_metadata_response_form };
 
-    #[tactic(auto, using(crate::specs::DataArray::get_data_array_metadata_response_holds))]
+    #[tactic(auto, unfolding(etp_schema::specs::Form::Holds))]
     fn to_tree(&self, alloc: Global) -> Result<Tree, NoMemory> {
-        Ok(record_of(vec![in alloc; self.array_metadata.to_tree(alloc)?]?))
+        tree_of(alloc, (&self.array_metadata, ()))
     }
 
     fn from_tree(alloc: Global, tree: Tree) -> Result<GetDataArrayMetadataResponse, NoMemory> {
-        let mut fields = Fields::of(alloc, tree);
-        Ok(GetDataArrayMetadataResponse {
-            array_metadata: fields.take()?,
-        })
+        let (array_metadata, ()) = fields_of(alloc, tree)?;
+        Ok(GetDataArrayMetadataResponse { array_metadata })
     }
 }
 
@@ -202,16 +188,14 @@ impl InTree for GetDataSubarraysResponse {
 
     ghost form = { get_data_subarrays_response_form };
 
-    #[tactic(auto, using(crate::specs::DataArray::get_data_subarrays_response_holds))]
+    #[tactic(auto, unfolding(etp_schema::specs::Form::Holds))]
     fn to_tree(&self, alloc: Global) -> Result<Tree, NoMemory> {
-        Ok(record_of(vec![in alloc; self.data_subarrays.to_tree(alloc)?]?))
+        tree_of(alloc, (&self.data_subarrays, ()))
     }
 
     fn from_tree(alloc: Global, tree: Tree) -> Result<GetDataSubarraysResponse, NoMemory> {
-        let mut fields = Fields::of(alloc, tree);
-        Ok(GetDataSubarraysResponse {
-            data_subarrays: fields.take()?,
-        })
+        let (data_subarrays, ()) = fields_of(alloc, tree)?;
+        Ok(GetDataSubarraysResponse { data_subarrays })
     }
 }
 
@@ -227,16 +211,14 @@ impl InTree for PutUninitializedDataArrays {
 
     ghost form = { put_uninitialized_data_arrays_form };
 
-    #[tactic(auto, using(crate::specs::DataArray::put_uninitialized_data_arrays_holds))]
+    #[tactic(auto, unfolding(etp_schema::specs::Form::Holds))]
     fn to_tree(&self, alloc: Global) -> Result<Tree, NoMemory> {
-        Ok(record_of(vec![in alloc; self.data_arrays.to_tree(alloc)?]?))
+        tree_of(alloc, (&self.data_arrays, ()))
     }
 
     fn from_tree(alloc: Global, tree: Tree) -> Result<PutUninitializedDataArrays, NoMemory> {
-        let mut fields = Fields::of(alloc, tree);
-        Ok(PutUninitializedDataArrays {
-            data_arrays: fields.take()?,
-        })
+        let (data_arrays, ()) = fields_of(alloc, tree)?;
+        Ok(PutUninitializedDataArrays { data_arrays })
     }
 }
 
@@ -252,16 +234,14 @@ impl InTree for PutDataArraysResponse {
 
     ghost form = { put_data_arrays_response_form };
 
-    #[tactic(auto, using(crate::specs::DataArray::put_data_arrays_response_holds))]
+    #[tactic(auto, unfolding(etp_schema::specs::Form::Holds))]
     fn to_tree(&self, alloc: Global) -> Result<Tree, NoMemory> {
-        Ok(record_of(vec![in alloc; self.success.to_tree(alloc)?]?))
+        tree_of(alloc, (&self.success, ()))
     }
 
     fn from_tree(alloc: Global, tree: Tree) -> Result<PutDataArraysResponse, NoMemory> {
-        let mut fields = Fields::of(alloc, tree);
-        Ok(PutDataArraysResponse {
-            success: fields.take()?,
-        })
+        let (success, ()) = fields_of(alloc, tree)?;
+        Ok(PutDataArraysResponse { success })
     }
 }
 
@@ -277,16 +257,14 @@ impl InTree for PutDataSubarraysResponse {
 
     ghost form = { put_data_subarrays_response_form };
 
-    #[tactic(auto, using(crate::specs::DataArray::put_data_subarrays_response_holds))]
+    #[tactic(auto, unfolding(etp_schema::specs::Form::Holds))]
     fn to_tree(&self, alloc: Global) -> Result<Tree, NoMemory> {
-        Ok(record_of(vec![in alloc; self.success.to_tree(alloc)?]?))
+        tree_of(alloc, (&self.success, ()))
     }
 
     fn from_tree(alloc: Global, tree: Tree) -> Result<PutDataSubarraysResponse, NoMemory> {
-        let mut fields = Fields::of(alloc, tree);
-        Ok(PutDataSubarraysResponse {
-            success: fields.take()?,
-        })
+        let (success, ()) = fields_of(alloc, tree)?;
+        Ok(PutDataSubarraysResponse { success })
     }
 }
 
@@ -302,19 +280,17 @@ impl InTree for PutUninitializedDataArraysResponse {
 
     ghost form = { put_uninitialized_data_arrays_response_form };
 
-    #[tactic(auto, using(crate::specs::DataArray::put_uninitialized_data_arrays_response_holds))]
+    #[tactic(auto, unfolding(etp_schema::specs::Form::Holds))]
     fn to_tree(&self, alloc: Global) -> Result<Tree, NoMemory> {
-        Ok(record_of(vec![in alloc; self.success.to_tree(alloc)?]?))
+        tree_of(alloc, (&self.success, ()))
     }
 
     fn from_tree(
         alloc: Global,
         tree: Tree,
     ) -> Result<PutUninitializedDataArraysResponse, NoMemory> {
-        let mut fields = Fields::of(alloc, tree);
-        Ok(PutUninitializedDataArraysResponse {
-            success: fields.take()?,
-        })
+        let (success, ()) = fields_of(alloc, tree)?;
+        Ok(PutUninitializedDataArraysResponse { success })
     }
 }
 

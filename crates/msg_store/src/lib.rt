@@ -10,9 +10,13 @@
 #![tactic(auto)]
 
 mod array_records;
+mod array_records_on_wire;
 mod array_types;
+mod array_types_on_wire;
 mod data_array_messages;
+mod data_array_on_wire;
 mod store_messages;
+mod store_on_wire;
 
 pub use array_records::{
     DataArray, DataArrayIdentifier, DataArrayMetadata, GetDataSubarraysType, PutDataArraysType,

@@ -7,7 +7,7 @@ ghost use Rattle.etp_schema.specs.Family.{read_kind, IsFound, IsAgain};
 ghost use Rattle.msg_store.specs.Store.{store_body, store_kinds};
 
 use avro_bin::Tree;
-use etp_schema::{ActiveStatusKind, Fields, InTree, record_of};
+use etp_schema::{ActiveStatusKind, InTree, fields_of, tree_of};
 use etp_values::{Blob, DataValue, Id16, List, Named, NoMemory, Text};
 use std::alloc::Global;
 
@@ -41,35 +41,72 @@ impl InTree for Resource {
 
     ghost form = { resource_form };
 
-    #[tactic(auto, using(crate::specs::Store::resource_holds))]
+    #[tactic(auto, unfolding(etp_schema::specs::Form::Holds))]
     fn to_tree(&self, alloc: Global) -> Result<Tree, NoMemory> {
-        Ok(record_of(vec![in alloc;
-            self.uri.to_tree(alloc)?,
-            self.alternate_uris.to_tree(alloc)?,
-            self.name.to_tree(alloc)?,
-            self.source_count.to_tree(alloc)?,
-            self.target_count.to_tree(alloc)?,
-            self.last_changed.to_tree(alloc)?,
-            self.store_last_write.to_tree(alloc)?,
-            self.store_created.to_tree(alloc)?,
-            self.active_status.to_tree(alloc)?,
-            self.custom_data.to_tree(alloc)?,
-        ]?))
+        tree_of(
+            alloc,
+            (
+                &self.uri,
+                (
+                    &self.alternate_uris,
+                    (
+                        &self.name,
+                        (
+                            &self.source_count,
+                            (
+                                &self.target_count,
+                                (
+                                    &self.last_changed,
+                                    (
+                                        &self.store_last_write,
+                                        (
+                                            &self.store_created,
+                                            (&self.active_status, (&self.custom_data, ())),
+                                        ),
+                                    ),
+                                ),
+                            ),
+                        ),
+                    ),
+                ),
+            ),
+        )
     }
 
     fn from_tree(alloc: Global, tree: Tree) -> Result<Resource, NoMemory> {
-        let mut fields = Fields::of(alloc, tree);
+        let (
+            uri,
+            (
+                alternate_uris,
+                (
+                    name,
+                    (
+                        source_count,
+                        (
+                            target_count,
+                            (
+                                last_changed,
+                                (
+                                    store_last_write,
+                                    (store_created, (active_status, (custom_data, ()))),
+                                ),
+                            ),
+                        ),
+                    ),
+                ),
+            ),
+        ) = fields_of(alloc, tree)?;
         Ok(Resource {
-            uri: fields.take()?,
-            alternate_uris: fields.take()?,
-            name: fields.take()?,
-            source_count: fields.take()?,
-            target_count: fields.take()?,
-            last_changed: fields.take()?,
-            store_last_write: fields.take()?,
-            store_created: fields.take()?,
-            active_status: fields.take()?,
-            custom_data: fields.take()?,
+            uri,
+            alternate_uris,
+            name,
+            source_count,
+            target_count,
+            last_changed,
+            store_last_write,
+            store_created,
+            active_status,
+            custom_data,
         })
     }
 }
@@ -91,23 +128,24 @@ impl InTree for DataObject {
 
     ghost form = { data_object_form };
 
-    #[tactic(auto, using(crate::specs::Store::data_object_holds))]
+    #[tactic(auto, unfolding(etp_schema::specs::Form::Holds))]
     fn to_tree(&self, alloc: Global) -> Result<Tree, NoMemory> {
-        Ok(record_of(vec![in alloc;
-            self.resource.to_tree(alloc)?,
-            self.format.to_tree(alloc)?,
-            self.blob_id.to_tree(alloc)?,
-            self.payload.to_tree(alloc)?,
-        ]?))
+        tree_of(
+            alloc,
+            (
+                &self.resource,
+                (&self.format, (&self.blob_id, (&self.payload, ()))),
+            ),
+        )
     }
 
     fn from_tree(alloc: Global, tree: Tree) -> Result<DataObject, NoMemory> {
-        let mut fields = Fields::of(alloc, tree);
+        let (resource, (format, (blob_id, (payload, ())))) = fields_of(alloc, tree)?;
         Ok(DataObject {
-            resource: fields.take()?,
-            format: fields.take()?,
-            blob_id: fields.take()?,
-            payload: fields.take()?,
+            resource,
+            format,
+            blob_id,
+            payload,
         })
     }
 }
@@ -131,23 +169,36 @@ impl InTree for PutResponse {
 
     ghost form = { put_response_form };
 
-    #[tactic(auto, using(crate::specs::Store::put_response_holds))]
+    #[tactic(auto, unfolding(etp_schema::specs::Form::Holds))]
     fn to_tree(&self, alloc: Global) -> Result<Tree, NoMemory> {
-        Ok(record_of(vec![in alloc;
-            self.created_contained_object_uris.to_tree(alloc)?,
-            self.deleted_contained_object_uris.to_tree(alloc)?,
-            self.joined_contained_object_uris.to_tree(alloc)?,
-            self.unjoined_contained_object_uris.to_tree(alloc)?,
-        ]?))
+        tree_of(
+            alloc,
+            (
+                &self.created_contained_object_uris,
+                (
+                    &self.deleted_contained_object_uris,
+                    (
+                        &self.joined_contained_object_uris,
+                        (&self.unjoined_contained_object_uris, ()),
+                    ),
+                ),
+            ),
+        )
     }
 
     fn from_tree(alloc: Global, tree: Tree) -> Result<PutResponse, NoMemory> {
-        let mut fields = Fields::of(alloc, tree);
+        let (
+            created_contained_object_uris,
+            (
+                deleted_contained_object_uris,
+                (joined_contained_object_uris, (unjoined_contained_object_uris, ())),
+            ),
+        ) = fields_of(alloc, tree)?;
         Ok(PutResponse {
-            created_contained_object_uris: fields.take()?,
-            deleted_contained_object_uris: fields.take()?,
-            joined_contained_object_uris: fields.take()?,
-            unjoined_contained_object_uris: fields.take()?,
+            created_contained_object_uris,
+            deleted_contained_object_uris,
+            joined_contained_object_uris,
+            unjoined_contained_object_uris,
         })
     }
 }
@@ -163,16 +214,14 @@ impl InTree for ArrayOfString {
 
     ghost form = { array_of_string_form };
 
-    #[tactic(auto, using(crate::specs::Store::array_of_string_holds))]
+    #[tactic(auto, unfolding(etp_schema::specs::Form::Holds))]
     fn to_tree(&self, alloc: Global) -> Result<Tree, NoMemory> {
-        Ok(record_of(vec![in alloc; self.values.to_tree(alloc)?]?))
+        tree_of(alloc, (&self.values, ()))
     }
 
     fn from_tree(alloc: Global, tree: Tree) -> Result<ArrayOfString, NoMemory> {
-        let mut fields = Fields::of(alloc, tree);
-        Ok(ArrayOfString {
-            values: fields.take()?,
-        })
+        let (values, ()) = fields_of(alloc, tree)?;
+        Ok(ArrayOfString { values })
     }
 }
 
@@ -190,17 +239,14 @@ impl InTree for GetDataObjects {
 
     ghost form = { get_data_objects_form };
 
-    #[tactic(auto, using(crate::specs::Store::get_data_objects_holds))]
+    #[tactic(auto, unfolding(etp_schema::specs::Form::Holds))]
     fn to_tree(&self, alloc: Global) -> Result<Tree, NoMemory> {
-        Ok(record_of(vec![in alloc; self.uris.to_tree(alloc)?, self.format.to_tree(alloc)?]?))
+        tree_of(alloc, (&self.uris, (&self.format, ())))
     }
 
     fn from_tree(alloc: Global, tree: Tree) -> Result<GetDataObjects, NoMemory> {
-        let mut fields = Fields::of(alloc, tree);
-        Ok(GetDataObjects {
-            uris: fields.take()?,
-            format: fields.take()?,
-        })
+        let (uris, (format, ())) = fields_of(alloc, tree)?;
+        Ok(GetDataObjects { uris, format })
     }
 }
 
@@ -218,19 +264,19 @@ impl InTree for PutDataObjects {
 
     ghost form = { put_data_objects_form };
 
-    #[tactic(auto, using(crate::specs::Store::put_data_objects_holds))]
+    #[tactic(auto, unfolding(etp_schema::specs::Form::Holds))]
     fn to_tree(&self, alloc: Global) -> Result<Tree, NoMemory> {
-        Ok(record_of(vec![in alloc;
-            self.data_objects.to_tree(alloc)?,
-            self.prune_contained_objects.to_tree(alloc)?,
-        ]?))
+        tree_of(
+            alloc,
+            (&self.data_objects, (&self.prune_contained_objects, ())),
+        )
     }
 
     fn from_tree(alloc: Global, tree: Tree) -> Result<PutDataObjects, NoMemory> {
-        let mut fields = Fields::of(alloc, tree);
+        let (data_objects, (prune_contained_objects, ())) = fields_of(alloc, tree)?;
         Ok(PutDataObjects {
-            data_objects: fields.take()?,
-            prune_contained_objects: fields.take()?,
+            data_objects,
+            prune_contained_objects,
         })
     }
 }
@@ -249,19 +295,16 @@ impl InTree for DeleteDataObjects {
 
     ghost form = { delete_data_objects_form };
 
-    #[tactic(auto, using(crate::specs::Store::delete_data_objects_holds))]
+    #[tactic(auto, unfolding(etp_schema::specs::Form::Holds))]
     fn to_tree(&self, alloc: Global) -> Result<Tree, NoMemory> {
-        Ok(record_of(vec![in alloc;
-            self.uris.to_tree(alloc)?,
-            self.prune_contained_objects.to_tree(alloc)?,
-        ]?))
+        tree_of(alloc, (&self.uris, (&self.prune_contained_objects, ())))
     }
 
     fn from_tree(alloc: Global, tree: Tree) -> Result<DeleteDataObjects, NoMemory> {
-        let mut fields = Fields::of(alloc, tree);
+        let (uris, (prune_contained_objects, ())) = fields_of(alloc, tree)?;
         Ok(DeleteDataObjects {
-            uris: fields.take()?,
-            prune_contained_objects: fields.take()?,
+            uris,
+            prune_contained_objects,
         })
     }
 }
@@ -278,16 +321,14 @@ impl InTree for GetDataObjectsResponse {
 
     ghost form = { get_data_objects_response_form };
 
-    #[tactic(auto, using(crate::specs::Store::get_data_objects_response_holds))]
+    #[tactic(auto, unfolding(etp_schema::specs::Form::Holds))]
     fn to_tree(&self, alloc: Global) -> Result<Tree, NoMemory> {
-        Ok(record_of(vec![in alloc; self.data_objects.to_tree(alloc)?]?))
+        tree_of(alloc, (&self.data_objects, ()))
     }
 
     fn from_tree(alloc: Global, tree: Tree) -> Result<GetDataObjectsResponse, NoMemory> {
-        let mut fields = Fields::of(alloc, tree);
-        Ok(GetDataObjectsResponse {
-            data_objects: fields.take()?,
-        })
+        let (data_objects, ()) = fields_of(alloc, tree)?;
+        Ok(GetDataObjectsResponse { data_objects })
     }
 }
 
@@ -308,21 +349,17 @@ impl InTree for Chunk {
 
     ghost form = { chunk_form };
 
-    #[tactic(auto, using(crate::specs::Store::chunk_holds))]
+    #[tactic(auto, unfolding(etp_schema::specs::Form::Holds))]
     fn to_tree(&self, alloc: Global) -> Result<Tree, NoMemory> {
-        Ok(record_of(vec![in alloc;
-            self.blob_id.to_tree(alloc)?,
-            self.payload.to_tree(alloc)?,
-            self.last.to_tree(alloc)?,
-        ]?))
+        tree_of(alloc, (&self.blob_id, (&self.payload, (&self.last, ()))))
     }
 
     fn from_tree(alloc: Global, tree: Tree) -> Result<Chunk, NoMemory> {
-        let mut fields = Fields::of(alloc, tree);
+        let (blob_id, (payload, (last, ()))) = fields_of(alloc, tree)?;
         Ok(Chunk {
-            blob_id: fields.take()?,
-            payload: fields.take()?,
-            last: fields.take()?,
+            blob_id,
+            payload,
+            last,
         })
     }
 }
@@ -339,16 +376,14 @@ impl InTree for PutDataObjectsResponse {
 
     ghost form = { put_data_objects_response_form };
 
-    #[tactic(auto, using(crate::specs::Store::put_data_objects_response_holds))]
+    #[tactic(auto, unfolding(etp_schema::specs::Form::Holds))]
     fn to_tree(&self, alloc: Global) -> Result<Tree, NoMemory> {
-        Ok(record_of(vec![in alloc; self.success.to_tree(alloc)?]?))
+        tree_of(alloc, (&self.success, ()))
     }
 
     fn from_tree(alloc: Global, tree: Tree) -> Result<PutDataObjectsResponse, NoMemory> {
-        let mut fields = Fields::of(alloc, tree);
-        Ok(PutDataObjectsResponse {
-            success: fields.take()?,
-        })
+        let (success, ()) = fields_of(alloc, tree)?;
+        Ok(PutDataObjectsResponse { success })
     }
 }
 
@@ -364,16 +399,14 @@ impl InTree for DeleteDataObjectsResponse {
 
     ghost form = { delete_data_objects_response_form };
 
-    #[tactic(auto, using(crate::specs::Store::delete_data_objects_response_holds))]
+    #[tactic(auto, unfolding(etp_schema::specs::Form::Holds))]
     fn to_tree(&self, alloc: Global) -> Result<Tree, NoMemory> {
-        Ok(record_of(vec![in alloc; self.deleted_uris.to_tree(alloc)?]?))
+        tree_of(alloc, (&self.deleted_uris, ()))
     }
 
     fn from_tree(alloc: Global, tree: Tree) -> Result<DeleteDataObjectsResponse, NoMemory> {
-        let mut fields = Fields::of(alloc, tree);
-        Ok(DeleteDataObjectsResponse {
-            deleted_uris: fields.take()?,
-        })
+        let (deleted_uris, ()) = fields_of(alloc, tree)?;
+        Ok(DeleteDataObjectsResponse { deleted_uris })
     }
 }
 

@@ -1,5 +1,4 @@
 use Rattle.std.proofs.Common.{◌≡◌, sym, subst, rules}
-use Rattle.avro_bin.specs.Shape.{FitsTree}
 use Rattle.etp_frame.specs.Wire.{IsMessage, message_bytes}
 use Rattle.etp_frame.specs.Laws.{Fits}
 use Rattle.etp_frame.proofs.WireLemmas.{written_form}
@@ -11,9 +10,9 @@ returns-clause-form c = λ side sent few.
     let x = c.args.message.now in
     let same : c.in_ok-blob.blob ≡ message_bytes h x = search rules in
     let fits : Fits h x = record {
-      header = subst FitsTree c.in_ok-front.ensures.value c.in_ok-encode.ensures.fits;
-      typed = c.in_ok-body.ensures.typed;
-      body = subst FitsTree c.in_ok-body.ensures.value c.in_ok-encode-2.ensures.fits;
+      header = c.in_ok-write.ensures.fits;
+      typed = c.in_ok-write-2.ensures.typed;
+      body = c.in_ok-write-2.ensures.fits;
       few = few;
     } in
     subst (IsMessage side h x) (sym same) (written_form side h x c.requires.plain c.requires.names sent fits)
