@@ -1,4 +1,4 @@
-//! Measures the codec: writes and reads an array of longs, an array of doubles or a map of longs.
+//! Measures the codec: writes and reads an array of longs, an array of doubles or a map of longs, as a tree and as typed values.
 //!
 //! With no word it takes a few values of each kind and prints how many bytes they have. With a kind (`longs`, `doubles`,
 //! `map`) and a count it also prints how many bytes a second were written and read.
@@ -8,9 +8,9 @@ ghost use Rattle.std.specs.Prelude.{◌<◌};
 
 mod values;
 
-use avro_bin::{Node, Table, Tree, decode, encode};
+use avro_bin::{Node, Refusal, Table, decode, encode};
+use etp_schema::{OnWire, read_body, write_body};
 use etp_values::NoMemory;
-use std::alloc::Global;
 use std::time::{Duration, Instant};
 use std::{env, io};
 use values::{doubles, longs, map};
@@ -41,22 +41,46 @@ fn rate(bytes: usize, time: Duration) -> u128 {
     bytes as u128 * 1_000_000 / (time.as_nanos() + 1)
 }
 
-/// The value of a kind.
-fn value_of_kind(alloc: Global, kind: &str, count: u32) -> Result<Tree, NoMemory> {
-    match kind {
-        "longs" => longs(alloc, count),
-        "doubles" => doubles(alloc, count),
-        _ => map(alloc, count),
+/// How long it took to write a value and to read it again.
+#[derive(Clone, Copy, Drop)]
+struct Times {
+    writing: Duration,
+    reading: Duration,
+}
+
+/// Prints how many of the bytes were read.
+fn tell(
+    rt: &HostRuntime,
+    kind: &str,
+    way: &str,
+    bytes: usize,
+    read: Result<usize, Refusal>,
+) -> io::Result<()> {
+    match read {
+        Ok(len) => println!(rt; "{kind}, {way}: {len} of {bytes} bytes"),
+        Err(refusal) => println!(rt; "{kind}, {way}: {refusal:?}"),
     }
 }
 
-/// Writes and reads a value, and prints how many bytes it has, and how fast that was where `timed`.
+/// Prints how fast they were written and read.
+fn tell_times(rt: &HostRuntime, bytes: usize, times: Times) -> io::Result<()> {
+    println!(rt;
+        "written: {} thousand bytes a second",
+        rate(bytes, times.writing)
+    )?;
+    println!(rt;
+        "read: {} thousand bytes a second",
+        rate(bytes, times.reading)
+    )
+}
+
+/// Writes and reads a value as a tree, and prints how many bytes it has, and how fast that was where `timed`.
 #[tactic(auto, using(avro_bin::proofs::TableTest::table_is))]
-fn measure(rt: &HostRuntime, kind: &str, count: u32, timed: bool) -> io::Result<()> {
+fn measure_tree<T: OnWire>(rt: &HostRuntime, kind: &str, value: &T, timed: bool) -> io::Result<()> {
     let alloc = rt.alloc();
     let place = place_of(kind);
-    let Ok(tree) = value_of_kind(alloc, kind, count) else {
-        return println!(rt; "no memory for the value");
+    let Ok(tree) = value.to_tree(alloc) else {
+        return println!(rt; "no memory for the tree");
     };
     let mut bytes = Vec::new(alloc);
     let start = Instant::now(rt)?;
@@ -68,21 +92,58 @@ fn measure(rt: &HostRuntime, kind: &str, count: u32, timed: bool) -> io::Result<
     let start = Instant::now(rt)?;
     let read = decode(alloc, &TABLE, place, bytes.as_slice());
     let reading = start.elapsed(rt)?;
-    match read {
-        Ok((_, len)) => println!(rt; "{kind}: {len} of {} bytes", bytes.len())?,
-        Err(refusal) => println!(rt; "{kind}: {refusal:?}")?,
-    }
+    tell(rt, kind, "tree", bytes.len(), read.map(|(_, len)| len))?;
     if timed {
-        println!(rt;
-            "written: {} thousand bytes a second",
-            rate(bytes.len(), writing)
-        )?;
-        println!(rt;
-            "read: {} thousand bytes a second",
-            rate(bytes.len(), reading)
-        )?;
+        tell_times(rt, bytes.len(), Times { writing, reading })?;
     }
     Ok(())
+}
+
+/// Writes and reads a value without a tree, and prints the same.
+fn measure_typed<T: OnWire>(
+    rt: &HostRuntime,
+    kind: &str,
+    value: &T,
+    timed: bool,
+) -> io::Result<()> {
+    let alloc = rt.alloc();
+    let mut bytes = Vec::new(alloc);
+    let start = Instant::now(rt)?;
+    let written = write_body(value, &mut bytes);
+    let writing = start.elapsed(rt)?;
+    if written.is_err() {
+        return println!(rt; "no memory to write");
+    }
+    let start = Instant::now(rt)?;
+    let read = read_body::<T>(alloc, bytes.as_slice());
+    let reading = start.elapsed(rt)?;
+    tell(rt, kind, "typed", bytes.len(), read.map(|(_, len)| len))?;
+    if timed {
+        tell_times(rt, bytes.len(), Times { writing, reading })?;
+    }
+    Ok(())
+}
+
+fn measure<T: OnWire>(
+    rt: &HostRuntime,
+    kind: &str,
+    value: Result<T, NoMemory>,
+    timed: bool,
+) -> io::Result<()> {
+    let Ok(value) = value else {
+        return println!(rt; "no memory for the value");
+    };
+    measure_tree(rt, kind, &value, timed)?;
+    measure_typed(rt, kind, &value, timed)
+}
+
+fn measure_kind(rt: &HostRuntime, kind: &str, count: u32, timed: bool) -> io::Result<()> {
+    let alloc = rt.alloc();
+    match kind {
+        "longs" => measure(rt, kind, longs(alloc, count), timed),
+        "doubles" => measure(rt, kind, doubles(alloc, count), timed),
+        _ => measure(rt, kind, map(alloc, count), timed),
+    }
 }
 
 fn main(rt: HostRuntime) -> io::Result<()> {
@@ -91,12 +152,12 @@ fn main(rt: HostRuntime) -> io::Result<()> {
     match (words.next(), words.next()) {
         (Some(kind), Some(count)) => {
             let count = count.as_str().parse::<u32>().unwrap_or(0);
-            measure(&rt, kind.as_str(), count, true)
+            measure_kind(&rt, kind.as_str(), count, true)
         }
         _ => {
-            measure(&rt, "longs", 5, false)?;
-            measure(&rt, "doubles", 5, false)?;
-            measure(&rt, "map", 5, false)
+            measure_kind(&rt, "longs", 5, false)?;
+            measure_kind(&rt, "doubles", 5, false)?;
+            measure_kind(&rt, "map", 5, false)
         }
     }
 }
