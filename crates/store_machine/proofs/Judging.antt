@@ -1,11 +1,10 @@
 -- Items that are judged one after the other get the definition's verdicts, and the plan has what the accepted ones leave.
-use Rattle.std.specs.Prelude.{ℕ, ℤ, pos, Bool, true, false, cond, List, [], ◌∷◌, ◌++◌, ◌≡◌, Option, Some, None, map, refl, if◌then◌else◌, is_some}
+use Rattle.std.specs.Prelude.{ℕ, ℤ, Bool, true, false, List, [], ◌∷◌, ◌++◌, ◌≡◌, Option, Some, None, map, refl, if◌then◌else◌, is_some}
 use Rattle.std.specs.Map.{values_of, keys_of}
 use Rattle.std.specs.Str.{bytes_eq}
 use Rattle.std.proofs.Common.{ap, sym, subst, ◌∙◌, append_assoc, append-nil}
 use Rattle.etp_values.specs.declared.code.ErrorCode.{ErrorCode}
 use Rattle.etp_values.specs.declared.code.ErrorCode.TheVariants.{RequestDenied, NotFound}
-use Rattle.etp_values.specs.declared.data.DataValue.{DataValue}
 use Rattle.tx_stage.specs.declared.contents.Contents.{Contents}
 use Rattle.tx_stage.specs.declared.key.Key.{Key}
 use Rattle.tx_stage.specs.declared.key.Key.TheVariants.{Space}
@@ -16,11 +15,11 @@ use Rattle.tx_stage.specs.declared.value.Value.TheVariants as valued
 use Rattle.tx_stage.specs.Keys.{same_key, space_of}
 use Rattle.tx_stage.specs.Ops.{made_at}
 use Rattle.tx_stage.specs.Overlay.{op_refusal}
-use Rattle.tx_stage.specs.State.{state_in, state_now, Advances, PutsSpace, DropsSpace, PlansUnless}
+use Rattle.tx_stage.specs.State.{state_in, state_now, PutsSpace, DropsSpace, PlansUnless}
 use Rattle.store_machine.specs.declared.call.SpacePut.{SpacePut}
 use Rattle.store_machine.specs.declared.call.Verdict.{Verdict}
 use Rattle.store_machine.specs.declared.call.Verdict.TheVariants.{Accepted, Refused}
-use Rattle.store_machine.specs.History.{Change, SetSpace, DropSpace, Operate, is_default, alters, left, value, set_space}
+use Rattle.store_machine.specs.History.{Change, DropSpace, Operate, is_default, alters, left, value, set_space}
 use Rattle.store_machine.specs.Answers.{verdict, verdict_of, verdicts, accepted, is_accepted, sofar_with}
 use Rattle.store_machine.specs.Kept.{Holds, Plans, Judged, Takes, Drafting, with_accepted}
 use Rattle.store_machine.proofs.Values.{value-push}

@@ -1,8 +1,13 @@
 -- What a store keeps stays right through a further entry, and its journal legal.
-use Rattle.std.specs.Prelude.{ℕ, ℤ, pos, nat_lt, nat_le, Bool, true, false, List, [], ◌∷◌, ◌++◌, ◌≡◌, ◌+◌, ◌≤◌, ◌&&◌, Option, Some, None, length, filter, map, refl, if◌then◌else◌}
+use Rattle.std.specs.Prelude.{ℕ, ℤ, pos, Bool, true, false, List, [], ◌∷◌, ◌++◌, ◌≡◌, ◌+◌, ◌≤◌, Option, Some, None, length, filter, map, refl, if◌then◌else◌}
 use Rattle.std.specs.Map.{values_of}
 use Rattle.std.proofs.Common.{ap, sym, ◌∙◌, subst, append_assoc, append-nil, arith}
 use Rattle.chan_defs.specs.declared.config.Config.{Config}
+use Rattle.channel_store.specs.declared.error.ChannelError.{ChannelError}
+use Rattle.channel_store.specs.Channels.{Channel, fresh}
+use Rattle.channel_store.specs.Refusals.{append_refusal, replace_refusal}
+use Rattle.channel_store.specs.Store.{changed, truncated}
+use Rattle.etp_values.specs.declared.point.ChannelPoint.{ChannelPoint}
 use Rattle.object_store.specs.declared.records.SpaceRecord.{SpaceRecord}
 use Rattle.tx_stage.specs.declared.contents.Contents.{Contents}
 use Rattle.tx_stage.specs.declared.key.Key.{Key}
@@ -16,18 +21,23 @@ use Rattle.tx_stage.specs.State.{first, state_in, state_now}
 use Rattle.store_machine.specs.declared.call.SpacePut.{SpacePut}
 use Rattle.store_machine.specs.declared.counted.TheConstants.{MAX_JOURNAL_BYTES}
 use Rattle.store_machine.specs.declared.journal.Act.{Act}
-use Rattle.store_machine.specs.declared.journal.Act.TheVariants.{Enter, PutSpaces, DropSpaces, Put}
+use Rattle.store_machine.specs.declared.journal.Act.TheVariants.{Enter, PutSpaces, DropSpaces, Put, Append, Replace, Truncate}
 use Rattle.store_machine.specs.declared.journal.Entry.{Entry}
 use Rattle.store_machine.specs.History.{Change, DropSpace, Operate, set_space, changes_by, entry_changes, changes_of}
 use Rattle.store_machine.specs.declared.call.Reply.TheVariants as replied
 use Rattle.store_machine.specs.declared.call.Reply.TheVariants.{Spaces}
 use Rattle.store_machine.specs.declared.call.StoreCall.{StoreCall}
 use Rattle.store_machine.specs.declared.call.StoreCall.TheVariants as call
+use Rattle.store_machine.specs.declared.call.Cutting.{Cutting}
+use Rattle.store_machine.specs.Channels.{channels_of, cut_of, what_of}
+use Rattle.store_machine.specs.Cuts.{cuts_accepted}
 use Rattle.store_machine.specs.Dataspaces.{dataspaces, is_newer}
 use Rattle.store_machine.specs.Counted.{counted_act, counted, is_room, bytes_with}
-use Rattle.store_machine.specs.Answers.{verdict, is_accepted, accepted, act_of, granted, has_room_for, entry, entered, entries_of, seen_after, answer}
+use Rattle.store_machine.specs.Answers.{verdict, is_accepted, accepted, all_or_none, act_of, granted, has_room_for, entry, entered, entries_of, seen_after, answer}
 use Rattle.store_machine.specs.Legal.{IsNext, MayAct, MayAsk, Follows, LegalFrom, Legal, door}
 use Rattle.store_machine.specs.Kept.{Holds, Plans, Keeps}
+use Rattle.store_machine.proofs.Channeled.{channels-first, channels-frame, channels-step}
+use Rattle.store_machine.proofs.CutLemmas.{cuts-again}
 use Rattle.store_machine.proofs.Values.{changes-push}
 
 -- what was accepted is accepted again
@@ -62,54 +72,93 @@ legal-one config history e false legal follows = subst (Legal config) (sym (appe
 
 -- ---- acts of several items
 
--- an act makes an entry of its accepted items, under the number of whoever may make it
-record Makes {X : Type 0} (act : List X → Act) (change : X → Change) (config : Config) (history : List Entry) (by nth : ℕ) (at : ℤ) : Type 0 where
-  grants : (xs : List X) → granted config history (act xs) ≡ act_of act (accepted change (changes_of history) xs)
-  enters : (xs : List X) → entry history by nth at (act xs) ≡ record { by = by; nth = nth; at = at; act = act xs }
-  may : (xs : List X) → MayAct history by nth (act xs)
+-- an act makes an entry of those of its items that it keeps, under the number of whoever may make it
+pub record Makes {X : Type 0} (act : List X → Act) (kept : List X → List X) (config : Config) (history : List Entry) (by nth : ℕ) (at : ℤ) : Type 0 where
+  pub grants : (xs : List X) → granted config history (act xs) ≡ act_of act (kept xs)
+  pub again : (xs : List X) → kept (kept xs) ≡ kept xs
+  pub enters : (xs : List X) → entry history by nth at (act xs) ≡ record { by = by; nth = nth; at = at; act = act xs }
+  pub may : (xs : List X) → MayAct history by nth (act xs)
 
-makes-puts : (config : Config) (history : List Entry) (by nth : ℕ) (at : ℤ) → IsNext history by nth → Makes PutSpaces (set_space (pos 0)) config history by nth at
-makes-puts config history by nth at next = record { grants = λ xs. refl; enters = λ xs. refl; may = λ xs. next }
+makes-puts : (config : Config) (history : List Entry) (by nth : ℕ) (at : ℤ) → IsNext history by nth → Makes PutSpaces (accepted (set_space (pos 0)) (changes_of history)) config history by nth at
+makes-puts config history by nth at next = record { grants = λ xs. refl; again = accepted-again (set_space (pos 0)) (changes_of history); enters = λ xs. refl; may = λ xs. next }
 
-makes-drops : (config : Config) (history : List Entry) (by nth : ℕ) (at : ℤ) → IsNext history by nth → Makes DropSpaces DropSpace config history by nth at
-makes-drops config history by nth at next = record { grants = λ xs. refl; enters = λ xs. refl; may = λ xs. next }
+makes-drops : (config : Config) (history : List Entry) (by nth : ℕ) (at : ℤ) → IsNext history by nth → Makes DropSpaces (accepted DropSpace (changes_of history)) config history by nth at
+makes-drops config history by nth at next = record { grants = λ xs. refl; again = accepted-again DropSpace (changes_of history); enters = λ xs. refl; may = λ xs. next }
 
-makes-ops : (config : Config) (history : List Entry) (by nth : ℕ) (at : ℤ) → IsNext history by nth → Makes Put Operate config history by nth at
-makes-ops config history by nth at next = record { grants = λ xs. refl; enters = λ xs. refl; may = λ xs. next }
+makes-ops : (config : Config) (history : List Entry) (by nth : ℕ) (at : ℤ) → IsNext history by nth → Makes Put (accepted Operate (changes_of history)) config history by nth at
+makes-ops config history by nth at next = record { grants = λ xs. refl; again = accepted-again Operate (changes_of history); enters = λ xs. refl; may = λ xs. next }
 
--- the entry of accepted items follows, where there is room
-follows-items : {X : Type 0} (act : List X → Act) (change : X → Change) (config : Config) (history : List Entry) (by nth : ℕ) (at : ℤ) → Makes act change config history by nth at
-    → (asked : List X) (x : X) (xs : List X) → x ∷ xs ≡ accepted change (changes_of history) asked → has_room_for config history (act (x ∷ xs)) ≡ true
+-- items that are kept all or not at all
+all-again : {X : Type 0} (refusal : List X → Option ChannelError) (xs : List X) → all_or_none (refusal (all_or_none (refusal xs) xs)) (all_or_none (refusal xs) xs) ≡ all_or_none (refusal xs) xs
+all-again {X} refusal xs = by (refusal xs) refl
+  where
+    none : (r : Option ChannelError) (ys : List X) → ys ≡ [] → all_or_none r ys ≡ []
+    none None ys e = e
+    none (Some why) ys e = refl
+
+    by : (r : Option ChannelError) → refusal xs ≡ r → all_or_none (refusal (all_or_none r xs)) (all_or_none r xs) ≡ all_or_none r xs
+    by None e = ap (λ q. all_or_none q xs) e
+    by (Some why) e = none (refusal []) [] refl
+
+pub makes-append : (config : Config) (history : List Entry) (by nth : ℕ) (at : ℤ) → IsNext history by nth
+    → Makes Append (λ items. all_or_none (append_refusal (channels_of config history) items) items) config history by nth at
+makes-append config history by nth at next = record { grants = λ xs. refl; again = all-again (append_refusal (channels_of config history)); enters = λ xs. refl; may = λ xs. next }
+
+pub makes-replace : (config : Config) (history : List Entry) (by nth : ℕ) (at from to : ℤ) (items : List ChannelPoint) → IsNext history by nth
+    → Makes (λ ids. Replace ids from to items) (λ ids. all_or_none (replace_refusal (channels_of config history) ids from to items) ids) config history by nth at
+makes-replace config history by nth at from to items next = record {
+  grants = λ xs. refl;
+  again = all-again (λ ids. replace_refusal (channels_of config history) ids from to items);
+  enters = λ xs. refl;
+  may = λ xs. next;
+}
+
+pub makes-cuts : (config : Config) (history : List Entry) (by nth : ℕ) (at : ℤ) → IsNext history by nth → Makes Truncate (cuts_accepted (channels_of config history) []) config history by nth at
+makes-cuts config history by nth at next = record { grants = λ xs. refl; again = cuts-again (channels_of config history); enters = λ xs. refl; may = λ xs. next }
+
+-- the entry of kept items follows, where there is room
+pub follows-items : {X : Type 0} (act : List X → Act) (kept : List X → List X) (config : Config) (history : List Entry) (by nth : ℕ) (at : ℤ) → Makes act kept config history by nth at
+    → (asked : List X) (x : X) (xs : List X) → x ∷ xs ≡ kept asked → has_room_for config history (act (x ∷ xs)) ≡ true
     → Follows config history (record { by = by; nth = nth; at = at; act = act (x ∷ xs) })
-follows-items act change config history by nth at m asked x xs same room = record {
+follows-items act kept config history by nth at m asked x xs same room = record {
   same = ap (entered config history by nth at) again ∙ ap (λ b. if b then entry history by nth at (act (x ∷ xs)) ∷ [] else []) room ∙ ap (λ e. e ∷ []) (m.enters (x ∷ xs));
   may = m.may (x ∷ xs);
 }
   where
     again : granted config history (act (x ∷ xs)) ≡ act (x ∷ xs) ∷ []
-    again = m.grants (x ∷ xs) ∙ ap (act_of act) (ap (accepted change (changes_of history)) same ∙ accepted-again change (changes_of history) asked ∙ sym same)
+    again = m.grants (x ∷ xs) ∙ ap (act_of act) (ap kept same ∙ m.again asked ∙ sym same)
 
-legal-items : {X : Type 0} (act : List X → Act) (change : X → Change) (config : Config) (history : List Entry) (by nth : ℕ) (at : ℤ) → Makes act change config history by nth at
-    → (asked xs : List X) → Legal config history → xs ≡ accepted change (changes_of history) asked → Legal config (history ++ entered config history by nth at (act_of act xs))
-legal-items act change config history by nth at m asked [] legal same = subst (Legal config) (sym (append-nil history)) legal
-legal-items act change config history by nth at m asked (x ∷ xs) legal same =
+legal-items : {X : Type 0} (act : List X → Act) (kept : List X → List X) (config : Config) (history : List Entry) (by nth : ℕ) (at : ℤ) → Makes act kept config history by nth at
+    → (asked xs : List X) → Legal config history → xs ≡ kept asked → Legal config (history ++ entered config history by nth at (act_of act xs))
+legal-items act kept config history by nth at m asked [] legal same = subst (Legal config) (sym (append-nil history)) legal
+legal-items act kept config history by nth at m asked (x ∷ xs) legal same =
     let e : Entry = record { by = by; nth = nth; at = at; act = act (x ∷ xs) } in
     subst (λ (d : Entry). Legal config (history ++ (if has_room_for config history (act (x ∷ xs)) then d ∷ [] else []))) (sym (m.enters (x ∷ xs)))
-    (legal-one config history e (has_room_for config history (act (x ∷ xs))) legal (follows-items act change config history by nth at m asked x xs same))
+    (legal-one config history e (has_room_for config history (act (x ∷ xs))) legal (follows-items act kept config history by nth at m asked x xs same))
 
-legal-granted : {X : Type 0} (act : List X → Act) (change : X → Change) (config : Config) (history : List Entry) (by nth : ℕ) (at : ℤ) → Makes act change config history by nth at
+legal-granted : {X : Type 0} (act : List X → Act) (kept : List X → List X) (config : Config) (history : List Entry) (by nth : ℕ) (at : ℤ) → Makes act kept config history by nth at
     → (asked : List X) → Legal config history → Legal config (history ++ entered config history by nth at (granted config history (act asked)))
-legal-granted act change config history by nth at m asked legal =
+legal-granted act kept config history by nth at m asked legal =
     subst (λ acts. Legal config (history ++ entered config history by nth at acts)) (sym (m.grants asked))
-    (legal-items act change config history by nth at m asked (accepted change (changes_of history) asked) legal refl)
+    (legal-items act kept config history by nth at m asked (kept asked) legal refl)
 
 pub legal-call : (config : Config) (history : List Entry) (by nth : ℕ) (at : ℤ) (c : StoreCall) → Legal config history → MayAsk history by nth c → Legal config (history ++ entries_of config history by nth at c)
 legal-call config history by nth at call.Enter legal may =
     let e : Entry = entry history by nth at Enter in
     legal-one config history e (has_room_for config history Enter) legal (λ room. record { same = ap (λ b. if b then e ∷ [] else []) room; may = tt })
-legal-call config history by nth at (call.PutSpaces items) legal may = legal-granted PutSpaces (set_space (pos 0)) config history by nth at (makes-puts config history by nth at may) (values_of items) legal
-legal-call config history by nth at (call.DropSpaces items) legal may = legal-granted DropSpaces DropSpace config history by nth at (makes-drops config history by nth at may) (values_of items) legal
-legal-call config history by nth at (call.Put items) legal may = legal-granted Put Operate config history by nth at (makes-ops config history by nth at may) (values_of items) legal
+legal-call config history by nth at (call.PutSpaces items) legal may =
+    legal-granted PutSpaces (accepted (set_space (pos 0)) (changes_of history)) config history by nth at (makes-puts config history by nth at may) (values_of items) legal
+legal-call config history by nth at (call.DropSpaces items) legal may =
+    legal-granted DropSpaces (accepted DropSpace (changes_of history)) config history by nth at (makes-drops config history by nth at may) (values_of items) legal
+legal-call config history by nth at (call.Put items) legal may =
+    legal-granted Put (accepted Operate (changes_of history)) config history by nth at (makes-ops config history by nth at may) (values_of items) legal
+legal-call config history by nth at (call.Append items) legal may =
+    legal-granted Append (λ xs. all_or_none (append_refusal (channels_of config history) xs) xs) config history by nth at (makes-append config history by nth at may) items legal
+legal-call config history by nth at (call.Replace channels from to items) legal may =
+    legal-granted (λ ids. Replace ids from to items) (λ ids. all_or_none (replace_refusal (channels_of config history) ids from to items) ids) config history by nth at
+    (makes-replace config history by nth at from to items may) channels legal
+legal-call config history by nth at (call.Truncate items) legal may =
+    legal-granted Truncate (cuts_accepted (channels_of config history) []) config history by nth at (makes-cuts config history by nth at may) (values_of items) legal
 legal-call config history by nth at _ legal may = subst (Legal config) (sym (append-nil history)) legal
 
 -- ---- counted bytes
@@ -123,69 +172,95 @@ fits config history a h = grind (arith, h)
 
 -- ---- a further entry
 
--- an entry that follows, with the tables that hold what its changes left
-keeps-push : (config : Config) (journal : List Entry) (total : ℕ) (t t' : Contents) (e : Entry) → Keeps config journal total t → Follows config journal e → has_room_for config journal e.act ≡ true
-    → Holds t' (changes_of journal ++ entry_changes e) → Keeps config (journal ++ e ∷ []) (total + counted_act e.act) t'
-keeps-push config journal total t t' e k f room h = record {
+-- an entry that follows, with the tables that hold what its changes left, and the channels after it
+keeps-push : (config : Config) (journal : List Entry) (total : ℕ) (t t' : Contents) (cs cs' : List Channel) (e : Entry) → Keeps config journal total t cs → Follows config journal e → has_room_for config journal e.act ≡ true
+    → Holds t' (changes_of journal ++ entry_changes e) → cs' ≡ channels_of config (journal ++ e ∷ []) → Keeps config (journal ++ e ∷ []) (total + counted_act e.act) t' cs'
+keeps-push config journal total t t' cs cs' e k f room h ch = record {
   legal = legal-push config journal e k.legal f;
   bytes = ap (λ n. n + counted_act e.act) k.bytes ∙ sym (counted-push journal e);
   limit = subst (λ n. n + counted_act e.act ≤ MAX_JOURNAL_BYTES) (sym k.bytes) (fits config journal e.act room);
   holds = subst (Holds t') (sym (changes-push journal e)) h;
+  channels = ch;
 }
 
 -- someone enters
-pub keeps-enter : (config : Config) (journal : List Entry) (total : ℕ) (t : Contents) (at : ℤ) → Keeps config journal total t → has_room_for config journal Enter ≡ true
-    → Keeps config (journal ++ entry journal 0 0 at Enter ∷ []) (total + counted_act Enter) t
-keeps-enter config journal total t at k room = keeps-push config journal total t t (entry journal 0 0 at Enter) k
+pub keeps-enter : (config : Config) (journal : List Entry) (total : ℕ) (t : Contents) (cs : List Channel) (at : ℤ) → Keeps config journal total t cs → has_room_for config journal Enter ≡ true
+    → Keeps config (journal ++ entry journal 0 0 at Enter ∷ []) (total + counted_act Enter) t cs
+keeps-enter config journal total t cs at k room = keeps-push config journal total t t cs cs (entry journal 0 0 at Enter) k
     (record { same = ap (λ b. if b then entry journal (length journal) 0 at Enter ∷ [] else []) room; may = tt }) room
     (subst (Holds t) (sym (append-nil (changes_of journal))) k.holds)
+    (k.channels ∙ sym (channels-frame config journal (entry journal 0 0 at Enter) (λ id. refl)))
 
 -- a plan was done
 done : (t t' : Contents) (p : Plan) (changes : List Change) → ((key : Key) → state_in t' key ≡ state_now t p key) → Plans t p changes → Holds t' changes
 done t t' p changes does pl = record { each = λ key. does key ∙ pl.each key }
 
--- accepted items make an entry, whose changes were planned
-keeps-items : {X : Type 0} (act : List X → Act) (change : X → Change) (config : Config) (journal : List Entry) (by nth : ℕ) (at : ℤ) → Makes act change config journal by nth at
-    → (total : ℕ) (t t' : Contents) (p : Plan) (asked xs : List X) → Keeps config journal total t → xs ≡ accepted change (changes_of journal) asked → (xs ≡ [] → ⊥) → has_room_for config journal (act xs) ≡ true
+-- kept items make an entry, whose changes were planned
+keeps-items : {X : Type 0} (act : List X → Act) (kept : List X → List X) (config : Config) (journal : List Entry) (by nth : ℕ) (at : ℤ) → Makes act kept config journal by nth at
+    → ((xs : List X) (id : ℤ) → what_of (act xs) id ≡ None)
+    → (total : ℕ) (t t' : Contents) (cs : List Channel) (p : Plan) (asked xs : List X) → Keeps config journal total t cs → xs ≡ kept asked → (xs ≡ [] → ⊥) → has_room_for config journal (act xs) ≡ true
     → ((key : Key) → state_in t' key ≡ state_now t p key) → Plans t p (changes_of journal ++ changes_by at (act xs))
-    → Keeps config (journal ++ record { by = by; nth = nth; at = at; act = act xs } ∷ []) (total + counted_act (act xs)) t'
-keeps-items act change config journal by nth at m total t t' p asked [] k same some room does pl = absurd (some refl)
-keeps-items act change config journal by nth at m total t t' p asked (x ∷ xs) k same some room does pl =
-    keeps-push config journal total t t' (record { by = by; nth = nth; at = at; act = act (x ∷ xs) }) k (follows-items act change config journal by nth at m asked x xs same room) room
-    (done t t' p (changes_of journal ++ changes_by at (act (x ∷ xs))) does pl)
+    → Keeps config (journal ++ record { by = by; nth = nth; at = at; act = act xs } ∷ []) (total + counted_act (act xs)) t' cs
+keeps-items act kept config journal by nth at m still total t t' cs p asked [] k same some room does pl = absurd (some refl)
+keeps-items act kept config journal by nth at m still total t t' cs p asked (x ∷ xs) k same some room does pl =
+    let e : Entry = record { by = by; nth = nth; at = at; act = act (x ∷ xs) } in
+    keeps-push config journal total t t' cs cs e k (follows-items act kept config journal by nth at m asked x xs same room) room
+    (done t t' p (changes_of journal ++ changes_by at (act (x ∷ xs))) does pl) (k.channels ∙ sym (channels-frame config journal e (still (x ∷ xs))))
 
 -- dataspaces are put
-pub keeps-puts : (config : Config) (journal : List Entry) (by nth : ℕ) (at : ℤ) (total : ℕ) (t t' : Contents) (p : Plan) (asked puts : List SpacePut)
-    → Keeps config journal total t → IsNext journal by nth → puts ≡ accepted (set_space (pos 0)) (changes_of journal) asked → Plans t p (changes_of journal ++ map (set_space at) puts) → (puts ≡ [] → ⊥) → has_room_for config journal (PutSpaces puts) ≡ true
+pub keeps-puts : (config : Config) (journal : List Entry) (by nth : ℕ) (at : ℤ) (total : ℕ) (t t' : Contents) (cs : List Channel) (p : Plan) (asked puts : List SpacePut)
+    → Keeps config journal total t cs → IsNext journal by nth → puts ≡ accepted (set_space (pos 0)) (changes_of journal) asked → Plans t p (changes_of journal ++ map (set_space at) puts) → (puts ≡ [] → ⊥) → has_room_for config journal (PutSpaces puts) ≡ true
     → ((key : Key) → state_in t' key ≡ state_now t p key)
-    → Keeps config (journal ++ record { by = by; nth = nth; at = at; act = PutSpaces puts } ∷ []) (total + counted_act (PutSpaces puts)) t'
-keeps-puts config journal by nth at total t t' p asked puts k next same pl some room does =
-    keeps-items PutSpaces (set_space (pos 0)) config journal by nth at (makes-puts config journal by nth at next) total t t' p asked puts k same some room does pl
+    → Keeps config (journal ++ record { by = by; nth = nth; at = at; act = PutSpaces puts } ∷ []) (total + counted_act (PutSpaces puts)) t' cs
+keeps-puts config journal by nth at total t t' cs p asked puts k next same pl some room does =
+    keeps-items PutSpaces (accepted (set_space (pos 0)) (changes_of journal)) config journal by nth at (makes-puts config journal by nth at next) (λ xs id. refl) total t t' cs p asked puts k same some room does pl
 
 -- dataspaces are dropped
-pub keeps-drops : (config : Config) (journal : List Entry) (by nth : ℕ) (at : ℤ) (total : ℕ) (t t' : Contents) (p : Plan) (asked paths : List (List ℕ))
-    → Keeps config journal total t → IsNext journal by nth → paths ≡ accepted DropSpace (changes_of journal) asked → Plans t p (changes_of journal ++ map DropSpace paths) → (paths ≡ [] → ⊥) → has_room_for config journal (DropSpaces paths) ≡ true
+pub keeps-drops : (config : Config) (journal : List Entry) (by nth : ℕ) (at : ℤ) (total : ℕ) (t t' : Contents) (cs : List Channel) (p : Plan) (asked paths : List (List ℕ))
+    → Keeps config journal total t cs → IsNext journal by nth → paths ≡ accepted DropSpace (changes_of journal) asked → Plans t p (changes_of journal ++ map DropSpace paths) → (paths ≡ [] → ⊥) → has_room_for config journal (DropSpaces paths) ≡ true
     → ((key : Key) → state_in t' key ≡ state_now t p key)
-    → Keeps config (journal ++ record { by = by; nth = nth; at = at; act = DropSpaces paths } ∷ []) (total + counted_act (DropSpaces paths)) t'
-keeps-drops config journal by nth at total t t' p asked paths k next same pl some room does =
-    keeps-items DropSpaces DropSpace config journal by nth at (makes-drops config journal by nth at next) total t t' p asked paths k same some room does pl
+    → Keeps config (journal ++ record { by = by; nth = nth; at = at; act = DropSpaces paths } ∷ []) (total + counted_act (DropSpaces paths)) t' cs
+keeps-drops config journal by nth at total t t' cs p asked paths k next same pl some room does =
+    keeps-items DropSpaces (accepted DropSpace (changes_of journal)) config journal by nth at (makes-drops config journal by nth at next) (λ xs id. refl) total t t' cs p asked paths k same some room does pl
 
 -- operations are done
-pub keeps-ops : (config : Config) (journal : List Entry) (by nth : ℕ) (at : ℤ) (total : ℕ) (t t' : Contents) (p : Plan) (asked ops : List Op)
-    → Keeps config journal total t → IsNext journal by nth → ops ≡ accepted Operate (changes_of journal) asked → Plans t p (changes_of journal ++ map Operate ops) → (ops ≡ [] → ⊥) → has_room_for config journal (Put ops) ≡ true
+pub keeps-ops : (config : Config) (journal : List Entry) (by nth : ℕ) (at : ℤ) (total : ℕ) (t t' : Contents) (cs : List Channel) (p : Plan) (asked ops : List Op)
+    → Keeps config journal total t cs → IsNext journal by nth → ops ≡ accepted Operate (changes_of journal) asked → Plans t p (changes_of journal ++ map Operate ops) → (ops ≡ [] → ⊥) → has_room_for config journal (Put ops) ≡ true
     → ((key : Key) → state_in t' key ≡ state_now t p key)
-    → Keeps config (journal ++ record { by = by; nth = nth; at = at; act = Put ops } ∷ []) (total + counted_act (Put ops)) t'
-keeps-ops config journal by nth at total t t' p asked ops k next same pl some room does =
-    keeps-items Put Operate config journal by nth at (makes-ops config journal by nth at next) total t t' p asked ops k same some room does pl
+    → Keeps config (journal ++ record { by = by; nth = nth; at = at; act = Put ops } ∷ []) (total + counted_act (Put ops)) t' cs
+keeps-ops config journal by nth at total t t' cs p asked ops k next same pl some room does =
+    keeps-items Put (accepted Operate (changes_of journal)) config journal by nth at (makes-ops config journal by nth at next) (λ xs id. refl) total t t' cs p asked ops k same some room does pl
+
+-- an act on channels was done
+pub keeps-channels : {X : Type 0} (act : List X → Act) (kept : List X → List X) (config : Config) (journal : List Entry) (by nth : ℕ) (at : ℤ) → Makes act kept config journal by nth at
+    → ((xs : List X) → changes_by at (act xs) ≡ [])
+    → (total : ℕ) (t : Contents) (cs cs' : List Channel) (asked xs : List X) → Keeps config journal total t cs → xs ≡ kept asked → (xs ≡ [] → ⊥) → has_room_for config journal (act xs) ≡ true
+    → cs' ≡ changed (length journal) at (what_of (act xs)) cs
+    → Keeps config (journal ++ record { by = by; nth = nth; at = at; act = act xs } ∷ []) (total + counted_act (act xs)) t cs'
+keeps-channels act kept config journal by nth at m still total t cs cs' asked [] k same some room does = absurd (some refl)
+keeps-channels act kept config journal by nth at m still total t cs cs' asked (x ∷ xs) k same some room does =
+    let e : Entry = record { by = by; nth = nth; at = at; act = act (x ∷ xs) } in
+    keeps-push config journal total t t cs cs' e k (follows-items act kept config journal by nth at m asked x xs same room) room
+    (subst (Holds t) (sym (ap (λ l. changes_of journal ++ l) (still (x ∷ xs)) ∙ append-nil (changes_of journal))) k.holds)
+    (does ∙ ap (changed (length journal) at (what_of (act (x ∷ xs)))) k.channels ∙ channels-step config journal e)
+
+-- channels are cut
+pub keeps-cuts : (config : Config) (journal : List Entry) (by nth : ℕ) (at : ℤ) (total : ℕ) (t : Contents) (cs cs' : List Channel) (asked cuts : List Cutting) → Keeps config journal total t cs → IsNext journal by nth
+    → cuts ≡ cuts_accepted cs [] asked → (cuts ≡ [] → ⊥) → has_room_for config journal (Truncate cuts) ≡ true → cs' ≡ changed (length journal) at (truncated (map cut_of cuts)) cs
+    → Keeps config (journal ++ record { by = by; nth = nth; at = at; act = Truncate cuts } ∷ []) (total + counted_act (Truncate cuts)) t cs'
+keeps-cuts config journal by nth at total t cs cs' asked cuts k next same some room does =
+    keeps-channels Truncate (cuts_accepted (channels_of config journal) []) config journal by nth at (makes-cuts config journal by nth at next) (λ xs. refl) total t cs cs' asked cuts k
+    (same ∙ ap (λ (c : List Channel). cuts_accepted c [] asked) k.channels) some room does
 
 -- nothing was added
-pub keeps-kept : (config : Config) (journal journal' : List Entry) (total : ℕ) (t t' : Contents) → Keeps config journal total t → journal' ≡ journal → ((key : Key) → state_in t' key ≡ state_in t key) → Keeps config journal' total t'
-keeps-kept config journal journal' total t t' k kept same =
-    subst (λ (l : List Entry). Keeps config l total t') (sym kept) (record { legal = k.legal; bytes = k.bytes; limit = k.limit; holds = record { each = λ key. same key ∙ k.holds.each key } })
+pub keeps-kept : (config : Config) (journal journal' : List Entry) (total : ℕ) (t t' : Contents) (cs cs' : List Channel) → Keeps config journal total t cs → journal' ≡ journal
+    → ((key : Key) → state_in t' key ≡ state_in t key) → cs' ≡ cs → Keeps config journal' total t' cs'
+keeps-kept config journal journal' total t t' cs cs' k kept same ch =
+    subst (λ (l : List Entry). Keeps config l total t' cs') (sym kept) (record { legal = k.legal; bytes = k.bytes; limit = k.limit; holds = record { each = λ key. same key ∙ k.holds.each key }; channels = ch ∙ k.channels })
 
 -- the door alone
-pub keeps-first : (config : Config) (t : Contents) → ((key : Key) → state_in t key ≡ first key) → Keeps config (door ∷ []) 64 t
-keeps-first config t starts = record { legal = (refl, tt); bytes = refl; limit = omega arith; holds = record { each = starts } }
+pub keeps-first : (config : Config) (t : Contents) (cs : List Channel) → ((key : Key) → state_in t key ≡ first key) → cs ≡ map fresh config.channels → Keeps config (door ∷ []) 64 t cs
+keeps-first config t cs starts made = record { legal = (refl, tt); bytes = refl; limit = omega arith; holds = record { each = starts }; channels = made ∙ channels-first config }
 
 -- ---- what the code knows
 
@@ -200,6 +275,14 @@ with_room config journal total bytes a e h =
     by : (b : Bool) → Some bytes ≡ (if b then Some (total + counted_act a) else None) → (b ≡ true) × (bytes ≡ total + counted_act a)
     by true h = (refl, cc)
     by false h = absurd (cc)
+
+-- there is none
+pub no_room : (config : Config) (journal : List Entry) (total : ℕ) (a : Act) → total ≡ counted journal → None ≡ bytes_with config.journal (length journal) total a → has_room_for config journal a ≡ false
+no_room config journal total a e h = ap (λ n. is_room config.journal (length journal) n a) (sym e) ∙ by (is_room config.journal (length journal) total a) h
+  where
+    by : (b : Bool) → None ≡ (if b then Some (total + counted_act a) else None) → b ≡ false
+    by true h = absurd (cc)
+    by false h = refl
 
 -- the dataspaces listed
 pub listed-answer : (config : Config) (journal : List Entry) (found : List SpaceRecord) (newer : Option ℤ) (mark : ℕ) → mark ≡ length journal → found ≡ filter (is_newer newer) (dataspaces (changes_of journal))

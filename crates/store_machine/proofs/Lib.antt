@@ -1,7 +1,11 @@
+pub mod Channeled
+pub mod CutLemmas
 pub mod Judging
 pub mod Lawful
+pub mod Loading
 pub mod Numbers
 pub mod Places
+pub mod Reading
 pub mod Room
 pub mod Sorting
 pub mod Standing

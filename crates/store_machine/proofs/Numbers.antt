@@ -9,11 +9,14 @@ use Rattle.std.specs.Map.{values_of}
 use Rattle.store_machine.specs.declared.call.StoreCall.{StoreCall}
 use Rattle.store_machine.specs.declared.call.StoreCall.TheVariants as call
 use Rattle.store_machine.specs.declared.journal.Act.{Act}
-use Rattle.store_machine.specs.declared.journal.Act.TheVariants.{Enter, PutSpaces, DropSpaces, Put}
+use Rattle.store_machine.specs.declared.journal.Act.TheVariants.{Enter, PutSpaces, DropSpaces, Put, Append, Replace, Truncate}
 use Rattle.store_machine.specs.declared.journal.Entry.{Entry}
 use Rattle.store_machine.specs.History.{DropSpace, Operate, set_space, changes_of}
 use Rattle.store_machine.specs.Laws.{IsCallAt, IsEntryOf, IsNumber, OneOrNone, is_enter}
-use Rattle.store_machine.specs.Answers.{accepted, act_of, granted, has_room_for, entry, entered, entries_of}
+use Rattle.channel_store.specs.Refusals.{append_refusal, replace_refusal}
+use Rattle.store_machine.specs.Channels.{channels_of}
+use Rattle.store_machine.specs.Cuts.{cuts_accepted}
+use Rattle.store_machine.specs.Answers.{accepted, all_or_none, act_of, granted, has_room_for, entry, entered, entries_of}
 use Rattle.store_machine.specs.Legal.{own, IsNext, MayAct, MayAsk, LegalFrom, Legal}
 
 -- a place at which something stands is below the length
@@ -86,6 +89,10 @@ entries-of_session config history by nth at call.Enter h = absurd h
 entries-of_session config history by nth at (call.PutSpaces items) h = entered-of_session config history by nth at PutSpaces (accepted (set_space (pos 0)) (changes_of history) (values_of items)) (λ xs. refl)
 entries-of_session config history by nth at (call.DropSpaces items) h = entered-of_session config history by nth at DropSpaces (accepted DropSpace (changes_of history) (values_of items)) (λ xs. refl)
 entries-of_session config history by nth at (call.Put items) h = entered-of_session config history by nth at Put (accepted Operate (changes_of history) (values_of items)) (λ xs. refl)
+entries-of_session config history by nth at (call.Append items) h = entered-of_session config history by nth at Append (all_or_none (append_refusal (channels_of config history) items) items) (λ xs. refl)
+entries-of_session config history by nth at (call.Replace channels from to items) h =
+    entered-of_session config history by nth at (λ ids. Replace ids from to items) (all_or_none (replace_refusal (channels_of config history) channels from to items) channels) (λ xs. refl)
+entries-of_session config history by nth at (call.Truncate items) h = entered-of_session config history by nth at Truncate (cuts_accepted (channels_of config history) [] (values_of items)) (λ xs. refl)
 entries-of_session config history by nth at _ h = tt
 
 one_if : {X : Type 0} (b : Bool) (x : X) → OneOrNone (if b then x ∷ [] else [])
@@ -103,6 +110,10 @@ entries-one config history by nth at call.Enter = one_if (has_room_for config hi
 entries-one config history by nth at (call.PutSpaces items) = entered-one config history by nth at PutSpaces (accepted (set_space (pos 0)) (changes_of history) (values_of items))
 entries-one config history by nth at (call.DropSpaces items) = entered-one config history by nth at DropSpaces (accepted DropSpace (changes_of history) (values_of items))
 entries-one config history by nth at (call.Put items) = entered-one config history by nth at Put (accepted Operate (changes_of history) (values_of items))
+entries-one config history by nth at (call.Append items) = entered-one config history by nth at Append (all_or_none (append_refusal (channels_of config history) items) items)
+entries-one config history by nth at (call.Replace channels from to items) =
+    entered-one config history by nth at (λ ids. Replace ids from to items) (all_or_none (replace_refusal (channels_of config history) channels from to items) channels)
+entries-one config history by nth at (call.Truncate items) = entered-one config history by nth at Truncate (cuts_accepted (channels_of config history) [] (values_of items))
 entries-one config history by nth at _ = tt
 
 pub call-stays : (history later : List Entry) (c : StoreCall) → IsCallAt history c → IsCallAt (history ++ later) c

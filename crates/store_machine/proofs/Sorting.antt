@@ -1,5 +1,5 @@
 -- The dataspaces of the tables, sorted by their paths, stand for what the tables hold.
-use Rattle.std.specs.Prelude.{ℕ, suc, Bool, true, false, List, [], ◌∷◌, ◌≡◌, ◌+◌, Option, Some, None, map, refl, length, slice_index_or}
+use Rattle.std.specs.Prelude.{ℕ, suc, Bool, false, List, [], ◌∷◌, ◌≡◌, ◌+◌, Option, Some, None, refl, slice_index_or}
 use Rattle.std.specs.List.{IsDistinct}
 use Rattle.std.specs.List.Sorted.{IsPermutation, IsSortedBy, IsStrictlySortedBy}
 use Rattle.std.specs.declared.cmp.Ordering.{Ordering}
@@ -20,7 +20,7 @@ use Rattle.tx_stage.specs.declared.contents.Contents.{Contents}
 use Rattle.tx_stage.specs.declared.key.Key.TheVariants.{Space}
 use Rattle.tx_stage.specs.declared.value.Value.TheVariants as valued
 use Rattle.store_machine.specs.History.{Change}
-use Rattle.store_machine.specs.Kept.{dataspace_at, Holds, Stands}
+use Rattle.store_machine.specs.Kept.{Holds, Stands}
 use Rattle.store_machine.proofs.Places.{path_cmp, paths_in, lower, turned_round}
 use Rattle.store_machine.proofs.Standing.{by_path, keys-by_path, lookup-by_path}
 use Rattle.store_machine.proofs.Values.{path_is}

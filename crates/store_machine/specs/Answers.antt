@@ -1,9 +1,12 @@
 -- What a call answers, and the entry that it adds, by the history before it.
 use Rattle.std.specs.Prelude.{ℕ, ℤ, pos, Bool, true, false, List, [], ◌∷◌, ◌++◌, Option, Some, None, if◌then◌else◌, is_some, length, map, filter}
 use Rattle.std.specs.Map.{values_of}
+use Rattle.std.specs.Option.{option_map}
 use Rattle.etp_values.specs.declared.code.ErrorCode.{ErrorCode}
 use Rattle.etp_values.specs.declared.code.ErrorCode.TheVariants.{InvalidMessageType, RequestDenied, NotFound}
 use Rattle.chan_defs.specs.declared.config.Config.{Config}
+use Rattle.channel_store.specs.declared.error.ChannelError.{ChannelError}
+use Rattle.channel_store.specs.Refusals.{append_refusal, replace_refusal}
 use Rattle.tx_stage.specs.declared.key.Key.{Key}
 use Rattle.tx_stage.specs.declared.key.Key.TheVariants.{Space}
 use Rattle.tx_stage.specs.declared.look.Looked.{Looked as Seen}
@@ -16,14 +19,18 @@ use Rattle.store_machine.specs.declared.call.Verdict.{Verdict}
 use Rattle.store_machine.specs.declared.call.Verdict.TheVariants.{Accepted, Refused}
 use Rattle.store_machine.specs.declared.call.Reply.{Reply}
 use Rattle.store_machine.specs.declared.call.Reply.TheVariants as replied
-use Rattle.store_machine.specs.declared.call.Reply.TheVariants.{Entered, Spaces, Verdicts, Looked, JournalFull}
+use Rattle.store_machine.specs.declared.call.Reply.TheVariants.{Entered, Spaces, Verdicts, Looked, JournalFull, Metas}
 use Rattle.store_machine.specs.declared.call.Answer.{Answer}
 use Rattle.store_machine.specs.declared.journal.Act.{Act}
-use Rattle.store_machine.specs.declared.journal.Act.TheVariants.{Enter, PutSpaces, DropSpaces, Put}
+use Rattle.store_machine.specs.declared.journal.Act.TheVariants.{Enter, PutSpaces, DropSpaces, Put, Commit, Append, Replace, Truncate}
 use Rattle.store_machine.specs.declared.journal.Entry.{Entry}
 use Rattle.store_machine.specs.History.{Change, SetSpace, DropSpace, Operate, is_default, value, set_space, changes_of, value_after}
 use Rattle.store_machine.specs.Dataspaces.{dataspaces, is_newer}
 use Rattle.store_machine.specs.Counted.{counted, is_room}
+use Rattle.store_machine.specs.Channels.{channels_of, code_of}
+use Rattle.store_machine.specs.Cuts.{cut_verdicts, cuts_accepted}
+use Rattle.store_machine.specs.Reads.{whole_room, ranged, range_reply, meta_under}
+use Rattle.store_machine.specs.declared.call.RangeAsk.{RangeAsk}
 
 -- ---- verdicts
 
@@ -73,15 +80,24 @@ abbrev pub act_of : {X : Type 0} → (List X → Act) → List X → List Act
 act_of act [] = []
 act_of act (x ∷ xs) = act (x ∷ xs) ∷ []
 
+-- all items, or none where the channels refuse them
+abbrev pub all_or_none : {X : Type 0} → Option ChannelError → List X → List X
+all_or_none None xs = xs
+all_or_none (Some e) xs = []
+
 -- what is done of an act that is asked for at the end of a history: its accepted items, and nothing where there are none.
--- The moment decides no verdict on a dataspace, so what is put is judged as if put at 0. Commits and the acts on channels are
--- not done yet
+-- The moment decides no verdict on a dataspace, so what is put is judged as if put at 0. Points are added or replaced all or
+-- none; a replacement is made in each channel that it lists, also without points. Commits are not done yet
 abbrev pub granted : Config → List Entry → Act → List Act
 granted config history Enter = Enter ∷ []
 granted config history (PutSpaces puts) = act_of PutSpaces (accepted (set_space (pos 0)) (changes_of history) puts)
 granted config history (DropSpaces paths) = act_of DropSpaces (accepted DropSpace (changes_of history) paths)
 granted config history (Put ops) = act_of Put (accepted Operate (changes_of history) ops)
-granted config history _ = []
+granted config history (Commit staged) = []
+granted config history (Append items) = act_of Append (all_or_none (append_refusal (channels_of config history) items) items)
+granted config history (Replace channels from to items) =
+    act_of (λ ids. Replace ids from to items) (all_or_none (replace_refusal (channels_of config history) channels from to items) channels)
+granted config history (Truncate cuts) = act_of Truncate (cuts_accepted (channels_of config history) [] cuts)
 
 -- what a call would do: one act or none. A call that only reads does nothing
 abbrev pub wanted : Config → List Entry → StoreCall → List Act
@@ -89,6 +105,9 @@ wanted config history call.Enter = granted config history Enter
 wanted config history (call.PutSpaces items) = granted config history (PutSpaces (values_of items))
 wanted config history (call.DropSpaces items) = granted config history (DropSpaces (values_of items))
 wanted config history (call.Put items) = granted config history (Put (values_of items))
+wanted config history (call.Append items) = granted config history (Append items)
+wanted config history (call.Replace channels from to items) = granted config history (Replace channels from to items)
+wanted config history (call.Truncate items) = granted config history (Truncate (values_of items))
 wanted config history _ = []
 
 -- whether the journal takes a further entry of this act
@@ -118,6 +137,15 @@ entries_of config history by nth at c = entered config history by nth at (wanted
 unfoldable pub seen_after : List Entry → List Want → List Seen
 seen_after history wants = looks (λ key. value_after key history) wants
 
+-- the points of ranges after a history
+unfoldable pub ranges_after : Config → List Entry → List RangeAsk → Reply
+ranges_after config history asks = range_reply (ranged (channels_of config history) whole_room asks)
+
+-- the reply to points that were given to channels, by the refusal where there is one
+abbrev pub written : Option ErrorCode → Reply
+written None = replied.Written
+written (Some code) = replied.Refused code
+
 -- the reply where the journal has room. A call that is not served yet is refused as such
 abbrev pub reply : Config → List Entry → StoreCall → Reply
 reply config history call.Enter = Entered (length history)
@@ -126,6 +154,11 @@ reply config history (call.PutSpaces items) = Verdicts (verdicts (set_space (pos
 reply config history (call.DropSpaces items) = Verdicts (verdicts DropSpace (changes_of history) items)
 reply config history (call.Look wants) = Looked (seen_after history wants)
 reply config history (call.Put items) = Verdicts (verdicts Operate (changes_of history) items)
+reply config history (call.Append items) = written (option_map code_of (append_refusal (channels_of config history) items))
+reply config history (call.Replace channels from to items) = written (option_map code_of (replace_refusal (channels_of config history) channels from to items))
+reply config history (call.Truncate items) = Verdicts (cut_verdicts (channels_of config history) [] items)
+reply config history (call.Range asks) = ranges_after config history asks
+reply config history (call.Meta items) = Metas (map (meta_under (channels_of config history)) items)
 reply config history _ = replied.Refused InvalidMessageType
 
 -- the answer to a call

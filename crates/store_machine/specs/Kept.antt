@@ -1,4 +1,4 @@
--- What a store keeps beside its journal: the counted bytes, and the tables of what stands now.
+-- What a store keeps beside its journal: the counted bytes, the tables of what stands now, and the channels.
 use Rattle.std.specs.Prelude.{ℕ, ◌≡◌, ◌≤◌, List, [], ◌∷◌, ◌++◌, Option, find, if◌then◌else◌, map}
 use Rattle.std.specs.List.Sorted.{IsStrictlySortedBy}
 use Rattle.std.specs.Cmp.Lexicographic.{slice_cmp}
@@ -7,6 +7,7 @@ use Rattle.std.specs.Option.{option_map}
 use Rattle.std.specs.Ordering.{nat_cmp}
 use Rattle.std.specs.Str.{bytes_eq}
 use Rattle.chan_defs.specs.declared.config.Config.{Config}
+use Rattle.channel_store.specs.Channels.{Channel}
 use Rattle.object_store.specs.declared.records.SpaceRecord.{SpaceRecord}
 use Rattle.tx_stage.specs.declared.contents.Contents.{Contents}
 use Rattle.tx_stage.specs.declared.key.Key.{Key}
@@ -20,6 +21,7 @@ use Rattle.store_machine.specs.declared.journal.Entry.{Entry}
 use Rattle.store_machine.specs.History.{Change, value, changes_of}
 use Rattle.store_machine.specs.Answers.{verdict, verdicts, accepted, is_accepted, sofar_with}
 use Rattle.store_machine.specs.Counted.{counted}
+use Rattle.store_machine.specs.Channels.{channels_of}
 use Rattle.store_machine.specs.Legal.{Legal}
 
 -- ---- the tables
@@ -72,8 +74,9 @@ pub record Drafting {X : Type 0} (change : X → Change) (t : Contents) (sofar :
 
 -- ---- the whole
 
-pub record Keeps (config : Config) (journal : List Entry) (total : ℕ) (t : Contents) : Type 0 where
+pub record Keeps (config : Config) (journal : List Entry) (total : ℕ) (t : Contents) (cs : List Channel) : Type 0 where
   pub legal : Legal config journal
   pub bytes : total ≡ counted journal
   pub limit : total ≤ MAX_JOURNAL_BYTES
   pub holds : Holds t (changes_of journal)
+  pub channels : cs ≡ channels_of config journal

@@ -1,8 +1,13 @@
 pub mod History
 pub mod Dataspaces
 pub mod Counted
+pub mod Channels
+pub mod Cuts
+pub mod Reads
+pub mod Ranging
 pub mod Answers
 pub mod Legal
 pub mod Kept
+pub mod Loads
 pub mod Laws
 pub mod Growth

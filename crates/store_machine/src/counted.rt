@@ -1,11 +1,14 @@
 //! The bytes that entries count against the limit of a journal.
-ghost use Rattle.std.specs.Prelude.{◌≡◌, ◌≤◌};
+ghost use Rattle.std.specs.Prelude.{◌≡◌, ◌≤◌, ◌+◌, ◌*◌, length};
 ghost use Rattle.etp_values.specs.Weight.{capped, weigh};
+ghost use Rattle.channel_points.specs.Handles.{item_bytes};
 ghost use Rattle.store_machine.specs.Counted.{put_bytes, drop_bytes, act_bytes, bytes_with};
+ghost use Rattle.store_machine.specs.declared.journal.Act.{Act as Acts};
 
 use crate::call::SpacePut;
 use crate::journal::Act;
-use etp_values::{List, Text, custom_weight};
+use channel_points::point_bytes;
+use etp_values::{ChannelPoint, List, Text, custom_weight};
 use tx_stage::{ops_bytes, touched_bytes};
 
 /// How many bytes the entries of a journal count at most.
@@ -44,6 +47,33 @@ const REPLACED_BYTES: u64 = 32;
 /// What a channel counts that is cut.
 const CUT_BYTES: u64 = 16;
 
+/// As `ChannelPoints::bytes`, of points that are not kept yet.
+pub(crate) fn points_bytes(items: &List<ChannelPoint>) -> u64
+    ensures { result ≡ capped (weigh item_bytes items.now) }
+{
+    let mut sum = 0u64;
+    for item in items.as_slice() {
+        sum = sum.saturating_add(point_bytes(&item.point));
+    }
+    sum
+}
+
+/// Channels whose points are replaced, and the points.
+pub(crate) fn replaced_bytes(channels: &List<i64>, items: &List<ChannelPoint>) -> u64
+    ensures { result ≡ capped (32 * length channels.now + weigh item_bytes items.now) }
+{
+    REPLACED_BYTES
+        .saturating_mul(channels.len() as u64)
+        .saturating_add(points_bytes(items))
+}
+
+/// So many channels that are cut.
+pub(crate) fn cuts_bytes(cuts: usize) -> u64
+    ensures { result ≡ capped (16 * cuts) }
+{
+    CUT_BYTES.saturating_mul(cuts as u64)
+}
+
 /// The items of an act together; a sum above `u64::MAX` is `u64::MAX`.
 fn items_bytes(act: &Act) -> u64
     ensures { result ≡ capped (act_bytes act.now) }
@@ -64,7 +94,7 @@ fn items_bytes(act: &Act) -> u64
         } => REPLACED_BYTES
             .saturating_mul(channels.len() as u64)
             .saturating_add(items.get().bytes()),
-        Act::Truncate(cuts) => CUT_BYTES.saturating_mul(cuts.len() as u64),
+        Act::Truncate(cuts) => cuts_bytes(cuts.len()),
     }
 }
 
@@ -74,10 +104,18 @@ pub(crate) fn bytes_with(limit: u64, entries: u64, bytes: u64, act: &Act) -> Opt
     requires { bytes ≤ MAX_JOURNAL_BYTES }
     ensures { result ≡ bytes_with limit entries bytes act.now }
 {
+    bytes_after(limit, entries, bytes, items_bytes(act))
+}
+
+/// As [`bytes_with`], by what the act's items count.
+pub(crate) fn bytes_after(limit: u64, entries: u64, bytes: u64, items: u64) -> Option<u64>
+    requires { bytes ≤ MAX_JOURNAL_BYTES }
+    ensures { (a : Acts) → items ≡ capped (act_bytes a) → result ≡ bytes_with limit entries bytes a }
+{
     if entries >= limit {
         return None;
     }
-    let sum = bytes.saturating_add(ENTRY_BYTES.saturating_add(items_bytes(act)));
+    let sum = bytes.saturating_add(ENTRY_BYTES.saturating_add(items));
     if sum > MAX_JOURNAL_BYTES {
         return None;
     }

@@ -3,9 +3,10 @@ ghost use Rattle.std.specs.Prelude.{◌≡◌, ◌++◌, ◌∷◌, [], OnOk, On
 ghost use Rattle.tx_stage.specs.State.{state_in, state_now};
 ghost use Rattle.tx_stage.specs.declared.key.Key.{Key};
 
+use crate::boxed::BoxedItems;
 use crate::call::{Cutting, SpacePut};
 use channel_points::ChannelPoints;
-use etp_values::{Boxed, List, NoMemory, Text};
+use etp_values::{List, NoMemory, Text};
 use tx_stage::{Contents, Op, Plan, Staged};
 
 /// What an entry did: its accepted items, in order.
@@ -25,7 +26,7 @@ pub enum Act {
         channels: List<i64>,
         from: i64,
         to: i64,
-        items: Boxed<ChannelPoints>,
+        items: BoxedItems,
     },
     /// Channels that lost the points above their ends.
     Truncate(List<Cutting>),

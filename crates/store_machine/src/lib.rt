@@ -5,18 +5,24 @@
 //! depends on the journal and the call alone (`specs/Answers`). The tables of what stands now are kept beside the journal,
 //! and the invariant of [`Store`] ties them to it.
 //!
-//! Commits and the calls on channels are not served yet: they are refused by `InvalidMessageType`.
+//! Commits, subscriptions and news are not served yet: they are refused by `InvalidMessageType`.
 #![tactic(auto)]
 
+mod boxed;
 mod call;
+mod codes;
 mod counted;
+mod cuts;
 mod draft;
 mod journal;
 mod laws;
+mod load;
 mod looks;
+mod reads;
 mod spaces;
 mod store;
 
+pub use boxed::BoxedItems;
 pub use call::{
     Answer, Cutting, MetaReply, RangeAsk, Reply, SpacePut, Start, StartAsk, StartReply, StoreCall,
     Verdict,
@@ -25,5 +31,6 @@ pub use channel_store::Sub;
 pub use counted::MAX_JOURNAL_BYTES;
 pub use journal::{Act, Entry};
 pub use laws::{growth_laws, number_laws, room_laws, state_laws};
+pub use reads::{MAX_POINT_BYTES, MAX_POINTS};
 pub use store::Store;
 pub use tx_stage::{Looked, Want};

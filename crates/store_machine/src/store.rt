@@ -1,19 +1,27 @@
 //! The store.
-ghost use Rattle.std.specs.Prelude.{◌≡◌, ◌<◌, ◌++◌, ◌∷◌, [], IfOk, OnOk, OnErr, Some, length, slice_get};
-ghost use Rattle.store_machine.specs.Answers.{answer, entries_of};
+ghost use Rattle.std.specs.Prelude.{◌≡◌, ◌<◌, ◌+◌, ◌++◌, ◌∷◌, [], IfOk, OnOk, OnErr, Some, length, slice_get, true};
+ghost use Rattle.std.specs.Option.{option_map};
+ghost use Rattle.store_machine.specs.Answers.{answer, entries_of, has_room_for, written};
+ghost use Rattle.store_machine.specs.Channels.{channels_of, code_of};
+ghost use Rattle.store_machine.specs.Counted.{counted, counted_act};
+ghost use Rattle.store_machine.specs.Loads.{adds_entry, load_act, load_call, load_refusal, unless_refused, without_room};
 ghost use Rattle.store_machine.specs.Legal.{Legal, MayAsk, IsNext, door};
 ghost use Rattle.store_machine.specs.declared.call.StoreCall.TheVariants as call;
 ghost use Rattle.store_machine.specs.declared.call.Reply.TheVariants as reply;
 ghost use Rattle.etp_values.specs.declared.code.ErrorCode.TheVariants as code;
 
-use crate::call::{Answer, Reply, SpacePut, StoreCall};
-use crate::counted::bytes_with;
+use crate::call::{Answer, Cutting, RangeAsk, Reply, SpacePut, StoreCall};
+use crate::counted::{bytes_after, bytes_with, cuts_bytes};
+use crate::cuts::{add_cuts, draft_cuts};
 use crate::draft::{draft_drops, draft_ops, draft_puts};
 use crate::journal::{Act, Entry, add_entry, push_entry};
+use crate::load::{Load, add_load};
 use crate::looks::looked;
+use crate::reads::{metas, ranges};
 use crate::spaces::listed;
 use chan_defs::Config;
-use etp_values::{ErrorCode, List, Named, NoMemory, Text};
+use channel_store::ChannelStore;
+use etp_values::{ErrorCode, List, Named, NoMemory, StoreUri, Text};
 use std::alloc::Global;
 use std::marker::Model;
 use tx_stage::{Contents, Op, Want};
@@ -27,6 +35,8 @@ pub struct Store {
     bytes: u64,
     /// What stands now.
     contents: Contents,
+    /// The points and changes of the channels.
+    channels: ChannelStore,
 }
 
 impl Model for Store {
@@ -37,7 +47,7 @@ impl Model for Store {
 
     ghost view = { λ s. record { config = s.config; journal = s.journal.items } };
 
-    ghost invariant = { λ s. Keeps s.config s.journal.items s.bytes s.contents };
+    ghost invariant = { λ s. Keeps s.config s.journal.items s.bytes s.contents s.channels };
 }
 
 impl Store {
@@ -46,6 +56,7 @@ impl Store {
         ensures { IfOk result (λ s. s ≡ record { config = config; journal = door ∷ [] }) }
     {
         let contents = Contents::new(alloc)?;
+        let channels = ChannelStore::new(alloc, &config)?;
         let mut journal = Vec::new(alloc);
         journal.push(Entry {
             by: 0,
@@ -58,6 +69,7 @@ impl Store {
             journal,
             bytes: 64,
             contents,
+            channels,
         })
     }
 
@@ -107,31 +119,24 @@ impl Store {
                 drop(staged);
                 Ok(self.unserved())
             }
-            StoreCall::Append { items } => {
-                drop(items);
-                Ok(self.unserved())
-            }
+            StoreCall::Append { items } => self.load(alloc, by, nth, at, Load::Append(items)),
             StoreCall::Replace {
                 channels,
+                from,
+                to,
                 items,
-                ..
             } => {
-                drop(channels);
-                drop(items);
-                Ok(self.unserved())
+                let load = Load::Replace {
+                    channels,
+                    from,
+                    to,
+                    items,
+                };
+                self.load(alloc, by, nth, at, load)
             }
-            StoreCall::Truncate { items } => {
-                drop(items);
-                Ok(self.unserved())
-            }
-            StoreCall::Range { items } => {
-                drop(items);
-                Ok(self.unserved())
-            }
-            StoreCall::Meta { items } => {
-                drop(items);
-                Ok(self.unserved())
-            }
+            StoreCall::Truncate { items } => self.truncate(alloc, by, nth, at, items),
+            StoreCall::Range { items } => self.range(alloc, items),
+            StoreCall::Meta { items } => self.meta(alloc, items),
             StoreCall::Subscribe { items } => {
                 drop(items);
                 Ok(self.unserved())
@@ -340,5 +345,185 @@ impl Store {
             mark,
             reply: Reply::Verdicts(verdicts),
         })
+    }
+
+    /// Why the channels refuse what is loaded.
+    fn load_refusal(&mut self, load: &Load) -> Result<Option<ErrorCode>, NoMemory>
+        ensures code { IfOk result (λ r.
+            r ≡ option_map code_of (load_refusal (channels_of self.old.config self.old.journal) load.now)) }
+        ensures same { self.new ≡ self.old }
+    {
+        load.refusal(&mut self.channels)
+    }
+
+    /// Does what is loaded where the channels do not refuse it; `bytes` is what all entries then count.
+    fn do_load(
+        &mut self,
+        alloc: Global,
+        by: u64,
+        nth: u64,
+        at: i64,
+        load: Load,
+        bytes: u64,
+    ) -> Result<Option<ErrorCode>, NoMemory>
+        requires next { IsNext self.old.journal by nth }
+        requires adds { adds_entry load ≡ true }
+        requires room { has_room_for self.old.config self.old.journal (load_act load) ≡ true }
+        requires bytes { bytes ≡ counted self.old.journal + counted_act (load_act load) }
+        ensures code { IfOk result (λ r.
+            r ≡ option_map code_of (load_refusal (channels_of self.old.config self.old.journal) load)) }
+        ensures journal { IfOk result (λ r. self.new.journal
+            ≡ unless_refused r self.old.journal (record { by = by; nth = nth; at = at; act = load_act load })) }
+        ensures config { self.new.config ≡ self.old.config }
+        ensures err { OnErr result (self.new ≡ self.old) }
+    {
+        match add_load(
+            alloc,
+            &mut self.journal,
+            &mut self.channels,
+            by,
+            nth,
+            at,
+            load,
+        )? {
+            None => {
+                self.bytes = bytes;
+                Ok(None)
+            }
+            Some(code) => Ok(Some(code)),
+        }
+    }
+
+    /// Gives points to channels.
+    fn load(
+        &mut self,
+        alloc: Global,
+        by: u64,
+        nth: u64,
+        at: i64,
+        load: Load,
+    ) -> Result<Answer, NoMemory>
+        requires { IsNext self.old.journal by nth }
+        ensures answer { IfOk result (λ a.
+            a ≡ answer self.old.config self.old.journal (load_call load)) }
+        ensures journal { OnOk result (
+            self.new.journal
+            ≡ self.old.journal ++ entries_of self.old.config self.old.journal by nth at (load_call load)) }
+        ensures config { self.new.config ≡ self.old.config }
+        ensures legal { Legal self.new.config self.new.journal }
+        ensures err { OnErr result (self.new ≡ self.old) }
+    {
+        let mark = self.journal.len() as u64;
+        if !load.adds_entry() {
+            let refusal = self.load_refusal(&load)?;
+            return Ok(Answer {
+                mark,
+                reply: written(refusal),
+            });
+        }
+        let Some(bytes) = bytes_after(self.config.journal, mark, self.bytes, load.bytes()) else {
+            let refusal = self.load_refusal(&load)?;
+            return Ok(Answer {
+                mark,
+                reply: without_room(refusal),
+            });
+        };
+        let refusal = self.do_load(alloc, by, nth, at, load, bytes)?;
+        Ok(Answer {
+            mark,
+            reply: written(refusal),
+        })
+    }
+
+    fn truncate(
+        &mut self,
+        alloc: Global,
+        by: u64,
+        nth: u64,
+        at: i64,
+        items: Named<Cutting>,
+    ) -> Result<Answer, NoMemory>
+        requires { IsNext self.old.journal by nth }
+        ensures answer { IfOk result (λ a.
+            a ≡ answer self.old.config self.old.journal (call.Truncate items)) }
+        ensures journal { OnOk result (
+            self.new.journal
+            ≡ self.old.journal ++ entries_of self.old.config self.old.journal by nth at (call.Truncate items)) }
+        ensures config { self.new.config ≡ self.old.config }
+        ensures legal { Legal self.new.config self.new.journal }
+        ensures err { OnErr result (self.new ≡ self.old) }
+    {
+        let mark = self.journal.len() as u64;
+        let draft = draft_cuts(alloc, &self.channels, items.into_vec())?;
+        let verdicts = Named::from_sorted(draft.verdicts);
+        if draft.accepted.is_empty() {
+            return Ok(Answer {
+                mark,
+                reply: Reply::Verdicts(verdicts),
+            });
+        }
+        let counted = cuts_bytes(draft.accepted.len());
+        let Some(bytes) = bytes_after(self.config.journal, mark, self.bytes, counted) else {
+            return Ok(Answer {
+                mark,
+                reply: Reply::JournalFull,
+            });
+        };
+        let cuts = List::from_vec(draft.accepted);
+        add_cuts(
+            alloc,
+            &mut self.journal,
+            &mut self.channels,
+            by,
+            nth,
+            at,
+            cuts,
+        )?;
+        self.bytes = bytes;
+        Ok(Answer {
+            mark,
+            reply: Reply::Verdicts(verdicts),
+        })
+    }
+
+    fn range(&self, alloc: Global, items: List<RangeAsk>) -> Result<Answer, NoMemory>
+        ensures answer { IfOk result (λ a.
+            a ≡ answer self.now.config self.now.journal (call.Range items)) }
+        ensures legal { Legal self.now.config self.now.journal }
+    {
+        let mark = self.journal.len() as u64;
+        let reply = ranges(alloc, &self.channels, &items)?;
+        Ok(Answer { mark, reply })
+    }
+
+    fn meta(&self, alloc: Global, items: Named<StoreUri>) -> Result<Answer, NoMemory>
+        ensures answer { IfOk result (λ a.
+            a ≡ answer self.now.config self.now.journal (call.Meta items)) }
+        ensures legal { Legal self.now.config self.now.journal }
+    {
+        let mark = self.journal.len() as u64;
+        let metas = metas(alloc, &self.channels, items.into_vec())?;
+        let reply = Reply::Metas(Named::from_sorted(metas));
+        Ok(Answer { mark, reply })
+    }
+}
+
+/// The reply to a call on channels that makes no entry.
+fn written(refusal: Option<ErrorCode>) -> Reply
+    ensures { result ≡ written refusal }
+{
+    match refusal {
+        None => Reply::Written,
+        Some(code) => Reply::Refused(code),
+    }
+}
+
+/// The reply to a call on channels for whose entry the journal has no room.
+fn without_room(refusal: Option<ErrorCode>) -> Reply
+    ensures { result ≡ without_room refusal }
+{
+    match refusal {
+        None => Reply::JournalFull,
+        Some(code) => Reply::Refused(code),
     }
 }

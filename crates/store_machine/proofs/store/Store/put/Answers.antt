@@ -1,4 +1,4 @@
-use Rattle.std.proofs.Common.{arith, ap, sym, subst, ◌∙◌, ◌≡◌, ◌++◌, ◌∷◌, nat_cmp, [], Some, length, map}
+use Rattle.std.proofs.Common.{arith, refl, ap, sym, subst, ◌∙◌, ◌≡◌, ◌++◌, ◌∷◌, nat_cmp, [], Some, length, map}
 use Rattle.std.proofs.lemmas.Grind.{common_steps}
 use Rattle.std.specs.Cmp.Lexicographic.{slice_cmp}
 use Rattle.std.specs.List.Sorted.{IsStrictlySortedBy}
@@ -21,7 +21,7 @@ from_sorted-verdicts-requires c =
     subst (IsStrictlySortedBy (slice_cmp nat_cmp)) (sym (ap keys_of given ∙ names-verdicts Operate cs c.args.items)) c.into_vec.ensures.sorted
 
 pub invariant_of-self : goal.invariant_of-self
-invariant_of-self c = keeps-kept _ _ _ _ _ _ c.self.invariant c.in_err-add_entry.ensures.kept c.in_err-add_entry.ensures.same
+invariant_of-self c = keeps-kept _ _ _ _ _ _ _ _ c.self.invariant c.in_err-add_entry.ensures.kept c.in_err-add_entry.ensures.same refl
 
 pub invariant_of-self-2 : goal.invariant_of-self-2
 invariant_of-self-2 c =
@@ -35,8 +35,8 @@ invariant_of-self-2 c =
     c.in_ok-draft.ensures.accepted cs c.self.invariant.holds ∙ ap (λ l. accepted Operate cs (values_of l)) c.into_vec.ensures.items in
     let planned : Plans s.contents plan (cs ++ map Operate items) = c.in_ok-draft.ensures.plan cs c.self.invariant.holds in
     let room = with_room s.config s.journal.items s.bytes c.in-Some.bytes (Put items) c.self.invariant.bytes told in
-    rw pushed (subst (λ n. Keeps s.config (s.journal.items ++ record { by = c.args.by; nth = c.args.nth; at = c.args.at; act = Put items } ∷ []) n c.add_entry.new.contents) (sym room.1)
-    (keeps-ops s.config s.journal.items c.args.by c.args.nth c.args.at s.bytes s.contents c.add_entry.new.contents plan (values_of c.args.items) items c.self.invariant
+    rw pushed (subst (λ n. Keeps s.config (s.journal.items ++ record { by = c.args.by; nth = c.args.nth; at = c.args.at; act = Put items } ∷ []) n c.add_entry.new.contents s.channels) (sym room.1)
+    (keeps-ops s.config s.journal.items c.args.by c.args.nth c.args.at s.bytes s.contents c.add_entry.new.contents s.channels plan (values_of c.args.items) items c.self.invariant
     (subst (λ k. IsNext k.journal c.args.by c.args.nth) (sym c.self.view_is) c.requires) drafted planned (grind (arith, common_steps)) room.0 c.in_ok-add_entry.ensures.contents))
 
 pub returns-clause-legal : goal.returns-clause-legal

@@ -1,0 +1,101 @@
+-- The channels after one more entry.
+use Rattle.std.specs.Prelude.{ℕ, ℤ, suc, pos, ◌≡◌, ◌+◌, ◌<◌, ◌≤◌, List, [], ◌∷◌, ◌++◌, Option, Some, None, length, map, refl, fold}
+use Rattle.std.specs.List.{AllByRecursion}
+use Rattle.std.proofs.Common.{ap, sym, ◌∙◌, append_assoc, append-nil, arith}
+use Rattle.std.proofs.lemmas.List.{map_push}
+use Rattle.std.proofs.lemmas.List.Sums.{fold_push}
+use Rattle.chan_defs.specs.declared.config.ChannelDef.{ChannelDef}
+use Rattle.chan_defs.specs.declared.config.Config.{Config}
+use Rattle.channel_store.specs.declared.change.ChannelChange.{ChannelChange}
+use Rattle.channel_store.specs.declared.change.What.{What}
+use Rattle.channel_store.specs.Channels.{IsPastAll, fresh, whats_of}
+use Rattle.channel_store.specs.Points.{after}
+use Rattle.channel_store.specs.Store.{IsNewPlace, by_number, changed, happens}
+use Rattle.store_machine.specs.declared.journal.Entry.{Entry}
+use Rattle.store_machine.specs.Channels.{what_of, change_list, change_by, changes_from, channel_changes, channel_by, channels_of}
+use Rattle.store_machine.specs.Legal.{door}
+
+-- ---- one channel
+
+changes-push : (place : ℕ) (id : ℤ) (history : List Entry) (e : Entry)
+    → changes_from place id (history ++ e ∷ []) ≡ changes_from place id history ++ change_by (place + length history) id e
+changes-push place id [] e =
+    let here : place ≡ place + 0 = omega arith in
+    append-nil (change_by place id e) ∙ ap (λ p. change_by p id e) here
+changes-push place id (x ∷ xs) e =
+    let there : (place + 1) + length xs ≡ place + suc (length xs) = omega arith in
+    ap (λ l. change_by place id x ++ l) (changes-push (place + 1) id xs e ∙ ap (λ p. changes_from (place + 1) id xs ++ change_by p id e) there)
+    ∙ sym (append_assoc (change_by place id x) (changes_from (place + 1) id xs) (change_by (place + suc (length xs)) id e))
+
+-- what happens to a channel is its next change
+happens-is : (place : ℕ) (id at : ℤ) (d : ChannelDef) (changes : List ChannelChange) (o : Option What)
+    → happens place id at (channel_by d changes) o ≡ channel_by d (changes ++ change_list place id at o)
+happens-is place id at d changes None = ap (channel_by d) (sym (append-nil changes))
+happens-is place id at d changes (Some w) =
+    let x : ChannelChange = record { place = place; channel = id; at = at; what = w } in
+    let points = ap (fold after []) (map_push (λ (y : ChannelChange). y.what) changes x) ∙ fold_push after [] (whats_of changes) w in
+    (λ j. record { uri = d.uri; kind = d.kind; points = sym points j; changes = changes ++ x ∷ [] })
+
+-- ---- all channels
+
+step-from : (history : List Entry) (e : Entry) (n : ℕ) (ds : List ChannelDef)
+    → by_number (λ k c. happens (length history) (pos k) e.at c (what_of e.act (pos k))) n (by_number (λ k d. channel_by d (channel_changes (pos k) history)) n ds)
+    ≡ by_number (λ k d. channel_by d (channel_changes (pos k) (history ++ e ∷ []))) n ds
+step-from history e n [] = refl
+step-from history e n (d ∷ ds) =
+    let zeroth : 0 + length history ≡ length history = omega arith in
+    let pushed : channel_changes (pos n) (history ++ e ∷ []) ≡ channel_changes (pos n) history ++ change_by (length history) (pos n) e =
+    changes-push 0 (pos n) history e ∙ ap (λ p. channel_changes (pos n) history ++ change_by p (pos n) e) zeroth in
+    let one = happens-is (length history) (pos n) e.at d (channel_changes (pos n) history) (what_of e.act (pos n)) ∙ ap (channel_by d) (sym pushed) in
+    (λ j. one j ∷ step-from history e (suc n) ds j)
+
+-- an entry does to the channels what its act does
+pub channels-step : (config : Config) (history : List Entry) (e : Entry) → changed (length history) e.at (what_of e.act) (channels_of config history) ≡ channels_of config (history ++ e ∷ [])
+unfolding channels_of
+channels-step config history e = step-from history e 0 config.channels
+
+frame-from : (history : List Entry) (e : Entry) → ((id : ℤ) → what_of e.act id ≡ None) → (n : ℕ) (ds : List ChannelDef)
+    → by_number (λ k d. channel_by d (channel_changes (pos k) (history ++ e ∷ []))) n ds ≡ by_number (λ k d. channel_by d (channel_changes (pos k) history)) n ds
+frame-from history e still n [] = refl
+frame-from history e still n (d ∷ ds) =
+    let same : channel_changes (pos n) (history ++ e ∷ []) ≡ channel_changes (pos n) history =
+    changes-push 0 (pos n) history e ∙ ap (λ o. channel_changes (pos n) history ++ change_list (0 + length history) (pos n) e.at o) (still (pos n)) ∙ append-nil (channel_changes (pos n) history) in
+    (λ j. channel_by d (same j) ∷ frame-from history e still (suc n) ds j)
+
+-- an entry that does nothing to them leaves them
+pub channels-frame : (config : Config) (history : List Entry) (e : Entry) → ((id : ℤ) → what_of e.act id ≡ None) → channels_of config (history ++ e ∷ []) ≡ channels_of config history
+unfolding channels_of
+channels-frame config history e still = frame-from history e still 0 config.channels
+
+first-from : (n : ℕ) (ds : List ChannelDef) → map fresh ds ≡ by_number (λ k d. channel_by d (channel_changes (pos k) (door ∷ []))) n ds
+first-from n [] = refl
+first-from n (d ∷ ds) = ap (λ l. fresh d ∷ l) (first-from (suc n) ds)
+
+-- at first they have no points
+pub channels-first : (config : Config) → map fresh config.channels ≡ channels_of config (door ∷ [])
+unfolding channels_of
+channels-first config = first-from 0 config.channels
+
+-- ---- places
+
+one-before : (place : ℕ) (id at : ℤ) (o : Option What) (rest : List ChannelChange) (end : ℕ) → place < end → AllByRecursion (λ x. x.place < end) rest → AllByRecursion (λ x. x.place < end) (change_list place id at o ++ rest)
+one-before place id at None rest end below all = all
+one-before place id at (Some w) rest end below all = (below, all)
+
+all-before : (place : ℕ) (id : ℤ) (history : List Entry) (end : ℕ) → place + length history ≤ end → IsPastAll end (changes_from place id history)
+all-before place id [] end h = tt
+all-before place id (e ∷ es) end h =
+    let below : place < end = omega arith in
+    let more : (place + 1) + length es ≤ end = omega arith in
+    one-before place id e.at (what_of e.act id) (changes_from (place + 1) id es) end below (all-before (place + 1) id es end more)
+
+new-from : (history : List Entry) (n : ℕ) (ds : List ChannelDef) → IsNewPlace (length history) (by_number (λ k d. channel_by d (channel_changes (pos k) history)) n ds)
+new-from history n [] = tt
+new-from history n (d ∷ ds) =
+    let within : 0 + length history ≤ length history = omega arith in
+    (all-before 0 (pos n) history (length history) within, new-from history (suc n) ds)
+
+-- the next entry's place is past those of all changes
+pub next-is_new : (config : Config) (history : List Entry) → IsNewPlace (length history) (channels_of config history)
+unfolding channels_of
+next-is_new config history = new-from history 0 config.channels
