@@ -13,7 +13,7 @@ use Rattle.store_machine.specs.declared.journal.Entry.{Entry}
 use Rattle.store_machine.specs.Answers.{has_room_for}
 use Rattle.store_machine.specs.Laws.{FullStaysFull}
 use Rattle.etp_outside.specs.Doors.{Back, IsAccepted, TakesBack, back_of}
-use Rattle.etp_outside.specs.Moments.{BeginsAnew, Tests}
+use Rattle.etp_outside.specs.Moments.{Tests}
 use Rattle.etp_outside.specs.Told.{Told}
 use Rattle.etp_outside.specs.Talk.{Talk}
 use Rattle.etp_outside.specs.declared.link.Item.{Item}
@@ -305,11 +305,6 @@ moments_pass (Some x) None test now moments anew told first last same = absurd t
 moments_pass (Some x) (Some y) test now moments anew told first last same =
     let are : y ≡ moments = told ∙ ap (λ l. l ++ moments) anew in
     subst (λ (t : List ℤ → Bool). t moments ≡ true) same (subst (λ l. now l ≡ true) are last)
-
--- a further clock has told nothing
-pub begins_anew : (old new : Option (List ℤ)) → BeginsAnew old new → IfSome new (λ ms. ms ≡ [])
-begins_anew None new is = subst (λ (x : Option (List ℤ)). IfSome x (λ ms. ms ≡ [])) (sym is) tt
-begins_anew (Some old) new is = subst (λ (x : Option (List ℤ)). IfSome x (λ ms. ms ≡ [])) (sym is) refl
 
 -- what a thread's session leaves
 pub done_of : (end : Ended) (config : Config) (n : ℕ) (v : Known) (a0 a : Option Talk) (c0 c : Option (List ℤ)) (test now : List ℤ → Bool) (f0 f : ℕ) (over : Bool)

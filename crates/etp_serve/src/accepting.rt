@@ -44,6 +44,13 @@ fn free_bit<H>(children: &VecDeque<Child<H>>) -> u64 {
     free & free.wrapping_neg()
 }
 
+/// The same, told of nobody: whoever had the bit before is taken in, and may have left it among those that have ended.
+fn claim_bit<H>(children: &VecDeque<Child<H>>, over: &AtomicU64) -> u64 {
+    let bit = free_bit(children);
+    over.fetch_and(!bit, Ordering::SeqCst);
+    bit
+}
+
 /// The moment at which a session is let in.
 fn entering<C: Clock>(clock: &C) -> i64 {
     let mut own = clock.another();
@@ -110,7 +117,7 @@ where
 {
     // For the proof alone: a full journal stays full.
     room_laws();
-    let bit = free_bit(children);
+    let bit = claim_bit(children, over);
     let own = clock.another();
     let started = Started {
         hub: Snapshot::of(hub),

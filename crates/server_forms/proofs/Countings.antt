@@ -1,13 +1,12 @@
 -- Entries that are counted one after the other.
 use Rattle.std.proofs.Common.{◌≡◌, ◌≤◌, ◌<◌, ◌+◌, ◌-◌, ◌^◌, ◌==◌, ℕ, Bool, true, false, cond, List, [], ◌∷◌, ◌++◌, length, take, drop, Some, ap, refl, ◌∙◌, arith, min, get_or}
 use Rattle.std.proofs.Math.Nat.{min-eq_left}
-use Rattle.std.proofs.lemmas.List.{append-nil, drop_all, get_or-replicate, length-replicate, take_all}
-use Rattle.std.proofs.Math.ListN.{replicate}
+use Rattle.std.proofs.lemmas.List.{append-nil, drop_all, take_all}
 use Rattle.std.specs.Prelude.{slice_get, if◌then◌else◌}
 use Rattle.store_machine.proofs.Numbers.{own-step}
 use Rattle.store_machine.specs.Legal.{own}
 use Rattle.store_machine.specs.declared.journal.Entry.{Entry}
-use Rattle.server_forms.specs.Counts.{Counts, CountsSoFar}
+use Rattle.server_forms.specs.Counts.{CountsSoFar}
 
 one_at_most : (b : Bool) (e : Entry) → length (cond b (e ∷ []) []) ≤ 1
 one_at_most true e = omega arith
@@ -39,22 +38,6 @@ counts_next journal k e old new fits at same each c = record {
       let sofar = c.each place within in
       let inside : place < length old = omega (arith, within, c.long) in
       next_count (e.by == place) e (get_or old place 0) (get_or new place 0) (length (own place (drop (k + 1) journal))) (length (own place journal)) (length journal) (each place inside) (omega (arith, step, sofar)) (own_few place journal) fits;
-}
-
--- nothing is counted yet
-pub counts_none : (journal : List Entry) (counts : List ℕ) → counts ≡ replicate (length journal) 0 → CountsSoFar journal 0 counts
-counts_none journal counts is = record {
-  long = ap length is ∙ length-replicate (length journal) 0;
-  each = λ place within. let empty : get_or counts place 0 ≡ 0 = ap (λ l. get_or l place 0) is ∙ get_or-replicate (length journal) place 0 0 within in omega (arith, empty);
-}
-
--- all are counted
-pub counts_all : (journal : List Entry) (k : ℕ) (counts : List ℕ) → length journal ≤ k → CountsSoFar journal k counts → Counts journal counts
-counts_all journal k counts over c = record {
-  long = c.long;
-  each = λ place within.
-      let empty : length (own place (drop k journal)) ≡ 0 = ap (λ l. length (own place l)) (drop_all k journal over) in
-      let sum = c.each place within in omega (arith, empty, sum);
 }
 
 -- the numbers stand in their vector again
