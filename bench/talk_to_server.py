@@ -1,14 +1,17 @@
 #!/usr/bin/env python3
 """Talks to a running server, and compares what it answers with what the tool replays.
 
-    python3 talk_to_server.py ETPD ETPTOOL
+    /usr/bin/python3 talk_to_server.py ETPD ETPTOOL
 
-ETPD and ETPTOOL are the built programs. The clients are those of web_socket.py, which shares nothing with the product.
+ETPD and ETPTOOL are the built programs. The first nine clients are those of Debian's python3-websockets, a peer that we did not
+write. What it can't do is left to web_socket.py, which shares nothing with the product either. Where the package is missing all
+clients are those of web_socket.py, and a line says so.
 
 Before the first client there are strangers: one that says nothing, one that goes at once, one with a request that is no
 handshake. Then eight clients at once, in three phases: each opens its session; puts three dataspaces, lists all, pings, and
 sends a message of no protocol; lists all and closes. A ninth sends its request in fragments, a text, and a message that is a
-byte too long; a tenth goes in the middle of a frame. The server takes ten links and then ends.
+byte too long. Meanwhile a tenth has asked for more lists than its socket holds, and reads nothing for two seconds, nor before
+the ninth has gone. An eleventh goes in the middle of a frame. The server takes eleven links and then ends.
 
 From the answers this learns the sessions' numbers and the moments of their messages, writes them down as a capture, and has
 the tool replay it. All answers have to be the same bytes, but for the lists of the second phase, which depend on the order
@@ -27,13 +30,22 @@ from pathlib import Path
 import web_socket
 import wire
 
+try:
+    import websockets
+except ImportError:
+    websockets = None
+
 INSTANCE = uuid.UUID("00000000-0000-0000-0000-000000000001")
 CONFIG = f'instance = "{INSTANCE}"\nname = "wd"\n'
 SUBPROTOCOL = "etp12.energistics.org"
 CLIENTS = 8
-LINKS = CLIENTS + 2
+LINKS = CLIENTS + 3
 LONGEST = 16_777_216
+LISTS = 10_000
 PATIENCE = 10
+
+# The code that stands for a connection without a goodbye (RFC 6455, section 7.4.1).
+NO_GOODBYE = 1006
 
 
 def message(protocol, kind, number, **value):
@@ -86,23 +98,41 @@ def listed(data):
     return {space["path"]: space for space in answer_value(data)["dataspaces"] if space["path"]}
 
 
-class Client:
-    """A client, with the messages that it sent and what answered each, phase by phase."""
+def connect_ours(uri):
+    return web_socket.connect(uri, [SUBPROTOCOL])
 
-    def __init__(self, name):
+
+def connect_peer(uri):
+    """A connection of the peer that we did not write, which takes answers of any length and sends no pings of its own."""
+    return websockets.connect(uri, subprotocols=[SUBPROTOCOL], compression=None, max_size=None, ping_interval=None)
+
+
+class Client:
+    """A client by one way to connect, with the messages that it sent and what answered each, phase by phase."""
+
+    def __init__(self, name, way):
         self.paths = [f"{name}-{letter}" for letter in "abc"]
+        self.way = way
         self.phases = [[], [], []]
         self.socket = None
 
     async def connect(self, uri):
-        self.socket = await web_socket.connect(uri, [SUBPROTOCOL])
+        self.socket = await self.way(uri)
         assert self.socket.subprotocol == SUBPROTOCOL
 
     async def ask(self, phase, sent, written=None):
         """Sends a message, as it is or as it is written instead, and keeps its one answer."""
         await self.socket.send(sent if written is None else written)
+        await self.hear(phase, sent)
+
+    async def hear(self, phase, sent):
+        """Keeps the one answer to a message that was sent."""
         answer = await asyncio.wait_for(self.socket.recv(), PATIENCE)
         self.phases[phase].append((sent, answer))
+
+    async def send_all(self, messages):
+        for message in messages:
+            await self.socket.send(message)
 
     async def leave(self, phase, number):
         """Closes the session. The server has to close the connection within a second."""
@@ -111,6 +141,7 @@ class Client:
         await self.socket.send(sent)
         await asyncio.wait_for(self.socket.wait_closed(), PATIENCE)
         assert time.monotonic() - begun < 1, "closed late"
+        assert self.socket.close_code != NO_GOODBYE, "closed without a goodbye"
         self.phases[phase].append((sent, None))
 
     def answers(self):
@@ -148,6 +179,19 @@ async def say_odd_things(client, uri):
     await client.leave(0, 4)
 
 
+async def read_late(client, uri, meanwhile):
+    """Asks for many lists, and reads the answers once two seconds have gone and the others are done."""
+    messages = [get_dataspaces(4 + 2 * place) for place in range(LISTS)]
+    await client.connect(uri)
+    await client.ask(0, request_session(2))
+    sending = asyncio.create_task(client.send_all(messages))
+    await asyncio.gather(asyncio.sleep(2), meanwhile)
+    for sent in messages:
+        await client.hear(0, sent)
+    await sending
+    await client.leave(0, 4 + 2 * LISTS)
+
+
 async def go_in_a_frame(client, uri):
     await client.connect(uri)
     await client.ask(0, request_session(2))
@@ -168,17 +212,18 @@ def send_strangers(port):
 
 async def talk(port):
     uri = f"ws://127.0.0.1:{port}/"
-    clients = [Client(f"c{i}") for i in range(CLIENTS)]
-    odd, gone = Client("odd"), Client("gone")
+    way = connect_peer if websockets else connect_ours
+    clients = [Client(f"c{i}", way) for i in range(CLIENTS)]
+    late, odd, gone = Client("late", connect_ours), Client("odd", way), Client("gone", connect_ours)
     strangers = send_strangers(port)
     await asyncio.gather(*(open_session(client, uri) for client in clients))
     await asyncio.gather(*(put_and_list(client) for client in clients))
     await asyncio.gather(*(list_and_leave(client) for client in clients))
-    await say_odd_things(odd, uri)
+    await read_late(late, uri, say_odd_things(odd, uri))
     await go_in_a_frame(gone, uri)
     for stranger in strangers:
         stranger.close()
-    return clients, odd, gone
+    return clients, [late, odd, gone]
 
 
 def kind_of(data):
@@ -203,24 +248,23 @@ def moments_of(client, spaces):
             yield moment
 
 
-def capture_of(clients, odd, gone, spaces):
-    """The capture that has the same sessions on one thread."""
+def capture_of(clients, others, spaces):
+    """The capture that has the same sessions on one thread, in the order of their numbers. The last one ends without a goodbye."""
     frames = [wire.MAGIC]
     order = sorted(clients, key=Client.number)
-    moments = {client: list(moments_of(client, spaces)) for client in [*order, odd, gone]}
-    places = dict.fromkeys(moments, 0)
+    moments = {client: moments_of(client, spaces) for client in [*order, *others]}
 
     def take(client, phase):
+        number = client.number()
         for sent, _ in client.phases[phase]:
-            frames.append(wire.write_frame(1, client.number(), moments[client][places[client]], sent))
-            places[client] += 1
+            frames.append(wire.write_frame(1, number, next(moments[client]), sent))
 
     for phase in range(3):
         for client in order:
             take(client, phase)
-    take(odd, 0)
-    take(gone, 0)
-    frames.append(wire.write_frame(3, gone.number(), 0))
+    for client in others:
+        take(client, 0)
+    frames.append(wire.write_frame(3, others[-1].number(), 0))
     return b"".join(frames)
 
 
@@ -242,8 +286,8 @@ def compare_lists(client, live, spaces):
         assert space == spaces[path], f"{path} is another than was put"
 
 
-def compare(clients, odd, gone, replay, spaces):
-    for client in [*clients, odd, gone]:
+def compare(clients, others, replay, spaces):
+    for client in [*clients, *others]:
         live, played = client.answers(), replay[client.number()]
         assert len(live) == len(played), f"session {client.number()} has {len(live)} answers, {len(played)} replayed"
         for place, (ours, theirs) in enumerate(zip(live, played)):
@@ -253,8 +297,8 @@ def compare(clients, odd, gone, replay, spaces):
                 assert ours == theirs, f"answer {place} of session {client.number()} differs"
 
 
-def expected_report(clients, odd, gone):
-    writes = {0: 0, odd.number(): 0, gone.number(): 0, **{client.number(): 1 for client in clients}}
+def expected_report(clients, others):
+    writes = {0: 0, **{client.number(): 1 for client in clients}, **{client.number(): 0 for client in others}}
     lines = [f"entries {1 + LINKS + CLIENTS}"]
     lines += [f"session {number} writes {count}" for number, count in sorted(writes.items())]
     return "".join(f"{line}\n" for line in lines).encode()
@@ -262,6 +306,8 @@ def expected_report(clients, odd, gone):
 
 def main():
     etpd, etptool = sys.argv[1:]
+    if not websockets:
+        print("python3-websockets is missing: the first nine clients are web_socket.py's instead")
     with tempfile.TemporaryDirectory() as folder:
         config = str(Path(folder, "wd.toml"))
         Path(config).write_text(CONFIG)
@@ -271,18 +317,19 @@ def main():
         try:
             # The server's first line on standard error ends with its port.
             port = int(re.search(rb"(\d+)\s*$", server.stderr.readline())[1])
-            clients, odd, gone = asyncio.run(talk(port))
+            clients, others = asyncio.run(talk(port))
             report, _ = server.communicate(timeout=PATIENCE)
         finally:
             server.kill()
         assert server.returncode == 0, f"the server ended with {server.returncode}"
         spaces = listed(clients[0].phases[2][0][1])
         assert set(spaces) == {path for client in clients for path in client.paths}
-        replay = replayed(etptool, config, capture_of(clients, odd, gone, spaces))
-        compare(clients, odd, gone, replay, spaces)
-        assert report == expected_report(clients, odd, gone), report.decode()
-    answers = sum(len(client.answers()) for client in [*clients, odd, gone])
-    print(f"{LINKS} sessions, {answers} answers: as replayed")
+        replay = replayed(etptool, config, capture_of(clients, others, spaces))
+        compare(clients, others, replay, spaces)
+        assert report == expected_report(clients, others), report.decode()
+    answers = sum(len(client.answers()) for client in [*clients, *others])
+    peer = f"websockets {websockets.__version__}" if websockets else "web_socket.py"
+    print(f"{LINKS} sessions, nine of them by {peer}, {answers} answers: as replayed")
 
 
 if __name__ == "__main__":

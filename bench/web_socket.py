@@ -36,6 +36,8 @@ class WebSocket:
     def __init__(self, reader, writer, subprotocol):
         self.reader, self.writer, self.subprotocol = reader, writer, subprotocol
         self.transport = writer.transport
+        # The code of the server's Close, or what stands for none (section 7.4.1).
+        self.close_code = 1006
 
     async def send(self, data):
         """A text, bytes, or a list of the parts of one binary message, each a frame of its own."""
@@ -71,6 +73,7 @@ class WebSocket:
             if opcode == PING:
                 self.writer.write(frame(PONG, data))
             elif opcode == CLOSE:
+                self.close_code = int.from_bytes(data[:2], "big") if data else 1005
                 self.writer.write(frame(CLOSE, data))
                 raise Closed
             elif opcode != PONG:
