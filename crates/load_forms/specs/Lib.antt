@@ -1,0 +1,4 @@
+pub mod Size
+pub mod Tally
+pub mod Summary
+pub mod Writing
