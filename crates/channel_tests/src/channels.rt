@@ -1,6 +1,5 @@
-//! Two channels of long integers, `a` with the id 0 and `b` with the id 1. What appends, replacements, truncations and ranges do is
-//! shown by the programs `channel_bench` and `store_samples`.
-ghost use Rattle.std.specs.Prelude.{ℕ, IfOk};
+//! Two channels of long integers, `a` with the id 0 and `b` with the id 1.
+ghost use Rattle.std.specs.Prelude.{ℕ, ◌≡◌, IfOk, length};
 ghost use Rattle.channel_store.specs.Store.{IsNewPlace};
 
 use chan_defs::{ChannelDef, Config, ValueKind};
@@ -9,6 +8,7 @@ use etp_values::{
     ChannelPoint, Copied, DataValue, Id16, List, NoMemory, Point, Shared, StoreUri, Text,
 };
 use std::alloc::Global;
+use std::process::Abort;
 use std::test::Fail;
 
 fn uri(alloc: Global, path: &str) -> Result<StoreUri, NoMemory> {
@@ -44,19 +44,159 @@ fn two_channels(alloc: Global) -> Result<ChannelStore, NoMemory>
     ChannelStore::new(alloc, &config)
 }
 
-/// Items of channel 0 by index and value.
-fn items(alloc: Global, rows: &[(i64, i64)]) -> Result<List<ChannelPoint>, NoMemory> {
+/// Items by channel, index and value.
+fn items(alloc: Global, rows: &[(i64, i64, i64)]) -> Result<List<ChannelPoint>, NoMemory> {
     let mut items = Vec::new(alloc);
     for row in rows {
         items.push(ChannelPoint {
-            channel: 0,
+            channel: row.0,
             point: Point {
-                index: row.0,
-                value: DataValue::Long(row.1),
+                index: row.1,
+                value: DataValue::Long(row.2),
             },
         })?;
     }
     Ok(List::from_vec(items))
+}
+
+fn ids(alloc: Global, ids: &[i64]) -> Result<List<i64>, NoMemory>
+    ensures { IfOk result (λ r. length r ≡ length ids.now) }
+{
+    Ok(List::from_vec(ids.to_vec(alloc)?))
+}
+
+/// The points of channel 0 from `from` to `to` have these indexes.
+fn check(
+    rt: &impl Abort,
+    store: &ChannelStore,
+    from: i64,
+    to: i64,
+    expected: &[i64],
+) -> Result<(), Fail> {
+    let points = store.range(0, from, to)?;
+    assert_eq!(rt; points.len(), expected.len());
+    for (point, index) in points.as_slice().iter().zip(expected) {
+        assert_eq!(rt; point.index, *index);
+    }
+    Ok(())
+}
+
+/// One item that lies at the last index of its channel refuses all items.
+#[test]
+fn appends_all_items_or_none(rt: HostRuntime) -> Result<(), Fail> {
+    let alloc = rt.alloc();
+    let mut store = two_channels(alloc)?;
+    store.append(0, 10, &items(alloc, &[(0, 100, 1)])?)?;
+    let refused = store.append(1, 20, &items(alloc, &[(1, 50, 2), (0, 100, 3)])?);
+    assert_eq!(rt; refused, Err(ChannelError::Order(0)));
+    assert_eq!(rt; store.last_index(1), None);
+    store.append(1, 20, &items(alloc, &[(1, 50, 2), (0, 101, 3)])?)?;
+    assert_eq!(rt; store.last_index(0), Some(101));
+    assert_eq!(rt; store.last_index(1), Some(50));
+    Ok(())
+}
+
+#[test]
+fn replaces_inside_the_interval(rt: HostRuntime) -> Result<(), Fail> {
+    let alloc = rt.alloc();
+    let mut store = two_channels(alloc)?;
+    store.append(
+        0,
+        10,
+        &items(alloc, &[(0, 100, 1), (0, 200, 2), (0, 300, 3)])?,
+    )?;
+    let more = items(alloc, &[(0, 160, 4), (0, 250, 5)])?;
+    store.replace(1, 20, &ids(alloc, &[0])?, 150, 250, &more)?;
+    check(&rt, &store, 0, 1000, &[100, 160, 250, 300])?;
+    check(&rt, &store, 160, 250, &[160, 250])
+}
+
+#[test]
+fn truncates_above_the_end(rt: HostRuntime) -> Result<(), Fail> {
+    let alloc = rt.alloc();
+    let mut store = two_channels(alloc)?;
+    store.append(0, 10, &items(alloc, &[(0, 90, 1), (0, 91, 2)])?)?;
+    store.truncate(1, 20, &ids(alloc, &[0])?, &ids(alloc, &[90])?)?;
+    check(&rt, &store, 0, 1000, &[90])
+}
+
+#[test]
+fn keeps_each_change_at_its_place(rt: HostRuntime) -> Result<(), Fail> {
+    let alloc = rt.alloc();
+    let mut store = two_channels(alloc)?;
+    store.truncate(7, 20, &ids(alloc, &[1])?, &ids(alloc, &[90])?)?;
+    let expected = ChannelChange {
+        place: 7,
+        channel: 1,
+        at: 20,
+        what: What::Truncate { end: 90 },
+    };
+    let change = store.change_at(1, 7).ok_or("a change at 7")?;
+    assert!(rt; *change == expected);
+    assert!(rt; change.copy(alloc)? == expected);
+    assert!(rt; store.change_at(1, 6).is_none());
+    assert!(rt; store.change_at(0, 7).is_none());
+    Ok(())
+}
+
+#[test]
+fn finds_channels_by_their_objects(rt: HostRuntime) -> Result<(), Fail> {
+    let alloc = rt.alloc();
+    let store = two_channels(alloc)?;
+    assert_eq!(rt; store.channel_of(&uri(alloc, "b")?), Some(1));
+    assert_eq!(rt; store.channel_of(&uri(alloc, "c")?), None);
+    assert_eq!(rt; store.last_index(2), None);
+    Ok(())
+}
+
+#[test]
+fn refuses_items_of_an_append(rt: HostRuntime) -> Result<(), Fail> {
+    let alloc = rt.alloc();
+    let mut store = two_channels(alloc)?;
+    let unknown = store.append(0, 10, &items(alloc, &[(2, 1, 1)])?);
+    assert_eq!(rt; unknown, Err(ChannelError::NoChannel(2)));
+    let above = store.append(
+        1,
+        10,
+        &items(alloc, &[(0, MAX_INDEX, 1), (1, MAX_INDEX + 1, 1)])?,
+    );
+    assert_eq!(rt; above, Err(ChannelError::Index(1)));
+    let mut other = Vec::new(alloc);
+    other.push(ChannelPoint {
+        channel: 1,
+        point: Point {
+            index: 1,
+            value: DataValue::Int(1),
+        },
+    })?;
+    assert_eq!(rt;
+        store.append(2, 10, &List::from_vec(other)),
+        Err(ChannelError::Kind(1))
+    );
+    Ok(())
+}
+
+#[test]
+fn refuses_intervals_and_what_lies_outside(rt: HostRuntime) -> Result<(), Fail> {
+    let alloc = rt.alloc();
+    let mut store = two_channels(alloc)?;
+    let none = items(alloc, &[])?;
+    let doubled = store.replace(0, 10, &ids(alloc, &[0, 1, 0])?, 1, 2, &none);
+    assert_eq!(rt; doubled, Err(ChannelError::Doubled(0)));
+    let backwards = store.replace(1, 10, &ids(alloc, &[0])?, 2, 1, &none);
+    assert_eq!(rt; backwards, Err(ChannelError::Interval));
+    let outside = store.replace(
+        2,
+        10,
+        &ids(alloc, &[0])?,
+        1,
+        2,
+        &items(alloc, &[(0, 3, 1)])?,
+    );
+    assert_eq!(rt; outside, Err(ChannelError::Outside(0)));
+    let range = store.range(0, 2, 1);
+    assert!(rt; range.is_err());
+    Ok(())
 }
 
 /// Takes what may be moved to another thread.
@@ -64,23 +204,70 @@ fn crossing<T: Send>(value: T) -> T {
     value
 }
 
+#[test]
+fn stores_cross_threads(rt: HostRuntime) -> Result<(), Fail> {
+    let store = crossing(two_channels(rt.alloc())?);
+    assert_eq!(rt; store.last_index(0), None);
+    Ok(())
+}
+
+#[test]
+fn hands_out_what_it_appended(rt: HostRuntime) -> Result<(), Fail> {
+    let alloc = rt.alloc();
+    let mut store = two_channels(alloc)?;
+    let one = items(alloc, &[(0, 100, 1), (0, 200, 2)])?;
+    assert!(rt; store.take_append(0, 10, &one)?.to_list(alloc)? == one);
+    let both = items(alloc, &[(0, 300, 3), (1, 50, 4)])?;
+    assert!(rt; store.take_append(1, 20, &both)?.to_list(alloc)? == both);
+    Ok(())
+}
+
+#[test]
+fn hands_out_what_it_put(rt: HostRuntime) -> Result<(), Fail> {
+    let alloc = rt.alloc();
+    let mut store = two_channels(alloc)?;
+    let inside = items(alloc, &[(0, 150, 5)])?;
+    let given = store.take_replace(0, 10, &ids(alloc, &[0])?, 120, 180, &inside)?;
+    assert!(rt; given.to_list(alloc)? == inside);
+    check(&rt, &store, 0, 1000, &[150])
+}
+
+#[test]
+fn tests_without_a_change(rt: HostRuntime) -> Result<(), Fail> {
+    let alloc = rt.alloc();
+    let mut store = two_channels(alloc)?;
+    store.append(0, 10, &items(alloc, &[(0, 100, 1)])?)?;
+    let again = items(alloc, &[(0, 100, 1)])?;
+    assert_eq!(rt; store.test_append(&again), Err(ChannelError::Order(0)));
+    assert_eq!(rt;
+        store.test_replace(&ids(alloc, &[0])?, 100, 200, &again),
+        Ok(())
+    );
+    assert_eq!(rt; store.test_cut(&[1], 0, 100), Ok(()));
+    assert_eq!(rt; store.test_cut(&[1], 1, 100), Err(ChannelError::Doubled(1)));
+    check(&rt, &store, 0, 1000, &[100])
+}
+
 /// Each point counts 24.
 #[test]
-fn finds_indexes_changes_and_sizes(rt: HostRuntime) -> Result<(), Fail> {
+fn finds_indexes_places_and_sizes(rt: HostRuntime) -> Result<(), Fail> {
     let alloc = rt.alloc();
-    let mut store = crossing(two_channels(alloc)?);
-    store.append(3, 10, &items(alloc, &[(100, 1), (200, 2)])?)?;
-    store.append(7, 20, &items(alloc, &[(300, 3)])?)?;
-    assert!(rt; store.channel_of(&uri(alloc, "b")?) == Some(1));
-    assert!(rt; store.first_index(0) == Some(100));
-    assert!(rt; store.index_from_end(0, 2) == Some(200));
-    assert!(rt; store.index_from_end(0, 4) == None);
-    assert!(rt; store.next_place(0, 4) == Some(7));
-    assert!(rt; store.next_place(0, 8) == None);
-    assert!(rt; store.tail(0, 101)?.len() == 2);
-    assert!(rt; store.change_at(0, 4).is_none());
+    let mut store = two_channels(alloc)?;
+    store.append(3, 10, &items(alloc, &[(0, 100, 1), (0, 200, 2)])?)?;
+    store.append(7, 20, &items(alloc, &[(0, 300, 3)])?)?;
+    assert_eq!(rt; store.first_index(0), Some(100));
+    assert_eq!(rt; store.index_from_end(0, 2), Some(200));
+    assert_eq!(rt; store.index_from_end(0, 4), None);
+    assert_eq!(rt; store.next_place(0, 4), Some(7));
+    assert_eq!(rt; store.next_place(0, 8), None);
+    let size = PointSize {
+        points: 2,
+        bytes: 48,
+    };
+    assert_eq!(rt; store.tail_size(0, 101), Ok(size));
+    assert_eq!(rt; store.range_size(0, 100, 200), Ok(size));
+    assert_eq!(rt; store.tail(0, 101)?.len(), 2);
     let change = store.change_at(0, 3).ok_or("a change at 3")?;
-    assert!(rt; change_bytes(change) == 48);
-    assert!(rt; change.copy(alloc)? == *change);
+    assert_eq!(rt; change_bytes(change), 48);
     Ok(())
 }

@@ -1,3 +1,4 @@
+pub mod Telling
 pub mod Numbers
 pub mod Countings
 pub mod Writings

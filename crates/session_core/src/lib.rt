@@ -15,11 +15,10 @@
 mod arriving;
 mod laws;
 mod outbox;
-mod parting;
 mod replies;
 mod session;
 mod state;
 
 pub use laws::{answer_fits, runs, steps};
 pub use session::Session;
-pub use state::{Addressee, Arrived, End, Live, Outgoing, Part, Pending, Phase, Request, Saying};
+pub use state::{Arrived, End, Live, Outgoing, Pending, Phase, Request, Transaction};

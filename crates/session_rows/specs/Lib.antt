@@ -2,5 +2,3 @@ pub mod Once
 pub mod Formats
 pub mod Opening
 pub mod Dataspaces
-pub mod ObjectChecks
-pub mod Objects

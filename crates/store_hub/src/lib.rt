@@ -12,6 +12,8 @@ mod error;
 mod hub;
 mod laws;
 mod pass;
+#[cfg(test)]
+mod tests;
 mod tried;
 mod turns;
 

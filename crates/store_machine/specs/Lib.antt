@@ -5,11 +5,6 @@ pub mod Channels
 pub mod Cuts
 pub mod Reads
 pub mod Ranging
-pub mod Starts
-pub mod News
-pub mod Telling
-pub mod Clash
-pub mod Marking
 pub mod Answers
 pub mod Legal
 pub mod Kept

@@ -2,14 +2,11 @@
 ghost use Rattle.std.specs.Prelude.{◌≡◌, ◌++◌, ◌∷◌, [], OnOk, OnErr};
 ghost use Rattle.tx_stage.specs.State.{state_in, state_now};
 ghost use Rattle.tx_stage.specs.declared.key.Key.{Key};
-ghost use Rattle.store_machine.specs.Marking.{Marks};
 
-use crate::alterations::{Alterations, Altered};
 use crate::boxed::BoxedItems;
 use crate::call::{Cutting, SpacePut};
 use channel_points::ChannelPoints;
 use etp_values::{List, NoMemory, Text};
-use std::alloc::Global;
 use tx_stage::{Contents, Op, Plan, Staged};
 
 /// What an entry did: its accepted items, in order.
@@ -53,27 +50,20 @@ pub(crate) fn push_entry(journal: &mut Vec<Entry>, entry: Entry) -> Result<(), N
     Ok(())
 }
 
-/// Does a plan, and adds its entry, whose keys are noted. All memory is taken before anything changes.
+/// Does a plan, and adds its entry. All memory is taken before anything changes.
 pub(crate) fn add_entry(
-    alloc: Global,
     journal: &mut Vec<Entry>,
     contents: &mut Contents,
-    alterations: &mut Alterations,
     plan: Plan,
     entry: Entry,
 ) -> Result<(), NoMemory>
-    requires { Marks alterations.old journal.old.items }
     ensures journal { OnOk result (journal.new.items ≡ journal.old.items ++ entry ∷ []) }
     ensures contents { OnOk result ((key : Key) → state_in contents.new key ≡ state_now contents.old plan key) }
     ensures kept { OnErr result (journal.new.items ≡ journal.old.items) }
     ensures same { OnErr result ((key : Key) → state_in contents.new key ≡ state_in contents.old key) }
-    ensures marks { Marks alterations.new journal.new.items }
 {
-    let altered = Altered::by(alloc, &entry.act)?;
     journal.reserve(1)?;
-    alterations.reserve(&altered)?;
     contents.apply(plan)?;
-    alterations.note(journal.len() as u64, altered);
     let _ = journal.push(entry);
     Ok(())
 }

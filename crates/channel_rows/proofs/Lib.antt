@@ -1,5 +1,0 @@
-pub mod Begun
-pub mod Calls
-pub mod Flags
-pub mod Points
-pub mod Telling

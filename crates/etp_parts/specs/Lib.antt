@@ -1,0 +1,4 @@
+pub mod Grouping
+pub mod Grouped
+pub mod Chunking
+pub mod Splitting

@@ -1,3 +1,0 @@
-pub mod Headers
-pub mod Single
-pub mod Steps

@@ -1,6 +1,0 @@
-pub mod Changes
-pub mod Counting
-pub mod Ending
-pub mod Numbers
-pub mod Tallies
-pub mod Writings

@@ -1,4 +1,0 @@
-pub mod Size
-pub mod Tally
-pub mod Summary
-pub mod Writing

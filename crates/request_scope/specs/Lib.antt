@@ -1,3 +1,0 @@
-pub mod Scope
-pub mod Finding
-pub mod Reply
