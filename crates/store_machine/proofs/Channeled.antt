@@ -4,6 +4,7 @@ use Rattle.std.specs.List.{AllByRecursion}
 use Rattle.std.proofs.Common.{ap, sym, ◌∙◌, append_assoc, append-nil, arith}
 use Rattle.std.proofs.lemmas.List.{map_push}
 use Rattle.std.proofs.lemmas.List.Sums.{fold_push}
+use Rattle.etp_values.specs.declared.point.Point.{Point}
 use Rattle.chan_defs.specs.declared.config.ChannelDef.{ChannelDef}
 use Rattle.chan_defs.specs.declared.config.Config.{Config}
 use Rattle.channel_store.specs.declared.change.ChannelChange.{ChannelChange}
@@ -12,7 +13,7 @@ use Rattle.channel_store.specs.Channels.{IsPastAll, fresh, whats_of}
 use Rattle.channel_store.specs.Points.{after}
 use Rattle.channel_store.specs.Store.{IsNewPlace, by_number, changed, happens}
 use Rattle.store_machine.specs.declared.journal.Entry.{Entry}
-use Rattle.store_machine.specs.Channels.{what_of, change_list, change_by, changes_from, channel_changes, channel_by, channels_of}
+use Rattle.store_machine.specs.Channels.{what_of, change_list, change_by, changes_from, channel_changes, channel_points, channel_by, channels_of}
 use Rattle.store_machine.specs.Legal.{door}
 
 -- ---- one channel
@@ -35,6 +36,21 @@ happens-is place id at d changes (Some w) =
     let x : ChannelChange = record { place = place; channel = id; at = at; what = w } in
     let points = ap (fold after []) (map_push (λ (y : ChannelChange). y.what) changes x) ∙ fold_push after [] (whats_of changes) w in
     (λ j. record { uri = d.uri; kind = d.kind; points = sym points j; changes = changes ++ x ∷ [] })
+
+-- points after what happens, or nothing
+abbrev pub after_some : List Point → Option What → List Point
+after_some xs None = xs
+after_some xs (Some w) = after xs w
+
+pub points-push : (id : ℤ) (history : List Entry) (e : Entry) → channel_points id (history ++ e ∷ []) ≡ after_some (channel_points id history) (what_of e.act id)
+points-push id history e =
+    ap (λ l. fold after [] (whats_of l)) (changes-push 0 id history e) ∙ by (what_of e.act id)
+  where
+    by : (o : Option What) → fold after [] (whats_of (channel_changes id history ++ change_list (0 + length history) id e.at o)) ≡ after_some (fold after [] (whats_of (channel_changes id history))) o
+    by None = ap (λ l. fold after [] (whats_of l)) (append-nil (channel_changes id history))
+    by (Some w) =
+        let x : ChannelChange = record { place = 0 + length history; channel = id; at = e.at; what = w } in
+        ap (fold after []) (map_push (λ (y : ChannelChange). y.what) (channel_changes id history) x) ∙ fold_push after [] (whats_of (channel_changes id history)) w
 
 -- ---- all channels
 

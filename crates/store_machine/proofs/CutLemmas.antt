@@ -1,5 +1,5 @@
 -- Truncations: those that are accepted are accepted again, and the channels refuse none of them.
-use Rattle.std.specs.Prelude.{ℕ, ℤ, Bool, true, false, not, ◌||◌, ◌≡◌, List, [], ◌∷◌, ◌++◌, Option, Some, None, is_some, length, map, zip, refl, if◌then◌else◌}
+use Rattle.std.specs.Prelude.{ℕ, ℤ, Bool, true, false, not, ◌||◌, ◌≡◌, List, [], ◌∷◌, ◌++◌, Option, Some, None, is_some, length, map, zip, refl}
 use Rattle.std.specs.Map.{keys_of, values_of}
 use Rattle.std.proofs.Common.{ap, sym, ◌∙◌, append_assoc, append-nil, suc}
 use Rattle.std.proofs.lemmas.List.Folds.{list_any-append}
@@ -9,16 +9,10 @@ use Rattle.channel_store.specs.Channels.{Channel}
 use Rattle.channel_store.specs.Refusals.{channel_at, cut_refusal, in_range, int_eq, is_listed, or_else, truncate_refusal, unless}
 use Rattle.store_machine.specs.declared.call.Cutting.{Cutting}
 use Rattle.store_machine.specs.declared.call.Verdict.{Verdict}
-use Rattle.store_machine.specs.Channels.{channels_of, cut_of}
+use Rattle.store_machine.specs.Channels.{cut_of}
 use Rattle.store_machine.specs.Cuts.{cut_verdict, cut_verdicts, cuts_accepted, unless_cut_refused}
 use Rattle.store_machine.specs.Kept.{with_accepted}
-use Rattle.store_machine.specs.Loads.{Answered, CutDrafting, TakesCut}
-use Rattle.store_machine.specs.declared.call.Reply.TheVariants as replied
-use Rattle.store_machine.specs.declared.call.StoreCall.TheVariants as call
-use Rattle.store_machine.specs.declared.journal.Act.TheVariants.{Truncate}
-use Rattle.store_machine.specs.declared.journal.Entry.{Entry}
-use Rattle.store_machine.specs.Answers.{act_of, entered, entry, has_room, has_room_for, wanted}
-use Rattle.chan_defs.specs.declared.config.Config.{Config}
+use Rattle.store_machine.specs.Loads.{CutDrafting, TakesCut}
 
 -- ---- fewer channels before
 
@@ -108,22 +102,6 @@ pub names-cuts : (cs : List Channel) (earlier : List ℤ) (items : List (List �
 names-cuts cs earlier [] = refl
 names-cuts cs earlier (i ∷ is) = ap (λ l. i.0 ∷ l) (names-cuts cs (earlier ++ i.1.channel ∷ []) is)
 
--- ---- what the call answers and adds
-
--- by whether there is room for the entry of the accepted cuts
-pub cuts-answered : (config : Config) (history : List Entry) (by nth : ℕ) (at : ℤ) (items : List (List ℕ × Cutting)) (cuts : List Cutting) (room : Bool) → cuts ≡ cuts_accepted (channels_of config history) [] (values_of items)
-    → (cuts ≡ [] → ⊥) → has_room_for config history (Truncate cuts) ≡ room
-    → Answered config history by nth at (call.Truncate items) (if room then replied.Verdicts (cut_verdicts (channels_of config history) [] items) else replied.JournalFull)
-    (if room then record { by = by; nth = nth; at = at; act = Truncate cuts } ∷ [] else [])
-cuts-answered config history by nth at items [] room same some h = absurd (some refl)
-cuts-answered config history by nth at items (c ∷ cs) room same some h =
-    let w : wanted config history (call.Truncate items) ≡ Truncate (c ∷ cs) ∷ [] = ap (act_of Truncate) (sym same) in
-    let r : has_room config history (wanted config history (call.Truncate items)) ≡ room = ap (has_room config history) w ∙ h in
-    record {
-      told = (λ j. record { mark = length history; reply = if sym r j then replied.Verdicts (cut_verdicts (channels_of config history) [] items) else replied.JournalFull });
-      made = (λ j. if sym h j then entry history by nth at (Truncate (c ∷ cs)) ∷ [] else []) ∙ ap (entered config history by nth at) (sym w);
-    }
-
 -- ---- cuts in the making
 
 pub cutting-first : (cs : List Channel) (rest all : List (List ℕ × Cutting)) (given : List (List ℕ × Verdict)) (taken : List Cutting) (named : List ℤ)
@@ -157,9 +135,9 @@ cut-noted cs name c given given' taken taken' named named' earlier v same judged
       names = n;
     }
 
-pub cuts-done : (cs : List Channel) (rest all : List (List ℕ × Cutting)) (given : List (List ℕ × Verdict)) (taken : List Cutting) (named : List ℤ)
+pub cutting-end : (cs : List Channel) (rest all : List (List ℕ × Cutting)) (given : List (List ℕ × Verdict)) (taken : List Cutting) (named : List ℤ)
     → rest ≡ [] → CutDrafting cs rest all given taken named → (given ≡ cut_verdicts cs [] all) × (taken ≡ cuts_accepted cs [] (values_of all))
-cuts-done cs rest all given taken named none d = (
+cutting-end cs rest all given taken named none d = (
   sym (append-nil given) ∙ ap (λ l. given ++ cut_verdicts cs named l) (sym none) ∙ d.verdicts,
   sym (append-nil taken) ∙ ap (λ l. taken ++ cuts_accepted cs named (values_of l)) (sym none) ∙ d.items,
 )

@@ -8,6 +8,7 @@ use Rattle.channel_store.specs.Channels.{Channel, fresh}
 use Rattle.channel_store.specs.Refusals.{append_refusal, replace_refusal}
 use Rattle.channel_store.specs.Store.{changed, truncated}
 use Rattle.etp_values.specs.declared.point.ChannelPoint.{ChannelPoint}
+use Rattle.etp_values.specs.Weight.{capped}
 use Rattle.object_store.specs.declared.records.SpaceRecord.{SpaceRecord}
 use Rattle.tx_stage.specs.declared.contents.Contents.{Contents}
 use Rattle.tx_stage.specs.declared.key.Key.{Key}
@@ -32,7 +33,7 @@ use Rattle.store_machine.specs.declared.call.Cutting.{Cutting}
 use Rattle.store_machine.specs.Channels.{channels_of, cut_of, what_of}
 use Rattle.store_machine.specs.Cuts.{cuts_accepted}
 use Rattle.store_machine.specs.Dataspaces.{dataspaces, is_newer}
-use Rattle.store_machine.specs.Counted.{counted_act, counted, is_room, bytes_with}
+use Rattle.store_machine.specs.Counted.{act_bytes, counted_act, counted, is_room, bytes_with}
 use Rattle.store_machine.specs.Answers.{verdict, is_accepted, accepted, all_or_none, act_of, granted, has_room_for, entry, entered, entries_of, seen_after, answer}
 use Rattle.store_machine.specs.Legal.{IsNext, MayAct, MayAsk, Follows, LegalFrom, Legal, door}
 use Rattle.store_machine.specs.Kept.{Holds, Plans, Keeps}
@@ -283,6 +284,18 @@ no_room config journal total a e h = ap (λ n. is_room config.journal (length jo
     by : (b : Bool) → None ≡ (if b then Some (total + counted_act a) else None) → b ≡ false
     by true h = absurd (cc)
     by false h = refl
+
+-- the same of an act that is made later, by what its items count
+pub room_found : (config : Config) (journal : List Entry) (total bytes items mark : ℕ) (a : Act) → total ≡ counted journal → mark ≡ length journal → items ≡ capped (act_bytes a)
+    → ((b : Act) → items ≡ capped (act_bytes b) → Some bytes ≡ bytes_with config.journal mark total b)
+    → (has_room_for config journal a ≡ true) × (bytes ≡ total + counted_act a)
+room_found config journal total bytes items mark a sum m is fits =
+    with_room config journal total bytes a sum (fits a is ∙ ap (λ n. bytes_with config.journal n total a) m)
+
+pub no_room_found : (config : Config) (journal : List Entry) (total items mark : ℕ) (a : Act) → total ≡ counted journal → mark ≡ length journal → items ≡ capped (act_bytes a)
+    → ((b : Act) → items ≡ capped (act_bytes b) → None ≡ bytes_with config.journal mark total b) → has_room_for config journal a ≡ false
+no_room_found config journal total items mark a sum m is fits =
+    no_room config journal total a sum (fits a is ∙ ap (λ n. bytes_with config.journal n total a) m)
 
 -- the dataspaces listed
 pub listed-answer : (config : Config) (journal : List Entry) (found : List SpaceRecord) (newer : Option ℤ) (mark : ℕ) → mark ≡ length journal → found ≡ filter (is_newer newer) (dataspaces (changes_of journal))

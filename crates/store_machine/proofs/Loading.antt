@@ -13,20 +13,19 @@ use Rattle.channel_store.specs.Store.{changed}
 use Rattle.etp_values.specs.declared.code.ErrorCode.{ErrorCode}
 use Rattle.tx_stage.specs.declared.contents.Contents.{Contents}
 use Rattle.store_machine.specs.declared.call.Reply.TheVariants as replied
+use Rattle.store_machine.specs.declared.call.StoreCall.TheVariants as call
 use Rattle.store_machine.specs.declared.journal.Act.{Act}
 use Rattle.store_machine.specs.declared.journal.Act.TheVariants as acts
 use Rattle.store_machine.specs.declared.journal.Entry.{Entry}
 use Rattle.store_machine.specs.declared.load.Load.{Load}
 use Rattle.store_machine.specs.declared.load.Load.TheVariants.{Append, Replace}
-use Rattle.etp_values.specs.Weight.{capped}
-use Rattle.store_machine.specs.Counted.{act_bytes, bytes_with, counted, counted_act}
+use Rattle.store_machine.specs.Counted.{counted, counted_act}
 use Rattle.store_machine.specs.Channels.{channels_of, code_of, what_of}
-use Rattle.store_machine.specs.declared.call.StoreCall.TheVariants as call
 use Rattle.store_machine.specs.Answers.{act_of, all_or_none, entered, entries_of, entry, granted, has_room, has_room_for, reply, wanted, written}
 use Rattle.store_machine.specs.Legal.{IsNext, Legal}
 use Rattle.store_machine.specs.Kept.{Keeps}
 use Rattle.store_machine.specs.Loads.{Adds, Answered, IsRefusedBy, added_by, adds_entry, load_act, load_call, load_refusal, unless_refused, without_room}
-use Rattle.store_machine.proofs.Lawful.{keeps-channels, keeps-kept, legal-call, makes-append, makes-replace, no_room, with_room}
+use Rattle.store_machine.proofs.Lawful.{keeps-channels, keeps-kept, legal-call, makes-append, makes-replace}
 
 -- ---- refusals
 
@@ -192,21 +191,6 @@ load-ended config history by nth at l (Some code) some room e = load-refused con
 pub load-legal : (config : Config) (history : List Entry) (by nth : ℕ) (at : ℤ) (l : Load) → Legal config history → IsNext history by nth → Legal config (history ++ entries_of config history by nth at (load_call l))
 load-legal config history by nth at (Append items) legal next = legal-call config history by nth at (call.Append items) legal next
 load-legal config history by nth at (Replace channels from to items) legal next = legal-call config history by nth at (call.Replace channels from to items) legal next
-
--- ---- room, as the code finds it
-
--- there is, and what the entries count then
-pub load-room : (config : Config) (journal : List Entry) (total bytes items mark : ℕ) (l : Load) → total ≡ counted journal → mark ≡ length journal → items ≡ capped (act_bytes (load_act l))
-    → ((a : Act) → items ≡ capped (act_bytes a) → Some bytes ≡ bytes_with config.journal mark total a)
-    → (has_room_for config journal (load_act l) ≡ true) × (bytes ≡ total + counted_act (load_act l))
-load-room config journal total bytes items mark l sum m is fits =
-    with_room config journal total bytes (load_act l) sum (fits (load_act l) is ∙ ap (λ n. bytes_with config.journal n total (load_act l)) m)
-
--- there is none
-pub load-no_room : (config : Config) (journal : List Entry) (total items mark : ℕ) (l : Load) → total ≡ counted journal → mark ≡ length journal → items ≡ capped (act_bytes (load_act l))
-    → ((a : Act) → items ≡ capped (act_bytes a) → None ≡ bytes_with config.journal mark total a) → has_room_for config journal (load_act l) ≡ false
-load-no_room config journal total items mark l sum m is fits =
-    no_room config journal total (load_act l) sum (fits (load_act l) is ∙ ap (λ n. bytes_with config.journal n total (load_act l)) m)
 
 -- a journal with what was added
 pub added-is : (r : Option ErrorCode) (journal : List Entry) (e : Entry) → unless_refused r journal e ≡ journal ++ added_by r e

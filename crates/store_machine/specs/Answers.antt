@@ -29,6 +29,9 @@ use Rattle.store_machine.specs.Dataspaces.{dataspaces, is_newer}
 use Rattle.store_machine.specs.Counted.{counted, is_room}
 use Rattle.store_machine.specs.Channels.{channels_of, code_of}
 use Rattle.store_machine.specs.Cuts.{cut_verdicts, cuts_accepted}
+use Rattle.store_machine.specs.declared.call.StartAsk.{StartAsk}
+use Rattle.store_machine.specs.News.{news_after}
+use Rattle.store_machine.specs.Starts.{started}
 use Rattle.store_machine.specs.Reads.{whole_room, ranged, range_reply, meta_under}
 use Rattle.store_machine.specs.declared.call.RangeAsk.{RangeAsk}
 
@@ -141,6 +144,10 @@ seen_after history wants = looks (λ key. value_after key history) wants
 unfoldable pub ranges_after : Config → List Entry → List RangeAsk → Reply
 ranges_after config history asks = range_reply (ranged (channels_of config history) whole_room asks)
 
+-- where subscriptions start after a history
+unfoldable pub starts_after : Config → List Entry → List (List ℕ × StartAsk) → Reply
+starts_after config history items = replied.Started (started (channels_of config history) whole_room items)
+
 -- the reply to points that were given to channels, by the refusal where there is one
 abbrev pub written : Option ErrorCode → Reply
 written None = replied.Written
@@ -159,6 +166,8 @@ reply config history (call.Replace channels from to items) = written (option_map
 reply config history (call.Truncate items) = Verdicts (cut_verdicts (channels_of config history) [] items)
 reply config history (call.Range asks) = ranges_after config history asks
 reply config history (call.Meta items) = Metas (map (meta_under (channels_of config history)) items)
+reply config history (call.Subscribe items) = starts_after config history items
+reply config history (call.News cursor subs) = news_after config history cursor subs
 reply config history _ = replied.Refused InvalidMessageType
 
 -- the answer to a call

@@ -1,7 +1,11 @@
 -- Laws on histories.
-use Rattle.std.specs.Prelude.{ℕ, ℤ, ◌≡◌, Bool, true, false, List, [], ◌∷◌, ◌++◌, Some, IsSomeAnd, slice_get, length}
+use Rattle.std.specs.Prelude.{ℕ, ℤ, pos, ◌≡◌, ◌+◌, ◌≤◌, ◌<◌, Bool, true, false, List, [], ◌∷◌, ◌++◌, Some, IsSomeAnd, slice_get, length, filter, take, drop}
 use Rattle.std.specs.List.{list_any, AllByRecursion}
+use Rattle.std.specs.Ordering.{int_eq}
 use Rattle.chan_defs.specs.declared.config.Config.{Config}
+use Rattle.channel_store.specs.declared.change.ChannelChange.{ChannelChange}
+use Rattle.channel_store.specs.declared.subscription.Sub.{Sub}
+use Rattle.channel_store.specs.Points.{copy, past}
 use Rattle.object_store.specs.Tables.{default_dataspace}
 use Rattle.tx_stage.specs.declared.key.Key.{Key}
 use Rattle.tx_stage.specs.declared.key.Key.TheVariants.{Space}
@@ -14,6 +18,8 @@ use Rattle.store_machine.specs.declared.journal.Entry.{Entry}
 use Rattle.store_machine.specs.History.{Change, alters, value, value_after, entry_alters}
 use Rattle.store_machine.specs.Answers.{entries_of, has_room_for}
 use Rattle.store_machine.specs.Legal.{own, IsNext, MayAsk, Legal}
+use Rattle.store_machine.specs.Channels.{changes_from, channel_points}
+use Rattle.store_machine.specs.News.{dues, is_due, joined, stream, taken}
 
 -- ---- words
 
@@ -100,3 +106,26 @@ EntersAreEnter = (a : Act) → is_enter a ≡ true → a ≡ Enter
 abbrev pub FullStaysFull : Type 0
 FullStaysFull = (config : Config) (history later : List Entry)
     → has_room_for config history Enter ≡ false → has_room_for config (history ++ later) Enter ≡ false
+
+-- ---- streams and news
+
+-- whoever was told the stream of a channel, with replacements and truncations, has the channel's points from its start on
+abbrev pub StreamIsCopied : Type 0
+StreamIsCopied = (config : Config) (history : List Entry) (id start : ℤ) (m : ℕ)
+    → Legal config history → m ≤ length history → copy (stream id start true m history) ≡ past start (channel_points id history)
+
+-- news never go past the journal
+abbrev pub NewsStayWithin : Type 0
+NewsStayWithin = (config : Config) (history : List Entry) (subs : List Sub) (cursor : ℕ)
+    → cursor ≤ length history → cursor + length (taken 0 0 (dues config subs cursor (drop cursor history))) ≤ length history
+
+-- what is told are the due changes of the entries from the cursor on that were taken
+abbrev pub NewsAreTheDue : Type 0
+NewsAreTheDue = (config : Config) (history : List Entry) (subs : List Sub) (cursor : ℕ)
+    → joined (taken 0 0 (dues config subs cursor (drop cursor history)))
+    ≡ joined (dues config subs cursor (take (length (taken 0 0 (dues config subs cursor (drop cursor history)))) (drop cursor history)))
+
+-- of one channel they are its changes that are due
+abbrev pub NewsOfEach : Type 0
+NewsOfEach = (config : Config) (subs : List Sub) (k place : ℕ) (entries : List Entry)
+    → k < length config.channels → filter (λ (c : ChannelChange). int_eq c.channel (pos k)) (joined (dues config subs place entries)) ≡ filter (is_due subs) (changes_from place (pos k) entries)

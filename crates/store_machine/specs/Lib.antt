@@ -5,6 +5,9 @@ pub mod Channels
 pub mod Cuts
 pub mod Reads
 pub mod Ranging
+pub mod Starts
+pub mod News
+pub mod Telling
 pub mod Answers
 pub mod Legal
 pub mod Kept

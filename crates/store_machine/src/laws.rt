@@ -1,9 +1,12 @@
-//! Laws on the definitions, as contracts of functions that do nothing.
+//! Laws on the definitions, as contracts of functions that do nothing but cite others.
 ghost use Rattle.store_machine.specs.Laws.{ChangesLeaveOthers, EntriesLeaveOthers, DefaultStays};
 ghost use Rattle.store_machine.specs.Laws.{DoorIsSession, NumbersStay, NextNumberIsFresh, EntersAreEnter};
 ghost use Rattle.store_machine.specs.Laws.{EntriesAreTheSessions, NextMayAsk, CallsStay, CallsAddOne};
 ghost use Rattle.store_machine.specs.Laws.{FullStaysFull};
+ghost use Rattle.store_machine.specs.Laws.{NewsAreTheDue, NewsOfEach, NewsStayWithin, StreamIsCopied};
 ghost use Rattle.store_machine.specs.Growth.{CallsKeepLegal};
+
+use channel_store::{accepted_calls, copy_is_points};
 
 /// The value of a key depends on the changes that alter it alone, and that of the default dataspace on none.
 pub fn state_laws()
@@ -34,3 +37,18 @@ pub fn room_laws()
 pub fn growth_laws()
     ensures legal { CallsKeepLegal }
 {}
+
+/// What news tell: the due changes of the entries that were taken, which are in the journal; of each channel its own.
+pub fn news_laws()
+    ensures bound { NewsStayWithin }
+    ensures segment { NewsAreTheDue }
+    ensures each { NewsOfEach }
+{}
+
+/// Whoever takes in the stream of a channel has the channel's points.
+pub fn stream_laws()
+    ensures { StreamIsCopied }
+{
+    copy_is_points();
+    accepted_calls();
+}

@@ -5,7 +5,7 @@
 //! depends on the journal and the call alone (`specs/Answers`). The tables of what stands now are kept beside the journal,
 //! and the invariant of [`Store`] ties them to it.
 //!
-//! Commits, subscriptions and news are not served yet: they are refused by `InvalidMessageType`.
+//! Commits are not served yet: they are refused by `InvalidMessageType`.
 #![tactic(auto)]
 
 mod boxed;
@@ -18,8 +18,10 @@ mod journal;
 mod laws;
 mod load;
 mod looks;
+mod news;
 mod reads;
 mod spaces;
+mod starts;
 mod store;
 
 pub use boxed::BoxedItems;
@@ -30,7 +32,8 @@ pub use call::{
 pub use channel_store::Sub;
 pub use counted::MAX_JOURNAL_BYTES;
 pub use journal::{Act, Entry};
-pub use laws::{growth_laws, number_laws, room_laws, state_laws};
+pub use laws::{growth_laws, news_laws, number_laws, room_laws, state_laws, stream_laws};
+pub use news::{MAX_CHANGE_BYTES, MAX_CHANGES};
 pub use reads::{MAX_POINT_BYTES, MAX_POINTS};
 pub use store::Store;
 pub use tx_stage::{Looked, Want};

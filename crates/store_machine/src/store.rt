@@ -10,17 +10,19 @@ ghost use Rattle.store_machine.specs.declared.call.StoreCall.TheVariants as call
 ghost use Rattle.store_machine.specs.declared.call.Reply.TheVariants as reply;
 ghost use Rattle.etp_values.specs.declared.code.ErrorCode.TheVariants as code;
 
-use crate::call::{Answer, Cutting, RangeAsk, Reply, SpacePut, StoreCall};
+use crate::call::{Answer, Cutting, RangeAsk, Reply, SpacePut, StartAsk, StoreCall};
 use crate::counted::{bytes_after, bytes_with, cuts_bytes};
 use crate::cuts::{add_cuts, draft_cuts};
 use crate::draft::{draft_drops, draft_ops, draft_puts};
 use crate::journal::{Act, Entry, add_entry, push_entry};
 use crate::load::{Load, add_load};
 use crate::looks::looked;
+use crate::news::news;
 use crate::reads::{metas, ranges};
 use crate::spaces::listed;
+use crate::starts::starts;
 use chan_defs::Config;
-use channel_store::ChannelStore;
+use channel_store::{ChannelStore, Sub};
 use etp_values::{ErrorCode, List, Named, NoMemory, StoreUri, Text};
 use std::alloc::Global;
 use std::marker::Model;
@@ -137,14 +139,8 @@ impl Store {
             StoreCall::Truncate { items } => self.truncate(alloc, by, nth, at, items),
             StoreCall::Range { items } => self.range(alloc, items),
             StoreCall::Meta { items } => self.meta(alloc, items),
-            StoreCall::Subscribe { items } => {
-                drop(items);
-                Ok(self.unserved())
-            }
-            StoreCall::News { subs, .. } => {
-                drop(subs);
-                Ok(self.unserved())
-            }
+            StoreCall::Subscribe { items } => self.subscribe(alloc, items),
+            StoreCall::News { cursor, subs } => self.news(alloc, cursor, subs),
         }
     }
 
@@ -504,6 +500,27 @@ impl Store {
         let mark = self.journal.len() as u64;
         let metas = metas(alloc, &self.channels, items.into_vec())?;
         let reply = Reply::Metas(Named::from_sorted(metas));
+        Ok(Answer { mark, reply })
+    }
+
+    fn subscribe(&self, alloc: Global, items: Named<StartAsk>) -> Result<Answer, NoMemory>
+        ensures answer { IfOk result (λ a.
+            a ≡ answer self.now.config self.now.journal (call.Subscribe items)) }
+        ensures legal { Legal self.now.config self.now.journal }
+    {
+        let mark = self.journal.len() as u64;
+        let starts = starts(alloc, &self.channels, items.into_vec())?;
+        let reply = Reply::Started(Named::from_sorted(starts));
+        Ok(Answer { mark, reply })
+    }
+
+    fn news(&self, alloc: Global, cursor: u64, subs: List<Sub>) -> Result<Answer, NoMemory>
+        ensures answer { IfOk result (λ a.
+            a ≡ answer self.now.config self.now.journal (call.News cursor subs)) }
+        ensures legal { Legal self.now.config self.now.journal }
+    {
+        let mark = self.journal.len() as u64;
+        let reply = news(alloc, &self.channels, self.config.lag, mark, cursor, &subs)?;
         Ok(Answer { mark, reply })
     }
 }

@@ -1,7 +1,7 @@
 use Rattle.std.proofs.Common.{arith, rules, ◌≡◌, ◌∷◌, []}
 use Rattle.std.proofs.lemmas.Grind.{common_steps}
 use Rattle.std.specs.Vec.Iter.{into_iter_items}
-use Rattle.store_machine.proofs.CutLemmas.{cutting-first, cutting-step, cuts-done}
+use Rattle.store_machine.proofs.CutLemmas.{cutting-first, cutting-step, cutting-end}
 use Rattle.store_machine.proofs.cuts.draft_cuts.Goals as goal
 
 pub loop-name-init : goal.loop-name-init
@@ -18,9 +18,9 @@ loop-name-preserved c =
 pub returns-clause-verdicts : goal.returns-clause-verdicts
 returns-clause-verdicts c =
     let none : into_iter_items c.loop-name.name-iterator ≡ [] = grind (arith, common_steps) in
-    (cuts-done _ _ _ _ _ _ none c.loop-name.invariant).0
+    (cutting-end _ _ _ _ _ _ none c.loop-name.invariant).0
 
 pub returns-clause-accepted : goal.returns-clause-accepted
 returns-clause-accepted c =
     let none : into_iter_items c.loop-name.name-iterator ≡ [] = grind (arith, common_steps) in
-    (cuts-done _ _ _ _ _ _ none c.loop-name.invariant).1
+    (cutting-end _ _ _ _ _ _ none c.loop-name.invariant).1

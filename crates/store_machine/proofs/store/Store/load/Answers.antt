@@ -5,7 +5,8 @@ use Rattle.store_machine.specs.Answers.{has_room_for}
 use Rattle.store_machine.specs.Counted.{counted, counted_act}
 use Rattle.store_machine.specs.Legal.{Legal}
 use Rattle.store_machine.specs.Loads.{adds_entry, load_act, unless_refused}
-use Rattle.store_machine.proofs.Loading.{added-is, load-ended, load-full, load-legal, load-no_room, load-none, load-room}
+use Rattle.store_machine.proofs.Lawful.{no_room_found, room_found}
+use Rattle.store_machine.proofs.Loading.{added-is, load-ended, load-full, load-legal, load-none}
 use Rattle.store_machine.proofs.store.Store.load.Goals as goal
 
 -- ---- what do_load asks for: there is room, and what the entries count then
@@ -18,14 +19,14 @@ do_load-requires-clause-room c =
     let s = c.self.inside in
     let mark : c.len-mark.result ≡ length s.journal.items = grind (arith, common_steps) in
     subst (λ k. has_room_for k.config k.journal (load_act c.args.load) ≡ true) c.self.view_is
-    (load-room s.config s.journal.items s.bytes c.in-Some.bytes c.bytes.result c.len-mark.result c.args.load c.self.invariant.bytes mark c.bytes.ensures c.in-Some.ensures).0
+    (room_found s.config s.journal.items s.bytes c.in-Some.bytes c.bytes.result c.len-mark.result (load_act c.args.load) c.self.invariant.bytes mark c.bytes.ensures c.in-Some.ensures).0
 
 pub do_load-requires-clause-bytes : goal.do_load-requires-clause-bytes
 do_load-requires-clause-bytes c =
     let s = c.self.inside in
     let a = load_act c.args.load in
     let mark : c.len-mark.result ≡ length s.journal.items = grind (arith, common_steps) in
-    (load-room s.config s.journal.items s.bytes c.in-Some.bytes c.bytes.result c.len-mark.result c.args.load c.self.invariant.bytes mark c.bytes.ensures c.in-Some.ensures).1
+    (room_found s.config s.journal.items s.bytes c.in-Some.bytes c.bytes.result c.len-mark.result (load_act c.args.load) c.self.invariant.bytes mark c.bytes.ensures c.in-Some.ensures).1
     ∙ ap (λ n. n + counted_act a) c.self.invariant.bytes ∙ ap (λ k. counted k.journal + counted_act a) c.self.view_is
 
 -- ---- no entry is made
@@ -48,7 +49,7 @@ returns-in_default-clause-answer c =
     let place : c.len-mark.result ≡ length k.journal = grind (arith, common_steps) in
     let adds : adds_entry c.args.load ≡ true = sym c.adds_entry.ensures ∙ c.if-not-adds_entry.false in
     let full = subst (λ k'. has_room_for k'.config k'.journal (load_act c.args.load) ≡ false) c.self.view_is
-    (load-no_room s.config s.journal.items s.bytes c.bytes.result c.len-mark.result c.args.load c.self.invariant.bytes mark c.bytes.ensures c.in_default.ensures) in
+    (no_room_found s.config s.journal.items s.bytes c.bytes.result c.len-mark.result (load_act c.args.load) c.self.invariant.bytes mark c.bytes.ensures c.in_default.ensures) in
     (λ j. record { mark = place j; reply = c.without_room.ensures j })
     ∙ (load-full k.config k.journal c.args.by c.args.nth c.args.at c.args.load c.in_ok-refusal-2.refusal adds c.in_ok-refusal-2.ensures.code full).told
 
@@ -59,7 +60,7 @@ returns-in_default-clause-journal c =
     let mark : c.len-mark.result ≡ length s.journal.items = grind (arith, common_steps) in
     let adds : adds_entry c.args.load ≡ true = sym c.adds_entry.ensures ∙ c.if-not-adds_entry.false in
     let full = subst (λ k'. has_room_for k'.config k'.journal (load_act c.args.load) ≡ false) c.self.view_is
-    (load-no_room s.config s.journal.items s.bytes c.bytes.result c.len-mark.result c.args.load c.self.invariant.bytes mark c.bytes.ensures c.in_default.ensures) in
+    (no_room_found s.config s.journal.items s.bytes c.bytes.result c.len-mark.result (load_act c.args.load) c.self.invariant.bytes mark c.bytes.ensures c.in_default.ensures) in
     ap (λ k'. k'.journal) c.load_refusal-in_default.ensures.same ∙ sym (append-nil k.journal)
     ∙ ap (λ l. k.journal ++ l) (load-full k.config k.journal c.args.by c.args.nth c.args.at c.args.load c.in_ok-refusal-2.refusal adds c.in_ok-refusal-2.ensures.code full).made
 
@@ -73,7 +74,7 @@ returns-clause-answer c =
     let place : c.len-mark.result ≡ length k.journal = grind (arith, common_steps) in
     let adds : adds_entry c.args.load ≡ true = sym c.adds_entry.ensures ∙ c.if-not-adds_entry.false in
     let room = subst (λ k'. has_room_for k'.config k'.journal (load_act c.args.load) ≡ true) c.self.view_is
-    (load-room s.config s.journal.items s.bytes c.in-Some.bytes c.bytes.result c.len-mark.result c.args.load c.self.invariant.bytes mark c.bytes.ensures c.in-Some.ensures).0 in
+    (room_found s.config s.journal.items s.bytes c.in-Some.bytes c.bytes.result c.len-mark.result (load_act c.args.load) c.self.invariant.bytes mark c.bytes.ensures c.in-Some.ensures).0 in
     (λ j. record { mark = place j; reply = c.written-2.ensures j })
     ∙ (load-ended k.config k.journal c.args.by c.args.nth c.args.at c.args.load c.in_ok-refusal-3.refusal adds room c.in_ok-refusal-3.ensures.code).told
 
@@ -86,7 +87,7 @@ returns-clause-journal c =
     let moment : to_z w64 (of_z w64 c.args.at) ≡ c.args.at = to_z-of_z w64 c.args.at c.ranges.at in
     let adds : adds_entry c.args.load ≡ true = sym c.adds_entry.ensures ∙ c.if-not-adds_entry.false in
     let room = subst (λ k'. has_room_for k'.config k'.journal (load_act c.args.load) ≡ true) c.self.view_is
-    (load-room s.config s.journal.items s.bytes c.in-Some.bytes c.bytes.result c.len-mark.result c.args.load c.self.invariant.bytes mark c.bytes.ensures c.in-Some.ensures).0 in
+    (room_found s.config s.journal.items s.bytes c.in-Some.bytes c.bytes.result c.len-mark.result (load_act c.args.load) c.self.invariant.bytes mark c.bytes.ensures c.in-Some.ensures).0 in
     c.in_ok-refusal-3.ensures.journal ∙ (λ j. unless_refused r k.journal (record { by = c.args.by; nth = c.args.nth; at = moment j; act = load_act c.args.load }))
     ∙ added-is r k.journal (record { by = c.args.by; nth = c.args.nth; at = c.args.at; act = load_act c.args.load })
     ∙ ap (λ l. k.journal ++ l) (load-ended k.config k.journal c.args.by c.args.nth c.args.at c.args.load r adds room c.in_ok-refusal-3.ensures.code).made

@@ -1,4 +1,4 @@
-use Rattle.std.proofs.Common.{arith, refl, ap, sym, subst, append-nil, ◌∙◌, ◌≡◌, ◌++◌, ◌∷◌, ◌*◌, nat_cmp, [], Some, None, true, false, length, map, w64, to_z, of_z}
+use Rattle.std.proofs.Common.{arith, refl, ap, sym, subst, append-nil, ◌∙◌, ◌≡◌, ◌++◌, ◌∷◌, ◌*◌, nat_cmp, [], length, map, w64, to_z, of_z}
 use Rattle.std.proofs.lemmas.Grind.{common_steps}
 use Rattle.std.proofs.lemmas.Int.{to_z-of_z}
 use Rattle.std.specs.Cmp.Lexicographic.{slice_cmp}
@@ -8,8 +8,7 @@ use Rattle.channel_store.specs.Refusals.{truncate_refusal}
 use Rattle.channel_store.specs.Store.{IsNewPlace, changed, truncated}
 use Rattle.etp_values.specs.Weight.{capped}
 use Rattle.store_machine.specs.declared.journal.Act.TheVariants.{Truncate}
-use Rattle.store_machine.specs.Channels.{channels_of, cut_of}
-use Rattle.store_machine.specs.Counted.{bytes_with}
+use Rattle.store_machine.specs.Channels.{cut_of}
 use Rattle.store_machine.specs.declared.call.Reply.TheVariants as replied
 use Rattle.store_machine.specs.declared.call.StoreCall.TheVariants as call
 use Rattle.store_machine.specs.Answers.{answer, entries_of}
@@ -17,8 +16,9 @@ use Rattle.store_machine.specs.Cuts.{cut_verdicts, cuts_accepted}
 use Rattle.store_machine.specs.Kept.{Keeps}
 use Rattle.store_machine.specs.Legal.{IsNext}
 use Rattle.store_machine.proofs.Channeled.{next-is_new}
-use Rattle.store_machine.proofs.CutLemmas.{cuts-answered, cuts-unrefused, names-cuts}
-use Rattle.store_machine.proofs.Lawful.{keeps-cuts, keeps-kept, no_room, with_room}
+use Rattle.store_machine.proofs.CutLemmas.{cuts-unrefused, names-cuts}
+use Rattle.store_machine.proofs.Lawful.{keeps-cuts, keeps-kept, room_found}
+use Rattle.store_machine.proofs.Truncating.{cuts-done, cuts-full}
 use Rattle.store_machine.proofs.store.Store.truncate.Goals as goal
 
 pub from_sorted-verdicts-requires : goal.from_sorted-verdicts-requires
@@ -49,9 +49,7 @@ invariant_of-self-2 c =
     let mark : c.len-mark.result ≡ length s.journal.items = grind (arith, common_steps) in
     let moment : to_z w64 (of_z w64 c.args.at) ≡ c.args.at = to_z-of_z w64 c.args.at c.ranges.at in
     let many : c.cuts_bytes-counted.result ≡ capped (16 * length cuts) = grind (arith, common_steps) in
-    let told : Some c.in-Some.bytes ≡ bytes_with s.config.journal (length s.journal.items) s.bytes (Truncate cuts) =
-    c.in-Some.ensures (Truncate cuts) many ∙ ap (λ n. bytes_with s.config.journal n s.bytes (Truncate cuts)) mark in
-    let room = with_room s.config s.journal.items s.bytes c.in-Some.bytes (Truncate cuts) c.self.invariant.bytes told in
+    let room = room_found s.config s.journal.items s.bytes c.in-Some.bytes _ _ (Truncate cuts) c.self.invariant.bytes mark many c.in-Some.ensures in
     let taken : cuts ≡ cuts_accepted s.channels [] (values_of c.args.items) =
     c.from_vec-cuts.ensures ∙ c.in_ok-draft.ensures.accepted ∙ ap (λ l. cuts_accepted s.channels [] (values_of l)) c.into_vec.ensures.items in
     let pushed : c.add_cuts.new.journal.items ≡ s.journal.items ++ record { by = c.args.by; nth = c.args.nth; at = c.args.at; act = Truncate cuts } ∷ [] =
@@ -70,62 +68,51 @@ returns-clause-legal c = (invariant_of-self-2 c).legal
 pub returns-in_default-clause-answer : goal.returns-in_default-clause-answer
 returns-in_default-clause-answer c =
     let s = c.self.inside in
+    let a = c.args in
     let cuts = c.in_ok-draft.draft.accepted.items in
     let mark : c.len-mark.result ≡ length s.journal.items = grind (arith, common_steps) in
     let many : c.cuts_bytes-counted.result ≡ capped (16 * length cuts) = grind (arith, common_steps) in
-    let none : None ≡ bytes_with s.config.journal (length s.journal.items) s.bytes (Truncate cuts) =
-    c.in_default.ensures (Truncate cuts) many ∙ ap (λ n. bytes_with s.config.journal n s.bytes (Truncate cuts)) mark in
-    let taken : cuts ≡ cuts_accepted (channels_of s.config s.journal.items) [] (values_of c.args.items) =
-    c.in_ok-draft.ensures.accepted ∙ (λ j. cuts_accepted (c.self.invariant.channels j) [] (values_of (c.into_vec.ensures.items j))) in
-    let told = cuts-answered s.config s.journal.items c.args.by c.args.nth c.args.at c.args.items cuts false taken (grind (arith, common_steps))
-    (no_room s.config s.journal.items s.bytes (Truncate cuts) c.self.invariant.bytes none) in
-    (λ j. record { mark = mark j; reply = replied.JournalFull }) ∙ told.told ∙ ap (λ k. answer k.config k.journal (call.Truncate c.args.items)) c.self.view_is
+    let taken : cuts ≡ cuts_accepted s.channels [] (values_of a.items) = c.in_ok-draft.ensures.accepted ∙ ap (λ l. cuts_accepted s.channels [] (values_of l)) c.into_vec.ensures.items in
+    let full = cuts-full s.config s.journal.items a.by a.nth a.at s.bytes _ _ s.contents s.channels a.items cuts c.self.invariant mark many c.in_default.ensures taken (grind (arith, common_steps)) in
+    (λ j. record { mark = mark j; reply = replied.JournalFull }) ∙ full.told ∙ ap (λ k. answer k.config k.journal (call.Truncate a.items)) c.self.view_is
 
 pub returns-in_default-clause-journal : goal.returns-in_default-clause-journal
 returns-in_default-clause-journal c =
     let s = c.self.inside in
+    let a = c.args in
+    let k = a.self.now in
     let cuts = c.in_ok-draft.draft.accepted.items in
     let mark : c.len-mark.result ≡ length s.journal.items = grind (arith, common_steps) in
     let many : c.cuts_bytes-counted.result ≡ capped (16 * length cuts) = grind (arith, common_steps) in
-    let none : None ≡ bytes_with s.config.journal (length s.journal.items) s.bytes (Truncate cuts) =
-    c.in_default.ensures (Truncate cuts) many ∙ ap (λ n. bytes_with s.config.journal n s.bytes (Truncate cuts)) mark in
-    let taken : cuts ≡ cuts_accepted (channels_of s.config s.journal.items) [] (values_of c.args.items) =
-    c.in_ok-draft.ensures.accepted ∙ (λ j. cuts_accepted (c.self.invariant.channels j) [] (values_of (c.into_vec.ensures.items j))) in
-    let told = cuts-answered s.config s.journal.items c.args.by c.args.nth c.args.at c.args.items cuts false taken (grind (arith, common_steps))
-    (no_room s.config s.journal.items s.bytes (Truncate cuts) c.self.invariant.bytes none) in
-    let k = c.args.self.now in
-    sym (append-nil k.journal) ∙ ap (λ l. k.journal ++ l) told.made ∙ ap (λ k'. k.journal ++ entries_of k'.config k'.journal c.args.by c.args.nth c.args.at (call.Truncate c.args.items)) c.self.view_is
+    let taken : cuts ≡ cuts_accepted s.channels [] (values_of a.items) = c.in_ok-draft.ensures.accepted ∙ ap (λ l. cuts_accepted s.channels [] (values_of l)) c.into_vec.ensures.items in
+    let full = cuts-full s.config s.journal.items a.by a.nth a.at s.bytes _ _ s.contents s.channels a.items cuts c.self.invariant mark many c.in_default.ensures taken (grind (arith, common_steps)) in
+    sym (append-nil k.journal) ∙ ap (λ l. k.journal ++ l) full.made ∙ ap (λ k'. k.journal ++ entries_of k'.config k'.journal a.by a.nth a.at (call.Truncate a.items)) c.self.view_is
 
 -- ---- there is
 
 pub returns-clause-answer : goal.returns-clause-answer
 returns-clause-answer c =
     let s = c.self.inside in
+    let a = c.args in
     let cuts = c.from_vec-cuts.result in
     let mark : c.len-mark.result ≡ length s.journal.items = grind (arith, common_steps) in
     let many : c.cuts_bytes-counted.result ≡ capped (16 * length cuts) = grind (arith, common_steps) in
-    let some : Some c.in-Some.bytes ≡ bytes_with s.config.journal (length s.journal.items) s.bytes (Truncate cuts) =
-    c.in-Some.ensures (Truncate cuts) many ∙ ap (λ n. bytes_with s.config.journal n s.bytes (Truncate cuts)) mark in
-    let taken : cuts ≡ cuts_accepted (channels_of s.config s.journal.items) [] (values_of c.args.items) =
-    c.from_vec-cuts.ensures ∙ c.in_ok-draft.ensures.accepted ∙ (λ j. cuts_accepted (c.self.invariant.channels j) [] (values_of (c.into_vec.ensures.items j))) in
-    let given : c.from_sorted-verdicts.result ≡ cut_verdicts (channels_of s.config s.journal.items) [] c.args.items =
-    c.from_sorted-verdicts.ensures ∙ c.in_ok-draft.ensures.verdicts ∙ (λ j. cut_verdicts (c.self.invariant.channels j) [] (c.into_vec.ensures.items j)) in
-    let told = cuts-answered s.config s.journal.items c.args.by c.args.nth c.args.at c.args.items cuts true taken (grind (arith, common_steps))
-    (with_room s.config s.journal.items s.bytes c.in-Some.bytes (Truncate cuts) c.self.invariant.bytes some).0 in
-    (λ j. record { mark = mark j; reply = replied.Verdicts (given j) }) ∙ told.told ∙ ap (λ k. answer k.config k.journal (call.Truncate c.args.items)) c.self.view_is
+    let taken : cuts ≡ cuts_accepted s.channels [] (values_of a.items) =
+    c.from_vec-cuts.ensures ∙ c.in_ok-draft.ensures.accepted ∙ ap (λ l. cuts_accepted s.channels [] (values_of l)) c.into_vec.ensures.items in
+    let given : c.from_sorted-verdicts.result ≡ cut_verdicts s.channels [] a.items = c.from_sorted-verdicts.ensures ∙ c.in_ok-draft.ensures.verdicts ∙ ap (cut_verdicts s.channels []) c.into_vec.ensures.items in
+    let done = cuts-done s.config s.journal.items a.by a.nth a.at s.bytes c.in-Some.bytes _ _ s.contents s.channels a.items cuts c.self.invariant mark many c.in-Some.ensures taken (grind (arith, common_steps)) in
+    (λ j. record { mark = mark j; reply = replied.Verdicts (given j) }) ∙ done.told ∙ ap (λ k. answer k.config k.journal (call.Truncate a.items)) c.self.view_is
 
 pub returns-clause-journal : goal.returns-clause-journal
 returns-clause-journal c =
     let s = c.self.inside in
+    let a = c.args in
     let cuts = c.from_vec-cuts.result in
     let mark : c.len-mark.result ≡ length s.journal.items = grind (arith, common_steps) in
-    let moment : to_z w64 (of_z w64 c.args.at) ≡ c.args.at = to_z-of_z w64 c.args.at c.ranges.at in
+    let moment : to_z w64 (of_z w64 a.at) ≡ a.at = to_z-of_z w64 a.at c.ranges.at in
     let many : c.cuts_bytes-counted.result ≡ capped (16 * length cuts) = grind (arith, common_steps) in
-    let some : Some c.in-Some.bytes ≡ bytes_with s.config.journal (length s.journal.items) s.bytes (Truncate cuts) =
-    c.in-Some.ensures (Truncate cuts) many ∙ ap (λ n. bytes_with s.config.journal n s.bytes (Truncate cuts)) mark in
-    let taken : cuts ≡ cuts_accepted (channels_of s.config s.journal.items) [] (values_of c.args.items) =
-    c.from_vec-cuts.ensures ∙ c.in_ok-draft.ensures.accepted ∙ (λ j. cuts_accepted (c.self.invariant.channels j) [] (values_of (c.into_vec.ensures.items j))) in
-    let told = cuts-answered s.config s.journal.items c.args.by c.args.nth c.args.at c.args.items cuts true taken (grind (arith, common_steps))
-    (with_room s.config s.journal.items s.bytes c.in-Some.bytes (Truncate cuts) c.self.invariant.bytes some).0 in
-    c.in_ok-add_cuts.ensures.journal ∙ (λ j. s.journal.items ++ record { by = c.args.by; nth = c.args.nth; at = moment j; act = Truncate cuts } ∷ [])
-    ∙ ap (λ l. s.journal.items ++ l) told.made ∙ ap (λ k. k.journal ++ entries_of k.config k.journal c.args.by c.args.nth c.args.at (call.Truncate c.args.items)) c.self.view_is
+    let taken : cuts ≡ cuts_accepted s.channels [] (values_of a.items) =
+    c.from_vec-cuts.ensures ∙ c.in_ok-draft.ensures.accepted ∙ ap (λ l. cuts_accepted s.channels [] (values_of l)) c.into_vec.ensures.items in
+    let done = cuts-done s.config s.journal.items a.by a.nth a.at s.bytes c.in-Some.bytes _ _ s.contents s.channels a.items cuts c.self.invariant mark many c.in-Some.ensures taken (grind (arith, common_steps)) in
+    c.in_ok-add_cuts.ensures.journal ∙ (λ j. s.journal.items ++ record { by = a.by; nth = a.nth; at = moment j; act = Truncate cuts } ∷ [])
+    ∙ ap (λ l. s.journal.items ++ l) done.made ∙ ap (λ k. k.journal ++ entries_of k.config k.journal a.by a.nth a.at (call.Truncate a.items)) c.self.view_is

@@ -1,0 +1,276 @@
+//! The changes that subscriptions are to be told of.
+ghost use Rattle.std.specs.Prelude.{ℕ, ◌≡◌, ◌≤◌, ◌++◌, ◌-◌, ◌+◌, [], IfOk, List as Items, OnOk, length, min, slice_get};
+ghost use Rattle.std.specs.Option.{option_copied};
+ghost use Rattle.etp_values.specs.Weight.{capped, weigh};
+ghost use Rattle.channel_store.specs.declared.change.ChannelChange.{ChannelChange as AChange};
+ghost use Rattle.channel_store.specs.Told.{change_bytes};
+ghost use Rattle.store_machine.specs.News.{fits_behind, is_some_due, joined, lag, news_by, taken as taken_of};
+ghost use Rattle.store_machine.specs.Telling.{Takes, below, due_at, due_here, dues_at, followed_by, followed_with, same_from};
+
+use crate::call::Reply;
+use channel_store::{ChannelChange, ChannelStore, Sub, change_bytes};
+use etp_values::{Copied, List, NoMemory};
+use std::alloc::Global;
+
+/// How many changes an answer has at most, unless they are one entry's.
+pub const MAX_CHANGES: usize = 256;
+
+/// What the points of these changes count at most, unless they are one entry's.
+pub const MAX_CHANGE_BYTES: u64 = 67_108_864;
+
+/// A channel that subscriptions follow from a place of the journal on.
+#[derive(Clone, Copy, Debug, Drop)]
+struct Followed {
+    channel: i64,
+    from: u64,
+}
+
+/// How many of these channels lie below a subscription's.
+fn below(followed: &[Followed], sub: &Sub) -> usize
+    ensures count { result ≡ below followed.now sub.now }
+    ensures within { result ≤ length followed.now }
+{
+    let mut count = 0;
+    for each in followed {
+        if each.channel >= sub.channel {
+            return count;
+        }
+        count += 1;
+    }
+    count
+}
+
+/// The place from which on the channel at a place of these is followed, if it is the subscription's.
+fn same_from(followed: &[Followed], place: usize, sub: &Sub) -> Option<u64>
+    ensures { result ≡ same_from (slice_get followed.now place) sub.now }
+{
+    let Some(each) = followed.get(place) else {
+        return None;
+    };
+    if each.channel != sub.channel {
+        return None;
+    }
+    Some(each.from)
+}
+
+/// Follows the channel of a further subscription.
+#[tactic(auto, using(crate::proofs::Following::put_same, crate::proofs::Following::put_new, crate::proofs::Following::place_within))]
+fn follow(followed: &mut Vec<Followed>, sub: &Sub) -> Result<(), NoMemory>
+    ensures { OnOk result (followed.new.items ≡ followed_with followed.old.items sub.now) }
+{
+    let place = below(followed.as_slice(), sub);
+    if let Some(from) = same_from(followed.as_slice(), place, sub) {
+        followed[place] = Followed {
+            channel: sub.channel,
+            from: from.min(sub.from),
+        };
+        return Ok(());
+    }
+    let each = Followed {
+        channel: sub.channel,
+        from: sub.from,
+    };
+    followed.insert(place, each)?;
+    Ok(())
+}
+
+/// The channels that are followed, each once, in the order of their ids, from the least place of their subscriptions on.
+fn followed_by(alloc: Global, subs: &List<Sub>) -> Result<Vec<Followed>, NoMemory>
+    ensures { IfOk result (λ f. f.items ≡ followed_by subs.now) }
+{
+    let mut followed = Vec::new(alloc);
+    for sub in subs.as_slice() {
+        follow(&mut followed, sub)?;
+    }
+    Ok(followed)
+}
+
+/// The change of a channel by the entry at a place, where it is followed there.
+fn due_here<'a>(
+    channels: &'a ChannelStore,
+    each: &Followed,
+    place: u64,
+) -> Option<&'a ChannelChange>
+    ensures { option_copied result ≡ due_here channels.now each.now place }
+{
+    if each.from > place {
+        return None;
+    }
+    channels.change_at(each.channel, place)
+}
+
+/// Whether the entry at a place has a change to be told of.
+fn is_due(channels: &ChannelStore, followed: &[Followed], place: u64) -> bool
+    ensures { result ≡ is_some_due (due_at channels.now followed.now place) }
+{
+    for each in followed {
+        if due_here(channels, each, place).is_some() {
+            return true;
+        }
+    }
+    false
+}
+
+/// How many entries from `place` on, below `mark`, have changes to be told of.
+fn lag_from(channels: &ChannelStore, followed: &[Followed], place: u64, mark: u64) -> u64
+    requires { place ≤ mark }
+    ensures { result ≡ lag (dues_at channels.now followed.now place (mark - place)) }
+{
+    let mut lag = 0;
+    let mut from = place;
+    while from < mark {
+        if is_due(channels, followed, from) {
+            lag += 1;
+            from += 1;
+        } else {
+            from += 1;
+        }
+    }
+    lag
+}
+
+/// The changes by the entry at a place that are to be told of, in the order of their channels.
+fn due_at(
+    alloc: Global,
+    channels: &ChannelStore,
+    followed: &[Followed],
+    place: u64,
+) -> Result<Vec<ChannelChange>, NoMemory>
+    ensures { IfOk result (λ d. d.items ≡ due_at channels.now followed.now place) }
+{
+    let mut due = Vec::new(alloc);
+    for each in followed {
+        if let Some(change) = due_here(channels, each, place) {
+            due.push(change.copy(alloc)?)?;
+        }
+    }
+    Ok(due)
+}
+
+/// What the points of changes count; a sum above `u64::MAX` is `u64::MAX`.
+fn changes_bytes(changes: &[ChannelChange]) -> u64
+    ensures { result ≡ capped (weigh change_bytes changes.now) }
+{
+    let mut sum = 0u64;
+    for change in changes {
+        sum = sum.saturating_add(change_bytes(change));
+    }
+    sum
+}
+
+/// The changes that were taken, and what their points count.
+#[derive(Drop)]
+struct Taken {
+    changes: Vec<ChannelChange>,
+    bytes: u64,
+}
+
+/// Whether so many changes are taken behind others, if all of them then count so many bytes. The first always are.
+#[tactic(auto, using(crate::proofs::Taking::fits_empty, crate::proofs::Taking::fits_first, crate::proofs::Taking::fits_by_numbers))]
+fn fits(taken: usize, count: usize, bytes: u64) -> bool
+    ensures { (b : ℕ) (due : Items AChange) → count ≡ length due → bytes ≡ capped (b + weigh change_bytes due)
+        → result ≡ fits_behind taken b due }
+{
+    if count == 0 || taken == 0 {
+        return true;
+    }
+    taken.saturating_add(count) <= MAX_CHANGES && bytes <= MAX_CHANGE_BYTES
+}
+
+/// Adds changes behind others.
+fn push_all(changes: &mut Vec<ChannelChange>, due: Vec<ChannelChange>) -> Result<(), NoMemory>
+    ensures { OnOk result (changes.new.items ≡ changes.old.items ++ due.items) }
+{
+    changes.reserve(due.len())?;
+    for change in due {
+        changes.push(change)?;
+    }
+    Ok(())
+}
+
+/// Takes the changes by the entry at a place, where they fit.
+fn take_entry(
+    alloc: Global,
+    channels: &ChannelStore,
+    followed: &[Followed],
+    place: u64,
+    taken: &mut Taken,
+) -> Result<bool, NoMemory>
+    requires { taken.old.bytes ≡ capped (weigh change_bytes taken.old.changes.items) }
+    ensures takes { IfOk result (λ b.
+        Takes b (due_at channels.now followed.now place) taken.old.changes.items taken.new.changes.items) }
+    ensures bytes { IfOk result (λ b. taken.new.bytes ≡ capped (weigh change_bytes taken.new.changes.items)) }
+{
+    let due = due_at(alloc, channels, followed, place)?;
+    let bytes = taken.bytes.saturating_add(changes_bytes(due.as_slice()));
+    if !fits(taken.changes.len(), due.len(), bytes) {
+        return Ok(false);
+    }
+    push_all(&mut taken.changes, due)?;
+    taken.bytes = bytes;
+    Ok(true)
+}
+
+/// Takes entries in order from `place` on as long as they fit, and answers the place up to which they were taken.
+fn take_from(
+    alloc: Global,
+    channels: &ChannelStore,
+    followed: &[Followed],
+    place: u64,
+    mark: u64,
+    taken: &mut Taken,
+) -> Result<u64, NoMemory>
+    requires within { place ≤ mark }
+    requires none { taken.old.changes.items ≡ [] }
+    requires bytes { taken.old.bytes ≡ 0 }
+    ensures upto { IfOk result (λ u.
+        u ≡ place + length (taken_of 0 0 (dues_at channels.now followed.now place (mark - place)))) }
+    ensures changes { IfOk result (λ u. taken.new.changes.items
+        ≡ joined (taken_of 0 0 (dues_at channels.now followed.now place (mark - place)))) }
+{
+    let mut from = place;
+    while from < mark {
+        let took = take_entry(alloc, channels, followed, from, taken)?;
+        if !took {
+            return Ok(from);
+        }
+        from += 1;
+    }
+    Ok(from)
+}
+
+/// What subscriptions are to be told of from `cursor` on, where the journal has the length `mark`. Where more than `limit`
+/// entries have such changes, it is none of them.
+#[tactic(auto, using(crate::proofs::Taking::news_lagged, crate::proofs::Taking::news_told))]
+pub(crate) fn news(
+    alloc: Global,
+    channels: &ChannelStore,
+    limit: u64,
+    mark: u64,
+    cursor: u64,
+    subs: &List<Sub>,
+) -> Result<Reply, NoMemory>
+    ensures { IfOk result (λ r. r ≡ news_by limit (min cursor mark) mark
+        (dues_at channels.now (followed_by subs.now) (min cursor mark) (mark - min cursor mark))) }
+{
+    let followed = followed_by(alloc, subs)?;
+    let from = cursor.min(mark);
+    let lag = lag_from(channels, followed.as_slice(), from, mark);
+    let mut taken = Taken {
+        changes: Vec::new(alloc),
+        bytes: 0,
+    };
+    if lag > limit {
+        return Ok(Reply::News {
+            upto: mark,
+            lag,
+            changes: List::from_vec(taken.changes),
+        });
+    }
+    let upto = take_from(alloc, channels, followed.as_slice(), from, mark, &mut taken)?;
+    Ok(Reply::News {
+        upto,
+        lag,
+        changes: List::from_vec(taken.changes),
+    })
+}
