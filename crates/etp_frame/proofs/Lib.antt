@@ -9,3 +9,9 @@ pub mod PlaceLemmas
 pub mod KeptLemmas
 pub mod JoinLemmas
 pub mod TypedLemmas
+pub mod GroupLemmas
+pub mod LoopLemmas
+pub mod ChunkLemmas
+pub mod FedLemmas
+pub mod WholeLemmas
+pub mod PartLemmas

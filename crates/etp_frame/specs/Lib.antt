@@ -8,3 +8,7 @@ pub mod Joining
 pub mod Kept
 pub mod Whole
 pub mod JoinLaws
+pub mod Grouping
+pub mod Grouped
+pub mod Chunking
+pub mod Splitting

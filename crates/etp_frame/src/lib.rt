@@ -12,6 +12,13 @@
 //! [`Joiner`] puts the chunks of objects' data in the objects' place, as `joins` of `specs/Joining` says, so that a message with
 //! objects is whole before anybody looks at it ([`joins_whole`]).
 //!
+//! A peer takes messages up to a size. [`split`] cuts a message into the parts in which it is sent: the items of its one list or
+//! map that can grow go into groups, and each part has one group and repeats the other fields. A part has at most 4,096 bytes less
+//! than the limit and 8,388,544 nodes of items, unless one item alone has more. The data of an object that are longer than half of the
+//! limit are sent in the chunks of a blob behind the part that has the object; [`blobs_in`] counts these blobs. What comes out
+//! is `parts` of `specs/Splitting`, and `whole` of `specs/Whole` puts it together again. Items are measured by
+//! [`OnWire`](etp_schema::OnWire), so nothing is encoded, and moved, so nothing is copied; chunks share the bytes of the object's data.
+//!
 //! ProtocolException and Acknowledge are messages of every protocol and stand in Core's enum for all of them, so that the
 //! header says under which protocol such a message goes.
 #![tactic(auto)]
@@ -20,11 +27,16 @@ mod awaiting;
 mod checking;
 mod error;
 pub mod flags;
+mod grouping;
 mod header;
 mod joining;
 mod laws;
 mod message;
+mod parting;
+mod parts;
 mod reading;
+mod sending;
+mod splitting;
 mod writing;
 
 pub use awaiting::Carrier;
@@ -37,4 +49,5 @@ pub use laws::{
 };
 pub use message::Message;
 pub use reading::{read_message, read_tree};
+pub use splitting::{blobs_in, split};
 pub use writing::write_message;

@@ -7,9 +7,8 @@
 #![tactic(auto)]
 
 use etp_capture::{CaptureReader, Frame, kinds};
-use etp_frame::{FrameError, Header, Message, read_message};
+use etp_frame::{FrameError, Header, Message, blobs_in, read_message, split};
 use etp_outside::StdSource;
-use etp_parts::{blobs_in, split};
 use etp_schema::Side;
 use std::io::{self, BufReader};
 

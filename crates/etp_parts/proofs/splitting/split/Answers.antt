@@ -1,5 +1,0 @@
-use Rattle.etp_parts.proofs.PartLemmas.{answered_whole}
-use Rattle.etp_parts.proofs.splitting.split.Goals as goal
-
-pub returns-clause-whole : goal.returns-clause-whole
-returns-clause-whole c = answered_whole c.parts_of.result c.args.limit c.args.number c.args.blobs c.args.message c.parts_of.ensures

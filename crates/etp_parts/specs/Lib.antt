@@ -1,4 +1,0 @@
-pub mod Grouping
-pub mod Grouped
-pub mod Chunking
-pub mod Splitting
