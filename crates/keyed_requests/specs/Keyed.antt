@@ -1,6 +1,6 @@
 -- Requests whose items stand under keys. Each key is checked in the order of the keys, and those that are granted go into the
 -- call. What comes back is joined with them, and granted and refused keys then make the reply.
-use Rattle.std.specs.Prelude.{ℕ, List, [], ◌∷◌, map, take, drop}
+use Rattle.std.specs.Prelude.{ℕ, Bool, true, false, List, [], ◌∷◌, map, take, drop}
 use Rattle.std.specs.List.{flat_map}
 use Rattle.etp_values.specs.declared.code.ErrorCode.{ErrorCode}
 use Rattle.keyed_requests.specs.declared.keys.Decision.{Decision}
@@ -90,6 +90,12 @@ replies response [] [] = Reply (response []) ∷ []
 replies response [] (r ∷ rs) = RefusedKeys (r ∷ rs) ∷ []
 replies response (g ∷ gs) [] = Reply (response (g ∷ gs)) ∷ []
 replies response (g ∷ gs) (r ∷ rs) = Reply (response (g ∷ gs)) ∷ RefusedKeys (r ∷ rs) ∷ []
+
+-- the same of a response that was made of the granted keys, if any key was granted
+abbrev pub response_unless_refused : {M : Type 0} → Bool → M → List (List ℕ × ErrorCode) → List (Sending M)
+response_unless_refused some response [] = Reply response ∷ []
+response_unless_refused false response (r ∷ rs) = RefusedKeys (r ∷ rs) ∷ []
+response_unless_refused true response (r ∷ rs) = Reply response ∷ RefusedKeys (r ∷ rs) ∷ []
 
 -- the reply to a request of which this was decided
 abbrev pub request_reply : {R M : Type 0} → (List (List ℕ × R) → M) → List (List ℕ × Decision R) → List (Sending M)

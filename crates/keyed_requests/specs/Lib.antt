@@ -3,3 +3,4 @@ pub mod Sending
 pub mod Keyed
 pub mod Plain
 pub mod Laws
+pub mod Uris

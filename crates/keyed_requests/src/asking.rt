@@ -4,13 +4,13 @@ ghost use Rattle.keyed_requests.specs.Keyed.{called, checked, checked_state, kep
 
 use crate::keys::Decision;
 use crate::replying::refused_reply;
-use crate::request::KeyedRequest;
+use crate::request::{KeyedReply, KeyedRequest};
 use crate::sending::Outcome;
 use etp_values::{Copied, Named, NoMemory, Text};
 use std::alloc::Global;
 
 /// Each key checked, in the order of the keys.
-fn check_all<R: KeyedRequest>(
+pub fn check_all<R: KeyedRequest>(
     alloc: Global,
     request: &R,
     state: &mut R::Checking,
@@ -94,43 +94,44 @@ where
 }
 
 /// What comes of a request with these items: a call with what is granted, or, where no key is, the reply at once.
-pub fn request_outcome<R: KeyedRequest>(
+pub fn request_outcome<R: KeyedRequest, A: KeyedReply>(
     alloc: Global,
     request: &R,
+    reply: &A,
     state: &mut R::Checking,
     items: Named<R::Item>,
-) -> Result<Outcome<Named<R::Sent>, Named<Decision<R::Kept>>, R::Message>, NoMemory>
+) -> Result<Outcome<Named<R::Sent>, Named<Decision<R::Kept>>, A::Message>, NoMemory>
 where
     R::Item: Drop,
     R::Checked: Drop,
     R::Kept: Drop,
     R::Sent: Drop,
-    R::Given: Drop,
-    R::Message: Drop,
+    A::Given: Drop,
+    A::Message: Drop,
     ensures outcome { let it = request.now in
         let decided = checked (R.check it) state.old items in
-        IfOk result (λ o. o ≡ request_outcome (R.keep it) (R.send it) (R.response it) decided) }
+        IfOk result (λ o. o ≡ request_outcome (R.keep it) (R.send it) (A.response reply.now) decided) }
     ensures state { OnOk result (state.new ≡ checked_state (R.check request.now) state.old items) }
 {
     let decided = check_all(alloc, request, state, items)?;
     let divided = divide_all(alloc, request, decided)?;
-    call_with(alloc, request, divided)
+    call_with(alloc, reply, divided)
 }
 
-fn call_with<R: KeyedRequest>(
+fn call_with<K, S, A: KeyedReply>(
     alloc: Global,
-    request: &R,
-    divided: Divided<R::Kept, R::Sent>,
-) -> Result<Outcome<Named<R::Sent>, Named<Decision<R::Kept>>, R::Message>, NoMemory>
+    reply: &A,
+    divided: Divided<K, S>,
+) -> Result<Outcome<Named<S>, Named<Decision<K>>, A::Message>, NoMemory>
 where
-    R::Kept: Drop,
-    R::Sent: Drop,
-    R::Given: Drop,
-    R::Message: Drop,
-    ensures { IfOk result (λ o. o ≡ called (R.response request.now) divided.kept divided.sent) }
+    K: Drop,
+    S: Drop,
+    A::Given: Drop,
+    A::Message: Drop,
+    ensures { IfOk result (λ o. o ≡ called (A.response reply.now) divided.kept divided.sent) }
 {
     if divided.sent.len() == 0 {
-        let sendings = refused_reply(alloc, request, divided.kept)?;
+        let sendings = refused_reply(alloc, reply, divided.kept)?;
         return Ok(Outcome::Replies(sendings));
     }
     Ok(Outcome::Calls {

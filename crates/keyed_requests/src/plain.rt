@@ -3,13 +3,13 @@ ghost use Rattle.std.specs.Prelude.{◌≡◌, IfOk, OnOk};
 ghost use Rattle.keyed_requests.specs.Plain.{by_first, nothing};
 
 use crate::keys::Decision;
-use crate::request::KeyedRequest;
+use crate::request::{KeyedReply, KeyedRequest};
 use etp_values::{ErrorCode, List, Named, NoMemory, Text};
 use std::alloc::Global;
 
-/// A request of which each key is checked by its item alone, is sent as it was granted, and is decided by one finding.
+/// The first half of a request of which each key is checked by its item alone, and is sent as it was granted.
 pub trait PlainRequest {
-    ghost use Rattle.std.specs.Prelude.{◌≡◌, ℕ, List as Items, IfOk};
+    ghost use Rattle.std.specs.Prelude.{◌≡◌, IfOk};
     ghost use Rattle.keyed_requests.specs.declared.keys.Decision.{Decision};
 
     /// What stands under a key.
@@ -17,6 +17,18 @@ pub trait PlainRequest {
 
     /// What is granted of an item, and sent in the call.
     type Sent;
+
+    ghost check: { Self → Self.Item → Decision Self.Sent };
+
+    /// Decides on one key by its item, before the call.
+    fn check(&self, alloc: Global, item: Self::Item) -> Result<Decision<Self::Sent>, NoMemory>
+        ensures { IfOk result (λ d. d ≡ check self.now item) };
+}
+
+/// The second half of a request of which nothing is kept, and each key is decided by one finding.
+pub trait PlainReply {
+    ghost use Rattle.std.specs.Prelude.{◌≡◌, ℕ, List as Items, IfOk};
+    ghost use Rattle.keyed_requests.specs.declared.keys.Decision.{Decision};
 
     /// What is found for a granted key.
     type Found;
@@ -27,15 +39,9 @@ pub trait PlainRequest {
     /// The messages of the request's protocol.
     type Message;
 
-    ghost check: { Self → Self.Item → Decision Self.Sent };
-
     ghost decide: { Self → Self.Found → Decision Self.Given };
 
     ghost response: { Self → Items (Items ℕ × Self.Given) → Self.Message };
-
-    /// Decides on one key by its item, before the call.
-    fn check(&self, alloc: Global, item: Self::Item) -> Result<Decision<Self::Sent>, NoMemory>
-        ensures { IfOk result (λ d. d ≡ check self.now item) };
 
     /// Decides on one granted key by what was found for it.
     fn decide(&self, alloc: Global, found: &Self::Found) -> Result<Decision<Self::Given>, NoMemory>
@@ -46,14 +52,11 @@ pub trait PlainRequest {
         ensures { result ≡ response self.now granted };
 }
 
-/// A plain request as a keyed one. A key for which nothing was found is denied.
+/// Half of a plain request as half of a keyed one. A key for which nothing was found is denied.
 #[derive(Clone, Copy, Debug, Drop)]
 pub struct Plain<R>(pub R);
 
-impl<R: PlainRequest> KeyedRequest for Plain<R>
-where
-    R::Found: Drop,
-{
+impl<R: PlainRequest> KeyedRequest for Plain<R> {
     type Item = R::Item;
 
     type Checked = R::Sent;
@@ -62,27 +65,13 @@ where
 
     type Sent = R::Sent;
 
-    type Found = R::Found;
-
-    type Given = R::Given;
-
     type Checking = ();
-
-    type Finishing = ();
-
-    type Message = R::Message;
 
     ghost check = { λ plain s item. (s, R.check plain.0 item) };
 
     ghost keep = { λ plain checked. nothing };
 
     ghost send = { λ plain checked. checked };
-
-    ghost width = { 1 };
-
-    ghost finish = { λ plain s key kept found. (s, by_first (R.decide plain.0) found) };
-
-    ghost response = { λ plain granted. R.response plain.0 granted };
 
     fn check(
         &self,
@@ -96,6 +85,27 @@ where
     fn divide(&self, _alloc: Global, checked: R::Sent) -> Result<((), R::Sent), NoMemory> {
         Ok(((), checked))
     }
+}
+
+impl<R: PlainReply> KeyedReply for Plain<R>
+where
+    R::Found: Drop,
+{
+    type Kept = ();
+
+    type Found = R::Found;
+
+    type Given = R::Given;
+
+    type Finishing = ();
+
+    type Message = R::Message;
+
+    ghost width = { 1 };
+
+    ghost finish = { λ plain s key kept found. (s, by_first (R.decide plain.0) found) };
+
+    ghost response = { λ plain granted. R.response plain.0 granted };
 
     fn width(&self) -> usize {
         1

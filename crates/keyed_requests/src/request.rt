@@ -1,4 +1,4 @@
-//! What a request under keys has to say of one key.
+//! What the two halves of a request under keys have to say of one key.
 ghost use Rattle.std.specs.Prelude.{◌≡◌, IfOk, OnOk, take, drop};
 
 use crate::keys::Decision;
@@ -7,7 +7,7 @@ use std::alloc::Global;
 use std::collections::VecDeque;
 use std::marker::Model;
 
-/// A request whose items stand under keys.
+/// The first half of a request whose items stand under keys: what is checked of a key, and what of it is kept and called for.
 pub trait KeyedRequest {
     ghost use Rattle.std.specs.Prelude.{◌≡◌, ℕ, List as Items, IfOk, OnOk};
     ghost use Rattle.keyed_requests.specs.declared.keys.Decision.{Decision};
@@ -24,32 +24,14 @@ pub trait KeyedRequest {
     /// What of it is sent in the call.
     type Sent;
 
-    /// What is found for a granted key, a number of times.
-    type Found;
-
-    /// What is granted of a key in the end.
-    type Given;
-
     /// What a key that is checked passes on to the next one, `()` where none looks at another.
     type Checking;
-
-    /// What a key that is finished passes on to the next one, `()` where none looks at another.
-    type Finishing;
-
-    /// The messages of the request's protocol.
-    type Message;
 
     ghost check: { Self → Self.Checking → Self.Item → Self.Checking × Decision Self.Checked };
 
     ghost keep: { Self → Self.Checked → Self.Kept };
 
     ghost send: { Self → Self.Checked → Self.Sent };
-
-    ghost width: { ℕ };
-
-    ghost finish: { Self → Self.Finishing → Items ℕ → Self.Kept → Items Self.Found → Self.Finishing × Decision Self.Given };
-
-    ghost response: { Self → Items (Items ℕ × Self.Given) → Self.Message };
 
     /// Decides on one key by its item, before the call.
     fn check(
@@ -69,6 +51,33 @@ pub trait KeyedRequest {
     ) -> Result<(Self::Kept, Self::Sent), NoMemory>
         ensures kept { IfOk result (λ r. r.0 ≡ keep self.now checked) }
         ensures sent { IfOk result (λ r. r.1 ≡ send self.now checked) };
+}
+
+/// The second half of such a request: what is decided of a granted key by what was found for it, and the response.
+pub trait KeyedReply {
+    ghost use Rattle.std.specs.Prelude.{◌≡◌, ℕ, List as Items, IfOk, OnOk};
+    ghost use Rattle.keyed_requests.specs.declared.keys.Decision.{Decision};
+
+    /// What was kept of a granted key.
+    type Kept;
+
+    /// What is found for a granted key, a number of times.
+    type Found;
+
+    /// What is granted of a key in the end.
+    type Given;
+
+    /// What a key that is finished passes on to the next one, `()` where none looks at another.
+    type Finishing;
+
+    /// The messages of the request's protocol.
+    type Message;
+
+    ghost width: { ℕ };
+
+    ghost finish: { Self → Self.Finishing → Items ℕ → Self.Kept → Items Self.Found → Self.Finishing × Decision Self.Given };
+
+    ghost response: { Self → Items (Items ℕ × Self.Given) → Self.Message };
 
     /// How many findings each granted key has.
     fn width(&self) -> usize

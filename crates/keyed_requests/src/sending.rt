@@ -5,7 +5,7 @@ ghost use Rattle.keyed_requests.specs.Sending.{refusal_alone, reply_alone};
 use etp_values::{ErrorCode, List, Named, NoMemory};
 use std::alloc::Global;
 
-/// A message that belongs to the reply to a request. It has no header yet.
+/// A message that a request is answered by, or that follows its reply. It has no header yet.
 #[derive(Debug, Drop)]
 pub enum Sending<M> {
     /// A message of the request's protocol.
@@ -14,6 +14,8 @@ pub enum Sending<M> {
     Refusal(ErrorCode),
     /// Keys of the request are refused.
     RefusedKeys(Named<ErrorCode>),
+    /// A message of the request's protocol that is no part of the reply and answers nobody.
+    Notice(M),
 }
 
 /// What comes of a request: its reply, or a call, beside what its answer is to be joined with.
@@ -49,6 +51,18 @@ where
     ensures { IfOk result (λ sendings. sendings ≡ refusal_alone code) }
 {
     one(alloc, Sending::Refusal(code))
+}
+
+/// A request that is refused as a whole calls for nothing.
+pub fn refused_outcome<C, P, M>(
+    alloc: Global,
+    code: ErrorCode,
+) -> Result<Outcome<C, P, M>, NoMemory>
+where
+    M: Drop,
+    ensures { IfOk result (λ o. o ≡ Outcome.Replies (refusal_alone code)) }
+{
+    Ok(Outcome::Replies(refusal_alone(alloc, code)?))
 }
 
 /// The reply that has only refused keys.

@@ -6,6 +6,6 @@ use Rattle.keyed_requests.proofs.replying.finish_all.Given as goal
 
 abbrev pub invariant-loop-key : goal.invariant-loop-key
 invariant-loop-key g l = record {
-  finished : l.out.items ++ finished (g.R.KeyedRequest.finish l.request) g.R.KeyedRequest.width l.state (into_iter_items l.key-iterator) l.findings ≡ finished (g.R.KeyedRequest.finish l.request) g.R.KeyedRequest.width l.fn.state l.fn.items l.fn.findings;
-  state : finished_state (g.R.KeyedRequest.finish l.request) g.R.KeyedRequest.width l.state (into_iter_items l.key-iterator) l.findings ≡ finished_state (g.R.KeyedRequest.finish l.request) g.R.KeyedRequest.width l.fn.state l.fn.items l.fn.findings;
+  finished : l.out.items ++ finished (g.A.KeyedReply.finish l.reply) g.A.KeyedReply.width l.state (into_iter_items l.key-iterator) l.findings ≡ finished (g.A.KeyedReply.finish l.reply) g.A.KeyedReply.width l.fn.state l.fn.items l.fn.findings;
+  state : finished_state (g.A.KeyedReply.finish l.reply) g.A.KeyedReply.width l.state (into_iter_items l.key-iterator) l.findings ≡ finished_state (g.A.KeyedReply.finish l.reply) g.A.KeyedReply.width l.fn.state l.fn.items l.fn.findings;
 }

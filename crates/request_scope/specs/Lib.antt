@@ -1,0 +1,3 @@
+pub mod Scope
+pub mod Finding
+pub mod Reply
