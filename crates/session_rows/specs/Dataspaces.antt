@@ -12,7 +12,7 @@ use Rattle.etp_values.specs.declared.uri.StoreUri.{StoreUri}
 use Rattle.etp_values.specs.declared.uri.UriError.{UriError}
 use Rattle.keyed_requests.specs.Keys.{keys_refusal}
 use Rattle.keyed_requests.specs.Plain.{plain_outcome, plain_reply}
-use Rattle.keyed_requests.specs.Sending.{refusal_alone, reply_alone}
+use Rattle.keyed_requests.specs.Sending.{refusal_alone, reply_alone, unless_refused}
 use Rattle.keyed_requests.specs.declared.keys.Decision.{Decision}
 use Rattle.keyed_requests.specs.declared.keys.Decision.TheVariants.{Granted, Refused}
 use Rattle.keyed_requests.specs.declared.sending.Outcome.{Outcome}
@@ -111,11 +111,6 @@ put_called (Calls items kept) = Calls (call.PutSpaces items) (pending.Put kept)
 abbrev pub delete_called : Outcome (List (List ℕ × List ℕ)) (List (List ℕ × Decision (Unit {0}))) DataspaceMessage → DataspaceOutcome
 delete_called (Replies sendings) = Replies sendings
 delete_called (Calls items kept) = Calls (call.DropSpaces items) (pending.Delete kept)
-
--- a request is refused as a whole, where there is a cause
-abbrev pub unless_refused : Option ErrorCode → DataspaceOutcome → DataspaceOutcome
-unless_refused (Some code) outcome = Replies (refusal_alone code)
-unless_refused None outcome = outcome
 
 -- a change of dataspaces isn't taken while a transaction is open
 abbrev pub change_refusal : {A : Type 0} → Bool → List (List ℕ × A) → Option ErrorCode

@@ -2,3 +2,5 @@ pub mod Once
 pub mod Formats
 pub mod Opening
 pub mod Dataspaces
+pub mod ObjectChecks
+pub mod Objects

@@ -1,6 +1,7 @@
 -- How a session is opened: what is accepted of a RequestSession, and its reply.
-use Rattle.std.specs.Prelude.{ℕ, ℤ, pos, Bool, ◌&&◌, List, [], ◌∷◌, ◌++◌, Option, Some, None, codes, map, filter}
+use Rattle.std.specs.Prelude.{ℕ, ℤ, pos, negsuc, max, min, Bool, ◌&&◌, List, [], ◌∷◌, ◌++◌, Option, Some, None, codes, map, filter}
 use Rattle.std.specs.List.{list_any}
+use Rattle.std.specs.Map.{lookup}
 use Rattle.std.specs.Ordering.{int_eq}
 use Rattle.std.specs.Str.{bytes_eq}
 use Rattle.std.specs.Fmt.{decimal}
@@ -37,6 +38,30 @@ is_acceptable p = list_any (int_eq p.protocol) offered && is_version_1_2 p.proto
 -- the accepted protocols, in the order in which they are asked for
 abbrev pub accepted_protocols : List SupportedProtocol → List ℤ
 accepted_protocols asked = once int_eq (map (λ p. p.protocol) (filter is_acceptable asked))
+
+-- ---- the parts of what is sent
+
+-- the number that an integer is, 0 below it
+abbrev pub natural : ℤ → ℕ
+natural (pos n) = n
+natural (negsuc n) = 0
+
+-- a client can ask for parts of at least 65,536 bytes, and for none of more than 16,777,216
+abbrev pub limited : ℤ → ℕ
+limited asked = max 65536 (min (natural asked) 16777216)
+
+-- a capability that is no long counts for nothing
+abbrev pub limit_in : DataValue → ℕ
+limit_in (Long asked) = limited asked
+limit_in _ = 16777216
+
+abbrev pub limit_of : Option DataValue → ℕ
+limit_of None = 16777216
+limit_of (Some value) = limit_in value
+
+-- how many bytes the parts of a session have at most, by its client's capabilities
+abbrev pub part_limit : List (List ℕ × DataValue) → ℕ
+part_limit asked = limit_of (lookup (bytes_eq (codes "MaxWebSocketMessagePayloadSize")) asked)
 
 -- ---- the reply
 
@@ -79,11 +104,11 @@ open_session config number moment accepted formats = record {
 }
 
 -- without a protocol, and then without a format, there is no session
-abbrev pub opening_with : Config → ℕ → ℤ → List ℤ → List Format → Opening
-opening_with config number moment [] formats = Refused NoSupportedProtocols
-opening_with config number moment (p ∷ ps) [] = Refused NoSupportedFormats
-opening_with config number moment (p ∷ ps) (f ∷ fs) = Opened (p ∷ ps) (f ∷ fs) (open_session config number moment (p ∷ ps) (f ∷ fs))
+abbrev pub opening_with : Config → ℕ → ℤ → ℕ → List ℤ → List Format → Opening
+opening_with config number moment limit [] formats = Refused NoSupportedProtocols
+opening_with config number moment limit (p ∷ ps) [] = Refused NoSupportedFormats
+opening_with config number moment limit (p ∷ ps) (f ∷ fs) = Opened (p ∷ ps) (f ∷ fs) limit (open_session config number moment (p ∷ ps) (f ∷ fs))
 
 -- what comes of a RequestSession to a session that waits for it
 abbrev pub opening_of : Config → ℕ → ℤ → RequestSession → Opening
-opening_of config number moment request = opening_with config number moment (accepted_protocols request.requested_protocols) (formats_of request.supported_formats)
+opening_of config number moment request = opening_with config number moment (part_limit request.endpoint_capabilities) (accepted_protocols request.requested_protocols) (formats_of request.supported_formats)

@@ -3,13 +3,13 @@ ghost use Rattle.std.specs.Prelude.{◌≡◌, [], IfOk};
 ghost use Rattle.etp_values.specs.Uri.{space_text};
 ghost use Rattle.keyed_requests.specs.Plain.{plain_outcome, plain_reply};
 ghost use Rattle.keyed_requests.specs.Sending.{refusal_alone};
-ghost use Rattle.session_rows.specs.Dataspaces.{change_refusal, changeable_path, checked_put, dataspace_of, dataspace_outcome, dataspace_reply, decided, decided_found, delete_called, delete_response, is_custom_large, listed, path_in_uri, put_called, put_response, records_reply, unless_refused, verdicts_reply};
+ghost use Rattle.session_rows.specs.Dataspaces.{change_refusal, changeable_path, checked_put, dataspace_of, dataspace_outcome, dataspace_reply, decided, decided_found, delete_called, delete_response, is_custom_large, listed, path_in_uri, put_called, put_response, records_reply, verdicts_reply};
 
 use etp_schema::encoded_size;
 use etp_values::{Copied, DataValue, ErrorCode, List, Named, NoMemory, StoreUri, Text, UriError};
 use keyed_requests::{
-    Decision, Findings, Outcome, Plain, PlainRequest, Sending, keys_refusal, refusal_alone,
-    reply_alone, request_outcome, request_reply,
+    Decision, Findings, Outcome, Plain, PlainReply, PlainRequest, Sending, keys_refusal,
+    refusal_alone, refused_outcome, reply_alone, request_outcome, request_reply,
 };
 use msg_core::{
     Dataspace, DataspaceMessage, DeleteDataspacesResponse, GetDataspacesResponse,
@@ -84,17 +84,7 @@ impl PlainRequest for PutDataspaces {
 
     type Sent = SpacePut;
 
-    type Found = (Text, Verdict);
-
-    type Given = Text;
-
-    type Message = DataspaceMessage;
-
     ghost check = { λ put dataspace. checked_put dataspace };
-
-    ghost decide = { λ put found. decided_found found };
-
-    ghost response = { λ put success. put_response success };
 
     fn check(&self, alloc: Global, item: Dataspace) -> Result<Decision<SpacePut>, NoMemory> {
         let Dataspace {
@@ -115,6 +105,18 @@ impl PlainRequest for PutDataspaces {
             Decision::Refused(code) => Ok(Decision::Refused(code)),
         }
     }
+}
+
+impl PlainReply for PutDataspaces {
+    type Found = (Text, Verdict);
+
+    type Given = Text;
+
+    type Message = DataspaceMessage;
+
+    ghost decide = { λ put found. decided_found found };
+
+    ghost response = { λ put success. put_response success };
 
     fn decide(&self, alloc: Global, found: &(Text, Verdict)) -> Result<Decision<Text>, NoMemory> {
         Ok(decided(alloc, &found.1))
@@ -135,21 +137,23 @@ impl PlainRequest for DeleteDataspaces {
 
     type Sent = Text;
 
+    ghost check = { λ delete uri. changeable_path uri };
+
+    fn check(&self, alloc: Global, item: Text) -> Result<Decision<Text>, NoMemory> {
+        changeable_path(alloc, item.as_str())
+    }
+}
+
+impl PlainReply for DeleteDataspaces {
     type Found = (Text, Verdict);
 
     type Given = Text;
 
     type Message = DataspaceMessage;
 
-    ghost check = { λ delete uri. changeable_path uri };
-
     ghost decide = { λ delete found. decided_found found };
 
     ghost response = { λ delete success. delete_response success };
-
-    fn check(&self, alloc: Global, item: Text) -> Result<Decision<Text>, NoMemory> {
-        changeable_path(alloc, item.as_str())
-    }
 
     fn decide(&self, alloc: Global, found: &(Text, Verdict)) -> Result<Decision<Text>, NoMemory> {
         Ok(decided(alloc, &found.1))
@@ -180,7 +184,13 @@ fn put_outcome(alloc: Global, items: Named<Dataspace>) -> Result<DataspaceOutcom
     ensures { let outcome = plain_outcome checked_put put_response items in
         IfOk result (λ o. o ≡ put_called outcome) }
 {
-    let outcome = request_outcome(alloc, &Plain(PutDataspaces), &mut (), items)?;
+    let outcome = request_outcome(
+        alloc,
+        &Plain(PutDataspaces),
+        &Plain(PutDataspaces),
+        &mut (),
+        items,
+    )?;
     Ok(put_called(outcome))
 }
 
@@ -202,7 +212,13 @@ fn delete_outcome(alloc: Global, items: Named<Text>) -> Result<DataspaceOutcome,
     ensures { let outcome = plain_outcome changeable_path delete_response items in
         IfOk result (λ o. o ≡ delete_called outcome) }
 {
-    let outcome = request_outcome(alloc, &Plain(DeleteDataspaces), &mut (), items)?;
+    let outcome = request_outcome(
+        alloc,
+        &Plain(DeleteDataspaces),
+        &Plain(DeleteDataspaces),
+        &mut (),
+        items,
+    )?;
     Ok(delete_called(outcome))
 }
 
@@ -214,12 +230,6 @@ fn change_refusal<T>(in_transaction: bool, items: &Named<T>) -> Option<ErrorCode
         return Some(ErrorCode::InvalidState);
     }
     keys_refusal(items)
-}
-
-fn refused(alloc: Global, code: ErrorCode) -> Result<DataspaceOutcome, NoMemory>
-    ensures { IfOk result (λ o. o ≡ Outcome.Replies (refusal_alone code)) }
-{
-    Ok(Outcome::Replies(refusal_alone(alloc, code)?))
 }
 
 /// What comes of a message of the Dataspace protocol, while a transaction is open or none is.
@@ -241,19 +251,19 @@ pub fn dataspace_outcome(
             in_transaction,
             &request.dataspaces,
         ) {
-            Some(code) => refused(alloc, code),
+            Some(code) => refused_outcome(alloc, code),
             None => put_outcome(alloc, request.dataspaces),
         },
         DataspaceMessage::DeleteDataspaces(request) => match change_refusal(
             in_transaction,
             &request.uris,
         ) {
-            Some(code) => refused(alloc, code),
+            Some(code) => refused_outcome(alloc, code),
             None => delete_outcome(alloc, request.uris),
         },
         DataspaceMessage::GetDataspacesResponse(_)
         | DataspaceMessage::PutDataspacesResponse(_)
-        | DataspaceMessage::DeleteDataspacesResponse(_) => refused(
+        | DataspaceMessage::DeleteDataspacesResponse(_) => refused_outcome(
             alloc,
             ErrorCode::InvalidMessageType,
         ),

@@ -1,7 +1,8 @@
 //! The formats of data objects.
-ghost use Rattle.std.specs.Prelude.{◌≡◌, IfOk, OnOk, map};
+ghost use Rattle.std.specs.Prelude.{◌≡◌, IfOk, OnOk, Some, map};
 ghost use Rattle.std.specs.List.{list_any};
 ghost use Rattle.session_rows.specs.Formats.{format_of, format_text, formats_of, same_format};
+ghost use Rattle.session_rows.specs.ObjectChecks.{format_among};
 ghost use Rattle.session_rows.specs.Once.{with_new};
 
 use etp_values::{List, NoMemory, Text};
@@ -48,6 +49,16 @@ fn has_format(formats: &[Format], format: Format) -> bool
         }
     }
     false
+}
+
+/// The format, where it is one of these.
+pub(crate) fn among(formats: &[Format], format: Format) -> Option<Format>
+    ensures { result ≡ format_among formats.now (Some format) }
+{
+    if has_format(formats, format) {
+        return Some(format);
+    }
+    None
 }
 
 fn put_format(formats: &mut Vec<Format>, format: Format) -> Result<(), NoMemory>

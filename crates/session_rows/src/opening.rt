@@ -3,7 +3,7 @@ ghost use Rattle.std.specs.Prelude.{◌≡◌, IfOk, OnOk, [], ◌∷◌, map};
 ghost use Rattle.std.specs.List.{list_any};
 ghost use Rattle.std.specs.Ordering.{int_eq};
 ghost use Rattle.session_rows.specs.Once.{with_new};
-ghost use Rattle.session_rows.specs.Opening.{accepted_protocols, capabilities, data_objects, is_acceptable, is_version_1_2, offered, open_session, opening_of, session_id, supported};
+ghost use Rattle.session_rows.specs.Opening.{accepted_protocols, capabilities, data_objects, is_acceptable, is_version_1_2, limit_in, limited, natural, offered, open_session, opening_of, part_limit, session_id, supported};
 
 use crate::formats::{Format, format_texts, formats_of};
 use chan_defs::Config;
@@ -15,15 +15,22 @@ use std::alloc::Global;
 /// The greatest number of bytes of a message, as the server states it.
 pub const PART_LIMIT: i64 = 16_777_216;
 
+/// The least number of bytes of a message that a client can ask for.
+const MIN_PART_LIMIT: u64 = 65_536;
+
+/// The capability by which a client or the server states the greatest number of bytes of a message.
+const LIMIT_NAME: &str = "MaxWebSocketMessagePayloadSize";
+
 /// What comes of a RequestSession.
 #[derive(Debug, Drop)]
 pub enum Opening {
     /// The session ends with this code.
     Refused(ErrorCode),
-    /// The session is open, and this is its reply.
+    /// The session is open, and this is its reply. Its parts have at most `limit` bytes.
     Opened {
         accepted: List<i32>,
         formats: List<Format>,
+        limit: u64,
         reply: OpenSession,
     },
 }
@@ -152,10 +159,43 @@ fn session_id(alloc: Global, instance: Id16, number: u64) -> Result<Id16, NoMemo
 fn capabilities(alloc: Global) -> Result<Named<DataValue>, NoMemory>
     ensures { IfOk result (λ c. c ≡ capabilities) }
 {
-    let name = Text::copy(alloc, "MaxWebSocketMessagePayloadSize")?;
+    let name = Text::copy(alloc, LIMIT_NAME)?;
     let mut items = Vec::new(alloc);
     items.push((name, DataValue::Long(PART_LIMIT)))?;
     Ok(Named::from_sorted(items))
+}
+
+/// The number that an integer is, 0 below it.
+fn natural(number: i64) -> u64
+    ensures { result ≡ natural number }
+{
+    if number < 0 { 0 } else { number as u64 }
+}
+
+/// A number that a client states as the greatest of bytes, within those that it can ask for.
+fn limited(asked: i64) -> u64
+    ensures { result ≡ limited asked }
+{
+    natural(asked).min(PART_LIMIT as u64).max(MIN_PART_LIMIT)
+}
+
+/// How many bytes the parts of a session have at most, by its client's capabilities.
+fn part_limit(capabilities: &Named<DataValue>) -> u64
+    ensures { result ≡ part_limit capabilities.now }
+{
+    match capabilities.get(LIMIT_NAME) {
+        Some(value) => limit_in(value),
+        None => PART_LIMIT as u64,
+    }
+}
+
+fn limit_in(value: &DataValue) -> u64
+    ensures { result ≡ limit_in value.now }
+{
+    match value {
+        DataValue::Long(asked) => limited(*asked),
+        _ => PART_LIMIT as u64,
+    }
 }
 
 fn open_session(
@@ -201,10 +241,12 @@ pub fn opening_of(
     if formats.len() == 0 {
         return Ok(Opening::Refused(ErrorCode::NoSupportedFormats));
     }
+    let limit = part_limit(&request.endpoint_capabilities);
     let reply = open_session(alloc, config, number, moment, &accepted, &formats)?;
     Ok(Opening::Opened {
         accepted,
         formats,
+        limit,
         reply,
     })
 }

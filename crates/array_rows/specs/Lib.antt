@@ -1,0 +1,5 @@
+pub mod Naming
+pub mod Sizes
+pub mod Reading
+pub mod Changing
+pub mod Arrays

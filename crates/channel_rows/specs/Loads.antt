@@ -1,0 +1,186 @@
+-- The requests of the ChannelDataLoad protocol: what a session answers, and what it asks of the store.
+use Rattle.std.specs.Prelude.{ℕ, ℤ, ◌==◌, Bool, true, not, List, [], ◌∷◌, Option, Some, None, codes, length, if◌then◌else◌}
+use Rattle.chan_defs.specs.declared.config.ChannelDef.{ChannelDef}
+use Rattle.etp_values.specs.declared.code.ErrorCode.{ErrorCode}
+use Rattle.etp_values.specs.declared.code.ErrorCode.TheVariants.{InvalidArgument, InvalidIndexKind, InvalidMessageType, LimitExceeded, NotFound, RequestDenied}
+use Rattle.etp_values.specs.declared.point.ChannelPoint.{ChannelPoint}
+use Rattle.keyed_requests.specs.Keyed.{checked, checked_state, finished, finished_state, request_reply}
+use Rattle.keyed_requests.specs.Keys.{keys_refusal}
+use Rattle.keyed_requests.specs.Plain.{plain_outcome, plain_reply}
+use Rattle.keyed_requests.specs.Sending.{refusal_alone, reply_alone, unless_refused}
+use Rattle.keyed_requests.specs.Uris.{object_uri}
+use Rattle.keyed_requests.specs.declared.keys.Decision.{Decision}
+use Rattle.keyed_requests.specs.declared.keys.Decision.TheVariants.{Granted, Refused}
+use Rattle.keyed_requests.specs.declared.sending.Outcome.{Outcome}
+use Rattle.keyed_requests.specs.declared.sending.Outcome.TheVariants.{Replies, Calls}
+use Rattle.keyed_requests.specs.declared.sending.Sending.{Sending}
+use Rattle.etp_values.specs.declared.uri.StoreUri.{StoreUri}
+use Rattle.msg_channel.specs.declared.channel_data_load_messages.ChannelDataLoadMessage.{ChannelDataLoadMessage}
+use Rattle.msg_channel.specs.declared.channel_data_load_messages.ChannelDataLoadMessage.TheVariants as message
+use Rattle.msg_channel.specs.declared.channel_data_load_messages.OpenChannelInfo.{OpenChannelInfo}
+use Rattle.msg_channel.specs.declared.channel_data_load_messages.ReplaceRange.{ReplaceRange}
+use Rattle.msg_channel.specs.declared.channel_records.ChannelMetadataRecord.{ChannelMetadataRecord}
+use Rattle.msg_channel.specs.declared.points.TruncateInfo.{TruncateInfo}
+use Rattle.store_machine.specs.declared.call.Cutting.{Cutting}
+use Rattle.store_machine.specs.declared.call.MetaReply.{MetaReply}
+use Rattle.store_machine.specs.declared.call.Reply.{Reply}
+use Rattle.store_machine.specs.declared.call.Reply.TheVariants as answer
+use Rattle.store_machine.specs.declared.call.StoreCall.{StoreCall}
+use Rattle.store_machine.specs.declared.call.StoreCall.TheVariants as call
+use Rattle.store_machine.specs.declared.call.Verdict.{Verdict}
+use Rattle.store_machine.specs.declared.call.Verdict.TheVariants as verdict
+use Rattle.channel_rows.specs.Metadata.{metadata_by}
+use Rattle.channel_rows.specs.Opens.{are_open, closed, is_open, opened}
+use Rattle.channel_rows.specs.Points.{ends_of, loaded, long_in}
+use Rattle.channel_rows.specs.declared.loads.LoadPending.{LoadPending}
+use Rattle.channel_rows.specs.declared.loads.LoadPending.TheVariants as pending
+
+abbrev pub LoadOutcome : Type 0
+LoadOutcome = Outcome StoreCall LoadPending ChannelDataLoadMessage
+
+-- what comes of a request, and the channels that are open then
+pub record Loading : Type 0 where
+  pub opens : List Bool
+  pub outcome : LoadOutcome
+
+abbrev pub leaves : List Bool → LoadOutcome → Loading
+leaves opens outcome = record { opens = opens; outcome = outcome }
+
+-- ---- OpenChannels
+
+abbrev pub open_response : List (List ℕ × OpenChannelInfo) → ChannelDataLoadMessage
+open_response channels = message.OpenChannelsResponse (record { channels = channels })
+
+abbrev pub open_called : Outcome (List (List ℕ × StoreUri)) (List (List ℕ × Decision (Unit {0}))) ChannelDataLoadMessage → LoadOutcome
+open_called (Replies sendings) = Replies sendings
+open_called (Calls uris kept) = Calls (call.Meta uris) (pending.Open kept)
+
+abbrev pub open_outcome : List (List ℕ × List ℕ) → LoadOutcome
+open_outcome uris = open_called (plain_outcome object_uri open_response uris)
+
+-- an open channel is told of at once, and of all changes
+abbrev pub open_info : ChannelMetadataRecord → OpenChannelInfo
+open_info m = record { metadata = m; prefer_realtime = true; data_changes = true }
+
+-- a channel of which something is said is open from then on
+abbrev pub opened_as : List Bool → Decision ChannelMetadataRecord → List Bool × Decision OpenChannelInfo
+opened_as opens (Refused code) = (opens, Refused code)
+opened_as opens (Granted m) = (opened opens m.id, Granted (open_info m))
+
+abbrev pub open_found : List ChannelDef → List Bool → List (List ℕ × MetaReply) → List Bool × Decision OpenChannelInfo
+open_found defs opens [] = (opens, Refused RequestDenied)
+open_found defs opens (x ∷ xs) = opened_as opens (metadata_by defs x.1)
+
+abbrev pub open_one : List ChannelDef → List Bool → List ℕ → Unit {0} → List (List ℕ × MetaReply) → List Bool × Decision OpenChannelInfo
+open_one defs opens key kept found = open_found defs opens found
+
+-- ---- CloseChannels: each key sees what the earlier ones closed
+
+abbrev pub close_response : List (List ℕ × ℤ) → ChannelDataLoadMessage
+close_response ids = message.ChannelsClosed (record { reason = codes "closed"; id = ids })
+
+abbrev pub close_one : List Bool → ℤ → List Bool × Decision ℤ
+close_one opens channel = if is_open opens channel then (closed opens channel, Granted channel) else (opens, Refused NotFound)
+
+abbrev pub closing : List Bool → List (List ℕ × ℤ) → Loading
+closing opens ids = leaves (checked_state close_one opens ids) (Replies (request_reply close_response (checked close_one opens ids)))
+
+-- a request that is refused as a whole leaves the channels
+abbrev pub unless_leaving : Option ErrorCode → List Bool → Loading → Loading
+unless_leaving (Some code) opens l = leaves opens (Replies (refusal_alone code))
+unless_leaving None opens l = l
+
+-- ---- LoadChannelData: without items nothing is asked and nothing said
+
+abbrev pub load_called : Decision (List ChannelPoint) → LoadOutcome
+load_called (Refused code) = Replies (refusal_alone code)
+load_called (Granted []) = Replies []
+load_called (Granted (p ∷ ps)) = Calls (call.Append (p ∷ ps)) pending.Load
+
+-- ---- ReplaceRange: its channels, its ends and its items are tested in this order
+
+abbrev pub replace_called : ℤ → List ℤ → ℤ × ℤ → Decision (List ChannelPoint) → LoadOutcome
+replace_called at channels ends (Refused code) = Replies (refusal_alone code)
+replace_called at channels ends (Granted ps) = Calls (call.Replace channels ends.0 ends.1 ps) (pending.Replace at)
+
+abbrev pub replace_within : List Bool → ℤ → ReplaceRange → Option (ℤ × ℤ) → LoadOutcome
+replace_within opens at m None = Replies (refusal_alone InvalidIndexKind)
+replace_within opens at m (Some ends) = replace_called at m.channel_ids ends (loaded opens None m.payload)
+
+abbrev pub replace_outcome : List Bool → ℤ → ReplaceRange → LoadOutcome
+replace_outcome opens at m =
+    if length m.channel_ids == 0 then Replies (refusal_alone InvalidArgument)
+    else if not (are_open opens m.channel_ids) then Replies (refusal_alone NotFound)
+    else replace_within opens at m (ends_of m.changed_interval)
+
+-- ---- TruncateChannels
+
+abbrev pub truncate_response : List (List ℕ × ℤ) → ChannelDataLoadMessage
+truncate_response times = message.TruncateChannelsResponse (record { channels_truncated_time = times })
+
+abbrev pub cutting_at : ℤ → Option ℤ → Decision Cutting
+cutting_at channel None = Refused InvalidIndexKind
+cutting_at channel (Some end) = Granted (record { channel = channel; end = end })
+
+abbrev pub checked_cutting : List Bool → TruncateInfo → Decision Cutting
+checked_cutting opens x = if is_open opens x.channel_id then cutting_at x.channel_id (long_in x.new_end_index) else Refused NotFound
+
+abbrev pub truncate_called : ℤ → Outcome (List (List ℕ × Cutting)) (List (List ℕ × Decision (Unit {0}))) ChannelDataLoadMessage → LoadOutcome
+truncate_called at (Replies sendings) = Replies sendings
+truncate_called at (Calls items kept) = Calls (call.Truncate items) (pending.Truncate at kept)
+
+abbrev pub truncate_outcome : List Bool → ℤ → List (List ℕ × TruncateInfo) → LoadOutcome
+truncate_outcome opens at items = truncate_called at (plain_outcome (checked_cutting opens) truncate_response items)
+
+-- what the store decided of a key: the moment, or a refusal
+abbrev pub truncate_verdict : ℤ → Verdict → Decision ℤ
+truncate_verdict at verdict.Accepted = Granted at
+truncate_verdict at (verdict.Refused code) = Refused code
+
+-- the same beside its key
+abbrev pub truncate_decided : ℤ → List ℕ × Verdict → Decision ℤ
+truncate_decided at found = truncate_verdict at found.1
+
+-- ---- what comes of a message
+
+abbrev pub load_outcome : List Bool → ℤ → ChannelDataLoadMessage → Loading
+load_outcome opens at (message.OpenChannels m) = leaves opens (unless_refused (keys_refusal m.uris) (open_outcome m.uris))
+load_outcome opens at (message.CloseChannels m) = unless_leaving (keys_refusal m.id) opens (closing opens m.id)
+load_outcome opens at (message.LoadChannelData m) = leaves opens (load_called (loaded opens None m.payload))
+load_outcome opens at (message.ReplaceRange m) = leaves opens (replace_outcome opens at m)
+load_outcome opens at (message.TruncateChannels m) = leaves opens (unless_refused (keys_refusal m.channels) (truncate_outcome opens at m.channels))
+load_outcome opens at (message.OpenChannelsResponse m) = leaves opens (Replies (refusal_alone InvalidMessageType))
+load_outcome opens at (message.ChannelsClosed m) = leaves opens (Replies (refusal_alone InvalidMessageType))
+load_outcome opens at (message.ReplaceRangeResponse m) = leaves opens (Replies (refusal_alone InvalidMessageType))
+load_outcome opens at (message.TruncateChannelsResponse m) = leaves opens (Replies (refusal_alone InvalidMessageType))
+
+-- ---- what comes of the store's answer to its call; an answer that is none to the call has no reply
+
+-- what is said, and the channels that are open then
+pub record Loaded : Type 0 where
+  pub opens : List Bool
+  pub sendings : List (Sending ChannelDataLoadMessage)
+
+abbrev pub says : List Bool → List (Sending ChannelDataLoadMessage) → Loaded
+says opens sendings = record { opens = opens; sendings = sendings }
+
+-- the points were taken: a load has no reply
+abbrev pub written_reply : LoadPending → List (Sending ChannelDataLoadMessage)
+written_reply (pending.Replace at) = reply_alone (message.ReplaceRangeResponse (record { channel_change_time = at }))
+written_reply _ = []
+
+abbrev pub verdicts_reply : LoadPending → List (List ℕ × Verdict) → List (Sending ChannelDataLoadMessage)
+verdicts_reply (pending.Truncate at items) verdicts = plain_reply (truncate_decided at) truncate_response items verdicts
+verdicts_reply _ verdicts = []
+
+abbrev pub metas_reply : List ChannelDef → List Bool → LoadPending → List (List ℕ × MetaReply) → Loaded
+metas_reply defs opens (pending.Open items) metas = says (finished_state (open_one defs) 1 opens items metas) (request_reply open_response (finished (open_one defs) 1 opens items metas))
+metas_reply defs opens _ metas = says opens []
+
+abbrev pub load_reply : List ChannelDef → List Bool → LoadPending → Reply → Loaded
+load_reply defs opens kept answer.Written = says opens (written_reply kept)
+load_reply defs opens kept (answer.Verdicts verdicts) = says opens (verdicts_reply kept verdicts)
+load_reply defs opens kept (answer.Metas metas) = metas_reply defs opens kept metas
+load_reply defs opens kept (answer.Refused code) = says opens (refusal_alone code)
+load_reply defs opens kept answer.JournalFull = says opens (refusal_alone LimitExceeded)
+load_reply defs opens kept _ = says opens []

@@ -1,0 +1,85 @@
+-- What is said of a channel.
+use Rattle.std.specs.Prelude.{ℕ, ℤ, true, List, [], ◌∷◌, Option, Some, None, codes, slice_get}
+use Rattle.chan_defs.specs.declared.config.ChannelDef.{ChannelDef}
+use Rattle.chan_defs.specs.declared.config.ValueKind.{ValueKind}
+use Rattle.chan_defs.specs.declared.config.ValueKind.TheVariants as kind
+use Rattle.etp_schema.specs.declared.status.ActiveStatusKind.TheVariants.{Active}
+use Rattle.etp_values.specs.Uri.{plain_uri}
+use Rattle.etp_values.specs.declared.code.ErrorCode.TheVariants.{NotFound}
+use Rattle.keyed_requests.specs.declared.keys.Decision.{Decision}
+use Rattle.keyed_requests.specs.declared.keys.Decision.TheVariants.{Granted, Refused}
+use Rattle.msg_channel.specs.declared.channel_records.ChannelDataKind.{ChannelDataKind}
+use Rattle.msg_channel.specs.declared.channel_records.ChannelDataKind.TheVariants as sent
+use Rattle.msg_channel.specs.declared.channel_records.ChannelIndexKind.TheVariants.{DateTime}
+use Rattle.msg_channel.specs.declared.channel_records.ChannelMetadataRecord.{ChannelMetadataRecord}
+use Rattle.msg_channel.specs.declared.channel_records.IndexDirection.TheVariants.{Increasing}
+use Rattle.msg_channel.specs.declared.channel_records.IndexMetadataRecord.{IndexMetadataRecord}
+use Rattle.msg_channel.specs.declared.indexes.IndexValue.{IndexValue}
+use Rattle.msg_channel.specs.declared.indexes.IndexValue.TheVariants as index
+use Rattle.store_machine.specs.declared.call.MetaReply.{MetaReply}
+use Rattle.store_machine.specs.declared.call.MetaReply.TheVariants as known
+use Rattle.channel_rows.specs.Ids.{place_of}
+
+-- the kind in which a channel's values are sent
+abbrev pub kind_of : ValueKind → ChannelDataKind
+kind_of kind.Boolean = sent.TypeBoolean
+kind_of kind.Int = sent.TypeInt
+kind_of kind.Long = sent.TypeLong
+kind_of kind.Float = sent.TypeFloat
+kind_of kind.Double = sent.TypeDouble
+kind_of kind.String = sent.TypeString
+kind_of kind.Bytes = sent.TypeBytes
+
+-- an index that there may be none of
+abbrev pub index_value : Option ℤ → IndexValue
+index_value None = index.Null
+index_value (Some z) = index.Long z
+
+-- the one index of a channel: a time, from its first point to its last
+abbrev pub time_index : Option ℤ → Option ℤ → IndexMetadataRecord
+time_index first last = record {
+  index_kind = DateTime;
+  interval = record { start_index = index_value first; end_index = index_value last; uom = codes "us"; depth_datum = [] };
+  direction = Increasing;
+  name = codes "time";
+  uom = codes "us";
+  depth_datum = [];
+  index_property_kind_uri = [];
+  filterable = true;
+}
+
+-- what is said of a channel of this id
+abbrev pub metadata_of : ℤ → Option ℤ → Option ℤ → ChannelDef → ChannelMetadataRecord
+metadata_of channel first last d = record {
+  uri = plain_uri d.uri;
+  id = channel;
+  indexes = time_index first last ∷ [];
+  channel_name = d.name;
+  data_kind = kind_of d.kind;
+  uom = d.uom;
+  depth_datum = [];
+  channel_class_uri = [];
+  status = Active;
+  source = [];
+  axis_vector_lengths = [];
+  attribute_metadata = [];
+  custom_data = [];
+}
+
+-- the configured channel at a place
+abbrev pub def_at : List ChannelDef → Option ℕ → Option ChannelDef
+def_at defs None = None
+def_at defs (Some n) = slice_get defs n
+
+-- a configured channel by its id
+abbrev pub channel_at : List ChannelDef → ℤ → Option ChannelDef
+channel_at defs channel = def_at defs (place_of channel)
+
+abbrev pub said_of : ℤ → Option ℤ → Option ℤ → Option ChannelDef → Decision ChannelMetadataRecord
+said_of channel first last None = Refused NotFound
+said_of channel first last (Some d) = Granted (metadata_of channel first last d)
+
+-- what is said of a channel of which the store knows this
+abbrev pub metadata_by : List ChannelDef → MetaReply → Decision ChannelMetadataRecord
+metadata_by defs (known.Known channel first last) = said_of channel first last (channel_at defs channel)
+metadata_by defs (known.Refused code) = Refused code

@@ -1,0 +1,178 @@
+//! Points as messages have them.
+ghost use Rattle.std.specs.Prelude.{◌≡◌, IfOk, None};
+ghost use Rattle.channel_rows.specs.Points.{channel_items, ends_of, index_of, is_value_large, item_of, item_point, items_of, loaded, long_in, point_at, same_index};
+
+use crate::open_flags::Opens;
+use etp_values::{ChannelPoint, DataValue, ErrorCode, List, NoMemory, Point};
+use keyed_requests::Decision;
+use msg_channel::{DataItem, IndexInterval, IndexValue};
+use std::alloc::Global;
+
+/// The greatest number of bytes of a channel's value that is a text or a run of bytes.
+pub const MAX_VALUE_LEN: usize = 32_768;
+
+/// A point of a channel as it is sent.
+fn item_of(alloc: Global, channel: i64, point: Point) -> Result<DataItem, NoMemory>
+    ensures { IfOk result (λ x. x ≡ item_of channel point) }
+{
+    let Point { index, value } = point;
+    let mut indexes = Vec::new(alloc);
+    indexes.push(IndexValue::Long(index))?;
+    Ok(DataItem {
+        channel_id: channel,
+        indexes: List::from_vec(indexes),
+        value,
+        value_attributes: List::new(alloc),
+    })
+}
+
+/// Points of a channel as they are sent.
+pub(crate) fn items_of(
+    alloc: Global,
+    channel: i64,
+    points: List<Point>,
+) -> Result<List<DataItem>, NoMemory>
+    ensures { IfOk result (λ l. l ≡ items_of channel points) }
+{
+    let mut items = Vec::new(alloc);
+    for point in points.into_vec() {
+        let item = item_of(alloc, channel, point)?;
+        items.push(item)?;
+    }
+    Ok(List::from_vec(items))
+}
+
+/// Points of several channels as they are sent.
+pub(crate) fn channel_items(
+    alloc: Global,
+    points: List<ChannelPoint>,
+) -> Result<List<DataItem>, NoMemory>
+    ensures { IfOk result (λ l. l ≡ channel_items points) }
+{
+    let mut items = Vec::new(alloc);
+    for one in points.into_vec() {
+        let ChannelPoint { channel, point } = one;
+        let item = item_of(alloc, channel, point)?;
+        items.push(item)?;
+    }
+    Ok(List::from_vec(items))
+}
+
+fn same_index(before: Option<i64>) -> Decision<i64>
+    ensures { result ≡ same_index before }
+{
+    match before {
+        Some(index) => Decision::Granted(index),
+        None => Decision::Refused(ErrorCode::InvalidArgument),
+    }
+}
+
+/// An item's one index, or that of the item before.
+fn index_of(before: Option<i64>, indexes: &[IndexValue]) -> Decision<i64>
+    ensures { result ≡ index_of before indexes.now }
+{
+    match indexes {
+        [] => same_index(before),
+        [only] => match *only {
+            IndexValue::Null => same_index(before),
+            IndexValue::Long(index) => Decision::Granted(index),
+            IndexValue::Double(_) => Decision::Refused(ErrorCode::InvalidIndexKind),
+            IndexValue::PassIndexedDepth(_) => Decision::Refused(ErrorCode::InvalidIndexKind),
+        },
+        [_, _, ..] => Decision::Refused(ErrorCode::InvalidIndexKind),
+    }
+}
+
+fn is_value_large(value: &DataValue) -> bool
+    ensures { result ≡ is_value_large value.now }
+{
+    match value {
+        DataValue::String(text) => text.get().len() > MAX_VALUE_LEN,
+        DataValue::Bytes(bytes) => bytes.get().len() > MAX_VALUE_LEN,
+        _ => false,
+    }
+}
+
+/// The point of an item at its index.
+fn point_at(item: DataItem, index: Decision<i64>) -> Decision<ChannelPoint>
+    ensures { result ≡ point_at item index }
+{
+    match index {
+        Decision::Granted(index) => {
+            if item.value_attributes.len() > 0 {
+                return Decision::Refused(ErrorCode::InvalidArgument);
+            }
+            if is_value_large(&item.value) {
+                return Decision::Refused(ErrorCode::SizeExceeded);
+            }
+            let DataItem {
+                channel_id,
+                value,
+                ..
+            } = item;
+            Decision::Granted(ChannelPoint {
+                channel: channel_id,
+                point: Point { index, value },
+            })
+        }
+        Decision::Refused(code) => Decision::Refused(code),
+    }
+}
+
+/// The point of an item, behind one of this index: its channel, its index, its attributes and its value are tested in this order.
+fn item_point(opens: &Opens, before: Option<i64>, item: DataItem) -> Decision<ChannelPoint>
+    ensures { result ≡ item_point opens.now before item }
+{
+    if !opens.is_open(item.channel_id) {
+        return Decision::Refused(ErrorCode::NotFound);
+    }
+    let index = index_of(before, item.indexes.as_slice());
+    point_at(item, index)
+}
+
+/// The points of items in order; the first that is refused refuses all.
+pub(crate) fn loaded(
+    alloc: Global,
+    opens: &Opens,
+    items: List<DataItem>,
+) -> Result<Decision<List<ChannelPoint>>, NoMemory>
+    ensures { IfOk result (λ d. d ≡ loaded opens.now None items) }
+{
+    let mut points = Vec::new(alloc);
+    let mut before = None;
+    for item in items.into_vec() {
+        match item_point(opens, before, item) {
+            Decision::Granted(point) => {
+                before = Some(point.point.index);
+                points.push(point)?;
+            }
+            Decision::Refused(code) => return Ok(Decision::Refused(code)),
+        }
+    }
+    Ok(Decision::Granted(List::from_vec(points)))
+}
+
+/// An index that is a long.
+pub(crate) fn long_in(index: IndexValue) -> Option<i64>
+    ensures { result ≡ long_in index }
+{
+    match index {
+        IndexValue::Long(index) => Some(index),
+        IndexValue::Null => None,
+        IndexValue::Double(_) => None,
+        IndexValue::PassIndexedDepth(_) => None,
+    }
+}
+
+/// The ends of an interval, where both are longs.
+pub(crate) fn ends_of(interval: &IndexInterval) -> Option<(i64, i64)>
+    ensures { result ≡ ends_of interval.now }
+{
+    let Some(from) = long_in(interval.start_index) else {
+        return None;
+    };
+    let Some(to) = long_in(interval.end_index) else {
+        return None;
+    };
+    Some((from, to))
+}
