@@ -3,3 +3,5 @@ pub mod RunLemmas
 pub mod SendingLemmas
 pub mod StepLemmas
 pub mod FittingLemmas
+pub mod WritableLemmas
+pub mod JoiningLemmas

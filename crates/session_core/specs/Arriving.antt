@@ -37,7 +37,7 @@ unless_stale false r a = Stale r
 
 -- a message that could be read
 abbrev pub message_event : ℤ → ℤ → Header → Message → Arrived
-message_event last_id moment h m = unless_stale (follows last_id h.id) (request_of h) (Fresh (request_of h) moment m)
+message_event last_id moment h m = unless_stale (follows last_id h.id) (request_of h) (Fresh h moment m)
 
 -- a message that is refused for what its bytes are
 abbrev pub refused_event : ℤ → Header → ErrorCode → Arrived
@@ -83,4 +83,4 @@ arrived_message last_id moment bytes = arrived_by (nat_le (length bytes) max_mes
 -- an event after a message with this id
 abbrev pub arrived : ℤ → Event → Arrived
 arrived last_id (Receives bytes moment) = arrived_message last_id moment bytes
-arrived last_id (Polls front) = Polled
+arrived last_id (Polls front) = Polled front

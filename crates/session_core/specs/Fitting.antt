@@ -1,10 +1,18 @@
 -- What a session keeps for the call that it makes, and that the store's own answers fit it.
-use Rattle.std.specs.Prelude.{◌≡◌, List, IsSomeAnd, MatchOption}
+use Rattle.std.specs.Prelude.{ℕ, ◌≡◌, ◌*◌, List, length, IsSomeAnd, MatchOption}
 use Rattle.std.specs.Map.{keys_of}
+use Rattle.array_rows.specs.declared.arrays.ArrayPending.{ArrayPending}
+use Rattle.array_rows.specs.declared.arrays.ArrayPending.TheVariants as arrays
 use Rattle.chan_defs.specs.declared.config.Config.{Config}
+use Rattle.channel_rows.specs.declared.loads.LoadPending.{LoadPending}
+use Rattle.channel_rows.specs.declared.loads.LoadPending.TheVariants as loads
+use Rattle.channel_rows.specs.declared.subscriptions.SubscribePending.{SubscribePending}
+use Rattle.channel_rows.specs.declared.subscriptions.SubscribePending.TheVariants as subscribes
 use Rattle.keyed_requests.specs.Keyed.{granted}
 use Rattle.session_rows.specs.declared.dataspaces.DataspacePending.{DataspacePending}
 use Rattle.session_rows.specs.declared.dataspaces.DataspacePending.TheVariants as keeps
+use Rattle.session_rows.specs.declared.objects.ObjectPending.{ObjectPending}
+use Rattle.session_rows.specs.declared.objects.ObjectPending.TheVariants as objects
 use Rattle.store_machine.specs.Answers.{answered}
 use Rattle.store_machine.specs.declared.call.Reply.{Reply}
 use Rattle.store_machine.specs.declared.call.Reply.TheVariants as reply
@@ -27,9 +35,76 @@ FitsDataspaces (keeps.Delete items) (reply.Verdicts verdicts) = keys_of verdicts
 FitsDataspaces (keeps.Delete items) reply.JournalFull = Unit {0}
 FitsDataspaces (keeps.Delete items) _ = ⊥
 
+-- a verdict on each granted key and no other, or that the journal is full; or so many looks for each granted key
+abbrev pub FitsObjects : ObjectPending → Reply → Type 0
+FitsObjects (objects.Get f items) (reply.Looked looks) = length looks ≡ length (granted items)
+FitsObjects (objects.Get f items) _ = ⊥
+FitsObjects (objects.Put items) (reply.Verdicts verdicts) = keys_of verdicts ≡ keys_of (granted items)
+FitsObjects (objects.Put items) reply.JournalFull = Unit {0}
+FitsObjects (objects.Put items) _ = ⊥
+FitsObjects (objects.StagedPut at items) (reply.Looked looks) = length looks ≡ 2 * length (granted items)
+FitsObjects (objects.StagedPut at items) _ = ⊥
+FitsObjects (objects.Delete items) (reply.Verdicts verdicts) = keys_of verdicts ≡ keys_of (granted items)
+FitsObjects (objects.Delete items) reply.JournalFull = Unit {0}
+FitsObjects (objects.Delete items) _ = ⊥
+FitsObjects (objects.StagedDelete at items) (reply.Looked looks) = length looks ≡ length (granted items)
+FitsObjects (objects.StagedDelete at items) _ = ⊥
+
+abbrev pub FitsArrays : ArrayPending → Reply → Type 0
+FitsArrays (arrays.Get items) (reply.Looked looks) = length looks ≡ length (granted items)
+FitsArrays (arrays.Get items) _ = ⊥
+FitsArrays (arrays.Slice items) (reply.Looked looks) = length looks ≡ length (granted items)
+FitsArrays (arrays.Slice items) _ = ⊥
+FitsArrays (arrays.StagedSlice items) (reply.Looked looks) = length looks ≡ length (granted items)
+FitsArrays (arrays.StagedSlice items) _ = ⊥
+FitsArrays (arrays.Shape items) (reply.Looked looks) = length looks ≡ length (granted items)
+FitsArrays (arrays.Shape items) _ = ⊥
+FitsArrays (arrays.StagedShape items) (reply.Looked looks) = length looks ≡ length (granted items)
+FitsArrays (arrays.StagedShape items) _ = ⊥
+FitsArrays (arrays.Change what items) (reply.Verdicts verdicts) = keys_of verdicts ≡ keys_of (granted items)
+FitsArrays (arrays.Change what items) reply.JournalFull = Unit {0}
+FitsArrays (arrays.Change what items) _ = ⊥
+FitsArrays (arrays.StagedPut what at items) (reply.Looked looks) = length looks ≡ 2 * length (granted items)
+FitsArrays (arrays.StagedPut what at items) _ = ⊥
+FitsArrays (arrays.StagedPatch at items) (reply.Looked looks) = length looks ≡ length (granted items)
+FitsArrays (arrays.StagedPatch at items) _ = ⊥
+
+-- points are taken, or refused as a whole, or find the journal full
+abbrev pub FitsPoints : Reply → Type 0
+FitsPoints reply.Written = Unit {0}
+FitsPoints reply.JournalFull = Unit {0}
+FitsPoints (reply.Refused code) = Unit {0}
+FitsPoints _ = ⊥
+
+-- what is known of each granted channel and no other, or a verdict on each
+abbrev pub FitsLoads : LoadPending → Reply → Type 0
+FitsLoads (loads.Open items) (reply.Metas metas) = keys_of metas ≡ keys_of (granted items)
+FitsLoads (loads.Open items) _ = ⊥
+FitsLoads loads.Load r = FitsPoints r
+FitsLoads (loads.Replace at) r = FitsPoints r
+FitsLoads (loads.Truncate at items) (reply.Verdicts verdicts) = keys_of verdicts ≡ keys_of (granted items)
+FitsLoads (loads.Truncate at items) reply.JournalFull = Unit {0}
+FitsLoads (loads.Truncate at items) _ = ⊥
+
+-- ranges are refused as a whole or not at all
+abbrev pub FitsSubscriptions : SubscribePending → Reply → Type 0
+FitsSubscriptions (subscribes.Metadata items) (reply.Metas metas) = keys_of metas ≡ keys_of (granted items)
+FitsSubscriptions (subscribes.Metadata items) _ = ⊥
+FitsSubscriptions (subscribes.Subscribe items) (reply.Started started) = keys_of started ≡ keys_of (granted items)
+FitsSubscriptions (subscribes.Subscribe items) _ = ⊥
+FitsSubscriptions subscribes.Ranges (reply.Points points) = Unit {0}
+FitsSubscriptions subscribes.Ranges (reply.Refused code) = Unit {0}
+FitsSubscriptions subscribes.Ranges _ = ⊥
+FitsSubscriptions subscribes.News (reply.News upto lag changes) = Unit {0}
+FitsSubscriptions subscribes.News _ = ⊥
+
 -- the same of the request that a session has in hand
 abbrev pub Fits : Reply → Pending → Type 0
 Fits r (pending.Dataspaces request kept) = FitsDataspaces kept r
+Fits r (pending.Objects request kept) = FitsObjects kept r
+Fits r (pending.Arrays request kept) = FitsArrays kept r
+Fits r (pending.Loads request kept) = FitsLoads kept r
+Fits r (pending.Subscriptions request kept) = FitsSubscriptions kept r
 
 -- what a session keeps for a call is fit by the store's answer to that call, after whatever history; an event without a call
 -- leaves what is kept

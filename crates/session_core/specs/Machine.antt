@@ -1,18 +1,34 @@
 -- The machine of a session: an event and the store's answer to its call are one step, in two halves.
-use Rattle.std.specs.Prelude.{ℤ, pos, List, [], ◌∷◌, Option, Some, None, is_some, if◌then◌else◌}
+use Rattle.std.specs.Prelude.{ℕ, ℤ, pos, Bool, true, false, not, ◌&&◌, List, [], ◌∷◌, Option, Some, None, Result, Ok, Err, is_some, option_map, if◌then◌else◌}
 use Rattle.std.specs.List.{list_any}
 use Rattle.std.specs.Ordering.{int_eq}
+use Rattle.array_rows.specs.Arrays.{ArrayOutcome, ArraysAnswered, array_outcome, array_reply}
+use Rattle.channel_rows.specs.Loads.{LoadOutcome, Loaded, Loading, load_outcome, load_reply}
+use Rattle.channel_rows.specs.Notices.{Told}
+use Rattle.channel_rows.specs.Subscriptions.{SubscribeOutcome, Subscribing, news_call, subscribe_reply, subscribe_request}
+use Rattle.channel_rows.specs.declared.subscriptions.SubscribePending.TheVariants as subscribes
 use Rattle.etp_values.specs.declared.code.ErrorCode.{ErrorCode}
 use Rattle.etp_values.specs.declared.code.ErrorCode.TheVariants as code
+use Rattle.etp_frame.specs.Header.{acknowledge, has_flag}
+use Rattle.etp_frame.specs.Joining.{Awaited, joins}
+use Rattle.etp_frame.specs.declared.header.Header.{Header}
+use Rattle.etp_frame.specs.declared.joining.Joined.{Joined}
+use Rattle.etp_frame.specs.declared.joining.Joined.TheVariants.{More, Whole}
+use Rattle.etp_frame.specs.declared.joining.JoinError.{JoinError}
+use Rattle.etp_frame.specs.declared.joining.JoinError.TheVariants as join
+use Rattle.etp_frame.specs.declared.message.Message.{Message}
+use Rattle.etp_frame.specs.declared.message.Message.TheVariants as message
 use Rattle.keyed_requests.specs.declared.sending.Outcome.TheVariants.{Replies, Calls}
 use Rattle.msg_core.specs.declared.core_messages.CoreMessage.{CoreMessage}
 use Rattle.msg_core.specs.declared.core_messages.CoreMessage.TheVariants as core
 use Rattle.msg_core.specs.declared.core_messages.RequestSession.{RequestSession}
-use Rattle.etp_frame.specs.declared.message.Message.{Message}
-use Rattle.etp_frame.specs.declared.message.Message.TheVariants as message
+use Rattle.msg_store.specs.declared.store_messages.StoreMessage.{StoreMessage}
+use Rattle.msg_store.specs.declared.store_messages.StoreMessage.TheVariants as objects
+use Rattle.request_scope.specs.Scope.{is_read_only}
 use Rattle.store_machine.specs.declared.call.Answer.{Answer}
 use Rattle.store_machine.specs.declared.call.StoreCall.{StoreCall}
 use Rattle.session_rows.specs.Dataspaces.{DataspaceOutcome, dataspace_outcome, dataspace_reply}
+use Rattle.session_rows.specs.Objects.{ObjectOutcome, ObjectsAnswered, object_outcome, object_reply}
 use Rattle.session_rows.specs.Opening.{opening_of}
 use Rattle.session_rows.specs.declared.opening.Opening.{Opening}
 use Rattle.session_rows.specs.declared.opening.Opening.TheVariants as opens
@@ -26,10 +42,10 @@ use Rattle.session_core.specs.declared.state.Phase.TheVariants as phase
 use Rattle.session_core.specs.declared.state.Live.{Live}
 use Rattle.session_core.specs.declared.state.Live.TheVariants as live
 use Rattle.session_core.specs.declared.state.End.TheVariants as end
-use Rattle.session_core.specs.Replies.{messages_of, refusal}
+use Rattle.session_core.specs.Replies.{receipt, refusal, sayings_of, to_request}
 use Rattle.session_core.specs.State.{State}
-use Rattle.session_core.specs.Arriving.{Event, arrived}
-use Rattle.session_core.specs.Sending.{replied}
+use Rattle.session_core.specs.Arriving.{Event, arrived, request_of}
+use Rattle.session_core.specs.Sending.{said}
 
 -- a state and the store call that is made in it, if any
 pub record Taken : Type 0 where
@@ -40,15 +56,19 @@ pub record Taken : Type 0 where
 abbrev pub no_call : State → Taken
 no_call s = record { state = s; call = None }
 
+-- a call, for which this is kept
+abbrev pub asks : Pending → StoreCall → State → Taken
+asks p c s = record { state = record s { pending = Some p }; call = Some c }
+
 -- a message is answered by one
 abbrev pub replies_one : Request → Message → State → State
-replies_one r m s = replied r (m ∷ []) s
+replies_one r m s = said r (to_request m ∷ []) s
 
 -- a message is refused whole
 abbrev pub refuses : Request → ErrorCode → State → State
-refuses r c s = replied r (refusal c ∷ []) s
+refuses r c s = said r (to_request (refusal c) ∷ []) s
 
--- what couldn't be read has no protocol and no id
+-- what couldn't be read, and what nobody asked for, has no protocol and no id
 abbrev pub unread : Request
 unread = record { protocol = pos 0; id = pos 0 }
 
@@ -57,7 +77,7 @@ unread = record { protocol = pos 0; id = pos 0 }
 -- the session opens, or ends, by what came of its RequestSession
 abbrev pub opened : Request → Opening → State → State
 opened r (opens.Refused c) s = refuses r c (record s { phase = phase.Ended (end.Refused c) })
-opened r (opens.Opened accepted formats m) s = replies_one r (message.Core (core.OpenSession m)) (record s { phase = phase.Live live.Open; accepted = accepted; formats = formats })
+opened r (opens.Opened accepted formats limit m) s = replies_one r (message.Core (core.OpenSession m)) (record s { phase = phase.Live live.Open; accepted = accepted; formats = formats; limit = limit })
 
 -- a session is opened once
 abbrev pub on_request_session : Live → Request → ℤ → RequestSession → State → State
@@ -83,13 +103,93 @@ on_core live r moment (core.Acknowledge m) s = s
 
 -- the reply is sent, or the call is made and the request awaits its answer
 abbrev pub on_dataspaces : Request → DataspaceOutcome → State → Taken
-on_dataspaces r (Replies sendings) s = no_call (replied r (messages_of message.Dataspace sendings) s)
-on_dataspaces r (Calls c p) s = record { state = record s { pending = Some (pending.Dataspaces r p) }; call = Some c }
+on_dataspaces r (Replies sendings) s = no_call (said r (sayings_of message.Dataspace sendings) s)
+on_dataspaces r (Calls c p) s = asks (pending.Dataspaces r p) c s
 
--- a message of an accepted protocol; those of Dataspace alone are taken yet
-abbrev pub on_row : Request → Message → State → Taken
-on_row r (message.Dataspace m) s = on_dataspaces r (dataspace_outcome m (is_some s.transaction)) s
-on_row r _ s = no_call (refuses r code.InvalidMessageType s)
+abbrev pub on_objects : Request → ObjectOutcome → State → Taken
+on_objects r (Replies sendings) s = no_call (said r (sayings_of message.Store sendings) s)
+on_objects r (Calls c p) s = asks (pending.Objects r p) c s
+
+abbrev pub on_arrays : Request → ArrayOutcome → State → Taken
+on_arrays r (Replies sendings) s = no_call (said r (sayings_of message.DataArray sendings) s)
+on_arrays r (Calls c p) s = asks (pending.Arrays r p) c s
+
+abbrev pub on_loads_by : Request → LoadOutcome → State → Taken
+on_loads_by r (Replies sendings) s = no_call (said r (sayings_of message.ChannelDataLoad sendings) s)
+on_loads_by r (Calls c p) s = asks (pending.Loads r p) c s
+
+abbrev pub on_subscriptions_by : Request → SubscribeOutcome → State → Taken
+on_subscriptions_by r (Replies sendings) s = no_call (said r (sayings_of message.ChannelSubscribe sendings) s)
+on_subscriptions_by r (Calls c p) s = asks (pending.Subscriptions r p) c s
+
+-- ---- puts that await chunks
+
+-- the code by which a joiner's refusal is answered
+abbrev pub join_code : JoinError → ErrorCode
+join_code join.NoBlob = code.InvalidArgument
+join_code join.WrongBlob = code.InvalidArgument
+join_code join.Interleaved = code.InvalidArgument
+join_code join.TooLong = code.SizeExceeded
+-- no message is refused so
+join_code join.NoMemory = code.SizeExceeded
+
+-- what came is at fault, and not the memory
+abbrev pub IsJoinFault : JoinError → Type 0
+IsJoinFault join.NoBlob = Unit {0}
+IsJoinFault join.WrongBlob = Unit {0}
+IsJoinFault join.Interleaved = Unit {0}
+IsJoinFault join.TooLong = Unit {0}
+IsJoinFault join.NoMemory = ⊥
+
+-- a put that became whole by a chunk is answered as the put; any other message as itself
+abbrev pub request_awaited : Header → Option ℤ → Request
+request_awaited h None = request_of h
+request_awaited h (Some id) = record { protocol = h.protocol; id = id }
+
+abbrev pub put_request : Header → Option Awaited → Request
+put_request h w = request_awaited h (option_map (λ a. a.correlation) w)
+
+-- a request of the Store protocol that is whole, at the moment of its last chunk
+abbrev pub on_whole : Request → ℤ → Message → State → Taken
+on_whole r moment (message.Store m) s = on_objects r (object_outcome s.formats s.config.types s.stage moment m) s
+on_whole r moment _ s = no_call s
+
+-- what a joiner made of a message
+abbrev pub on_joined : Header → ℤ → Request → Result (Joined × Option Awaited) JoinError → State → Taken
+on_joined h moment r (Err e) s = no_call (refuses (request_of h) (join_code e) (record s { joiner = None }))
+on_joined h moment r (Ok (More, w)) s = no_call (record s { joiner = w })
+on_joined h moment r (Ok (Whole m, w)) s = on_whole r moment m (record s { joiner = w })
+
+abbrev pub on_join : Header → ℤ → StoreMessage → State → Taken
+on_join h moment m s = on_joined h moment (put_request h s.joiner) (joins s.joiner h (message.Store m)) s
+
+-- a put in a transaction that only reads is refused before it is joined
+abbrev pub on_store : Header → ℤ → StoreMessage → State → Taken
+on_store h moment (objects.PutDataObjects m) s = if is_read_only s.stage then no_call (refuses (request_of h) code.RequestDenied s) else on_join h moment (objects.PutDataObjects m) s
+on_store h moment (objects.Chunk m) s = on_join h moment (objects.Chunk m) s
+on_store h moment m s = on_whole (request_of h) moment (message.Store m) s
+
+-- ---- channels
+
+abbrev pub on_loads : Request → Loading → State → Taken
+on_loads r l s = on_loads_by r l.outcome (record s { opens = l.opens })
+
+abbrev pub on_subscriptions : Request → Subscribing → State → Taken
+on_subscriptions r l s = on_subscriptions_by r l.outcome (record s { subs = l.subs })
+
+-- a poll asks for News, where there are some
+abbrev pub on_poll : Option StoreCall → State → Taken
+on_poll None s = no_call s
+on_poll (Some c) s = asks (pending.Subscriptions unread subscribes.News) c s
+
+-- ---- a message of an accepted protocol; no transaction is taken yet
+abbrev pub on_row : Header → ℤ → Message → State → Taken
+on_row h moment (message.Dataspace m) s = on_dataspaces (request_of h) (dataspace_outcome m (is_some s.stage)) s
+on_row h moment (message.Store m) s = on_store h moment m s
+on_row h moment (message.DataArray m) s = on_arrays (request_of h) (array_outcome s.stage moment m) s
+on_row h moment (message.ChannelSubscribe m) s = on_subscriptions (request_of h) (subscribe_request s.subs m) s
+on_row h moment (message.ChannelDataLoad m) s = on_loads (request_of h) (load_outcome s.opens moment m) s
+on_row h moment _ s = no_call (refuses (request_of h) code.InvalidMessageType s)
 
 -- why a message isn't taken that is none of Core: the session isn't open, or didn't accept the protocol
 abbrev pub protocol_refusal : Live → List ℤ → ℤ → Option ErrorCode
@@ -97,14 +197,35 @@ protocol_refusal live.Waiting accepted protocol = Some code.InvalidState
 protocol_refusal live.Open accepted protocol = if list_any (int_eq protocol) accepted then None else Some code.UnsupportedProtocol
 
 -- a message that is none of Core, where this refuses it
-abbrev pub on_protocol : Option ErrorCode → Request → Message → State → Taken
-on_protocol (Some c) r m s = no_call (refuses r c s)
-on_protocol None r m s = on_row r m s
+abbrev pub on_protocol : Option ErrorCode → Header → ℤ → Message → State → Taken
+on_protocol (Some c) h moment m s = no_call (refuses (request_of h) c s)
+on_protocol None h moment m s = on_row h moment m s
 
 -- a message that came to a session which hasn't ended
-abbrev pub on_message : Live → Request → ℤ → Message → State → Taken
-on_message live r moment (message.Core m) s = no_call (on_core live r moment m s)
-on_message live r moment m s = on_protocol (protocol_refusal live s.accepted r.protocol) r m s
+abbrev pub on_message : Live → Header → ℤ → Message → State → Taken
+on_message live h moment (message.Core m) s = no_call (on_core live (request_of h) moment m s)
+on_message live h moment m s = on_protocol (protocol_refusal live s.accepted h.protocol) h moment m s
+
+-- ---- receipts
+
+-- what answers nothing is not acknowledged
+abbrev pub may_acknowledge : Message → Bool
+may_acknowledge (message.Core (core.Pong m)) = false
+may_acknowledge (message.Core (core.ProtocolException m)) = false
+may_acknowledge (message.Core (core.Acknowledge m)) = false
+may_acknowledge m = true
+
+-- the receipt of a message is acknowledged before anything else is said of it, where its sender wants that
+abbrev pub acknowledged : Header → Message → State → State
+acknowledged h m s = if has_flag h.flags acknowledge && may_acknowledge m then said (request_of h) (receipt ∷ []) s else s
+
+-- with no id left for the receipt the session has ended
+abbrev pub on_received : Phase → Header → ℤ → Message → State → Taken
+on_received (phase.Live live) h moment m s = on_message live h moment m s
+on_received (phase.Ended e) h moment m s = no_call s
+
+abbrev pub on_fresh : Header → ℤ → Message → State → Taken
+on_fresh h moment m s = on_received s.phase h moment m s
 
 -- ---- the first half: an event
 
@@ -112,13 +233,13 @@ on_message live r moment m s = on_protocol (protocol_refusal live s.accepted r.p
 abbrev pub accepting : Request → State → State
 accepting r s = record s { last_id = r.id }
 
--- an event to a session that hasn't ended; no poll asks the store yet
+-- an event to a session that hasn't ended
 abbrev pub by_event : Live → Arrived → State → Taken
 by_event live (arrives.Unreadable c) s = no_call (refuses unread c s)
 by_event live (arrives.Stale r) s = no_call (refuses r code.InvalidMessage s)
 by_event live (arrives.Refused r c) s = no_call (refuses r c (accepting r s))
-by_event live (arrives.Fresh r moment m) s = on_message live r moment m (accepting r s)
-by_event live arrives.Polled s = no_call s
+by_event live (arrives.Fresh h moment m) s = on_fresh h moment m (acknowledged h m (accepting (request_of h) s))
+by_event live (arrives.Polled front) s = on_poll (news_call s.subs front) s
 
 -- after the end nothing is taken
 abbrev pub by_phase : Phase → Arrived → State → Taken
@@ -131,10 +252,27 @@ taken s e = by_phase s.phase (arrived s.last_id e) s
 
 -- ---- the second half: the store's answer to the call
 
+-- what is said at the answer, and what it leaves
+abbrev pub on_objects_answered : Request → ObjectsAnswered → State → State
+on_objects_answered r a s = said r (sayings_of message.Store a.sendings) (record s { stage = a.stage })
+
+abbrev pub on_arrays_answered : Request → ArraysAnswered → State → State
+on_arrays_answered r a s = said r (sayings_of message.DataArray a.sendings) (record s { stage = a.stage })
+
+abbrev pub on_loaded : Request → Loaded → State → State
+on_loaded r l s = said r (sayings_of message.ChannelDataLoad l.sendings) (record s { opens = l.opens })
+
+abbrev pub on_told : Request → Told → State → State
+on_told r t s = said r (sayings_of message.ChannelSubscribe t.sendings) (record s { subs = t.subs })
+
 -- the answer is joined with the request that awaits it; where none does, it says nothing
 abbrev pub given_to : Option Pending → Answer → State → State
 given_to None a s = s
-given_to (Some (pending.Dataspaces r p)) a s = replied r (messages_of message.Dataspace (dataspace_reply p a.reply)) s
+given_to (Some (pending.Dataspaces r p)) a s = said r (sayings_of message.Dataspace (dataspace_reply p a.reply)) s
+given_to (Some (pending.Objects r p)) a s = on_objects_answered r (object_reply s.stage p a.reply) s
+given_to (Some (pending.Arrays r p)) a s = on_arrays_answered r (array_reply s.limit s.stage p a.reply) s
+given_to (Some (pending.Loads r p)) a s = on_loaded r (load_reply s.config.channels s.opens p a.reply) s
+given_to (Some (pending.Subscriptions r p)) a s = on_told r (subscribe_reply s.config.channels s.config.lag s.subs p a) s
 
 -- the second half step: what the store's answer makes of a session
 abbrev pub given : State → Answer → State

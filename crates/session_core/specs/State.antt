@@ -1,11 +1,14 @@
 -- The state of a session.
-use Rattle.std.specs.Prelude.{ℕ, ℤ, pos, negsuc, List, [], Option, None}
+use Rattle.std.specs.Prelude.{ℕ, ℤ, pos, Bool, List, [], Option, Some, None}
 use Rattle.chan_defs.specs.declared.config.Config.{Config}
+use Rattle.etp_frame.specs.Joining.{Awaited}
+use Rattle.session_rows.specs.Opening.{natural}
 use Rattle.session_rows.specs.declared.formats.Format.{Format}
+use Rattle.subscribe_core.specs.Subscriptions.{Subbed, nothing}
+use Rattle.tx_stage.specs.Staging.{Transaction}
 use Rattle.session_core.specs.declared.state.Phase.{Phase}
 use Rattle.session_core.specs.declared.state.Phase.TheVariants as phase
 use Rattle.session_core.specs.declared.state.Live.TheVariants as live
-use Rattle.session_core.specs.declared.state.Transaction.{Transaction}
 use Rattle.session_core.specs.declared.state.Pending.{Pending}
 use Rattle.session_core.specs.declared.state.Outgoing.{Outgoing}
 
@@ -22,17 +25,21 @@ pub record State : Type 0 where
   -- the protocols that were accepted, and the formats of objects
   pub accepted : List ℤ
   pub formats : List Format
+  -- how many bytes a part has at most that is sent, and how many blobs were sent
+  pub limit : ℕ
+  pub blobs : ℕ
   -- the open transaction, if any
-  pub transaction : Option Transaction
+  pub stage : Option Transaction
+  -- the put that awaits chunks, if any
+  pub joiner : Option Awaited
+  -- the channels that are open, each by a flag
+  pub opens : List Bool
+  -- the subscriptions
+  pub subs : Subbed
   -- the request that awaits the store's answer
   pub pending : Option Pending
   -- what is left to send, first message first
   pub out : List Outgoing
-
--- the number that an integer is, 0 below it
-abbrev pub natural : ℤ → ℕ
-natural (pos n) = n
-natural (negsuc n) = 0
 
 -- the state in which a session begins, with its first own message id
 abbrev pub first_state : Config → ℕ → ℤ → State
@@ -44,7 +51,17 @@ first_state config number first_id = record {
   next_id = natural first_id;
   accepted = [];
   formats = [];
-  transaction = None;
+  limit = 16777216;
+  blobs = 0;
+  stage = None;
+  joiner = None;
+  opens = [];
+  subs = nothing;
   pending = None;
   out = [];
 }
+
+-- the subscriptions of a session that has had none to keep
+abbrev pub subbed : Option Subbed → Subbed
+subbed None = nothing
+subbed (Some v) = v

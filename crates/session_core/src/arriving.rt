@@ -1,6 +1,6 @@
 //! What arrives: a message, or why there is none.
 ghost use Rattle.std.specs.Prelude.{◌≡◌, IfOk, OnOk};
-ghost use Rattle.session_core.specs.Arriving.{IsFault, arrived_message, error_event, follows, message_event, refused_event};
+ghost use Rattle.session_core.specs.Arriving.{IsFault, arrived_message, error_event, follows, message_event, refused_event, request_of};
 
 use crate::state::{Arrived, Request};
 use etp_frame::{FrameError, Header, Message, read_message};
@@ -24,7 +24,7 @@ pub(crate) fn arrived_message(
         return Ok(Arrived::Unreadable(ErrorCode::SizeExceeded));
     }
     match read_message(alloc, bytes, Side::Client) {
-        Ok((header, message)) => Ok(message_event(last_id, moment, &header, message)),
+        Ok((header, message)) => Ok(message_event(last_id, moment, header, message)),
         Err(error) => {
             let arrived = error_event(last_id, error)?;
             Ok(arrived)
@@ -33,21 +33,34 @@ pub(crate) fn arrived_message(
 }
 
 /// A message that could be read.
-fn message_event(last_id: i64, moment: i64, header: &Header, message: Message) -> Arrived
-    ensures { result ≡ message_event last_id moment header.now message }
+fn message_event(last_id: i64, moment: i64, header: Header, message: Message) -> Arrived
+    ensures { result ≡ message_event last_id moment header message }
 {
-    let request = Request {
-        protocol: header.protocol,
-        id: header.id,
-    };
-    if follows(last_id, request.id) {
-        Arrived::Fresh {
-            request,
+    if follows(last_id, header.id) {
+        return Arrived::Fresh {
+            header,
             moment,
             message,
-        }
-    } else {
-        Arrived::Stale(request)
+        };
+    }
+    stale(&header, message)
+}
+
+/// A message whose id doesn't follow, at whose content nobody looks.
+fn stale(header: &Header, message: Message) -> Arrived
+    ensures { result ≡ Arrived.Stale (request_of header.now) }
+{
+    drop(message);
+    Arrived::Stale(request_of(header))
+}
+
+/// What a refusal or a reply answers.
+pub(crate) fn request_of(header: &Header) -> Request
+    ensures { result ≡ request_of header.now }
+{
+    Request {
+        protocol: header.protocol,
+        id: header.id,
     }
 }
 
@@ -90,10 +103,7 @@ fn error_event(last_id: i64, error: FrameError) -> Result<Arrived, NoMemory>
 fn refused_event(last_id: i64, header: &Header, code: ErrorCode) -> Arrived
     ensures { result ≡ refused_event last_id header.now code }
 {
-    let request = Request {
-        protocol: header.protocol,
-        id: header.id,
-    };
+    let request = request_of(header);
     if follows(last_id, request.id) {
         Arrived::Refused { request, code }
     } else {

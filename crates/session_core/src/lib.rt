@@ -15,10 +15,11 @@
 mod arriving;
 mod laws;
 mod outbox;
+mod parting;
 mod replies;
 mod session;
 mod state;
 
 pub use laws::{answer_fits, runs, steps};
 pub use session::Session;
-pub use state::{Arrived, End, Live, Outgoing, Pending, Phase, Request, Transaction};
+pub use state::{Addressee, Arrived, End, Live, Outgoing, Part, Pending, Phase, Request, Saying};

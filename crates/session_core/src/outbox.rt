@@ -1,8 +1,8 @@
-//! The messages that are left to send, with their headers.
-ghost use Rattle.std.specs.Prelude.{◌≡◌, ◌++◌, ◌∷◌, [], ◌≤◌, IfOk, OnOk, IfSome};
-ghost use Rattle.session_core.specs.Sending.{IsWritable, common_protocol, core_protocol, first_of, flags_of, is_spent, max_id, next_after, numbered, outgoing, rest_of, sent_under};
+//! What is left to send, in parts with their headers.
+ghost use Rattle.std.specs.Prelude.{◌≡◌, ◌++◌, ◌∷◌, [], ◌≤◌, length, if◌then◌else◌, IfOk, OnOk, IfSome};
+ghost use Rattle.session_core.specs.Sending.{IsWritable, common_protocol, core_protocol, correlation_to, first_of, flags_to, is_reply, is_spent, max_id, next_after, numbered, outgoing, replies_in, rest_of, sent_under};
 
-use crate::state::{Outgoing, Request};
+use crate::state::{Addressee, Outgoing, Part, Request};
 use etp_frame::flags::FINAL_PART;
 use etp_frame::{Header, Message};
 use etp_schema::{is_protocol, protocols};
@@ -19,7 +19,7 @@ pub(crate) const MAX_ID: u64 = 4_611_686_018_427_387_904;
 const OWN_ID_STEP: u64 = 2;
 
 /// Messages to send, first message first. Each has a header that it can be written with.
-#[derive(Debug, Drop)]
+#[derive(Drop)]
 pub(crate) struct Outbox {
     messages: VecDeque<Outgoing>,
 }
@@ -72,28 +72,28 @@ impl Outbox {
         Ok(())
     }
 
-    /// Adds the messages of the reply to a request, each with the next own id. Where the ids end, so does what is added.
+    /// Adds parts of what is said to a request, each with the next own id. Where the ids end, so does what is added.
     pub(crate) fn number(
         &mut self,
         request: &Request,
         next: u64,
-        messages: List<Message>,
+        parts: List<Part>,
     ) -> Result<Ids, NoMemory>
-        ensures messages { OnOk result (self.new ≡ self.old ++ numbered request.now next messages) }
-        ensures next { IfOk result (λ ids. ids.next ≡ next_after next messages) }
-        ensures spent { IfOk result (λ ids. ids.spent ≡ is_spent next messages) }
+        ensures parts { OnOk result (self.new ≡ self.old ++ numbered request.now next parts) }
+        ensures next { IfOk result (λ ids. ids.next ≡ next_after next parts) }
+        ensures spent { IfOk result (λ ids. ids.spent ≡ is_spent next parts) }
     {
         let mut id = next;
-        let mut left = messages.len();
-        for message in messages.into_vec() {
+        let mut left = replies_in(parts.as_slice());
+        for part in parts.into_vec() {
             if id > MAX_ID {
                 return Ok(Ids {
                     next: id,
                     spent: true,
                 });
             }
-            left -= 1;
-            self.push(outgoing(request, id, left, message))?;
+            left -= replies_to(part.to);
+            self.push(outgoing(request, id, left, part))?;
             id += OWN_ID_STEP;
         }
         Ok(Ids {
@@ -103,26 +103,65 @@ impl Outbox {
     }
 }
 
-/// The message with its header, where this own id is the next, and so many messages of the reply are left behind it.
-fn outgoing(request: &Request, id: u64, left: usize, message: Message) -> Outgoing
+/// One for a part that goes to the request.
+fn replies_to(to: Addressee) -> usize
+    ensures { result ≡ (if is_reply to then 1 else 0) }
+{
+    match to {
+        Addressee::Receipt => 0,
+        Addressee::Request => 1,
+        Addressee::Nobody => 0,
+    }
+}
+
+/// How many of the parts go to the request.
+fn replies_in(parts: &[Part]) -> usize
+    ensures is { result ≡ replies_in parts.now }
+    ensures within { result ≤ length parts.now }
+{
+    let mut count = 0;
+    for part in parts {
+        count += replies_to(part.to);
+    }
+    count
+}
+
+/// The part with its header, where this own id is the next, and so many parts of the reply are left behind it.
+fn outgoing(request: &Request, id: u64, left: usize, part: Part) -> Outgoing
     requires { id ≤ max_id }
-    ensures value { result ≡ outgoing request.now id left message }
+    ensures value { result ≡ outgoing request.now id left part }
     ensures writable { IsWritable result }
 {
+    let Part { to, message, last } = part;
     let header = Header {
         protocol: sent_under(request, &message),
         kind: message.kind(),
-        correlation: request.id,
+        correlation: correlation_to(to, request),
         id: id as i64,
-        flags: flags_of(left),
+        flags: flags_to(to, last, left),
     };
     Outgoing { header, message }
 }
 
-fn flags_of(left: usize) -> i32
-    ensures { result ≡ flags_of left }
+fn correlation_to(to: Addressee, request: &Request) -> i64
+    ensures { result ≡ correlation_to to request.now.id }
 {
-    if left == 0 { FINAL_PART } else { 0 }
+    match to {
+        Addressee::Receipt => request.id,
+        Addressee::Request => request.id,
+        Addressee::Nobody => 0,
+    }
+}
+
+fn flags_to(to: Addressee, last: bool, left: usize) -> i32
+    ensures { result ≡ flags_to to last left }
+{
+    let is_final = match to {
+        Addressee::Receipt => false,
+        Addressee::Request => left == 0,
+        Addressee::Nobody => last,
+    };
+    if is_final { FINAL_PART } else { 0 }
 }
 
 /// The protocol under which a message goes that answers this request.

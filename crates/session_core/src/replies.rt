@@ -1,11 +1,14 @@
-//! The messages of a reply, among them the exceptions by which a request is refused.
+//! What is said to a request, among it the exceptions by which it is refused.
 ghost use Rattle.std.specs.Prelude.{◌≡◌, IfOk};
-ghost use Rattle.session_core.specs.Replies.{error_info, message_of, messages_of, refusal, refused_keys};
+ghost use Rattle.session_core.specs.Replies.{error_info, receipt, refusal, refused_keys, saying_of, sayings_of, to_request};
 
+use crate::state::{Addressee, Saying};
 use etp_frame::Message;
 use etp_values::{ErrorCode, List, Named, NoMemory, Text};
 use keyed_requests::Sending;
-use msg_core::{CoreMessage, DataspaceMessage, ErrorInfo, ProtocolException};
+use msg_channel::{ChannelDataLoadMessage, ChannelSubscribeMessage};
+use msg_core::{Acknowledge, CoreMessage, DataspaceMessage, ErrorInfo, ProtocolException};
+use msg_store::{DataArrayMessage, StoreMessage};
 use std::alloc::Global;
 
 /// A message of one protocol, as a message of any.
@@ -17,6 +20,46 @@ pub(crate) trait IntoMessage {
 
     fn into_message(self) -> Message
         ensures { result ≡ wrapped self };
+}
+
+impl IntoMessage for StoreMessage {
+    ghost use Rattle.etp_frame.specs.declared.message.Message.TheVariants.{Store};
+
+    ghost wrapped = { λ message. Store message };
+
+    fn into_message(self) -> Message {
+        Message::Store(self)
+    }
+}
+
+impl IntoMessage for DataArrayMessage {
+    ghost use Rattle.etp_frame.specs.declared.message.Message.TheVariants.{DataArray};
+
+    ghost wrapped = { λ message. DataArray message };
+
+    fn into_message(self) -> Message {
+        Message::DataArray(self)
+    }
+}
+
+impl IntoMessage for ChannelSubscribeMessage {
+    ghost use Rattle.etp_frame.specs.declared.message.Message.TheVariants.{ChannelSubscribe};
+
+    ghost wrapped = { λ message. ChannelSubscribe message };
+
+    fn into_message(self) -> Message {
+        Message::ChannelSubscribe(self)
+    }
+}
+
+impl IntoMessage for ChannelDataLoadMessage {
+    ghost use Rattle.etp_frame.specs.declared.message.Message.TheVariants.{ChannelDataLoad};
+
+    ghost wrapped = { λ message. ChannelDataLoad message };
+
+    fn into_message(self) -> Message {
+        Message::ChannelDataLoad(self)
+    }
 }
 
 impl IntoMessage for DataspaceMessage {
@@ -64,27 +107,52 @@ fn refused_keys(alloc: Global, keys: Named<ErrorCode>) -> Result<Message, NoMemo
     })))
 }
 
-fn message_of<M: IntoMessage>(alloc: Global, sending: Sending<M>) -> Result<Message, NoMemory>
-    ensures { IfOk result (λ message. message ≡ message_of M.wrapped sending) }
+/// What a protocol sends, with whom it is for.
+fn saying_of<M: IntoMessage>(alloc: Global, sending: Sending<M>) -> Result<Saying, NoMemory>
+    ensures { IfOk result (λ saying. saying ≡ saying_of M.wrapped sending) }
 {
     match sending {
-        Sending::Reply(message) => Ok(message.into_message()),
-        Sending::Refusal(code) => refusal(alloc, code),
-        Sending::RefusedKeys(keys) => refused_keys(alloc, keys),
+        Sending::Reply(message) => Ok(to_request(message.into_message())),
+        Sending::Refusal(code) => Ok(to_request(refusal(alloc, code)?)),
+        Sending::RefusedKeys(keys) => Ok(to_request(refused_keys(alloc, keys)?)),
+        Sending::Notice(message) => Ok(Saying {
+            to: Addressee::Nobody,
+            message: message.into_message(),
+        }),
     }
 }
 
-/// The messages by which a protocol answers a request.
-pub(crate) fn messages_of<M: IntoMessage + Drop>(
+/// A message of a reply.
+pub(crate) fn to_request(message: Message) -> Saying
+    ensures { result ≡ to_request message }
+{
+    Saying {
+        to: Addressee::Request,
+        message,
+    }
+}
+
+/// The message by which the receipt of another is acknowledged.
+pub(crate) fn receipt() -> Saying
+    ensures { result ≡ receipt }
+{
+    Saying {
+        to: Addressee::Receipt,
+        message: Message::Core(CoreMessage::Acknowledge(Acknowledge)),
+    }
+}
+
+/// What a protocol answers a request, and tells behind it.
+pub(crate) fn sayings_of<M: IntoMessage + Drop>(
     alloc: Global,
     sendings: List<Sending<M>>,
-) -> Result<List<Message>, NoMemory>
-    ensures { IfOk result (λ messages. messages ≡ messages_of M.wrapped sendings) }
+) -> Result<List<Saying>, NoMemory>
+    ensures { IfOk result (λ sayings. sayings ≡ sayings_of M.wrapped sendings) }
 {
-    let mut messages = Vec::new(alloc);
+    let mut sayings = Vec::new(alloc);
     for sending in sendings.into_vec() {
-        let message = message_of(alloc, sending)?;
-        messages.push(message)?;
+        let saying = saying_of(alloc, sending)?;
+        sayings.push(saying)?;
     }
-    Ok(List::from_vec(messages))
+    Ok(List::from_vec(sayings))
 }

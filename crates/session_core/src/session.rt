@@ -1,36 +1,43 @@
 //! The session of one client.
-ghost use Rattle.std.specs.List.{list_any};
-ghost use Rattle.std.specs.Ordering.{int_eq};
-ghost use Rattle.std.specs.Prelude.{◌≡◌, ◌∷◌, [], pos, IfOk, IfSome, OnOk, ◌≤ℤ◌, int_rem, Some, None};
-ghost use Rattle.session_core.specs.Arriving.{Receives, Polls};
-ghost use Rattle.session_core.specs.Machine.{by_event, by_phase, on_core, on_dataspaces, on_message, on_ping, on_protocol, on_request_session, on_row, opened, protocol_refusal, refuses, replies_one};
+ghost use Rattle.std.specs.Prelude.{◌≡◌, pos, None, IfOk, IfSome, OnOk, ◌≤ℤ◌, int_rem};
+ghost use Rattle.channel_rows.specs.Subscriptions.{news_call};
+ghost use Rattle.etp_frame.specs.declared.message.Message.TheVariants as frame;
+ghost use Rattle.session_core.specs.Arriving.{Receives, Polls, request_of};
+ghost use Rattle.session_core.specs.Machine.{accepting, acknowledged, by_event, by_phase, may_acknowledge, on_fresh, on_poll};
 ghost use Rattle.session_core.specs.Run.{Asks, hears, takes};
-ghost use Rattle.session_core.specs.Sending.{IsWritable, max_id, replied};
+ghost use Rattle.session_core.specs.Sending.{IsWritable, max_id};
 ghost use Rattle.session_core.specs.Session.{bytes_of, end_of, next_bytes, sent_one};
 ghost use Rattle.session_core.specs.State.{first_state};
 
-use crate::arriving::arrived_message;
+mod answering;
+mod joining;
+mod opening;
+mod rows;
+mod saying;
+
+use crate::arriving::{arrived_message, request_of};
 use crate::outbox::Outbox;
-use crate::replies::{messages_of, refusal};
-use crate::state::{Arrived, End, Live, Outgoing, Pending, Phase, Request, Transaction};
+use crate::replies::receipt;
+use crate::state::{Arrived, End, Live, Outgoing, Pending, Phase, Request};
 use chan_defs::Config;
-use etp_frame::{Message, write_message};
+use channel_rows::{Opens, SubscribePending, news_call};
+use etp_frame::flags::ACKNOWLEDGE;
+use etp_frame::{Header, Joiner, Message, write_message};
 use etp_values::{Blob, ErrorCode, List, NoMemory};
-use keyed_requests::Outcome;
-use msg_core::{CoreMessage, OpenSession, Pong, RequestSession};
-use session_rows::{
-    DataspaceOutcome, Format, Opening, dataspace_outcome, dataspace_reply, opening_of,
-};
+use msg_core::CoreMessage;
+use session_rows::{Format, PART_LIMIT};
 use std::alloc::Global;
 use std::marker::Model;
 use store_machine::{Answer, StoreCall};
+use subscribe_core::Subs;
+use tx_stage::Stage;
 
 /// A session. Whoever drives it hands in one event at a time by [`take`](Session::take) or [`poll`](Session::poll), has the
 /// store answer the call that comes out, hands the answer in by [`give`](Session::give), and sends what
 /// [`next_out`](Session::next_out) has, before the next event.
 ///
 /// After `NoMemory` the session has failed: no clause says what it holds, and its connection is to be ended.
-#[derive(Debug, Drop)]
+#[derive(Drop)]
 pub struct Session {
     config: Config,
     number: u64,
@@ -39,17 +46,23 @@ pub struct Session {
     next_id: u64,
     accepted: List<i32>,
     formats: List<Format>,
-    transaction: Option<Transaction>,
+    limit: u64,
+    blobs: u64,
+    stage: Option<Stage>,
+    joiner: Joiner,
+    opens: Opens,
+    /// None before the first message of ChannelSubscribe.
+    subs: Option<Subs>,
     pending: Option<Pending>,
     out: Outbox,
 }
 
 impl Model for Session {
-    ghost use Rattle.session_core.specs.State.{State};
+    ghost use Rattle.session_core.specs.State.{State, subbed};
 
     ghost Value = { State };
 
-    ghost view = { λ s. record { config = s.config; number = s.number; phase = s.phase; last_id = s.last_id; next_id = s.next_id; accepted = s.accepted; formats = s.formats; transaction = s.transaction; pending = s.pending; out = s.out } };
+    ghost view = { λ s. record { config = s.config; number = s.number; phase = s.phase; last_id = s.last_id; next_id = s.next_id; accepted = s.accepted; formats = s.formats; limit = s.limit; blobs = s.blobs; stage = s.stage; joiner = s.joiner; opens = s.opens; subs = subbed s.subs; pending = s.pending; out = s.out } };
 }
 
 impl Session {
@@ -73,7 +86,12 @@ impl Session {
             next_id: first_id as u64,
             accepted: List::new(alloc),
             formats: List::new(alloc),
-            transaction: None,
+            limit: PART_LIMIT as u64,
+            blobs: 0,
+            stage: None,
+            joiner: Joiner::new(),
+            opens: Opens::none(alloc),
+            subs: None,
             pending: None,
             out: Outbox::new(alloc),
         })
@@ -96,14 +114,15 @@ impl Session {
         self.by_phase(alloc, arrived)
     }
 
-    /// A poll, with the length of the store's journal.
+    /// A poll, with the length of the store's journal. The store is asked for News where there is a subscription and the journal is
+    /// longer than what was told of.
     #[tactic(auto, unfolding(crate::specs::Run::takes))]
     pub fn poll(&mut self, alloc: Global, front: u64) -> Result<Option<StoreCall>, NoMemory>
         ensures call { IfOk result (λ call. call ≡ (takes self.old (Polls front)).call) }
         ensures state { OnOk result (self.new ≡ (takes self.old (Polls front)).state) }
         ensures asks { IfOk result (λ call. IfSome call (Asks self.old)) }
     {
-        self.by_phase(alloc, Arrived::Polled)
+        self.by_phase(alloc, Arrived::Polled(front))
     }
 
     /// The store's answer to the call in hand.
@@ -111,15 +130,8 @@ impl Session {
     pub fn give(&mut self, alloc: Global, answer: Answer) -> Result<(), NoMemory>
         ensures { OnOk result (self.new ≡ hears self.old answer) }
     {
-        match self.pending.take() {
-            None => Ok(()),
-            Some(Pending::Dataspaces { request, pending }) => {
-                let Answer { mark: _, reply } = answer;
-                let sendings = dataspace_reply(alloc, pending, reply)?;
-                let messages = messages_of(alloc, sendings)?;
-                self.reply(&request, messages)
-            }
-        }
+        let pending = self.pending.take();
+        self.give_to(alloc, pending, answer)
     }
 
     /// The bytes of the next message to send, which is then taken as sent; none where nothing is left.
@@ -179,250 +191,100 @@ impl Session {
                 Ok(None)
             }
             Arrived::Fresh {
-                request,
+                header,
                 moment,
                 message,
-            } => {
-                let Request { id, .. } = request;
-                self.last_id = id;
-                self.on_message(alloc, live, request, moment, message)
-            }
-            Arrived::Polled => Ok(None),
+            } => self.on_arrived(alloc, &header, moment, message),
+            Arrived::Polled(front) => self.on_poll(alloc, front),
         }
     }
 
-    fn on_message(
+    /// A message whose id follows: its receipt is acknowledged, where its sender wants that, and then it is taken.
+    fn on_arrived(
         &mut self,
         alloc: Global,
-        live: Live,
-        request: Request,
+        header: &Header,
         moment: i64,
         message: Message,
     ) -> Result<Option<StoreCall>, NoMemory>
-        ensures call { IfOk result (λ call. call ≡ (on_message live request moment message self.old).call) }
-        ensures state { OnOk result (self.new ≡ (on_message live request moment message self.old).state) }
+        ensures call { let s = acknowledged header.now message (accepting (request_of header.now) self.old) in
+            IfOk result (λ call. call ≡ (on_fresh header.now moment message s).call) }
+        ensures state { let s = acknowledged header.now message (accepting (request_of header.now) self.old) in
+            OnOk result (self.new ≡ (on_fresh header.now moment message s).state) }
     {
-        match message {
-            Message::Core(message) => {
-                self.on_core(alloc, live, &request, moment, message)?;
-                Ok(None)
-            }
-            other => self.on_protocol(alloc, live, request, other),
+        self.last_id = header.id;
+        self.acknowledge(alloc, header, &message)?;
+        match self.phase {
+            Phase::Live(live) => self.on_message(alloc, live, header, moment, message),
+            Phase::Ended(_) => no_call(message),
         }
     }
 
-    /// A message of a protocol other than Core.
-    fn on_protocol(
+    /// Acknowledges the receipt of a message, where its sender wants that.
+    fn acknowledge(
         &mut self,
         alloc: Global,
-        live: Live,
-        request: Request,
-        message: Message,
-    ) -> Result<Option<StoreCall>, NoMemory>
-        ensures call { let why = protocol_refusal live self.old.accepted request.protocol in
-            IfOk result (λ call. call ≡ (on_protocol why request message self.old).call) }
-        ensures state { let why = protocol_refusal live self.old.accepted request.protocol in
-            OnOk result (self.new ≡ (on_protocol why request message self.old).state) }
-    {
-        match protocol_refusal(live, self.accepted.as_slice(), &request) {
-            Some(code) => self.turn_away(alloc, &request, message, code),
-            None => self.on_row(alloc, request, message),
-        }
-    }
-
-    /// A message of an accepted protocol.
-    fn on_row(
-        &mut self,
-        alloc: Global,
-        request: Request,
-        message: Message,
-    ) -> Result<Option<StoreCall>, NoMemory>
-        ensures call { IfOk result (λ call. call ≡ (on_row request message self.old).call) }
-        ensures state { OnOk result (self.new ≡ (on_row request message self.old).state) }
-    {
-        match message {
-            Message::Dataspace(message) => {
-                let outcome = dataspace_outcome(alloc, message, self.transaction.is_some())?;
-                self.on_dataspaces(alloc, request, outcome)
-            }
-            other => self.turn_away(alloc, &request, other, ErrorCode::InvalidMessageType),
-        }
-    }
-
-    fn on_dataspaces(
-        &mut self,
-        alloc: Global,
-        request: Request,
-        outcome: DataspaceOutcome,
-    ) -> Result<Option<StoreCall>, NoMemory>
-        ensures call { IfOk result (λ call. call ≡ (on_dataspaces request outcome self.old).call) }
-        ensures state { OnOk result (self.new ≡ (on_dataspaces request outcome self.old).state) }
-    {
-        match outcome {
-            Outcome::Replies(sendings) => {
-                let messages = messages_of(alloc, sendings)?;
-                self.reply(&request, messages)?;
-                Ok(None)
-            }
-            Outcome::Calls { call, pending } => {
-                self.pending = Some(Pending::Dataspaces { request, pending });
-                Ok(Some(call))
-            }
-        }
-    }
-
-    fn on_core(
-        &mut self,
-        alloc: Global,
-        live: Live,
-        request: &Request,
-        moment: i64,
-        message: CoreMessage,
+        header: &Header,
+        message: &Message,
     ) -> Result<(), NoMemory>
-        ensures { OnOk result (self.new ≡ on_core live request.now moment message self.old) }
+        ensures { OnOk result (self.new ≡ acknowledged header.now message.now self.old) }
     {
-        match message {
-            CoreMessage::RequestSession(message) => {
-                self.on_request_session(alloc, live, request, moment, message)
-            }
-            CoreMessage::OpenSession(_) => {
-                self.refuse(alloc, request, ErrorCode::InvalidMessageType)
-            }
-            CoreMessage::CloseSession(_) => {
-                self.phase = Phase::Ended(End::Closed);
-                Ok(())
-            }
-            CoreMessage::Ping(_) => self.on_ping(alloc, live, request, moment),
-            CoreMessage::Pong(_) => Ok(()),
-            CoreMessage::ProtocolException(_) => Ok(()),
-            CoreMessage::Acknowledge(_) => Ok(()),
-        }
-    }
-
-    fn on_ping(
-        &mut self,
-        alloc: Global,
-        live: Live,
-        request: &Request,
-        moment: i64,
-    ) -> Result<(), NoMemory>
-        ensures { OnOk result (self.new ≡ on_ping live request.now moment self.old) }
-    {
-        match live {
-            Live::Waiting => self.refuse(alloc, request, ErrorCode::InvalidState),
-            Live::Open => {
-                let pong = Pong {
-                    current_date_time: moment,
-                };
-                self.reply_one(alloc, request, Message::Core(CoreMessage::Pong(pong)))
-            }
-        }
-    }
-
-    fn on_request_session(
-        &mut self,
-        alloc: Global,
-        live: Live,
-        request: &Request,
-        moment: i64,
-        message: RequestSession,
-    ) -> Result<(), NoMemory>
-        ensures { OnOk result (self.new ≡ on_request_session live request.now moment message self.old) }
-    {
-        match live {
-            Live::Waiting => {
-                let opening = opening_of(alloc, &self.config, self.number, moment, message)?;
-                self.open(alloc, request, opening)
-            }
-            Live::Open => self.refuse(alloc, request, ErrorCode::InvalidState),
-        }
-    }
-
-    fn open(&mut self, alloc: Global, request: &Request, opening: Opening) -> Result<(), NoMemory>
-        ensures { OnOk result (self.new ≡ opened request.now opening self.old) }
-    {
-        match opening {
-            Opening::Refused(code) => {
-                self.phase = Phase::Ended(End::Refused(code));
-                self.refuse(alloc, request, code)
-            }
-            Opening::Opened {
-                accepted,
-                formats,
-                reply,
-            } => self.open_with(alloc, request, accepted, formats, reply),
-        }
-    }
-
-    fn open_with(
-        &mut self,
-        alloc: Global,
-        request: &Request,
-        accepted: List<i32>,
-        formats: List<Format>,
-        reply: OpenSession,
-    ) -> Result<(), NoMemory>
-        ensures { let opening = Opening.Opened accepted formats reply in
-            OnOk result (self.new ≡ opened request.now opening self.old) }
-    {
-        self.phase = Phase::Live(Live::Open);
-        self.accepted = accepted;
-        self.formats = formats;
-        self.reply_one(
-            alloc,
-            request,
-            Message::Core(CoreMessage::OpenSession(reply)),
-        )
-    }
-
-    /// Refuses a message whole, at whose content nobody looks.
-    fn turn_away(
-        &mut self,
-        alloc: Global,
-        request: &Request,
-        message: Message,
-        code: ErrorCode,
-    ) -> Result<Option<StoreCall>, NoMemory>
-        ensures call { IfOk result (λ call. call ≡ None) }
-        ensures state { OnOk result (self.new ≡ refuses request.now code self.old) }
-    {
-        drop(message);
-        self.refuse(alloc, request, code)?;
-        Ok(None)
-    }
-
-    /// Refuses a message whole.
-    fn refuse(&mut self, alloc: Global, request: &Request, code: ErrorCode) -> Result<(), NoMemory>
-        ensures { OnOk result (self.new ≡ refuses request.now code self.old) }
-    {
-        let message = refusal(alloc, code)?;
-        self.reply_one(alloc, request, message)
-    }
-
-    /// Answers a message by one.
-    fn reply_one(
-        &mut self,
-        alloc: Global,
-        request: &Request,
-        message: Message,
-    ) -> Result<(), NoMemory>
-        ensures { OnOk result (self.new ≡ replies_one request.now message self.old) }
-    {
-        let mut messages = Vec::new(alloc);
-        messages.push(message)?;
-        self.reply(request, List::from_vec(messages))
-    }
-
-    /// Adds the messages of a reply to what is to be sent. Where the own ids end, so does the session.
-    fn reply(&mut self, request: &Request, messages: List<Message>) -> Result<(), NoMemory>
-        ensures { OnOk result (self.new ≡ replied request.now messages self.old) }
-    {
-        let ids = self.out.number(request, self.next_id, messages)?;
-        self.next_id = ids.next;
-        if ids.spent {
-            self.phase = Phase::Ended(End::IdsSpent);
+        if header.has_flag(ACKNOWLEDGE) && may_acknowledge(message) {
+            let mut sayings = Vec::new(alloc);
+            sayings.push(receipt())?;
+            return self.say(alloc, &request_of(header), List::from_vec(sayings));
         }
         Ok(())
+    }
+
+    /// A poll asks the store for News, where there are some.
+    fn on_poll(&mut self, alloc: Global, front: u64) -> Result<Option<StoreCall>, NoMemory>
+        ensures call { let news = news_call self.old.subs front in
+            IfOk result (λ call. call ≡ (on_poll news self.old).call) }
+        ensures state { let news = news_call self.old.subs front in
+            OnOk result (self.new ≡ (on_poll news self.old).state) }
+    {
+        let Some(subs) = &self.subs else {
+            return Ok(None);
+        };
+        let Some(call) = news_call(alloc, subs, front)? else {
+            return Ok(None);
+        };
+        self.pending = Some(Pending::Subscriptions {
+            request: Request { protocol: 0, id: 0 },
+            pending: SubscribePending::News,
+        });
+        Ok(Some(call))
+    }
+}
+
+/// A message that is let go calls for nothing.
+fn no_call(message: Message) -> Result<Option<StoreCall>, NoMemory>
+    ensures { IfOk result (λ call. call ≡ None) }
+{
+    drop(message);
+    Ok(None)
+}
+
+/// What answers nothing is not acknowledged.
+fn may_acknowledge(message: &Message) -> bool
+    ensures { result ≡ may_acknowledge message.now }
+{
+    match message {
+        Message::Core(message) => is_asking(message),
+        _ => true,
+    }
+}
+
+/// Whether a message of Core is none that only answers.
+fn is_asking(message: &CoreMessage) -> bool
+    ensures { result ≡ may_acknowledge (frame.Core message.now) }
+{
+    match message {
+        CoreMessage::Pong(_) => false,
+        CoreMessage::ProtocolException(_) => false,
+        CoreMessage::Acknowledge(_) => false,
+        _ => true,
     }
 }
 
@@ -431,26 +293,4 @@ fn bytes_of(alloc: Global, outgoing: Outgoing) -> Result<Blob, NoMemory>
     ensures { IfOk result (λ bytes. bytes ≡ bytes_of outgoing) }
 {
     write_message(alloc, &outgoing.header, &outgoing.message)
-}
-
-/// Why a message of a protocol other than Core isn't taken, if it isn't.
-fn protocol_refusal(live: Live, accepted: &[i32], request: &Request) -> Option<ErrorCode>
-    ensures { result ≡ protocol_refusal live accepted.now request.now.protocol }
-{
-    match live {
-        Live::Waiting => Some(ErrorCode::InvalidState),
-        Live::Open if is_accepted(accepted, request.protocol) => None,
-        Live::Open => Some(ErrorCode::UnsupportedProtocol),
-    }
-}
-
-fn is_accepted(accepted: &[i32], protocol: i32) -> bool
-    ensures { result ≡ list_any (int_eq protocol) accepted.now }
-{
-    for other in accepted {
-        if protocol == *other {
-            return true;
-        }
-    }
-    false
 }

@@ -1,7 +1,9 @@
 //! What a session is made of.
+use array_rows::ArrayPending;
+use channel_rows::{LoadPending, SubscribePending};
 use etp_frame::{Header, Message};
-use etp_values::{ErrorCode, Id16};
-use session_rows::DataspacePending;
+use etp_values::ErrorCode;
+use session_rows::{DataspacePending, ObjectPending};
 
 /// How a session ended.
 #[derive(Clone, Copy, Debug, PartialEq, Eq, Drop)]
@@ -38,30 +40,67 @@ pub struct Request {
     pub id: i64,
 }
 
-/// An open transaction. No message opens one yet.
-#[derive(Clone, Copy, Debug, PartialEq, Eq, Drop)]
-pub struct Transaction {
-    pub id: Id16,
-}
-
 /// A request that awaits the store's answer, with what its protocol kept of it.
-#[derive(Debug, Drop)]
+#[derive(Drop)]
 pub enum Pending {
     Dataspaces {
         request: Request,
         pending: DataspacePending,
     },
+    Objects {
+        request: Request,
+        pending: ObjectPending,
+    },
+    Arrays {
+        request: Request,
+        pending: ArrayPending,
+    },
+    Loads {
+        request: Request,
+        pending: LoadPending,
+    },
+    /// A request of the ChannelSubscribe protocol, or a poll, whose request has no id.
+    Subscriptions {
+        request: Request,
+        pending: SubscribePending,
+    },
+}
+
+/// Whom a message is for.
+#[derive(Clone, Copy, Debug, PartialEq, Eq, Drop)]
+pub enum Addressee {
+    /// The request, of which it says only that it came.
+    Receipt,
+    /// The request, as part of its reply.
+    Request,
+    /// Nobody who asked: a notice.
+    Nobody,
+}
+
+/// A message that is said, of any size.
+#[derive(Drop)]
+pub struct Saying {
+    pub to: Addressee,
+    pub message: Message,
+}
+
+/// A part of what is said, and whether it is the last one.
+#[derive(Drop)]
+pub struct Part {
+    pub to: Addressee,
+    pub message: Message,
+    pub last: bool,
 }
 
 /// A message to send.
-#[derive(Debug, Drop)]
+#[derive(Drop)]
 pub struct Outgoing {
     pub header: Header,
     pub message: Message,
 }
 
 /// An event at first sight.
-#[derive(Debug, Drop)]
+#[derive(Drop)]
 pub enum Arrived {
     /// A message that is too long or has no header.
     Unreadable(ErrorCode),
@@ -72,12 +111,12 @@ pub enum Arrived {
         request: Request,
         code: ErrorCode,
     },
-    /// A message, with the moment at which it came.
+    /// A message with its header, and the moment at which it came.
     Fresh {
-        request: Request,
+        header: Header,
         moment: i64,
         message: Message,
     },
-    /// A poll.
-    Polled,
+    /// A poll, with the length of the store's journal.
+    Polled(u64),
 }

@@ -1,8 +1,0 @@
--- What is made so far, and what is left, make the whole.
-use Rattle.std.proofs.Common.{◌≡◌, ◌++◌}
-use Rattle.std.specs.Vec.Iter.{into_iter_items}
-use Rattle.session_core.specs.Replies.{messages_of}
-use Rattle.session_core.proofs.replies.messages_of.Given as goal
-
-abbrev pub invariant-loop-sending : goal.invariant-loop-sending
-invariant-loop-sending g l = l.messages.items ++ messages_of g.M.IntoMessage.wrapped (into_iter_items l.sending-iterator) ≡ messages_of g.M.IntoMessage.wrapped l.fn.sendings

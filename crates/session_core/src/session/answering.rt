@@ -1,0 +1,135 @@
+//! The store's answers to a session's calls.
+ghost use Rattle.std.specs.Prelude.{◌≡◌, OnOk};
+ghost use Rattle.array_rows.specs.Arrays.{array_reply};
+ghost use Rattle.channel_rows.specs.Loads.{load_reply};
+ghost use Rattle.channel_rows.specs.Subscriptions.{subscribe_reply};
+ghost use Rattle.session_rows.specs.Objects.{object_reply};
+ghost use Rattle.session_core.specs.Machine.{given_to, on_arrays_answered, on_loaded, on_objects_answered, on_told};
+
+use crate::replies::sayings_of;
+use crate::session::Session;
+use crate::session::rows::taken_subs;
+use crate::state::{Pending, Request};
+use array_rows::{ArrayPending, array_reply};
+use channel_rows::{LoadPending, SubscribePending, load_reply, subscribe_reply};
+use etp_values::NoMemory;
+use request_scope::Answered;
+use session_rows::{ObjectPending, dataspace_reply, object_reply};
+use std::alloc::Global;
+use store_machine::{Answer, Reply};
+
+impl Session {
+    /// The answer is joined with the request that awaits it; where none does, it says nothing.
+    pub(crate) fn give_to(
+        &mut self,
+        alloc: Global,
+        pending: Option<Pending>,
+        answer: Answer,
+    ) -> Result<(), NoMemory>
+        ensures { OnOk result (self.new ≡ given_to pending answer self.old) }
+    {
+        match pending {
+            None => unheard(answer),
+            Some(Pending::Dataspaces { request, pending }) => {
+                let sendings = dataspace_reply(alloc, pending, reply_of(answer))?;
+                let sayings = sayings_of(alloc, sendings)?;
+                self.say(alloc, &request, sayings)
+            }
+            Some(Pending::Objects { request, pending }) => {
+                self.answer_objects(alloc, &request, pending, reply_of(answer))
+            }
+            Some(Pending::Arrays { request, pending }) => {
+                self.answer_arrays(alloc, &request, pending, reply_of(answer))
+            }
+            Some(Pending::Loads { request, pending }) => {
+                self.answer_loads(alloc, &request, pending, reply_of(answer))
+            }
+            Some(Pending::Subscriptions { request, pending }) => {
+                self.answer_subscriptions(alloc, &request, pending, answer)
+            }
+        }
+    }
+
+    fn answer_objects(
+        &mut self,
+        alloc: Global,
+        request: &Request,
+        pending: ObjectPending,
+        reply: Reply,
+    ) -> Result<(), NoMemory>
+        ensures { let answered = object_reply self.old.stage pending reply in
+            OnOk result (self.new ≡ on_objects_answered request.now answered self.old) }
+    {
+        let answered = object_reply(alloc, self.stage.take(), pending, reply)?;
+        let Answered { stage, sendings } = answered;
+        self.stage = stage;
+        let sayings = sayings_of(alloc, sendings)?;
+        self.say(alloc, request, sayings)
+    }
+
+    fn answer_arrays(
+        &mut self,
+        alloc: Global,
+        request: &Request,
+        pending: ArrayPending,
+        reply: Reply,
+    ) -> Result<(), NoMemory>
+        ensures { let answered = array_reply self.old.limit self.old.stage pending reply in
+            OnOk result (self.new ≡ on_arrays_answered request.now answered self.old) }
+    {
+        let answered = array_reply(alloc, self.limit, self.stage.take(), pending, reply)?;
+        let Answered { stage, sendings } = answered;
+        self.stage = stage;
+        let sayings = sayings_of(alloc, sendings)?;
+        self.say(alloc, request, sayings)
+    }
+
+    fn answer_loads(
+        &mut self,
+        alloc: Global,
+        request: &Request,
+        pending: LoadPending,
+        reply: Reply,
+    ) -> Result<(), NoMemory>
+        ensures { let loaded = load_reply self.old.config.channels self.old.opens pending reply in
+            OnOk result (self.new ≡ on_loaded request.now loaded self.old) }
+    {
+        let defs = self.config.channels.get();
+        let sendings = load_reply(alloc, defs, &mut self.opens, pending, reply)?;
+        let sayings = sayings_of(alloc, sendings)?;
+        self.say(alloc, request, sayings)
+    }
+
+    fn answer_subscriptions(
+        &mut self,
+        alloc: Global,
+        request: &Request,
+        pending: SubscribePending,
+        answer: Answer,
+    ) -> Result<(), NoMemory>
+        ensures { let told = subscribe_reply self.old.config.channels self.old.config.lag self.old.subs pending answer in
+            OnOk result (self.new ≡ on_told request.now told self.old) }
+    {
+        let subs = taken_subs(alloc, self.subs.take())?;
+        let defs = self.config.channels.get();
+        let lag = self.config.lag;
+        let (subs, sendings) = subscribe_reply(alloc, defs, lag, subs, pending, answer)?;
+        self.subs = Some(subs);
+        let sayings = sayings_of(alloc, sendings)?;
+        self.say(alloc, request, sayings)
+    }
+}
+
+/// The reply in an answer.
+fn reply_of(answer: Answer) -> Reply
+    ensures { result ≡ answer.reply }
+{
+    let Answer { mark: _, reply } = answer;
+    reply
+}
+
+/// An answer that no request awaits.
+fn unheard(answer: Answer) -> Result<(), NoMemory> {
+    drop(answer);
+    Ok(())
+}

@@ -1,0 +1,273 @@
+//! Messages of the protocols other than Core.
+ghost use Rattle.std.specs.List.{list_any};
+ghost use Rattle.std.specs.Ordering.{int_eq};
+ghost use Rattle.std.specs.Prelude.{◌≡◌, IfOk, OnOk};
+ghost use Rattle.channel_rows.specs.Loads.{load_outcome};
+ghost use Rattle.channel_rows.specs.Subscriptions.{subscribe_request};
+ghost use Rattle.session_core.specs.Arriving.{request_of};
+ghost use Rattle.session_core.specs.Machine.{on_arrays, on_dataspaces, on_loads, on_loads_by, on_message, on_objects, on_protocol, on_row, on_subscriptions, on_subscriptions_by, protocol_refusal};
+ghost use Rattle.session_core.specs.State.{subbed};
+
+use crate::arriving::request_of;
+use crate::replies::sayings_of;
+use crate::session::Session;
+use crate::state::{Live, Pending, Request};
+use array_rows::{ArrayOutcome, array_outcome};
+use channel_rows::{LoadOutcome, SubscribeOutcome, load_outcome, subscribe_outcome};
+use etp_frame::{Header, Message};
+use etp_values::{ErrorCode, NoMemory};
+use keyed_requests::Outcome;
+use msg_channel::{ChannelDataLoadMessage, ChannelSubscribeMessage};
+use session_rows::{DataspaceOutcome, ObjectOutcome, dataspace_outcome};
+use std::alloc::Global;
+use store_machine::StoreCall;
+use subscribe_core::Subs;
+
+impl Session {
+    pub(crate) fn on_message(
+        &mut self,
+        alloc: Global,
+        live: Live,
+        header: &Header,
+        moment: i64,
+        message: Message,
+    ) -> Result<Option<StoreCall>, NoMemory>
+        ensures call { IfOk result (λ call. call ≡ (on_message live header.now moment message self.old).call) }
+        ensures state { OnOk result (self.new ≡ (on_message live header.now moment message self.old).state) }
+    {
+        match message {
+            Message::Core(message) => {
+                self.on_core(alloc, live, &request_of(header), moment, message)?;
+                Ok(None)
+            }
+            other => self.on_protocol(alloc, live, header, moment, other),
+        }
+    }
+
+    /// A message of a protocol other than Core.
+    fn on_protocol(
+        &mut self,
+        alloc: Global,
+        live: Live,
+        header: &Header,
+        moment: i64,
+        message: Message,
+    ) -> Result<Option<StoreCall>, NoMemory>
+        ensures call { let why = protocol_refusal live self.old.accepted header.now.protocol in
+            IfOk result (λ call. call ≡ (on_protocol why header.now moment message self.old).call) }
+        ensures state { let why = protocol_refusal live self.old.accepted header.now.protocol in
+            OnOk result (self.new ≡ (on_protocol why header.now moment message self.old).state) }
+    {
+        match protocol_refusal(live, self.accepted.as_slice(), header.protocol) {
+            Some(code) => self.turn_away(alloc, &request_of(header), message, code),
+            None => self.on_row(alloc, header, moment, message),
+        }
+    }
+
+    /// A message of an accepted protocol.
+    fn on_row(
+        &mut self,
+        alloc: Global,
+        header: &Header,
+        moment: i64,
+        message: Message,
+    ) -> Result<Option<StoreCall>, NoMemory>
+        ensures call { IfOk result (λ call. call ≡ (on_row header.now moment message self.old).call) }
+        ensures state { OnOk result (self.new ≡ (on_row header.now moment message self.old).state) }
+    {
+        let request = request_of(header);
+        match message {
+            Message::Dataspace(message) => {
+                let outcome = dataspace_outcome(alloc, message, self.stage.is_some())?;
+                self.on_dataspaces(alloc, request, outcome)
+            }
+            Message::Store(message) => self.on_store(alloc, header, moment, message),
+            Message::DataArray(message) => {
+                let outcome = array_outcome(alloc, &self.stage, moment, message)?;
+                self.on_arrays(alloc, request, outcome)
+            }
+            Message::ChannelSubscribe(message) => self.on_subscriptions(alloc, request, message),
+            Message::ChannelDataLoad(message) => self.on_loads(alloc, request, moment, message),
+            other => self.turn_away(alloc, &request, other, ErrorCode::InvalidMessageType),
+        }
+    }
+
+    fn on_dataspaces(
+        &mut self,
+        alloc: Global,
+        request: Request,
+        outcome: DataspaceOutcome,
+    ) -> Result<Option<StoreCall>, NoMemory>
+        ensures call { IfOk result (λ call. call ≡ (on_dataspaces request outcome self.old).call) }
+        ensures state { OnOk result (self.new ≡ (on_dataspaces request outcome self.old).state) }
+    {
+        match outcome {
+            Outcome::Replies(sendings) => {
+                let sayings = sayings_of(alloc, sendings)?;
+                self.say(alloc, &request, sayings)?;
+                Ok(None)
+            }
+            Outcome::Calls { call, pending } => {
+                self.pending = Some(Pending::Dataspaces { request, pending });
+                Ok(Some(call))
+            }
+        }
+    }
+
+    pub(crate) fn on_objects(
+        &mut self,
+        alloc: Global,
+        request: Request,
+        outcome: ObjectOutcome,
+    ) -> Result<Option<StoreCall>, NoMemory>
+        ensures call { IfOk result (λ call. call ≡ (on_objects request outcome self.old).call) }
+        ensures state { OnOk result (self.new ≡ (on_objects request outcome self.old).state) }
+    {
+        match outcome {
+            Outcome::Replies(sendings) => {
+                let sayings = sayings_of(alloc, sendings)?;
+                self.say(alloc, &request, sayings)?;
+                Ok(None)
+            }
+            Outcome::Calls { call, pending } => {
+                self.pending = Some(Pending::Objects { request, pending });
+                Ok(Some(call))
+            }
+        }
+    }
+
+    fn on_arrays(
+        &mut self,
+        alloc: Global,
+        request: Request,
+        outcome: ArrayOutcome,
+    ) -> Result<Option<StoreCall>, NoMemory>
+        ensures call { IfOk result (λ call. call ≡ (on_arrays request outcome self.old).call) }
+        ensures state { OnOk result (self.new ≡ (on_arrays request outcome self.old).state) }
+    {
+        match outcome {
+            Outcome::Replies(sendings) => {
+                let sayings = sayings_of(alloc, sendings)?;
+                self.say(alloc, &request, sayings)?;
+                Ok(None)
+            }
+            Outcome::Calls { call, pending } => {
+                self.pending = Some(Pending::Arrays { request, pending });
+                Ok(Some(call))
+            }
+        }
+    }
+
+    /// A message of ChannelDataLoad.
+    fn on_loads(
+        &mut self,
+        alloc: Global,
+        request: Request,
+        moment: i64,
+        message: ChannelDataLoadMessage,
+    ) -> Result<Option<StoreCall>, NoMemory>
+        ensures call { let loading = load_outcome self.old.opens moment message in
+            IfOk result (λ call. call ≡ (on_loads request loading self.old).call) }
+        ensures state { let loading = load_outcome self.old.opens moment message in
+            OnOk result (self.new ≡ (on_loads request loading self.old).state) }
+    {
+        let defs = self.config.channels.get();
+        let outcome = load_outcome(alloc, defs, &mut self.opens, moment, message)?;
+        self.on_loads_by(alloc, request, outcome)
+    }
+
+    fn on_loads_by(
+        &mut self,
+        alloc: Global,
+        request: Request,
+        outcome: LoadOutcome,
+    ) -> Result<Option<StoreCall>, NoMemory>
+        ensures call { IfOk result (λ call. call ≡ (on_loads_by request outcome self.old).call) }
+        ensures state { OnOk result (self.new ≡ (on_loads_by request outcome self.old).state) }
+    {
+        match outcome {
+            Outcome::Replies(sendings) => {
+                let sayings = sayings_of(alloc, sendings)?;
+                self.say(alloc, &request, sayings)?;
+                Ok(None)
+            }
+            Outcome::Calls { call, pending } => {
+                self.pending = Some(Pending::Loads { request, pending });
+                Ok(Some(call))
+            }
+        }
+    }
+
+    /// A message of ChannelSubscribe.
+    fn on_subscriptions(
+        &mut self,
+        alloc: Global,
+        request: Request,
+        message: ChannelSubscribeMessage,
+    ) -> Result<Option<StoreCall>, NoMemory>
+        ensures call { let subscribing = subscribe_request self.old.subs message in
+            IfOk result (λ call. call ≡ (on_subscriptions request subscribing self.old).call) }
+        ensures state { let subscribing = subscribe_request self.old.subs message in
+            OnOk result (self.new ≡ (on_subscriptions request subscribing self.old).state) }
+    {
+        let mut subs = taken_subs(alloc, self.subs.take())?;
+        let defs = self.config.channels.get();
+        let outcome = subscribe_outcome(alloc, defs, &mut subs, message)?;
+        self.subs = Some(subs);
+        self.on_subscriptions_by(alloc, request, outcome)
+    }
+
+    fn on_subscriptions_by(
+        &mut self,
+        alloc: Global,
+        request: Request,
+        outcome: SubscribeOutcome,
+    ) -> Result<Option<StoreCall>, NoMemory>
+        ensures call { IfOk result (λ call. call ≡ (on_subscriptions_by request outcome self.old).call) }
+        ensures state { OnOk result (self.new ≡ (on_subscriptions_by request outcome self.old).state) }
+    {
+        match outcome {
+            Outcome::Replies(sendings) => {
+                let sayings = sayings_of(alloc, sendings)?;
+                self.say(alloc, &request, sayings)?;
+                Ok(None)
+            }
+            Outcome::Calls { call, pending } => {
+                self.pending = Some(Pending::Subscriptions { request, pending });
+                Ok(Some(call))
+            }
+        }
+    }
+}
+
+/// The subscriptions of a session, which has none before the first message of ChannelSubscribe.
+pub(crate) fn taken_subs(alloc: Global, subs: Option<Subs>) -> Result<Subs, NoMemory>
+    ensures { IfOk result (λ v. v ≡ subbed subs) }
+{
+    match subs {
+        Some(subs) => Ok(subs),
+        None => Subs::new(alloc),
+    }
+}
+
+/// Why a message of a protocol other than Core isn't taken, if it isn't.
+fn protocol_refusal(live: Live, accepted: &[i32], protocol: i32) -> Option<ErrorCode>
+    ensures { result ≡ protocol_refusal live accepted.now protocol }
+{
+    match live {
+        Live::Waiting => Some(ErrorCode::InvalidState),
+        Live::Open if is_accepted(accepted, protocol) => None,
+        Live::Open => Some(ErrorCode::UnsupportedProtocol),
+    }
+}
+
+fn is_accepted(accepted: &[i32], protocol: i32) -> bool
+    ensures { result ≡ list_any (int_eq protocol) accepted.now }
+{
+    for other in accepted {
+        if protocol == *other {
+            return true;
+        }
+    }
+    false
+}

@@ -1,0 +1,83 @@
+//! What a session says.
+ghost use Rattle.std.specs.Prelude.{◌≡◌, None, IfOk, OnOk};
+ghost use Rattle.session_core.specs.Machine.{refuses, replies_one};
+ghost use Rattle.session_core.specs.Sending.{said};
+
+use crate::parting::{Parted, parts_of};
+use crate::replies::{refusal, to_request};
+use crate::session::Session;
+use crate::state::{End, Phase, Request, Saying};
+use etp_frame::Message;
+use etp_values::{ErrorCode, List, NoMemory};
+use std::alloc::Global;
+use store_machine::StoreCall;
+
+impl Session {
+    /// Refuses a message whole, at whose content nobody looks.
+    pub(crate) fn turn_away(
+        &mut self,
+        alloc: Global,
+        request: &Request,
+        message: Message,
+        code: ErrorCode,
+    ) -> Result<Option<StoreCall>, NoMemory>
+        ensures call { IfOk result (λ call. call ≡ None) }
+        ensures state { OnOk result (self.new ≡ refuses request.now code self.old) }
+    {
+        drop(message);
+        self.refuse(alloc, request, code)?;
+        Ok(None)
+    }
+
+    /// Refuses a message whole.
+    pub(crate) fn refuse(
+        &mut self,
+        alloc: Global,
+        request: &Request,
+        code: ErrorCode,
+    ) -> Result<(), NoMemory>
+        ensures { OnOk result (self.new ≡ refuses request.now code self.old) }
+    {
+        let message = refusal(alloc, code)?;
+        self.reply_one(alloc, request, message)
+    }
+
+    /// Answers a message by one.
+    pub(crate) fn reply_one(
+        &mut self,
+        alloc: Global,
+        request: &Request,
+        message: Message,
+    ) -> Result<(), NoMemory>
+        ensures { OnOk result (self.new ≡ replies_one request.now message self.old) }
+    {
+        let mut sayings = Vec::new(alloc);
+        sayings.push(to_request(message))?;
+        self.say(alloc, request, List::from_vec(sayings))
+    }
+
+    /// Says this to a request, or unasked: in parts, each with the next own id. Where the ids end, so does the session.
+    pub(crate) fn say(
+        &mut self,
+        alloc: Global,
+        request: &Request,
+        sayings: List<Saying>,
+    ) -> Result<(), NoMemory>
+        ensures { OnOk result (self.new ≡ said request.now sayings self.old) }
+    {
+        let Parted { parts, blobs } = parts_of(
+            alloc,
+            self.limit,
+            self.number,
+            self.blobs,
+            sayings,
+        )?;
+        self.blobs = blobs;
+        let ids = self.out.number(request, self.next_id, parts)?;
+        self.next_id = ids.next;
+        if ids.spent {
+            self.phase = Phase::Ended(End::IdsSpent);
+        }
+        Ok(())
+    }
+}
