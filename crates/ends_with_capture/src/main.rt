@@ -1,9 +1,10 @@
-//! The tool with words that replay a capture whose last frame follows the end of its session. It ends with status 3.
+//! Ends as a program whose capture is refused: with status 3.
 #![tactic(auto)]
 
+use etp_outside::Status;
+use program_status::finish;
 use std::process::ExitCode;
-use tool_forms::run_program;
 
 fn main(rt: HostRuntime) -> ExitCode {
-    run_program(&rt, rt.stderr())
+    finish(rt.alloc(), Status::Capture(8), b"", rt.stderr())
 }

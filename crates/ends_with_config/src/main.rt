@@ -1,9 +1,15 @@
-//! The tool with words that name a configuration that is refused. It ends with status 2.
+//! Ends as a program whose configuration is refused: with status 2.
 #![tactic(auto)]
 
+use etp_outside::Status;
+use program_status::finish;
 use std::process::ExitCode;
-use tool_forms::run_program;
 
 fn main(rt: HostRuntime) -> ExitCode {
-    run_program(&rt, rt.stderr())
+    let status = Status::Config {
+        cause: 3,
+        channel: 0,
+        key: 1,
+    };
+    finish(rt.alloc(), status, b"", rt.stderr())
 }

@@ -1,9 +1,10 @@
-//! The tool with words that name a configuration that is not there. It ends with status 4.
+//! Ends as a program that can't read: with status 4.
 #![tactic(auto)]
 
+use etp_outside::Status;
+use program_status::finish;
 use std::process::ExitCode;
-use tool_forms::run_program;
 
 fn main(rt: HostRuntime) -> ExitCode {
-    run_program(&rt, rt.stderr())
+    finish(rt.alloc(), Status::ReadFault, b"", rt.stderr())
 }

@@ -1,9 +1,15 @@
-//! The tool with words that are in no form. It ends with status 1.
+//! Ends as a program whose words are in no form: with status 1.
 #![tactic(auto)]
 
+use etp_outside::Status;
+use program_status::finish;
 use std::process::ExitCode;
-use tool_forms::run_program;
 
 fn main(rt: HostRuntime) -> ExitCode {
-    run_program(&rt, rt.stderr())
+    finish(
+        rt.alloc(),
+        Status::Usage,
+        b"\nhow it is called\n",
+        rt.stderr(),
+    )
 }

@@ -1,9 +1,12 @@
-//! Prints what the tool tells of each status on standard error.
+//! Prints what a program tells of each status on standard error.
 #![tactic(auto)]
 
 use etp_outside::{Status, StdSink};
+use program_status::tell;
 use std::io;
-use tool_forms::tell;
+
+/// How the program is called.
+const USAGE: &[u8] = b"\nhow it is called\n";
 
 /// A refused configuration.
 fn config(cause: u8) -> Status {
@@ -40,7 +43,7 @@ fn main(rt: HostRuntime) -> io::Result<()> {
     ] {
         let number = status.number();
         println!(rt; "{number}")?;
-        tell(rt.alloc(), status, &mut out);
+        tell(rt.alloc(), status, USAGE, &mut out);
     }
     Ok(())
 }

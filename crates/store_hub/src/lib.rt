@@ -12,8 +12,6 @@ mod error;
 mod hub;
 mod laws;
 mod pass;
-#[cfg(test)]
-mod tests;
 mod tried;
 mod turns;
 

@@ -6,4 +6,3 @@ pub mod LegalLemmas
 pub mod TagRunLemmas
 pub mod Soundness
 pub mod Entering
-pub mod Telling

@@ -1,20 +1,8 @@
--- What a program tells of its status.
-use Rattle.std.specs.Prelude.{ℕ, List, [], ◌++◌, codes, take, Option}
-use Rattle.std.specs.Io.KnownBytes.{Appends}
-use Rattle.etp_outside.specs.Status.{line_of}
+-- What the program tells of its status.
+use Rattle.std.specs.Prelude.{ℕ, List, codes}
+use Rattle.program_status.specs.Told.{told_with}
 use Rattle.etp_outside.specs.declared.status.Status.{Status}
-use Rattle.etp_outside.specs.declared.status.Status.TheVariants.{Done, Usage}
 
--- what follows a status line: a line feed, and where the words are in no form how the tool is called
-abbrev pub ending : Status → List ℕ
-ending Done = []
-ending Usage = codes "\netptool replay CONFIG < CAPTURE > ANSWERS\netptool show < CAPTURE\netptool check < CAPTURE\n"
-ending status = codes "\n"
-
--- the status line and what follows it
+-- the status line and what follows it: where the words are in no form, how the program is called
 abbrev pub told : Status → List ℕ
-told status = line_of status ++ ending status
-
--- a front of a text was written, which may be all of it
-abbrev pub IsTold : List ℕ → Option (List ℕ) → Option (List ℕ) → Type 0
-IsTold text held kept = (count : ℕ) × Appends held kept (take count text)
+told status = told_with (codes "\netptool replay CONFIG < CAPTURE > ANSWERS\netptool show < CAPTURE\netptool check < CAPTURE\n") status

@@ -1,12 +1,11 @@
 //! The tool over the system: its words, files and streams, the status line, and the exit status.
-ghost use Rattle.std.specs.Prelude.{◌≡◌, ◌++◌, OnOk};
-ghost use Rattle.tool_forms.specs.Program.{told, ending, IsTold};
+ghost use Rattle.program_status.specs.Told.{IsTold};
+ghost use Rattle.tool_forms.specs.Program.{told};
 
 use crate::run::run_tool;
-use etp_outside::{DirHost, Sink, Status, StdSink, StdSource, write_all};
-use etp_values::NoMemory;
+use etp_outside::{DirHost, Sink, Status, StdSink, StdSource};
+use program_status::{finish, words};
 use std::alloc::{AllocError, Global};
-use std::env;
 use std::io::{self, BufReader, Write};
 use std::process::ExitCode;
 use std::rt::{Env, Files};
@@ -32,8 +31,7 @@ where
     let kept: Result<Vec<u8>, AllocError> = Vec::with_capacity(alloc, KEPT_MEMORY);
     drop(kept);
     let status = run_words(rt);
-    tell(alloc, status, &mut StdSink::new(errors));
-    ExitCode::from(status.number())
+    finish(alloc, status, USAGE, errors)
 }
 
 /// Runs the tool with the program's words.
@@ -52,72 +50,10 @@ fn run_words<R: AllocGlobal + Env + Files + Input + Print>(rt: &R) -> Status {
     run_tool(alloc, words.as_slice(), &mut host, &mut input, &mut out)
 }
 
-/// The words after the program's name.
-fn words<R: AllocGlobal + Env>(rt: &R) -> Result<Vec<String>, Status> {
-    let args = match env::args(rt) {
-        Ok(args) => args,
-        Err(error) if error.kind() == io::ErrorKind::OutOfMemory => return Err(Status::NoMemory),
-        Err(_) => return Err(Status::Usage),
-    };
-    let mut words = Vec::new(rt.alloc());
-    for word in args.skip(1) {
-        if words.push(word).is_err() {
-            return Err(Status::NoMemory);
-        }
-    }
-    Ok(words)
-}
-
 /// Writes the status line, and behind that of words in no form how the program is called. `Done` has no line. What can't be
 /// written is lost; the line of `NoMemory` needs no memory.
 pub fn tell<W: Sink>(alloc: Global, status: Status, errors: &mut W)
     ensures { IsTold (told status) (W.held errors.old) (W.held errors.new) }
 {
-    match status {
-        Status::NoMemory => return write_front(errors, b"no memory\n"),
-        _ => {}
-    }
-    let mut text = Vec::new(alloc);
-    match push_told(alloc, status, &mut text) {
-        Ok(()) => write_front(errors, text.as_slice()),
-        Err(_) => {}
-    }
-}
-
-/// Writes a piece, or what of its front can be written.
-fn write_front<W: Sink>(errors: &mut W, piece: &[u8])
-    ensures { IsTold piece.now (W.held errors.old) (W.held errors.new) }
-{
-    let _ = write_all(errors, piece);
-}
-
-/// Appends all that is told of a status.
-fn push_told(alloc: Global, status: Status, into: &mut Vec<u8>) -> Result<(), NoMemory>
-    ensures { OnOk result (into.new.items ≡ into.old.items ++ told status) }
-{
-    status.line(alloc, into)?;
-    into.extend_from_slice(ending(status))?;
-    Ok(())
-}
-
-/// What follows a status line.
-fn ending(status: Status) -> &'static [u8]
-    ensures { result.now ≡ ending status }
-{
-    match status {
-        Status::Done => b"",
-        Status::Usage => USAGE,
-        Status::Config { .. }
-        | Status::Capture(_)
-        | Status::ReadFault
-        | Status::WriteFault
-        | Status::NoMemory
-        | Status::ListenFault
-        | Status::Limit
-        | Status::Refused(_)
-        | Status::LinkFault
-        | Status::Peer
-        | Status::Input(_)
-        | Status::Stopped => b"\n",
-    }
+    program_status::tell(alloc, status, USAGE, errors);
 }

@@ -15,7 +15,7 @@ pub enum Ending {
 }
 
 /// An open session: one that takes frames.
-#[derive(Debug, Drop)]
+#[derive(Drop)]
 pub struct OpenSession {
     /// The place of its entering in the journal.
     pub number: u64,
@@ -25,7 +25,7 @@ pub struct OpenSession {
 }
 
 /// What a tag has from its first frame on. An open session stands in a box, so that a tag that has ended keeps a few bytes.
-#[derive(Debug, Drop)]
+#[derive(Drop)]
 pub enum TagState {
     /// An open session.
     Open(Boxed<OpenSession>),

@@ -4,7 +4,7 @@ use Rattle.std.specs.Io.KnownBytes.{Appends}
 use Rattle.etp_outside.specs.Whole.{WritesAll}
 use Rattle.etp_outside.specs.declared.whole.Written.{Written}
 use Rattle.etp_outside.specs.declared.whole.Written.TheVariants.{Done, Failed}
-use Rattle.server_forms.specs.Program.{IsTold}
+use Rattle.program_status.specs.Told.{IsTold}
 
 -- writing a piece writes all of it, or a front
 pub front_written : (w : Written) (piece : List ℕ) (a b : Option (List ℕ)) → WritesAll w piece a b → IsTold piece a b
