@@ -1,4 +1,4 @@
-//! Tests of what touches the outside, and of what is read from there.
+//! Tests of what touches the outside, and of what is read from there, where no program shows it.
 #![tactic(auto)]
 
 #[cfg(test)]
@@ -6,10 +6,4 @@ mod adapters;
 #[cfg(test)]
 mod captures;
 #[cfg(test)]
-mod definitions;
-#[cfg(test)]
-mod peers;
-#[cfg(test)]
 mod settings;
-#[cfg(test)]
-mod words;

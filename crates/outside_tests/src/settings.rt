@@ -1,27 +1,25 @@
-//! Files that have a configuration, and files that have none.
-use chan_defs::{Config, MAX_DEFS_LEN};
+//! Files that have a configuration, and files that have none. What is refused in a configuration is shown by the program
+//! `tool_cases`.
+use chan_defs::{Config, DefsError, MAX_DEFS_LEN, ValueKind};
 use config_file::read_config;
 use etp_outside::{MemFile, MemHost, Status};
-use etp_values::{Blob, List, NoMemory, Text};
+use etp_values::{Blob, Copied, List, NoMemory, Text};
 use std::alloc::Global;
 use std::process::Abort;
 use std::test::Fail;
 
+const WITH_CHANNEL: &[u8] =
+    b"instance = \"00000000-0000-0000-0000-000000000001\"\nname = \"rig\"\n[[channel]]\nuri = \"eml:///witsml21.Channel(00000000-0000-0000-0000-000000000001)\"\nname = \"c1\"\nkind = \"long\"\n";
+
 /// Reads the configuration `wd` from a host whose only file has this name and content, and fails at a read of its own.
-fn read(
-    alloc: Global,
-    name: &str,
-    content: &[u8],
-    fails: &[u64],
-) -> Result<Result<Config, Status>, NoMemory> {
+fn read(alloc: Global, content: &[u8], fails: &[u64]) -> Result<Result<Config, Status>, NoMemory> {
     let mut files = Vec::new(alloc);
     files.push(MemFile {
-        name: Text::copy(alloc, name)?,
+        name: Text::copy(alloc, "wd")?,
         content: Blob::copy(alloc, content)?,
         fails: List::from_vec(fails.to_vec(alloc)?),
     })?;
-    let none = List::from_vec(Vec::new(alloc));
-    let mut host = MemHost::new(List::from_vec(files), none);
+    let mut host = MemHost::new(List::from_vec(files), List::new(alloc));
     Ok(read_config(alloc, &mut host, "wd"))
 }
 
@@ -29,25 +27,13 @@ fn read(
 fn refuses(
     rt: &impl Abort,
     alloc: Global,
-    name: &str,
     content: &[u8],
     fails: &[u64],
     expected: Status,
 ) -> Result<(), NoMemory> {
-    match read(alloc, name, content, fails)? {
-        Ok(_) => assert!(rt; false, "{expected:?}"),
-        Err(status) => assert!(rt; status == expected, "{status:?}"),
-    }
-    Ok(())
-}
-
-#[test]
-fn reads_the_configuration_of_a_file(rt: HostRuntime) -> Result<(), Fail> {
-    let alloc = rt.alloc();
-    let text = b"instance = \"00000000-0000-0000-0000-000000000001\"\nname = \"rig\"\n";
-    match read(alloc, "wd", text, &[])? {
-        Ok(config) => assert!(rt; config.name.as_str() == "rig"),
-        Err(status) => assert!(rt; false, "{status:?}"),
+    match read(alloc, content, fails)? {
+        Ok(_) => assert!(rt; false),
+        Err(status) => assert!(rt; status == expected),
     }
     Ok(())
 }
@@ -60,15 +46,38 @@ fn tells_why_there_is_no_configuration(rt: HostRuntime) -> Result<(), Fail> {
         channel: 0,
         key: 0,
     };
-    let no_instance = Status::Config {
-        cause: 3,
-        channel: 0,
-        key: 1,
-    };
     let spaces = vec![in alloc; b' '; MAX_DEFS_LEN + 1]?;
-    refuses(&rt, alloc, "wd", spaces.as_slice(), &[], too_long)?;
-    refuses(&rt, alloc, "wd", b"name = \"rig\"\n", &[], no_instance)?;
-    refuses(&rt, alloc, "other", b"", &[], Status::ReadFault)?;
-    refuses(&rt, alloc, "wd", b"", &[1], Status::ReadFault)?;
+    refuses(&rt, alloc, spaces.as_slice(), &[], too_long)?;
+    refuses(&rt, alloc, b"", &[1], Status::ReadFault)?;
+    Ok(())
+}
+
+fn shows(rt: &impl Abort, config: &Config) {
+    assert!(rt; config.instance.as_bytes()[15] == 1 && config.name.as_str() == "rig");
+    assert!(rt; config.channels.get().len() == 1);
+    for channel in config.channels.get().as_slice() {
+        assert!(rt; channel.name.as_str() == "c1" && channel.uom.is_empty());
+        assert!(rt; channel.kind == ValueKind::Long);
+    }
+}
+
+#[test]
+fn reads_and_copies_a_channel(rt: HostRuntime) -> Result<(), Fail> {
+    let alloc = rt.alloc();
+    match read(alloc, WITH_CHANNEL, &[])? {
+        Ok(config) => shows(&rt, &config.copy(alloc)?),
+        Err(_) => assert!(rt; false),
+    }
+    Ok(())
+}
+
+#[test]
+fn a_refusal_has_its_text(rt: HostRuntime) -> Result<(), Fail> {
+    let key = DefsError::Key {
+        channel: 2,
+        key: 10,
+    };
+    let text = key.to_string(rt.alloc())?;
+    assert!(rt; text.as_str() == "key 10 of channel 2 is missing or not in its form");
     Ok(())
 }

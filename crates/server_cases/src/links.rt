@@ -1,0 +1,46 @@
+//! The links of a run.
+use etp_outside::{Item, MemDoor, MemLink};
+use etp_values::{Blob, List, NoMemory};
+use std::alloc::Global;
+
+fn item_of(alloc: Global, word: &str) -> Result<Item, NoMemory> {
+    if word == "-" {
+        return Ok(Item::Idle);
+    }
+    match hex::decode(alloc, word) {
+        Ok(bytes) => Ok(Item::Message(Blob::from_vec(bytes)?)),
+        Err(_) => Err(NoMemory),
+    }
+}
+
+fn items(alloc: Global, words: &str) -> Result<List<Item>, NoMemory> {
+    let mut items = Vec::new(alloc);
+    for word in words.split(',') {
+        items.push(item_of(alloc, word)?)?;
+    }
+    Ok(List::from_vec(items))
+}
+
+/// A list of one number, which a word spells.
+fn only(alloc: Global, word: &str) -> Result<List<u64>, NoMemory> {
+    let mut numbers = Vec::new(alloc);
+    numbers.push(word.parse::<u64>().unwrap_or(0))?;
+    Ok(List::from_vec(numbers))
+}
+
+fn link(alloc: Global, word: &str) -> Result<MemLink, NoMemory> {
+    let (fails, coming) = match word.split_once(':') {
+        Some((fails, coming)) => (fails, coming),
+        None => ("0", word),
+    };
+    Ok(MemLink::new(alloc, items(alloc, coming)?, only(alloc, fails)?))
+}
+
+/// A listener that gives the links of these words.
+pub(crate) fn door_of(alloc: Global, words: &[&str]) -> Result<MemDoor, NoMemory> {
+    let mut links = Vec::new(alloc);
+    for word in words {
+        links.push(link(alloc, word)?)?;
+    }
+    MemDoor::new(alloc, List::from_vec(links), List::new(alloc))
+}
