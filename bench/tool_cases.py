@@ -3,27 +3,28 @@
 
     python3 tool_cases.py ../crates/tool_cases
 
-Messages are written by the schema of `wire.py` alone, and what answers them was worked out from the rules, case by case.
+Messages are written by the schema of `wire.py` alone, and what answers them was worked out from the rules, case by case. The captures
+of `session_cases.py` are answered by the server of `sessions.py`, those of `row_samples.py` by its own, and those of `row_captures.py`
+have their answers beside them.
 """
 import pathlib
 import sys
 import uuid
 
+import row_captures
+import row_samples
+import session_cases
 import wire
+from sessions import INSTANCE, TEXTS
 
-INSTANCE = uuid.UUID(int=1)
 HEAD = f'instance = "{INSTANCE}"\nname = "wd"\n'
 CHANNEL = '[[channel]]\nuri = "eml:///witsml21.Channel({})"\nname = "c"\nkind = "long"\n'
 CONFIGS = {
     "server.toml": HEAD + CHANNEL.format(uuid.UUID(int=0)) + CHANNEL.format(uuid.UUID(int=1)),
     "three_entries.toml": "journal = 3\n" + HEAD,
+    "types.toml": HEAD + 'types = ["witsml21.Well", "eml23.*"]\n',
     "no_instance.toml": 'name = "wd"\n',
     "one_uri_twice.toml": HEAD + CHANNEL.format(uuid.UUID(int=0)) * 2,
-}
-TEXTS = {
-    2: "no supported protocols", 3: "invalid message type", 4: "unsupported protocol", 5: "invalid argument", 6: "request denied",
-    8: "invalid state", 9: "invalid URI", 11: "not found", 12: "limit exceeded", 13: "compression not supported",
-    17: "size exceeded", 19: "invalid message", 21: "no supported formats",
 }
 
 
@@ -111,13 +112,26 @@ class Cases:
 
     def add(self, name, words, bytes_in, outcomes, cut=0, read=0, write=0):
         """A case; `outcomes` has what is written and the status line for the capture and then for each of its fronts."""
-        assert self.files.setdefault(name, bytes_in) == bytes_in
+        self.add_line(self.file(name, bytes_in), words, outcomes, cut, read, write)
+
+    def file(self, name, content):
+        assert self.files.setdefault(name, content) == content
+        return name
+
+    def add_line(self, name, words, outcomes, cut=0, read=0, write=0):
         line = " ".join([str(cut), str(read), str(write), name, *words.split()])
         self.lines.append(line)
         self.answers.append(f"# {line}\n".encode() + b"".join(shown(*outcome) for outcome in outcomes))
 
     def replay(self, name, bytes_in, bytes_out, status="", config="server.toml"):
         self.add(name, f"replay {config}", bytes_in, [(bytes_out, status)])
+
+    def play(self, script):
+        """A capture of `session_cases.py`, whose long runs of zeros are numbers between the names of its files."""
+        name, pieces = script.__name__, (script := script()).pieces()
+        parts = [f"{name}_{place // 2 + 1}.cap" if place else f"{name}.cap" for place in range(len(pieces))]
+        words = [str(piece) if isinstance(piece, int) else self.file(part, piece) for part, piece in zip(parts, pieces)]
+        self.add_line("+".join(words), f"replay {script.config}", [script.answer()])
 
     def write(self, folder):
         (folder / "data").mkdir(exist_ok=True)
@@ -165,6 +179,74 @@ def add_beginnings(cases):
     cases.replay("no_frame.cap", wire.MAGIC, b"", "read fault", "absent.toml")
     for words in ("", "replay", "replay -c", "replay server.toml server.toml", "show -x", "show x", "check x", "Show", "-"):
         cases.add("no_frame.cap", words, wire.MAGIC, [(b"", "usage")])
+
+
+def add_configs(cases):
+    """Configurations that are taken, and one for each cause that refuses one."""
+    channel = CHANNEL.format(uuid.UUID(int=1))
+    uri = 'uri = "eml:///a10.B(00000000-0000-0000-0000-000000000002)"\n'
+    second = lambda keys: HEAD + channel + "[[channel]]\n" + keys
+    key = lambda number, channel=0: f"key {number} of channel {channel}"
+    rows = [
+        ("unknown_key", HEAD + "other = 3\n", None),
+        ("least", HEAD + "lag = 1\njournal = 2\n", None),
+        ("greatest", HEAD + "lag = 65536\njournal = 4194304\n" + CHANNEL.format(uuid.UUID(int=1)) + 'uom = "m"\n', None),
+        ("no_instance_first", "name = 1", key(1)),
+        ("no_toml", "name =", "toml"),
+        ("empty_name", f'instance = "{{{INSTANCE}}}"\nname = ""\n', key(2)),
+        ("no_lag", HEAD + "lag = 0\n", key(3)),
+        ("great_lag", HEAD + "lag = 65537\n", key(3)),
+        ("negative_lag", HEAD + "lag = -1\n", key(3)),
+        ("text_lag", HEAD + 'lag = "1"\n', key(3)),
+        ("short_journal", HEAD + "journal = 1\n", key(4)),
+        ("great_journal", HEAD + "journal = 4194305\n", key(4)),
+        ("text_types", HEAD + 'types = "witsml21.*"\n', key(5)),
+        ("wrong_type", HEAD + 'types = ["witsml21"]\n', key(5)),
+        ("number_type", HEAD + 'types = ["witsml21.*", 3]\n', key(5)),
+        ("number_channel", HEAD + "channel = 3\n", key(6)),
+        ("number_channels", HEAD + "channel = [3]\n", key(6)),
+        ("no_uri", second(""), key(7, 2)),
+        ("space_uri", second('uri = "eml:///"\n'), "uri of channel 2"),
+        ("wrong_uri", second('uri = "eml:/x"\n'), "uri of channel 2"),
+        ("no_name", second(uri), key(8, 2)),
+        ("no_kind", second(uri + 'name = "n"\n'), key(9, 2)),
+        ("wrong_kind", second(uri + 'name = "n"\nkind = "Long"\n'), "kind of channel 2"),
+        ("number_uom", second(uri + 'name = "n"\nkind = "bytes"\nuom = 1\n'), key(10, 2)),
+        ("many_channels", HEAD + "[[channel]]\n" * 4_097, "too many"),
+    ]
+    for name, text, cause in rows:
+        config = cases.file(f"{name}.toml", text.encode())
+        told = "" if cause is None else f"config refused: {cause}"
+        cases.replay("no_frame.cap", wire.MAGIC, wire.MAGIC if cause is None else b"", told, config)
+
+
+def add_bad_frames(cases):
+    """Captures of which a frame is none: the first one, or the one behind it."""
+    head = lambda kind, length: wire.FRAME_HEAD.pack(kind, 0, 0, length)
+    rows = [
+        ("kind_4", b"\4"), ("cut_head", b"\1\0"), ("cut_payload", head(1, 2) + b"a"), ("long_message", head(1, 33_554_433)),
+        ("long_reply", head(17, 33_554_433)), ("filled_poll", head(2, 1) + b"a"), ("filled_end", head(3, 1) + b"a"),
+        ("empty_ended", head(19, 0)), ("two_bytes_ended", head(19, 2) + b"ab"),
+    ]
+    for name, content in rows:
+        for file, front in (f"{name}.cap", b""), (f"{name}_later.cap", wire.write_frame(3, 1, 0)):
+            capture_in = wire.MAGIC + front + content
+            cases.add(file, "show", capture_in, [listed_by_wire("show", capture_in)])
+    cases.add("part_of_magic.cap", "check", wire.MAGIC[:7], [(b"", "capture refused at 0")])
+
+
+def add_long_array(cases):
+    """A message with more values than a message may have: an array of as many false ones as there may be values in all."""
+    limit = wire.NODE_LIMIT
+    header = dict(protocol=9, messageType=4, correlationId=0, messageId=2, messageFlags=2)
+    front = wire.Writer().value(wire.HEADER, header)
+    # one array `a` under an empty identifier, without dimensions, of the first kind of items
+    front += b"\2\2a" + b"\0\0" + b"\0" + b"\0" + wire.Writer().number(limit)
+    file = cases.file("long_array.cap", wire.MAGIC + wire.FRAME_HEAD.pack(1, 0, 1, len(front) + limit) + front)
+    # before its items come the body, its map, the record of `a`, its identifier with two texts, its array with the dimensions, and
+    # the items' record, union, record and list
+    line = f"8 body limit {len(front) + limit - 12}\n"
+    cases.add_line(f"{file}+{limit}", "check", [((line + "frames 1 messages 1 refused 1\n").encode(), "refused 1")])
 
 
 def add_sessions(cases):
@@ -268,13 +350,25 @@ def add_listings(cases):
     cases.add("pings.cap", "replay server.toml", pings, [(b"", "write fault")], write=1)
 
 
+def add_rows(cases):
+    """Requests on dataspaces, objects, arrays and channels."""
+    for name, config, bytes_in, bytes_out in [*row_captures.cases(), *row_samples.cases()]:
+        cases.replay(f"{name}.cap", bytes_in, bytes_out, config=cases.file(f"{config[0]}.toml", config[1].encode()))
+
+
 def main():
     cases = Cases()
     add_beginnings(cases)
+    add_configs(cases)
     add_sessions(cases)
     add_refusals(cases)
     add_limits(cases)
     add_listings(cases)
+    add_bad_frames(cases)
+    add_long_array(cases)
+    for script in session_cases.SCRIPTS:
+        cases.play(script)
+    add_rows(cases)
     cases.write(pathlib.Path(sys.argv[1]))
 
 

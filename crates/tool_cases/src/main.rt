@@ -1,10 +1,14 @@
 //! Runs the tool on cases, and prints what it wrote and how it ended.
 //!
-//! A line of the input is a case, `CUT READ WRITE CAPTURE WORD..`: the words are those of the tool, the file CAPTURE is its input,
-//! which gives one byte at a time, and its output stands in memory. The read of number READ fails and the write of number WRITE,
-//! where they are not 0. The tool is run on the capture and on each of its fronts that is up to CUT bytes shorter. The cases and
-//! what is expected of them were made by a program that shares nothing with this one (`bench/tool_cases.py`).
+//! A line of the input is a case, `CUT READ WRITE CAPTURE WORD..`: the words are those of the tool, CAPTURE is its input, and its
+//! output stands in memory. CAPTURE is the name of a file, or several parts with a `+` between them, of which a number is so many
+//! zeros. The input gives one byte at a time, and one of more than 65,536 bytes so many. The read of number READ fails and the
+//! write of number WRITE, where they are not 0. The tool is run on the capture and on each of its fronts that is up to CUT bytes
+//! shorter. The cases and what is expected of them were made by a program that shares nothing with this one
+//! (`bench/tool_cases.py`).
 #![tactic(auto)]
+
+ghost use Rattle.std.specs.Prelude.{◌<◌};
 
 use etp_outside::{DirHost, MemSink, MemSource, Status, StdSink};
 use etp_values::{Blob, List, NoMemory};
@@ -29,6 +33,13 @@ fn only(alloc: Global, number: u64) -> Result<List<u64>, NoMemory> {
     Ok(List::from_vec(numbers))
 }
 
+/// How many bytes an input of so many gives at a time.
+fn at_a_time(len: usize) -> usize
+    ensures { 0 < result }
+{
+    if len > 65_536 { 65_536 } else { 1 }
+}
+
 /// Runs the tool on a capture, and prints how that ended.
 fn run_case(
     rt: &HostRuntime,
@@ -38,7 +49,8 @@ fn run_case(
 ) -> Result<(Status, MemSink), NoMemory> {
     let alloc = rt.alloc();
     let bytes = Blob::copy(alloc, capture)?;
-    let mut input = MemSource::in_pieces(bytes, only(alloc, faults.read)?, 1);
+    let most = at_a_time(capture.len());
+    let mut input = MemSource::in_pieces(bytes, only(alloc, faults.read)?, most);
     let mut out = MemSink::new(Vec::new(alloc), only(alloc, faults.write)?);
     let mut host = DirHost::new(rt);
     let status = run_tool(alloc, words, &mut host, &mut input, &mut out);
@@ -63,6 +75,22 @@ fn print_case(
     }
 }
 
+/// The bytes of a part of a capture: so many zeros for a number, else those of a file.
+fn read_part(rt: &HostRuntime, part: &str) -> io::Result<Vec<u8>> {
+    match part.parse::<u32>() {
+        Ok(count) => Ok(vec![in rt.alloc(); 0u8; count as usize]?),
+        Err(_) => fs::read(rt, part),
+    }
+}
+
+fn read_capture(rt: &HostRuntime, parts: &str) -> io::Result<Vec<u8>> {
+    let mut capture = Vec::new(rt.alloc());
+    for part in parts.split('+') {
+        capture.extend_from_slice(read_part(rt, part)?.as_slice())?;
+    }
+    Ok(capture)
+}
+
 /// The number that a word spells, or 0.
 fn number_in(word: &String) -> u64 {
     word.as_str().parse::<u64>().unwrap_or(0)
@@ -75,14 +103,14 @@ fn run_line(rt: &HostRuntime, line: &str) -> io::Result<()> {
     for word in line.split(' ') {
         words.push(String::from_str(rt.alloc(), word)?)?;
     }
-    let [cut, read, write, name, rest @ ..] = words.as_slice() else {
+    let [cut, read, write, parts, rest @ ..] = words.as_slice() else {
         return println!(rt; "no case");
     };
     let faults = Faults {
         read: number_in(read),
         write: number_in(write),
     };
-    let capture = fs::read(rt, name.as_str())?;
+    let capture = read_capture(rt, parts.as_str())?;
     let cut = number_in(cut).min(capture.len() as u64) as usize;
     for less in 0..=cut {
         print_case(

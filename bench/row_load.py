@@ -1,0 +1,120 @@
+#!/usr/bin/env python3
+"""Captures for `etptool replay` that are measured, and their configuration.
+
+    python3 row_load.py config > row_load.toml
+    python3 row_load.py objects > FILE              1,000 objects of 60 KB are put one by one, and then got one by one
+    python3 row_load.py arrays > FILE               an array of 4,194,304 doubles is made, patched and then read by slices of 65,536
+    python3 row_load.py points SIZE SUBSCRIBERS > FILE
+                                                    a million points of eight channels are loaded, SIZE a message, while so many
+                                                    other sessions are told of them, polled once in a while
+"""
+import sys
+import uuid
+
+import wire
+
+VERSION = dict(major=1, minor=2, revision=0, patch=0)
+POINTS = 1_000_000
+CHANNELS = 8
+
+
+def well():
+    return f"eml:///witsml21.Well({uuid.UUID(int=1)})"
+
+
+def channel(number):
+    return f"eml:///witsml21.Channel({uuid.UUID(int=number)})"
+
+
+class Client:
+    """Writes the frames of a tag, each message with the next even id."""
+
+    def __init__(self, tag=0):
+        self.tag, self.id, self.moment = tag, 0, 0
+
+    def frame(self, kind, data=b""):
+        self.moment += 1
+        sys.stdout.buffer.write(wire.write_frame(kind, self.tag, self.moment, data))
+
+    def message(self, protocol, kind, value):
+        self.id += 2
+        header = dict(protocol=protocol, messageType=kind, correlationId=0, messageId=self.id, messageFlags=2)
+        self.frame(1, wire.write_message(header, wire.BODIES[protocol, kind, "C"], value))
+
+    def open(self):
+        asked = [dict(protocol=number, protocolVersion=VERSION, role="store", protocolCapabilities={}) for number in (4, 9, 21, 22)]
+        self.message(0, 1, dict(
+            applicationName="bench", applicationVersion="1", clientInstanceId=bytes(16), requestedProtocols=asked, supportedDataObjects=[],
+            supportedCompression=[], supportedFormats=["xml"], currentDateTime=0, earliestRetainedChangeTime=0,
+            serverAuthorizationRequired=False, endpointCapabilities={}))
+
+    def put(self, number, data):
+        resource = dict(
+            uri=f"eml:///witsml21.Well({uuid.UUID(int=number)})", alternateUris=[], name="", sourceCount=(0, None), targetCount=(0, None),
+            lastChanged=0, storeLastWrite=0, storeCreated=0, activeStatus=0, customData={})
+        self.message(4, 2, dict(dataObjects={"k": dict(resource=resource, format="xml", blobId=(0, None), data=data)}, pruneContainedObjects=False))
+
+
+def objects():
+    client = Client()
+    client.open()
+    for number in range(1, 1_001):
+        client.put(number, bytes([number % 256]) * 60_000)
+    for number in range(1, 1_001):
+        client.message(4, 1, dict(uris={"k": f"eml:///witsml21.Well({uuid.UUID(int=number)})"}, format="xml"))
+
+
+def arrays(size=4_194_304, part=65_536):
+    client = Client()
+    client.open()
+    client.put(1, b"")
+    uid = dict(uri=well(), pathInResource="a")
+    client.message(9, 9, dict(dataArrays={"k": dict(uid=uid, metadata=dict(
+        dimensions=[size], preferredSubarrayDimensions=[], transportArrayType=4, logicalArrayType=10, storeLastWrite=0, storeCreated=0,
+        customData={}))}))
+    for start in range(0, size, part):
+        values = (4, dict(values=list(range(start, start + part))))
+        client.message(9, 5, dict(dataSubarrays={"k": dict(uid=uid, data=dict(item=values), starts=[start], counts=[part])}))
+    for start in range(0, size, part):
+        client.message(9, 3, dict(dataSubarrays={"k": dict(uid=uid, starts=[start], counts=[part])}))
+
+
+def points(size, subscribers):
+    rig = Client()
+    rig.open()
+    rig.message(22, 1, dict(uris={f"c{number}": channel(number) for number in range(CHANNELS)}))
+    offices = [Client(tag) for tag in range(1, subscribers + 1)]
+    for office in offices:
+        office.open()
+        asked = dict(startIndex=dict(item=(1, 0)), dataChanges=True, requestLatestIndexCount=(0, None))
+        office.message(21, 3, dict(channels={f"c{number}": dict(channelId=number, **asked) for number in range(CHANNELS)}))
+    every = 1 if size > 1 else 16
+    for count, start in enumerate(range(0, POINTS, size)):
+        items = [
+            dict(channelId=index % CHANNELS, indexes=[dict(item=(1, index))], value=dict(item=(3, index)), valueAttributes=[])
+            for index in range(start, start + size)]
+        rig.message(22, 4, dict(data=items))
+        if count % every == 0:
+            for office in offices:
+                office.frame(2)
+
+
+def main():
+    match sys.argv[1]:
+        case "config":
+            print(f'instance = "{uuid.UUID(int=1)}"\nname = "bench"')
+            for number in range(CHANNELS):
+                print(f'[[channel]]\nuri = "{channel(number)}"\nname = "c{number}"\nkind = "long"')
+        case "objects":
+            sys.stdout.buffer.write(wire.MAGIC)
+            objects()
+        case "arrays":
+            sys.stdout.buffer.write(wire.MAGIC)
+            arrays()
+        case "points":
+            sys.stdout.buffer.write(wire.MAGIC)
+            points(int(sys.argv[2]), int(sys.argv[3]))
+
+
+if __name__ == "__main__":
+    main()
