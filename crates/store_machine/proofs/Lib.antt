@@ -1,5 +1,7 @@
 pub mod Beginning
 pub mod Channeled
+pub mod Committing
+pub mod Conflicts
 pub mod CutLemmas
 pub mod Due
 pub mod DueAt
@@ -7,6 +9,7 @@ pub mod Following
 pub mod Judging
 pub mod Lawful
 pub mod Loading
+pub mod Marked
 pub mod Numbers
 pub mod Places
 pub mod Ranged

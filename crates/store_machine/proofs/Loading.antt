@@ -12,6 +12,7 @@ use Rattle.channel_store.specs.Refusals.{Refuses, verdict, append_refusal, repla
 use Rattle.channel_store.specs.Store.{changed}
 use Rattle.etp_values.specs.declared.code.ErrorCode.{ErrorCode}
 use Rattle.tx_stage.specs.declared.contents.Contents.{Contents}
+use Rattle.store_machine.specs.declared.alterations.Alterations.{Alterations}
 use Rattle.store_machine.specs.declared.call.Reply.TheVariants as replied
 use Rattle.store_machine.specs.declared.call.StoreCall.TheVariants as call
 use Rattle.store_machine.specs.declared.journal.Act.{Act}
@@ -151,34 +152,34 @@ not-empty : {X : Type 0} (xs : List X) → not (length xs == 0) ≡ true → xs 
 not-empty [] some e = false≢true some
 not-empty (x ∷ xs) some e = absurd (cc)
 
-pub keeps-load : (config : Config) (journal : List Entry) (by nth : ℕ) (at : ℤ) (total : ℕ) (t : Contents) (cs cs' : List Channel) (l : Load) → Keeps config journal total t cs → IsNext journal by nth
+pub keeps-load : (config : Config) (journal : List Entry) (by nth : ℕ) (at : ℤ) (total : ℕ) (t : Contents) (cs cs' : List Channel) (a : Alterations) (l : Load) → Keeps config journal total t cs a → IsNext journal by nth
     → adds_entry l ≡ true → None ≡ option_map code_of (load_refusal (channels_of config journal) l) → has_room_for config journal (load_act l) ≡ true → cs' ≡ changed (length journal) at (what_of (load_act l)) cs
-    → Keeps config (journal ++ record { by = by; nth = nth; at = at; act = load_act l } ∷ []) (total + counted_act (load_act l)) t cs'
-keeps-load config journal by nth at total t cs cs' (Append items) k next some e room does =
+    → Keeps config (journal ++ record { by = by; nth = nth; at = at; act = load_act l } ∷ []) (total + counted_act (load_act l)) t cs' a
+keeps-load config journal by nth at total t cs cs' a (Append items) k next some e room does =
     keeps-channels acts.Append (λ xs. all_or_none (append_refusal (channels_of config journal) xs) xs) config journal by nth at (makes-append config journal by nth at next) (λ xs. refl)
-    total t cs cs' items items k (all-kept (append_refusal (channels_of config journal) items) items e) (not-empty items some) room does
-keeps-load config journal by nth at total t cs cs' (Replace channels from to items) k next some e room does =
+    total t cs cs' a items items k (all-kept (append_refusal (channels_of config journal) items) items e) (not-empty items some) room does
+keeps-load config journal by nth at total t cs cs' a (Replace channels from to items) k next some e room does =
     keeps-channels (λ ids. acts.Replace ids from to items) (λ ids. all_or_none (replace_refusal (channels_of config journal) ids from to items) ids) config journal by nth at
     (makes-replace config journal by nth at from to items next) (λ xs. refl)
-    total t cs cs' channels channels k (all-kept (replace_refusal (channels_of config journal) channels from to items) channels e) (not-empty channels some) room does
+    total t cs cs' a channels channels k (all-kept (replace_refusal (channels_of config journal) channels from to items) channels e) (not-empty channels some) room does
 
 -- by how the call ended
-pub load-kept : (config : Config) (journal journal' : List Entry) (by nth : ℕ) (at : ℤ) (total bytes : ℕ) (t : Contents) (cs cs' : List Channel) (l : Load) (r : Option ErrorCode) → Keeps config journal total t cs → IsNext journal by nth
+pub load-kept : (config : Config) (journal journal' : List Entry) (by nth : ℕ) (at : ℤ) (total bytes : ℕ) (t : Contents) (cs cs' : List Channel) (a : Alterations) (l : Load) (r : Option ErrorCode) → Keeps config journal total t cs a → IsNext journal by nth
     → adds_entry l ≡ true → has_room_for config journal (load_act l) ≡ true → bytes ≡ counted journal + counted_act (load_act l) → r ≡ None → r ≡ option_map code_of (load_refusal cs l)
-    → Adds r (record { by = by; nth = nth; at = at; act = load_act l }) journal journal' cs cs' → Keeps config journal' bytes t cs'
-load-kept config journal journal' by nth at total bytes t cs cs' l r k next some room b none e adds =
+    → Adds r (record { by = by; nth = nth; at = at; act = load_act l }) journal journal' cs cs' → Keeps config journal' bytes t cs' a
+load-kept config journal journal' by nth at total bytes t cs cs' a l r k next some room b none e adds =
     let entry : Entry = record { by = by; nth = nth; at = at; act = load_act l } in
     let done = subst (λ (q : Option ErrorCode). Adds q entry journal journal' cs cs') none adds in
     let free : None ≡ option_map code_of (load_refusal (channels_of config journal) l) = sym none ∙ e ∙ ap (λ (c : List Channel). option_map code_of (load_refusal c l)) k.channels in
     let sum : bytes ≡ total + counted_act (load_act l) = b ∙ ap (λ n. n + counted_act (load_act l)) (sym k.bytes) in
-    subst (λ n. Keeps config journal' n t cs') (sym sum)
-    (subst (λ j. Keeps config j (total + counted_act (load_act l)) t cs') (sym done.0) (keeps-load config journal by nth at total t cs cs' l k next some free room done.1))
+    subst (λ n. Keeps config journal' n t cs' a) (sym sum)
+    (subst (λ j. Keeps config j (total + counted_act (load_act l)) t cs' a) (sym done.0) (keeps-load config journal by nth at total t cs cs' a l k next some free room done.1))
 
-pub load-left : (config : Config) (journal journal' : List Entry) (total : ℕ) (t : Contents) (cs cs' : List Channel) (e : Entry) (r : Option ErrorCode) (code : ErrorCode) → Keeps config journal total t cs → r ≡ Some code
-    → Adds r e journal journal' cs cs' → Keeps config journal' total t cs'
-load-left config journal journal' total t cs cs' e r code k some adds =
+pub load-left : (config : Config) (journal journal' : List Entry) (total : ℕ) (t : Contents) (cs cs' : List Channel) (a : Alterations) (e : Entry) (r : Option ErrorCode) (code : ErrorCode) → Keeps config journal total t cs a → r ≡ Some code
+    → Adds r e journal journal' cs cs' → Keeps config journal' total t cs' a
+load-left config journal journal' total t cs cs' a e r code k some adds =
     let kept = subst (λ (q : Option ErrorCode). Adds q e journal journal' cs cs') some adds in
-    keeps-kept config journal journal' total t t cs cs' k kept.0 (λ key. refl) kept.1
+    keeps-kept config journal journal' total t t cs cs' a a k kept.0 (λ key. refl) kept.1 k.marks
 
 -- what the call answers once it is done or refused
 pub load-ended : (config : Config) (history : List Entry) (by nth : ℕ) (at : ℤ) (l : Load) (r : Option ErrorCode) → adds_entry l ≡ true → has_room_for config history (load_act l) ≡ true

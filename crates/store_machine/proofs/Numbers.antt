@@ -1,7 +1,7 @@
 -- Numbers of sessions, the calls that they may make, and the entries that those add.
 use Rattle.std.specs.Prelude.{ℕ, ℤ, pos, Bool, true, false, cond, drop, List, [], ◌∷◌, ◌++◌, ◌≡◌, ◌+◌, ◌≤◌, ◌<◌, ◌==◌, Some, IsSomeAnd, slice_get, length, if◌then◌else◌}
 use Rattle.std.specs.List.{AllByRecursion}
-use Rattle.std.proofs.Common.{ap, sym, ◌∙◌, subst, refl, arith, suc, zero}
+use Rattle.std.proofs.Common.{ap, sym, ◌∙◌, subst, refl, arith, suc, zero, ⊎_elim}
 use Rattle.std.proofs.lemmas.Bool.{false≢true}
 use Rattle.std.proofs.lemmas.Grind.{common_steps}
 use Rattle.chan_defs.specs.declared.config.Config.{Config}
@@ -9,15 +9,17 @@ use Rattle.std.specs.Map.{values_of}
 use Rattle.store_machine.specs.declared.call.StoreCall.{StoreCall}
 use Rattle.store_machine.specs.declared.call.StoreCall.TheVariants as call
 use Rattle.store_machine.specs.declared.journal.Act.{Act}
-use Rattle.store_machine.specs.declared.journal.Act.TheVariants.{Enter, PutSpaces, DropSpaces, Put, Append, Replace, Truncate}
+use Rattle.store_machine.specs.declared.journal.Act.TheVariants.{Enter, PutSpaces, DropSpaces, Put, Commit, Append, Replace, Truncate}
 use Rattle.store_machine.specs.declared.journal.Entry.{Entry}
 use Rattle.store_machine.specs.History.{DropSpace, Operate, set_space, changes_of}
 use Rattle.store_machine.specs.Laws.{IsCallAt, IsEntryOf, IsNumber, OneOrNone, is_enter}
 use Rattle.channel_store.specs.Refusals.{append_refusal, replace_refusal}
 use Rattle.store_machine.specs.Channels.{channels_of}
+use Rattle.store_machine.specs.Clash.{conflict}
 use Rattle.store_machine.specs.Cuts.{cuts_accepted}
 use Rattle.store_machine.specs.Answers.{accepted, all_or_none, act_of, granted, has_room_for, entry, entered, entries_of}
 use Rattle.store_machine.specs.Legal.{own, IsNext, MayAct, MayAsk, LegalFrom, Legal}
+use Rattle.store_machine.proofs.Lawful.{committed}
 
 -- a place at which something stands is below the length
 below_length : {X : Type 0} (P : X → Type 0) (xs : List X) (k : ℕ) → IsSomeAnd (slice_get xs k) P → k < length xs
@@ -89,6 +91,11 @@ entries-of_session config history by nth at call.Enter h = absurd h
 entries-of_session config history by nth at (call.PutSpaces items) h = entered-of_session config history by nth at PutSpaces (accepted (set_space (pos 0)) (changes_of history) (values_of items)) (λ xs. refl)
 entries-of_session config history by nth at (call.DropSpaces items) h = entered-of_session config history by nth at DropSpaces (accepted DropSpace (changes_of history) (values_of items)) (λ xs. refl)
 entries-of_session config history by nth at (call.Put items) h = entered-of_session config history by nth at Put (accepted Operate (changes_of history) (values_of items)) (λ xs. refl)
+entries-of_session config history by nth at (call.Commit staged) h =
+    ⊎_elim (λ none. subst (λ acts. AllByRecursion (IsEntryOf by nth at) (entered config history by nth at acts)) (sym none) tt)
+    (λ one. subst (λ acts. AllByRecursion (IsEntryOf by nth at) (entered config history by nth at acts)) (sym one)
+    (some_or_none (has_room_for config history (Commit staged)) by nth at (entry history by nth at (Commit staged)) (refl, (refl, refl))))
+    (committed (conflict staged.touched history) staged)
 entries-of_session config history by nth at (call.Append items) h = entered-of_session config history by nth at Append (all_or_none (append_refusal (channels_of config history) items) items) (λ xs. refl)
 entries-of_session config history by nth at (call.Replace channels from to items) h =
     entered-of_session config history by nth at (λ ids. Replace ids from to items) (all_or_none (replace_refusal (channels_of config history) channels from to items) channels) (λ xs. refl)
@@ -110,6 +117,10 @@ entries-one config history by nth at call.Enter = one_if (has_room_for config hi
 entries-one config history by nth at (call.PutSpaces items) = entered-one config history by nth at PutSpaces (accepted (set_space (pos 0)) (changes_of history) (values_of items))
 entries-one config history by nth at (call.DropSpaces items) = entered-one config history by nth at DropSpaces (accepted DropSpace (changes_of history) (values_of items))
 entries-one config history by nth at (call.Put items) = entered-one config history by nth at Put (accepted Operate (changes_of history) (values_of items))
+entries-one config history by nth at (call.Commit staged) =
+    ⊎_elim (λ none. subst (λ acts. OneOrNone (entered config history by nth at acts)) (sym none) tt)
+    (λ one. subst (λ acts. OneOrNone (entered config history by nth at acts)) (sym one) (one_if (has_room_for config history (Commit staged)) (entry history by nth at (Commit staged))))
+    (committed (conflict staged.touched history) staged)
 entries-one config history by nth at (call.Append items) = entered-one config history by nth at Append (all_or_none (append_refusal (channels_of config history) items) items)
 entries-one config history by nth at (call.Replace channels from to items) =
     entered-one config history by nth at (λ ids. Replace ids from to items) (all_or_none (replace_refusal (channels_of config history) channels from to items) channels)

@@ -6,6 +6,7 @@ use Rattle.chan_defs.specs.declared.config.Config.{Config}
 use Rattle.channel_store.specs.Channels.{Channel}
 use Rattle.etp_values.specs.Weight.{capped}
 use Rattle.tx_stage.specs.declared.contents.Contents.{Contents}
+use Rattle.store_machine.specs.declared.alterations.Alterations.{Alterations}
 use Rattle.store_machine.specs.declared.call.Cutting.{Cutting}
 use Rattle.store_machine.specs.declared.call.Reply.TheVariants as replied
 use Rattle.store_machine.specs.declared.call.StoreCall.TheVariants as call
@@ -35,20 +36,20 @@ cuts-answered config history by nth at items (c ∷ cs) room same some h =
     }
 
 -- there is room for it
-pub cuts-done : (config : Config) (journal : List Entry) (by nth : ℕ) (at : ℤ) (total bytes counted mark : ℕ) (t : Contents) (cs : List Channel) (items : List (List ℕ × Cutting)) (cuts : List Cutting)
-    → Keeps config journal total t cs → mark ≡ length journal → counted ≡ capped (16 * length cuts) → ((a : Act) → counted ≡ capped (act_bytes a) → Some bytes ≡ bytes_with config.journal mark total a)
+pub cuts-done : (config : Config) (journal : List Entry) (by nth : ℕ) (at : ℤ) (total bytes counted mark : ℕ) (t : Contents) (cs : List Channel) (a : Alterations) (items : List (List ℕ × Cutting)) (cuts : List Cutting)
+    → Keeps config journal total t cs a → mark ≡ length journal → counted ≡ capped (16 * length cuts) → ((act : Act) → counted ≡ capped (act_bytes act) → Some bytes ≡ bytes_with config.journal mark total act)
     → cuts ≡ cuts_accepted cs [] (values_of items) → (cuts ≡ [] → ⊥)
     → Answered config journal by nth at (call.Truncate items) (replied.Verdicts (cut_verdicts cs [] items)) (record { by = by; nth = nth; at = at; act = Truncate cuts } ∷ [])
-cuts-done config journal by nth at total bytes counted mark t cs items cuts k m many fits taken some =
+cuts-done config journal by nth at total bytes counted mark t cs a items cuts k m many fits taken some =
     let told = cuts-answered config journal by nth at items cuts true (taken ∙ ap (λ (c : List Channel). cuts_accepted c [] (values_of items)) k.channels) some
     (room_found config journal total bytes counted mark (Truncate cuts) k.bytes m many fits).0 in
     subst (λ (c : List Channel). Answered config journal by nth at (call.Truncate items) (replied.Verdicts (cut_verdicts c [] items)) (record { by = by; nth = nth; at = at; act = Truncate cuts } ∷ [])) (sym k.channels) told
 
 -- there is none
-pub cuts-full : (config : Config) (journal : List Entry) (by nth : ℕ) (at : ℤ) (total counted mark : ℕ) (t : Contents) (cs : List Channel) (items : List (List ℕ × Cutting)) (cuts : List Cutting)
-    → Keeps config journal total t cs → mark ≡ length journal → counted ≡ capped (16 * length cuts) → ((a : Act) → counted ≡ capped (act_bytes a) → None ≡ bytes_with config.journal mark total a)
+pub cuts-full : (config : Config) (journal : List Entry) (by nth : ℕ) (at : ℤ) (total counted mark : ℕ) (t : Contents) (cs : List Channel) (a : Alterations) (items : List (List ℕ × Cutting)) (cuts : List Cutting)
+    → Keeps config journal total t cs a → mark ≡ length journal → counted ≡ capped (16 * length cuts) → ((act : Act) → counted ≡ capped (act_bytes act) → None ≡ bytes_with config.journal mark total act)
     → cuts ≡ cuts_accepted cs [] (values_of items) → (cuts ≡ [] → ⊥)
     → Answered config journal by nth at (call.Truncate items) replied.JournalFull []
-cuts-full config journal by nth at total counted mark t cs items cuts k m many fits taken some =
+cuts-full config journal by nth at total counted mark t cs a items cuts k m many fits taken some =
     cuts-answered config journal by nth at items cuts false (taken ∙ ap (λ (c : List Channel). cuts_accepted c [] (values_of items)) k.channels) some
     (no_room_found config journal total counted mark (Truncate cuts) k.bytes m many fits)

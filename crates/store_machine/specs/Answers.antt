@@ -3,7 +3,7 @@ use Rattle.std.specs.Prelude.{ℕ, ℤ, pos, Bool, true, false, List, [], ◌∷
 use Rattle.std.specs.Map.{values_of}
 use Rattle.std.specs.Option.{option_map}
 use Rattle.etp_values.specs.declared.code.ErrorCode.{ErrorCode}
-use Rattle.etp_values.specs.declared.code.ErrorCode.TheVariants.{InvalidMessageType, RequestDenied, NotFound}
+use Rattle.etp_values.specs.declared.code.ErrorCode.TheVariants.{RequestDenied, NotFound}
 use Rattle.chan_defs.specs.declared.config.Config.{Config}
 use Rattle.channel_store.specs.declared.error.ChannelError.{ChannelError}
 use Rattle.channel_store.specs.Refusals.{append_refusal, replace_refusal}
@@ -30,6 +30,7 @@ use Rattle.store_machine.specs.Counted.{counted, is_room}
 use Rattle.store_machine.specs.Channels.{channels_of, code_of}
 use Rattle.store_machine.specs.Cuts.{cut_verdicts, cuts_accepted}
 use Rattle.store_machine.specs.declared.call.StartAsk.{StartAsk}
+use Rattle.store_machine.specs.Clash.{commit_of, conflict}
 use Rattle.store_machine.specs.News.{news_after}
 use Rattle.store_machine.specs.Starts.{started}
 use Rattle.store_machine.specs.Reads.{whole_room, ranged, range_reply, meta_under}
@@ -90,13 +91,14 @@ all_or_none (Some e) xs = []
 
 -- what is done of an act that is asked for at the end of a history: its accepted items, and nothing where there are none.
 -- The moment decides no verdict on a dataspace, so what is put is judged as if put at 0. Points are added or replaced all or
--- none; a replacement is made in each channel that it lists, also without points. Commits are not done yet
+-- none; a replacement is made in each channel that it lists, also without points. A transaction is committed whole, unless an
+-- entry altered what it had touched before
 abbrev pub granted : Config → List Entry → Act → List Act
 granted config history Enter = Enter ∷ []
 granted config history (PutSpaces puts) = act_of PutSpaces (accepted (set_space (pos 0)) (changes_of history) puts)
 granted config history (DropSpaces paths) = act_of DropSpaces (accepted DropSpace (changes_of history) paths)
 granted config history (Put ops) = act_of Put (accepted Operate (changes_of history) ops)
-granted config history (Commit staged) = []
+granted config history (Commit staged) = commit_of (conflict staged.touched history) staged
 granted config history (Append items) = act_of Append (all_or_none (append_refusal (channels_of config history) items) items)
 granted config history (Replace channels from to items) =
     act_of (λ ids. Replace ids from to items) (all_or_none (replace_refusal (channels_of config history) channels from to items) channels)
@@ -108,6 +110,7 @@ wanted config history call.Enter = granted config history Enter
 wanted config history (call.PutSpaces items) = granted config history (PutSpaces (values_of items))
 wanted config history (call.DropSpaces items) = granted config history (DropSpaces (values_of items))
 wanted config history (call.Put items) = granted config history (Put (values_of items))
+wanted config history (call.Commit staged) = granted config history (Commit staged)
 wanted config history (call.Append items) = granted config history (Append items)
 wanted config history (call.Replace channels from to items) = granted config history (Replace channels from to items)
 wanted config history (call.Truncate items) = granted config history (Truncate (values_of items))
@@ -153,7 +156,12 @@ abbrev pub written : Option ErrorCode → Reply
 written None = replied.Written
 written (Some code) = replied.Refused code
 
--- the reply where the journal has room. A call that is not served yet is refused as such
+-- the reply to a transaction, by the place of the conflict where there is one
+abbrev pub commit_reply : Option ℕ → Reply
+commit_reply None = replied.Committed
+commit_reply (Some place) = replied.Conflict place
+
+-- the reply where the journal has room
 abbrev pub reply : Config → List Entry → StoreCall → Reply
 reply config history call.Enter = Entered (length history)
 reply config history (call.Spaces newer) = Spaces (filter (is_newer newer) (dataspaces (changes_of history)))
@@ -161,6 +169,7 @@ reply config history (call.PutSpaces items) = Verdicts (verdicts (set_space (pos
 reply config history (call.DropSpaces items) = Verdicts (verdicts DropSpace (changes_of history) items)
 reply config history (call.Look wants) = Looked (seen_after history wants)
 reply config history (call.Put items) = Verdicts (verdicts Operate (changes_of history) items)
+reply config history (call.Commit staged) = commit_reply (conflict staged.touched history)
 reply config history (call.Append items) = written (option_map code_of (append_refusal (channels_of config history) items))
 reply config history (call.Replace channels from to items) = written (option_map code_of (replace_refusal (channels_of config history) channels from to items))
 reply config history (call.Truncate items) = Verdicts (cut_verdicts (channels_of config history) [] items)
@@ -168,7 +177,6 @@ reply config history (call.Range asks) = ranges_after config history asks
 reply config history (call.Meta items) = Metas (map (meta_under (channels_of config history)) items)
 reply config history (call.Subscribe items) = starts_after config history items
 reply config history (call.News cursor subs) = news_after config history cursor subs
-reply config history _ = replied.Refused InvalidMessageType
 
 -- the answer to a call
 abbrev pub answer : Config → List Entry → StoreCall → Answer

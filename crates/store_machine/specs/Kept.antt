@@ -1,5 +1,6 @@
--- What a store keeps beside its journal: the counted bytes, the tables of what stands now, and the channels.
-use Rattle.std.specs.Prelude.{ℕ, ◌≡◌, ◌≤◌, List, [], ◌∷◌, ◌++◌, Option, find, if◌then◌else◌, map}
+-- What a store keeps beside its journal: the counted bytes, the tables of what stands now, the channels, and by which
+-- entries keys were altered.
+use Rattle.std.specs.Prelude.{ℕ, ◌≡◌, ◌≤◌, List, [], ◌∷◌, ◌++◌, Option, find, if◌then◌else◌, filter, fold, map}
 use Rattle.std.specs.List.Sorted.{IsStrictlySortedBy}
 use Rattle.std.specs.Cmp.Lexicographic.{slice_cmp}
 use Rattle.std.specs.Map.{values_of}
@@ -12,17 +13,21 @@ use Rattle.object_store.specs.declared.records.SpaceRecord.{SpaceRecord}
 use Rattle.tx_stage.specs.declared.contents.Contents.{Contents}
 use Rattle.tx_stage.specs.declared.key.Key.{Key}
 use Rattle.tx_stage.specs.declared.key.Key.TheVariants.{Space}
+use Rattle.tx_stage.specs.declared.op.Op.{Op}
 use Rattle.tx_stage.specs.declared.plan.Plan.{Plan}
+use Rattle.tx_stage.specs.declared.value.Value.{Value}
 use Rattle.tx_stage.specs.declared.value.Value.TheVariants as valued
 use Rattle.tx_stage.specs.State.{state_in, state_now}
+use Rattle.store_machine.specs.declared.alterations.Alterations.{Alterations}
 use Rattle.store_machine.specs.declared.counted.TheConstants.{MAX_JOURNAL_BYTES}
 use Rattle.store_machine.specs.declared.call.Verdict.{Verdict}
 use Rattle.store_machine.specs.declared.journal.Entry.{Entry}
-use Rattle.store_machine.specs.History.{Change, value, changes_of}
+use Rattle.store_machine.specs.History.{Change, Operate, alters, left, value, changes_of}
 use Rattle.store_machine.specs.Answers.{verdict, verdicts, accepted, is_accepted, sofar_with}
 use Rattle.store_machine.specs.Counted.{counted}
 use Rattle.store_machine.specs.Channels.{channels_of}
 use Rattle.store_machine.specs.Legal.{Legal}
+use Rattle.store_machine.specs.Marking.{Marks}
 
 -- ---- the tables
 
@@ -72,11 +77,20 @@ pub record Drafting {X : Type 0} (change : X → Change) (t : Contents) (sofar :
   pub items : taken ++ accepted change (sofar ++ map change taken) (values_of rest) ≡ accepted change sofar (values_of all)
   pub plan : Plans t p (sofar ++ map change taken)
 
+-- the state of a key once these operations are done over a value
+abbrev pub after_ops : Key → List Op → Option Value → Option Value
+after_ops key ops before = fold left before (filter (λ c. alters c key) (map Operate ops))
+
+-- a plan, and the operations that are left, make of the tables what all of them make
+pub record PlansOn (t : Contents) (p : Plan) (rest all : List Op) : Type 0 where
+  pub each : (key : Key) → after_ops key rest (state_now t p key) ≡ after_ops key all (state_in t key)
+
 -- ---- the whole
 
-pub record Keeps (config : Config) (journal : List Entry) (total : ℕ) (t : Contents) (cs : List Channel) : Type 0 where
+pub record Keeps (config : Config) (journal : List Entry) (total : ℕ) (t : Contents) (cs : List Channel) (a : Alterations) : Type 0 where
   pub legal : Legal config journal
   pub bytes : total ≡ counted journal
   pub limit : total ≤ MAX_JOURNAL_BYTES
   pub holds : Holds t (changes_of journal)
   pub channels : cs ≡ channels_of config journal
+  pub marks : Marks a journal

@@ -1,6 +1,6 @@
 -- Laws on histories.
-use Rattle.std.specs.Prelude.{ℕ, ℤ, pos, ◌≡◌, ◌+◌, ◌≤◌, ◌<◌, Bool, true, false, List, [], ◌∷◌, ◌++◌, Some, IsSomeAnd, slice_get, length, filter, take, drop}
-use Rattle.std.specs.List.{list_any, AllByRecursion}
+use Rattle.std.specs.Prelude.{ℕ, ℤ, pos, ◌≡◌, ◌+◌, ◌≤◌, ◌<◌, Bool, true, false, List, [], ◌∷◌, ◌++◌, Option, Some, None, IsSomeAnd, slice_get, length, filter, take, drop}
+use Rattle.std.specs.List.{Any, list_any, AllByRecursion}
 use Rattle.std.specs.Ordering.{int_eq}
 use Rattle.chan_defs.specs.declared.config.Config.{Config}
 use Rattle.channel_store.specs.declared.change.ChannelChange.{ChannelChange}
@@ -9,6 +9,7 @@ use Rattle.channel_store.specs.Points.{copy, past}
 use Rattle.object_store.specs.Tables.{default_dataspace}
 use Rattle.tx_stage.specs.declared.key.Key.{Key}
 use Rattle.tx_stage.specs.declared.key.Key.TheVariants.{Space}
+use Rattle.tx_stage.specs.declared.touch.Touch.{Touch}
 use Rattle.tx_stage.specs.declared.value.Value.TheVariants as valued
 use Rattle.store_machine.specs.declared.call.StoreCall.{StoreCall}
 use Rattle.store_machine.specs.declared.call.StoreCall.TheVariants as call
@@ -19,6 +20,7 @@ use Rattle.store_machine.specs.History.{Change, alters, value, value_after, entr
 use Rattle.store_machine.specs.Answers.{entries_of, has_room_for}
 use Rattle.store_machine.specs.Legal.{own, IsNext, MayAsk, Legal}
 use Rattle.store_machine.specs.Channels.{changes_from, channel_points}
+use Rattle.store_machine.specs.Clash.{clash, conflict}
 use Rattle.store_machine.specs.News.{dues, is_due, joined, stream, taken}
 
 -- ---- words
@@ -129,3 +131,25 @@ NewsAreTheDue = (config : Config) (history : List Entry) (subs : List Sub) (curs
 abbrev pub NewsOfEach : Type 0
 NewsOfEach = (config : Config) (subs : List Sub) (k place : ℕ) (entries : List Entry)
     → k < length config.channels → filter (λ (c : ChannelChange). int_eq c.channel (pos k)) (joined (dues config subs place entries)) ≡ filter (is_due subs) (changes_from place (pos k) entries)
+
+-- ---- transactions
+
+-- where no entry at or past a mark alters a key, its value is the same at every place from there on
+abbrev pub ValuesStayBetween : Type 0
+ValuesStayBetween = (key : Key) (mark more : ℕ) (history : List Entry)
+    → clash key mark history ≡ None → value_after key (take (mark + more) history) ≡ value_after key history
+
+-- where there is no conflict, none of the touched keys was altered
+abbrev pub NoConflictIsFree : Type 0
+NoConflictIsFree = (ts : List Touch) (history : List Entry)
+    → conflict ts history ≡ None → AllByRecursion (λ (t : Touch). clash t.key t.mark history ≡ None) ts
+
+-- a place, where there is one, is at or past another
+abbrev pub IsFrom : ℕ → Option ℕ → Type 0
+IsFrom place None = Unit {0}
+IsFrom place (Some later) = place ≤ later
+
+-- a conflict stands at the first place at which a touched key was altered
+abbrev pub ConflictIsFirst : Type 0
+ConflictIsFirst = (ts : List Touch) (history : List Entry) (place : ℕ) → conflict ts history ≡ Some place
+    → Any (λ (t : Touch). clash t.key t.mark history ≡ Some place) ts × AllByRecursion (λ (t : Touch). IsFrom place (clash t.key t.mark history)) ts

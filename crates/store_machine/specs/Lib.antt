@@ -8,6 +8,8 @@ pub mod Ranging
 pub mod Starts
 pub mod News
 pub mod Telling
+pub mod Clash
+pub mod Marking
 pub mod Answers
 pub mod Legal
 pub mod Kept

@@ -73,7 +73,7 @@ pub enum StoreCall {
     Put {
         items: Named<Op>,
     },
-    /// Commits a transaction.
+    /// Commits a transaction: all its operations in one entry, unless an entry altered what it had touched before.
     Commit {
         staged: Staged,
     },
@@ -159,7 +159,7 @@ pub enum Reply {
     Conflict(u64),
     /// There is no room in the journal for the entry that the call would add.
     JournalFull,
-    /// The call is refused as a whole; by `InvalidMessageType` a call that the store does not serve.
+    /// The call is refused as a whole.
     Refused(ErrorCode),
     /// The points of the intervals, in order.
     Points(List<ChannelPoint>),

@@ -1,5 +1,5 @@
 //! A call in the making: its items judged over the tables as they stand, before anything changes.
-ghost use Rattle.std.specs.Prelude.{◌≡◌, ◌++◌, ◌∷◌, [], IfOk, OnOk, List, map, pos};
+ghost use Rattle.std.specs.Prelude.{◌≡◌, ◌++◌, ◌∷◌, [], IfOk, OnOk, List as Items, map, pos};
 ghost use Rattle.std.specs.Map.{values_of};
 ghost use Rattle.store_machine.specs.Answers.{verdicts, accepted};
 ghost use Rattle.store_machine.specs.History.{Change, DropSpace, Operate, set_space};
@@ -7,7 +7,7 @@ ghost use Rattle.store_machine.specs.Kept.{with_accepted, Holds, Plans, Judges, 
 ghost use Rattle.tx_stage.specs.declared.contents.Contents.{Contents as Tables};
 
 use crate::call::{SpacePut, Verdict};
-use etp_values::{ErrorCode, NoMemory, Text};
+use etp_values::{ErrorCode, List, NoMemory, Text};
 use std::alloc::Global;
 use tx_stage::{Contents, Op, Plan};
 
@@ -23,7 +23,7 @@ impl<T: Drop> Draft<T> {
     fn new(alloc: Global) -> Draft<T>
         ensures verdicts { result.verdicts.items ≡ [] }
         ensures accepted { result.accepted.items ≡ [] }
-        ensures plan { (t : Tables) (sofar : List Change) → Holds t sofar → Plans t result.plan sofar }
+        ensures plan { (t : Tables) (sofar : Items Change) → Holds t sofar → Plans t result.plan sofar }
     {
         Draft {
             verdicts: Vec::new(alloc),
@@ -66,7 +66,7 @@ fn take_put(
     name: Text,
     put: SpacePut,
 ) -> Result<(), NoMemory>
-    ensures { OnOk result ((t : Tables) (sofar : List Change) → Plans t draft.old.plan sofar
+    ensures { OnOk result ((t : Tables) (sofar : Items Change) → Plans t draft.old.plan sofar
         → Takes t sofar name put (set_space at put)
         draft.old.verdicts.items draft.new.verdicts.items
         draft.old.accepted.items draft.new.accepted.items draft.new.plan) }
@@ -82,11 +82,11 @@ pub(crate) fn draft_puts(
     at: i64,
     items: Vec<(Text, SpacePut)>,
 ) -> Result<Draft<SpacePut>, NoMemory>
-    ensures verdicts { IfOk result (λ d. (t : Tables) (sofar : List Change) → Holds t sofar
+    ensures verdicts { IfOk result (λ d. (t : Tables) (sofar : Items Change) → Holds t sofar
         → d.verdicts.items ≡ verdicts (set_space (pos 0)) sofar items.items) }
-    ensures accepted { IfOk result (λ d. (t : Tables) (sofar : List Change) → Holds t sofar
+    ensures accepted { IfOk result (λ d. (t : Tables) (sofar : Items Change) → Holds t sofar
         → d.accepted.items ≡ accepted (set_space (pos 0)) sofar (values_of items.items)) }
-    ensures plan { IfOk result (λ d. (t : Tables) (sofar : List Change) → Holds t sofar
+    ensures plan { IfOk result (λ d. (t : Tables) (sofar : Items Change) → Holds t sofar
         → Plans t d.plan (sofar ++ map (set_space at) d.accepted.items)) }
 {
     let mut draft = Draft::new(alloc);
@@ -121,7 +121,7 @@ fn take_drop(
     name: Text,
     path: Text,
 ) -> Result<(), NoMemory>
-    ensures { OnOk result ((sofar : List Change) → Plans contents.now draft.old.plan sofar
+    ensures { OnOk result ((sofar : Items Change) → Plans contents.now draft.old.plan sofar
         → Takes contents.now sofar name path (DropSpace path)
         draft.old.verdicts.items draft.new.verdicts.items
         draft.old.accepted.items draft.new.accepted.items draft.new.plan) }
@@ -137,11 +137,11 @@ pub(crate) fn draft_drops(
     contents: &Contents,
     items: Vec<(Text, Text)>,
 ) -> Result<Draft<Text>, NoMemory>
-    ensures verdicts { IfOk result (λ d. (sofar : List Change) → Holds contents.now sofar
+    ensures verdicts { IfOk result (λ d. (sofar : Items Change) → Holds contents.now sofar
         → d.verdicts.items ≡ verdicts DropSpace sofar items.items) }
-    ensures accepted { IfOk result (λ d. (sofar : List Change) → Holds contents.now sofar
+    ensures accepted { IfOk result (λ d. (sofar : Items Change) → Holds contents.now sofar
         → d.accepted.items ≡ accepted DropSpace sofar (values_of items.items)) }
-    ensures plan { IfOk result (λ d. (sofar : List Change) → Holds contents.now sofar
+    ensures plan { IfOk result (λ d. (sofar : Items Change) → Holds contents.now sofar
         → Plans contents.now d.plan (sofar ++ map DropSpace d.accepted.items)) }
 {
     let mut draft = Draft::new(alloc);
@@ -172,7 +172,7 @@ fn take_op(
     name: Text,
     op: Op,
 ) -> Result<(), NoMemory>
-    ensures { OnOk result ((sofar : List Change) → Plans contents.now draft.old.plan sofar
+    ensures { OnOk result ((sofar : Items Change) → Plans contents.now draft.old.plan sofar
         → Takes contents.now sofar name op (Operate op)
         draft.old.verdicts.items draft.new.verdicts.items
         draft.old.accepted.items draft.new.accepted.items draft.new.plan) }
@@ -188,11 +188,11 @@ pub(crate) fn draft_ops(
     contents: &Contents,
     items: Vec<(Text, Op)>,
 ) -> Result<Draft<Op>, NoMemory>
-    ensures verdicts { IfOk result (λ d. (sofar : List Change) → Holds contents.now sofar
+    ensures verdicts { IfOk result (λ d. (sofar : Items Change) → Holds contents.now sofar
         → d.verdicts.items ≡ verdicts Operate sofar items.items) }
-    ensures accepted { IfOk result (λ d. (sofar : List Change) → Holds contents.now sofar
+    ensures accepted { IfOk result (λ d. (sofar : Items Change) → Holds contents.now sofar
         → d.accepted.items ≡ accepted Operate sofar (values_of items.items)) }
-    ensures plan { IfOk result (λ d. (sofar : List Change) → Holds contents.now sofar
+    ensures plan { IfOk result (λ d. (sofar : Items Change) → Holds contents.now sofar
         → Plans contents.now d.plan (sofar ++ map Operate d.accepted.items)) }
 {
     let mut draft = Draft::new(alloc);
@@ -200,4 +200,16 @@ pub(crate) fn draft_ops(
         take_op(alloc, contents, &mut draft, name, op)?;
     }
     Ok(draft)
+}
+
+/// Plans operations in order, whatever stands.
+pub(crate) fn plan_ops(alloc: Global, contents: &Contents, ops: &List<Op>) -> Result<Plan, NoMemory>
+    ensures { IfOk result (λ p. (sofar : Items Change) → Holds contents.now sofar
+        → Plans contents.now p (sofar ++ map Operate ops.now)) }
+{
+    let mut plan = Plan::new(alloc);
+    for op in ops.as_slice() {
+        contents.plan(alloc, &mut plan, op)?;
+    }
+    Ok(plan)
 }

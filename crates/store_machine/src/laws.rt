@@ -2,6 +2,7 @@
 ghost use Rattle.store_machine.specs.Laws.{ChangesLeaveOthers, EntriesLeaveOthers, DefaultStays};
 ghost use Rattle.store_machine.specs.Laws.{DoorIsSession, NumbersStay, NextNumberIsFresh, EntersAreEnter};
 ghost use Rattle.store_machine.specs.Laws.{EntriesAreTheSessions, NextMayAsk, CallsStay, CallsAddOne};
+ghost use Rattle.store_machine.specs.Laws.{ConflictIsFirst, NoConflictIsFree, ValuesStayBetween};
 ghost use Rattle.store_machine.specs.Laws.{FullStaysFull};
 ghost use Rattle.store_machine.specs.Laws.{NewsAreTheDue, NewsOfEach, NewsStayWithin, StreamIsCopied};
 ghost use Rattle.store_machine.specs.Growth.{CallsKeepLegal};
@@ -13,6 +14,7 @@ pub fn state_laws()
     ensures changes { ChangesLeaveOthers }
     ensures entries { EntriesLeaveOthers }
     ensures default { DefaultStays }
+    ensures between { ValuesStayBetween }
 {}
 
 /// Numbers of sessions: the door's is one, each stays one, and the number that the next Enter gives has no entry yet.
@@ -36,6 +38,12 @@ pub fn room_laws()
 /// A journal stays legal with what the call adds of someone who may make it.
 pub fn growth_laws()
     ensures legal { CallsKeepLegal }
+{}
+
+/// Where transactions conflict: with the first entry that altered a key which they had touched before.
+pub fn conflict_laws()
+    ensures free { NoConflictIsFree }
+    ensures first { ConflictIsFirst }
 {}
 
 /// What news tell: the due changes of the entries that were taken, which are in the journal; of each channel its own.

@@ -4,10 +4,9 @@
 //! holds the accepted items; the state is what the changes of all entries left (`specs/History`), and what is answered
 //! depends on the journal and the call alone (`specs/Answers`). The tables of what stands now are kept beside the journal,
 //! and the invariant of [`Store`] ties them to it.
-//!
-//! Commits are not served yet: they are refused by `InvalidMessageType`.
 #![tactic(auto)]
 
+mod alterations;
 mod boxed;
 mod call;
 mod codes;
@@ -32,7 +31,9 @@ pub use call::{
 pub use channel_store::Sub;
 pub use counted::MAX_JOURNAL_BYTES;
 pub use journal::{Act, Entry};
-pub use laws::{growth_laws, news_laws, number_laws, room_laws, state_laws, stream_laws};
+pub use laws::{
+    conflict_laws, growth_laws, news_laws, number_laws, room_laws, state_laws, stream_laws,
+};
 pub use news::{MAX_CHANGE_BYTES, MAX_CHANGES};
 pub use reads::{MAX_POINT_BYTES, MAX_POINTS};
 pub use store::Store;

@@ -1,19 +1,19 @@
 //! The store.
-ghost use Rattle.std.specs.Prelude.{◌≡◌, ◌<◌, ◌+◌, ◌++◌, ◌∷◌, [], IfOk, OnOk, OnErr, Some, length, slice_get, true};
+ghost use Rattle.std.specs.Prelude.{◌≡◌, ◌<◌, ◌+◌, ◌++◌, ◌∷◌, [], IfOk, OnOk, OnErr, None, Some, length, slice_get, true};
 ghost use Rattle.std.specs.Option.{option_map};
 ghost use Rattle.store_machine.specs.Answers.{answer, entries_of, has_room_for, written};
 ghost use Rattle.store_machine.specs.Channels.{channels_of, code_of};
+ghost use Rattle.store_machine.specs.Clash.{conflict};
 ghost use Rattle.store_machine.specs.Counted.{counted, counted_act};
 ghost use Rattle.store_machine.specs.Loads.{adds_entry, load_act, load_call, load_refusal, unless_refused, without_room};
 ghost use Rattle.store_machine.specs.Legal.{Legal, MayAsk, IsNext, door};
 ghost use Rattle.store_machine.specs.declared.call.StoreCall.TheVariants as call;
-ghost use Rattle.store_machine.specs.declared.call.Reply.TheVariants as reply;
-ghost use Rattle.etp_values.specs.declared.code.ErrorCode.TheVariants as code;
 
+use crate::alterations::Alterations;
 use crate::call::{Answer, Cutting, RangeAsk, Reply, SpacePut, StartAsk, StoreCall};
 use crate::counted::{bytes_after, bytes_with, cuts_bytes};
 use crate::cuts::{add_cuts, draft_cuts};
-use crate::draft::{draft_drops, draft_ops, draft_puts};
+use crate::draft::{draft_drops, draft_ops, draft_puts, plan_ops};
 use crate::journal::{Act, Entry, add_entry, push_entry};
 use crate::load::{Load, add_load};
 use crate::looks::looked;
@@ -26,7 +26,7 @@ use channel_store::{ChannelStore, Sub};
 use etp_values::{ErrorCode, List, Named, NoMemory, StoreUri, Text};
 use std::alloc::Global;
 use std::marker::Model;
-use tx_stage::{Contents, Op, Want};
+use tx_stage::{Contents, Op, Staged, Want};
 
 /// A store. A contract sees its configuration and its journal.
 #[derive(Drop)]
@@ -39,6 +39,8 @@ pub struct Store {
     contents: Contents,
     /// The points and changes of the channels.
     channels: ChannelStore,
+    /// By which entries keys were altered.
+    alterations: Alterations,
 }
 
 impl Model for Store {
@@ -49,7 +51,7 @@ impl Model for Store {
 
     ghost view = { λ s. record { config = s.config; journal = s.journal.items } };
 
-    ghost invariant = { λ s. Keeps s.config s.journal.items s.bytes s.contents s.channels };
+    ghost invariant = { λ s. Keeps s.config s.journal.items s.bytes s.contents s.channels s.alterations };
 }
 
 impl Store {
@@ -66,12 +68,14 @@ impl Store {
             at: 0,
             act: Act::Enter,
         })?;
+        let alterations = Alterations::new(alloc);
         Ok(Store {
             config,
             journal,
             bytes: 64,
             contents,
             channels,
+            alterations,
         })
     }
 
@@ -117,10 +121,7 @@ impl Store {
             StoreCall::DropSpaces { items } => self.drop_spaces(alloc, by, nth, at, items),
             StoreCall::Look { items } => self.look(alloc, items),
             StoreCall::Put { items } => self.put(alloc, by, nth, at, items),
-            StoreCall::Commit { staged } => {
-                drop(staged);
-                Ok(self.unserved())
-            }
+            StoreCall::Commit { staged } => self.commit(alloc, by, nth, at, staged),
             StoreCall::Append { items } => self.load(alloc, by, nth, at, Load::Append(items)),
             StoreCall::Replace {
                 channels,
@@ -141,17 +142,6 @@ impl Store {
             StoreCall::Meta { items } => self.meta(alloc, items),
             StoreCall::Subscribe { items } => self.subscribe(alloc, items),
             StoreCall::News { cursor, subs } => self.news(alloc, cursor, subs),
-        }
-    }
-
-    /// The answer to a call that the store does not serve.
-    fn unserved(&self) -> Answer
-        ensures answer { result ≡ record { mark = length self.now.journal; reply = reply.Refused code.InvalidMessageType } }
-        ensures legal { Legal self.now.config self.now.journal }
-    {
-        Answer {
-            mark: self.journal.len() as u64,
-            reply: Reply::Refused(ErrorCode::InvalidMessageType),
         }
     }
 
@@ -235,7 +225,14 @@ impl Store {
             });
         };
         let entry = Entry { by, nth, at, act };
-        add_entry(&mut self.journal, &mut self.contents, draft.plan, entry)?;
+        add_entry(
+            alloc,
+            &mut self.journal,
+            &mut self.contents,
+            &mut self.alterations,
+            draft.plan,
+            entry,
+        )?;
         self.bytes = bytes;
         Ok(Answer {
             mark,
@@ -279,7 +276,14 @@ impl Store {
             });
         };
         let entry = Entry { by, nth, at, act };
-        add_entry(&mut self.journal, &mut self.contents, draft.plan, entry)?;
+        add_entry(
+            alloc,
+            &mut self.journal,
+            &mut self.contents,
+            &mut self.alterations,
+            draft.plan,
+            entry,
+        )?;
         self.bytes = bytes;
         Ok(Answer {
             mark,
@@ -335,11 +339,107 @@ impl Store {
             });
         };
         let entry = Entry { by, nth, at, act };
-        add_entry(&mut self.journal, &mut self.contents, draft.plan, entry)?;
+        add_entry(
+            alloc,
+            &mut self.journal,
+            &mut self.contents,
+            &mut self.alterations,
+            draft.plan,
+            entry,
+        )?;
         self.bytes = bytes;
         Ok(Answer {
             mark,
             reply: Reply::Verdicts(verdicts),
+        })
+    }
+
+    /// Commits a transaction, unless an entry altered what it had touched before.
+    fn commit(
+        &mut self,
+        alloc: Global,
+        by: u64,
+        nth: u64,
+        at: i64,
+        staged: Staged,
+    ) -> Result<Answer, NoMemory>
+        requires { IsNext self.old.journal by nth }
+        ensures answer { IfOk result (λ a.
+            a ≡ answer self.old.config self.old.journal (call.Commit staged)) }
+        ensures journal { OnOk result (
+            self.new.journal
+            ≡ self.old.journal ++ entries_of self.old.config self.old.journal by nth at (call.Commit staged)) }
+        ensures config { self.new.config ≡ self.old.config }
+        ensures legal { Legal self.new.config self.new.journal }
+        ensures err { OnErr result (self.new ≡ self.old) }
+    {
+        let mark = self.journal.len() as u64;
+        match self.conflict(alloc, &staged)? {
+            None => self.commit_free(alloc, by, nth, at, staged),
+            Some(place) => Ok(Answer {
+                mark,
+                reply: Reply::Conflict(place),
+            }),
+        }
+    }
+
+    /// The place of the first entry that altered what a transaction had touched before.
+    fn conflict(&self, alloc: Global, staged: &Staged) -> Result<Option<u64>, NoMemory>
+        ensures { IfOk result (λ p. p ≡ conflict staged.now.touched self.now.journal) }
+    {
+        let place = self.alterations.conflict(alloc, &staged.touched)?;
+        Ok(place)
+    }
+
+    /// Commits a transaction of whose touched keys none was altered since.
+    fn commit_free(
+        &mut self,
+        alloc: Global,
+        by: u64,
+        nth: u64,
+        at: i64,
+        staged: Staged,
+    ) -> Result<Answer, NoMemory>
+        requires next { IsNext self.old.journal by nth }
+        requires free { conflict staged.touched self.old.journal ≡ None }
+        ensures answer { IfOk result (λ a.
+            a ≡ answer self.old.config self.old.journal (call.Commit staged)) }
+        ensures journal { OnOk result (
+            self.new.journal
+            ≡ self.old.journal ++ entries_of self.old.config self.old.journal by nth at (call.Commit staged)) }
+        ensures config { self.new.config ≡ self.old.config }
+        ensures legal { Legal self.new.config self.new.journal }
+        ensures err { OnErr result (self.new ≡ self.old) }
+    {
+        let mark = self.journal.len() as u64;
+        if staged.ops.is_empty() {
+            return Ok(Answer {
+                mark,
+                reply: Reply::Committed,
+            });
+        }
+        let plan = plan_ops(alloc, &self.contents, &staged.ops)?;
+        let act = Act::Commit(staged);
+        let Some(bytes) = bytes_with(self.config.journal, mark, self.bytes, &act) else {
+            drop(act);
+            return Ok(Answer {
+                mark,
+                reply: Reply::JournalFull,
+            });
+        };
+        let entry = Entry { by, nth, at, act };
+        add_entry(
+            alloc,
+            &mut self.journal,
+            &mut self.contents,
+            &mut self.alterations,
+            plan,
+            entry,
+        )?;
+        self.bytes = bytes;
+        Ok(Answer {
+            mark,
+            reply: Reply::Committed,
         })
     }
 

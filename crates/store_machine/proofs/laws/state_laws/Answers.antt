@@ -1,3 +1,4 @@
+use Rattle.store_machine.proofs.Conflicts.{values-between}
 use Rattle.store_machine.proofs.Values.{value-unaltered, value_after-push, default-stays}
 use Rattle.store_machine.proofs.laws.state_laws.Goals as goal
 
@@ -9,3 +10,6 @@ returns-clause-entries c = value_after-push
 
 pub returns-clause-default : goal.returns-clause-default
 returns-clause-default c = default-stays
+
+pub returns-clause-between : goal.returns-clause-between
+returns-clause-between c = values-between

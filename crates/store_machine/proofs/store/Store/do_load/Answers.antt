@@ -15,7 +15,7 @@ add_load-requires c =
     subst (IsNewPlace (length s.journal.items)) (sym c.self.invariant.channels) (next-is_new s.config s.journal.items)
 
 pub invariant_of-self : goal.invariant_of-self
-invariant_of-self c = keeps-kept _ _ _ _ _ _ _ _ c.self.invariant c.in_err-add_load.ensures.kept (λ key. refl) c.in_err-add_load.ensures.same
+invariant_of-self c = keeps-kept _ _ _ _ _ _ _ _ _ _ c.self.invariant c.in_err-add_load.ensures.kept (λ key. refl) c.in_err-add_load.ensures.same c.self.invariant.marks
 
 pub invariant_of-self-in-None : goal.invariant_of-self-in-None
 invariant_of-self-in-None c =
@@ -23,10 +23,10 @@ invariant_of-self-in-None c =
     let next = subst (λ k. IsNext k.journal c.args.by c.args.nth) (sym c.self.view_is) c.requires.next in
     let room = subst (λ k. has_room_for k.config k.journal (load_act c.args.load) ≡ true) (sym c.self.view_is) c.requires.room in
     let bytes = subst (λ k. c.args.bytes ≡ counted k.journal + counted_act (load_act c.args.load)) (sym c.self.view_is) c.requires.bytes in
-    load-kept s.config s.journal.items _ c.args.by c.args.nth (to_z w64 (of_z w64 c.args.at)) s.bytes c.args.bytes s.contents s.channels _ c.args.load _ c.self.invariant next c.requires.adds room bytes c.in-None.is
+    load-kept s.config s.journal.items _ c.args.by c.args.nth (to_z w64 (of_z w64 c.args.at)) s.bytes c.args.bytes s.contents s.channels _ s.alterations c.args.load _ c.self.invariant next c.requires.adds room bytes c.in-None.is
     c.in_ok-add_load.ensures.code c.in_ok-add_load.ensures.added
 
 pub invariant_of-self-in-Some : goal.invariant_of-self-in-Some
 invariant_of-self-in-Some c =
     let s = c.self.inside in
-    load-left s.config s.journal.items _ s.bytes s.contents s.channels _ _ _ c.in-Some.code c.self.invariant c.in-Some.is c.in_ok-add_load.ensures.added
+    load-left s.config s.journal.items _ s.bytes s.contents s.channels _ s.alterations _ _ c.in-Some.code c.self.invariant c.in-Some.is c.in_ok-add_load.ensures.added

@@ -10,7 +10,7 @@ use Rattle.store_machine.proofs.Lawful.{keeps-enter, keeps-kept, with_room}
 use Rattle.store_machine.proofs.store.Store.enter.Goals as goal
 
 pub invariant_of-self : goal.invariant_of-self
-invariant_of-self c = keeps-kept _ _ _ _ _ _ _ _ c.self.invariant c.in_err-push_entry.ensures.kept (λ key. refl) refl
+invariant_of-self c = keeps-kept _ _ _ _ _ _ _ _ _ _ c.self.invariant c.in_err-push_entry.ensures.kept (λ key. refl) refl c.self.invariant.marks
 
 pub invariant_of-self-2 : goal.invariant_of-self-2
 invariant_of-self-2 c =
@@ -21,7 +21,7 @@ invariant_of-self-2 c =
     let pushed : c.push_entry.new.journal.items ≡ s.journal.items ++ record { by = length s.journal.items; nth = 0; at = c.args.at; act = Enter } ∷ [] =
     c.in_ok-push_entry.ensures.journal ∙ (λ j. s.journal.items ++ record { by = mark j; nth = 0; at = moment j; act = Enter } ∷ []) in
     let room = with_room s.config s.journal.items s.bytes c.in-Some.bytes Enter c.self.invariant.bytes told in
-    rw pushed (subst (λ n. Keeps s.config (s.journal.items ++ record { by = length s.journal.items; nth = 0; at = c.args.at; act = Enter } ∷ []) n s.contents s.channels) (sym room.1) (keeps-enter s.config s.journal.items s.bytes s.contents s.channels c.args.at c.self.invariant room.0))
+    rw pushed (subst (λ n. Keeps s.config (s.journal.items ++ record { by = length s.journal.items; nth = 0; at = c.args.at; act = Enter } ∷ []) n s.contents s.channels s.alterations) (sym room.1) (keeps-enter s.config s.journal.items s.bytes s.contents s.channels s.alterations c.args.at c.self.invariant room.0))
 
 pub returns-clause-journal : goal.returns-clause-journal
 returns-clause-journal c =

@@ -7,7 +7,7 @@ use Rattle.store_machine.specs.Loads.{load_refusal}
 use Rattle.store_machine.proofs.store.Store.load_refusal.Goals as goal
 
 pub invariant_of-self : goal.invariant_of-self
-invariant_of-self c = let s = c.self.inside in subst (λ cs. Keeps s.config s.journal.items s.bytes s.contents cs) (sym c.refusal.ensures.same) c.self.invariant
+invariant_of-self c = let s = c.self.inside in subst (λ cs. Keeps s.config s.journal.items s.bytes s.contents cs s.alterations) (sym c.refusal.ensures.same) c.self.invariant
 
 pub returns-clause-code : goal.returns-clause-code
 returns-clause-code c =

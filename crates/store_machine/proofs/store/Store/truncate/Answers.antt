@@ -40,7 +40,7 @@ add_cuts-requires-clause-accepted c =
     ap (λ l. truncate_refusal cs [] (map cut_of l)) taken ∙ cuts-unrefused cs (values_of c.args.items)
 
 pub invariant_of-self : goal.invariant_of-self
-invariant_of-self c = keeps-kept _ _ _ _ _ _ _ _ c.self.invariant c.in_err-add_cuts.ensures.kept (λ key. refl) c.in_err-add_cuts.ensures.same
+invariant_of-self c = keeps-kept _ _ _ _ _ _ _ _ _ _ c.self.invariant c.in_err-add_cuts.ensures.kept (λ key. refl) c.in_err-add_cuts.ensures.same c.self.invariant.marks
 
 pub invariant_of-self-2 : goal.invariant_of-self-2
 invariant_of-self-2 c =
@@ -56,8 +56,8 @@ invariant_of-self-2 c =
     c.in_ok-add_cuts.ensures.journal ∙ (λ j. s.journal.items ++ record { by = c.args.by; nth = c.args.nth; at = moment j; act = Truncate cuts } ∷ []) in
     let does : c.add_cuts.new.channels ≡ changed (length s.journal.items) c.args.at (truncated (map cut_of cuts)) s.channels =
     c.in_ok-add_cuts.ensures.channels ∙ (λ j. changed (length s.journal.items) (moment j) (truncated (map cut_of cuts)) s.channels) in
-    rw pushed (subst (λ n. Keeps s.config (s.journal.items ++ record { by = c.args.by; nth = c.args.nth; at = c.args.at; act = Truncate cuts } ∷ []) n s.contents c.add_cuts.new.channels) (sym room.1)
-    (keeps-cuts s.config s.journal.items c.args.by c.args.nth c.args.at s.bytes s.contents s.channels c.add_cuts.new.channels (values_of c.args.items) cuts c.self.invariant
+    rw pushed (subst (λ n. Keeps s.config (s.journal.items ++ record { by = c.args.by; nth = c.args.nth; at = c.args.at; act = Truncate cuts } ∷ []) n s.contents c.add_cuts.new.channels s.alterations) (sym room.1)
+    (keeps-cuts s.config s.journal.items c.args.by c.args.nth c.args.at s.bytes s.contents s.channels c.add_cuts.new.channels s.alterations (values_of c.args.items) cuts c.self.invariant
     (subst (λ k. IsNext k.journal c.args.by c.args.nth) (sym c.self.view_is) c.requires) taken (grind (arith, common_steps)) room.0 does))
 
 pub returns-clause-legal : goal.returns-clause-legal
@@ -73,7 +73,7 @@ returns-in_default-clause-answer c =
     let mark : c.len-mark.result ≡ length s.journal.items = grind (arith, common_steps) in
     let many : c.cuts_bytes-counted.result ≡ capped (16 * length cuts) = grind (arith, common_steps) in
     let taken : cuts ≡ cuts_accepted s.channels [] (values_of a.items) = c.in_ok-draft.ensures.accepted ∙ ap (λ l. cuts_accepted s.channels [] (values_of l)) c.into_vec.ensures.items in
-    let full = cuts-full s.config s.journal.items a.by a.nth a.at s.bytes _ _ s.contents s.channels a.items cuts c.self.invariant mark many c.in_default.ensures taken (grind (arith, common_steps)) in
+    let full = cuts-full s.config s.journal.items a.by a.nth a.at s.bytes _ _ s.contents s.channels s.alterations a.items cuts c.self.invariant mark many c.in_default.ensures taken (grind (arith, common_steps)) in
     (λ j. record { mark = mark j; reply = replied.JournalFull }) ∙ full.told ∙ ap (λ k. answer k.config k.journal (call.Truncate a.items)) c.self.view_is
 
 pub returns-in_default-clause-journal : goal.returns-in_default-clause-journal
@@ -85,7 +85,7 @@ returns-in_default-clause-journal c =
     let mark : c.len-mark.result ≡ length s.journal.items = grind (arith, common_steps) in
     let many : c.cuts_bytes-counted.result ≡ capped (16 * length cuts) = grind (arith, common_steps) in
     let taken : cuts ≡ cuts_accepted s.channels [] (values_of a.items) = c.in_ok-draft.ensures.accepted ∙ ap (λ l. cuts_accepted s.channels [] (values_of l)) c.into_vec.ensures.items in
-    let full = cuts-full s.config s.journal.items a.by a.nth a.at s.bytes _ _ s.contents s.channels a.items cuts c.self.invariant mark many c.in_default.ensures taken (grind (arith, common_steps)) in
+    let full = cuts-full s.config s.journal.items a.by a.nth a.at s.bytes _ _ s.contents s.channels s.alterations a.items cuts c.self.invariant mark many c.in_default.ensures taken (grind (arith, common_steps)) in
     sym (append-nil k.journal) ∙ ap (λ l. k.journal ++ l) full.made ∙ ap (λ k'. k.journal ++ entries_of k'.config k'.journal a.by a.nth a.at (call.Truncate a.items)) c.self.view_is
 
 -- ---- there is
@@ -100,7 +100,7 @@ returns-clause-answer c =
     let taken : cuts ≡ cuts_accepted s.channels [] (values_of a.items) =
     c.from_vec-cuts.ensures ∙ c.in_ok-draft.ensures.accepted ∙ ap (λ l. cuts_accepted s.channels [] (values_of l)) c.into_vec.ensures.items in
     let given : c.from_sorted-verdicts.result ≡ cut_verdicts s.channels [] a.items = c.from_sorted-verdicts.ensures ∙ c.in_ok-draft.ensures.verdicts ∙ ap (cut_verdicts s.channels []) c.into_vec.ensures.items in
-    let done = cuts-done s.config s.journal.items a.by a.nth a.at s.bytes c.in-Some.bytes _ _ s.contents s.channels a.items cuts c.self.invariant mark many c.in-Some.ensures taken (grind (arith, common_steps)) in
+    let done = cuts-done s.config s.journal.items a.by a.nth a.at s.bytes c.in-Some.bytes _ _ s.contents s.channels s.alterations a.items cuts c.self.invariant mark many c.in-Some.ensures taken (grind (arith, common_steps)) in
     (λ j. record { mark = mark j; reply = replied.Verdicts (given j) }) ∙ done.told ∙ ap (λ k. answer k.config k.journal (call.Truncate a.items)) c.self.view_is
 
 pub returns-clause-journal : goal.returns-clause-journal
@@ -113,6 +113,6 @@ returns-clause-journal c =
     let many : c.cuts_bytes-counted.result ≡ capped (16 * length cuts) = grind (arith, common_steps) in
     let taken : cuts ≡ cuts_accepted s.channels [] (values_of a.items) =
     c.from_vec-cuts.ensures ∙ c.in_ok-draft.ensures.accepted ∙ ap (λ l. cuts_accepted s.channels [] (values_of l)) c.into_vec.ensures.items in
-    let done = cuts-done s.config s.journal.items a.by a.nth a.at s.bytes c.in-Some.bytes _ _ s.contents s.channels a.items cuts c.self.invariant mark many c.in-Some.ensures taken (grind (arith, common_steps)) in
+    let done = cuts-done s.config s.journal.items a.by a.nth a.at s.bytes c.in-Some.bytes _ _ s.contents s.channels s.alterations a.items cuts c.self.invariant mark many c.in-Some.ensures taken (grind (arith, common_steps)) in
     c.in_ok-add_cuts.ensures.journal ∙ (λ j. s.journal.items ++ record { by = a.by; nth = a.nth; at = moment j; act = Truncate cuts } ∷ [])
     ∙ ap (λ l. s.journal.items ++ l) done.made ∙ ap (λ k. k.journal ++ entries_of k.config k.journal a.by a.nth a.at (call.Truncate a.items)) c.self.view_is
