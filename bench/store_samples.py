@@ -15,6 +15,8 @@ a moment; the items of a call stand behind a colon, with semicolons between them
     BY AT put:NAME AT KEY WHAT         operations. A key is space/PATH, object/SPACE/TYPE/NUMBER or array/SPACE/TYPE/NUMBER/PATH, and
                                        what is done is gone, object URI OTHERS NAME CHANGED ACTIVE CUSTOM FORMAT DATA,
                                        array DIMS PREFERRED KIND ELEMENTS LOGICAL CUSTOM or patch STARTS COUNTS KIND ELEMENTS
+    BY AT commit:ITEM                  commits a transaction. An item is touch KEY MARK, a key and the length that the journal had when it
+                                       was touched, or do AT KEY WHAT, an operation
     BY AT append:CHANNEL INDEX VALUE   adds points; an index may be FROM+COUNT, for so many points from there on
     BY AT replace CHANNELS FROM TO:CHANNEL INDEX VALUE
     BY AT truncate:NAME CHANNEL END
@@ -91,7 +93,24 @@ def uri_of(space, kind, number):
     return front + ("/" if path else "") + name
 
 
+def key_of(word):
+    """A key: the path of its dataspace, the URI of its object, and the path of its array, as far as it has them."""
+    kind, space, *rest = word.split("/")
+    return (text(space), uri_of(space, *rest[:2]) if rest else None, text(rest[2]) if kind == "array" else None)
+
+
+def changes_key(change, key):
+    """Whether a change is one of a key: a removed object takes its arrays along, and a dropped dataspace all that is in it."""
+    kind, what = change
+    return what == {"key": key, "object": key[:2], "space": key[:1]}[kind]
+
+
 # ---- what things count
+
+def key_bytes(key):
+    space, uri, path = key
+    return len((uri or space).encode()) + len((path or "").encode())
+
 
 def point_bytes(value):
     letter, content = value
@@ -198,6 +217,54 @@ def is_array(dims, values):
     return len(values[1]) <= 4194304 and array_bytes(values) <= 33554432
 
 
+# ---- operations
+
+class Operation:
+    """An operation by its words: AT KEY WHAT."""
+
+    def __init__(self, item):
+        at, key, self.what, *words = item
+        self.at, self.key, (self.kind, *self.words) = int(at), key_of(key), key.split("/")
+        if self.what == "object":
+            self.uri = uri_of(*words[:3])
+            others, name, changed, active, custom, format, data = words[3:]
+            self.object = {
+                "others": [text(other).encode() for other in items_of(others)], "name": text(name).encode(), "changed": int(changed),
+                "active": int(active), "custom": custom_of(custom), "format": text(format).encode(), "data": text(data).encode()}
+        elif self.what == "array":
+            dims, preferred, branch, items, logical, custom = words
+            self.array = {
+                "dims": numbers(dims), "preferred": numbers(preferred), "values": elements(branch, items), "logical": int(logical),
+                "custom": custom_of(custom)}
+        elif self.what == "patch":
+            starts, counts, branch, items = words
+            self.starts, self.counts, self.values = numbers(starts), numbers(counts), elements(branch, items)
+
+    def suits(self):
+        """Whether what is done goes with the key."""
+        if self.what == "object":
+            return self.kind == "object" and self.uri == self.key[1]
+        if self.what == "gone":
+            return self.kind == "object"
+        return self.kind == "array" and (self.what == "patch" or is_array(self.array["dims"], self.array["values"]))
+
+    def change(self):
+        return ("object", self.key[:2]) if self.what == "gone" else ("key", self.key)
+
+    def counted(self):
+        return key_bytes(self.key) + self.content_bytes()
+
+    def content_bytes(self):
+        if self.what == "object":
+            texts = [self.object["name"], self.object["format"], self.object["data"]] + self.object["others"]
+            return 256 + sum(len(item) for item in texts) + weight(self.object["custom"])
+        if self.what == "gone":
+            return 64
+        if self.what == "array":
+            return 256 + array_bytes(self.array["values"]) + weight(self.array["custom"])
+        return 256 + array_bytes(self.values)
+
+
 # ---- the store
 
 class Store:
@@ -207,17 +274,19 @@ class Store:
         self.points = [[] for _ in self.kinds]
         self.uris = {uri_of("w" if i % 2 else "-", "Channel", i): i for i in range(len(self.kinds))}
         self.journal = [(0, 0, 0, "enter")]
+        self.changes = [[]]
         self.bytes = 64
         self.spaces = {"": {"written": 0, "created": 0, "custom": []}}
         self.objects = {}
         self.arrays = {}
 
-    def add(self, by, at, act, counted):
-        """Adds an entry, where the journal has room."""
+    def add(self, by, at, act, counted, changes=()):
+        """Adds an entry with its changes of keys, where the journal has room."""
         if len(self.journal) >= self.limit or self.bytes + 64 + counted > JOURNAL_BYTES:
             return False
         nth = sum(1 for entry in self.journal if entry[0] == by)
         self.journal.append((by, nth, at, act))
+        self.changes.append(list(changes))
         self.bytes += 64 + counted
         return True
 
@@ -240,14 +309,14 @@ class Store:
     def judged(self, by, at, items, act, judge):
         """Judges named items in order over a copy that the accepted ones change, and keeps it where they make an entry."""
         before = dict(self.spaces), dict(self.objects), dict(self.arrays), self.points
-        verdicts, accepted, counted = [], 0, 0
+        verdicts, changes, counted = [], [], 0
         for item in sorted(items, key=lambda item: item[0].encode()):
-            code, count = judge(item)
+            code, count, change = judge(item)
             verdicts.append(" %s %s" % (item[0], "accepted" if code is None else "refused %d" % code))
             if code is None:
-                accepted += 1
+                changes.append(change)
                 counted += count
-        if accepted and not self.add(by, at, "%s %d" % (act, accepted), counted):
+        if changes and not self.add(by, at, "%s %d" % (act, len(changes)), counted, filter(None, changes)):
             self.spaces, self.objects, self.arrays, self.points = before
             return ["journal full"]
         return ["verdicts %d" % len(verdicts)] + verdicts
@@ -256,23 +325,23 @@ class Store:
         def judge(item):
             path, custom = text(item[1]), custom_of(item[2])
             if path == "":
-                return 6, 0
+                return 6, 0, None
             created = self.spaces.get(path, {"created": at})["created"]
             self.spaces[path] = {"written": at, "created": created, "custom": custom}
-            return None, 64 + len(path.encode()) + weight(custom)
+            return None, 64 + len(path.encode()) + weight(custom), ("key", (path, None, None))
         return self.judged(by, at, items, "put_spaces", judge)
 
     def drop_spaces(self, by, at, items):
         def judge(item):
             path = text(item[1])
             if path == "":
-                return 6, 0
+                return 6, 0, None
             if path not in self.spaces:
-                return 11, 0
+                return 11, 0, None
             del self.spaces[path]
             self.objects = {key: object for key, object in self.objects.items() if object["space"] != path}
             self.arrays = {key: array for key, array in self.arrays.items() if array["space"] != path}
-            return None, 64 + len(path.encode())
+            return None, 64 + len(path.encode()), ("space", (path,))
         return self.judged(by, at, items, "drop_spaces", judge)
 
     # -- objects and arrays
@@ -281,58 +350,64 @@ class Store:
         return self.judged(by, at, items, "put", self.operate)
 
     def operate(self, item):
-        _, at, key, what, *words = item
-        at, (kind, *key) = int(at), key.split("/")
-        uri = uri_of(*key[:3]) if kind != "space" else None
-        space = text(key[0])
-        if what == "object":
-            if kind != "object" or uri_of(*words[:3]) != uri:
-                return 5, 0
-            if space not in self.spaces:
-                return 11, 0
-            others, name, changed, active, custom, format, data = words[3:]
-            made = self.objects.get(uri, {"created": at})["created"]
-            others = [text(other).encode() for other in items_of(others)]
-            self.objects[uri] = {
-                "space": space, "words": key[:3], "others": others, "name": text(name).encode(), "changed": int(changed), "active": int(active),
-                "custom": custom_of(custom), "format": text(format).encode(), "data": text(data).encode(), "written": at, "created": made}
-            object = self.objects[uri]
-            texts = sum(len(other) for other in others) + len(object["name"]) + len(object["format"]) + len(object["data"])
-            return None, 256 + len(uri.encode()) + texts + weight(object["custom"])
-        if what == "gone":
-            if kind != "object":
-                return 5, 0
-            if uri not in self.objects:
-                return 11, 0
-            del self.objects[uri]
-            self.arrays = {key: array for key, array in self.arrays.items() if key[0] != uri}
-            return None, 64 + len(uri.encode())
-        if kind != "array":
-            return 5, 0
-        place = (uri, text(key[3]))
-        texts = len(uri.encode()) + len(place[1].encode())
-        if what == "array":
-            dims, preferred, branch, items, logical, custom = words
-            dims, values = numbers(dims), elements(branch, items)
-            if not is_array(dims, values):
-                return 5, 0
-            if uri not in self.objects:
-                return 11, 0
-            made = self.arrays.get(place, {"created": at})["created"]
-            self.arrays[place] = {
-                "space": space, "words": key, "dims": dims, "preferred": numbers(preferred), "values": values, "logical": int(logical),
-                "custom": custom_of(custom), "written": at, "created": made}
-            return None, 256 + texts + array_bytes(values) + weight(custom_of(custom))
-        starts, counts, branch, items = words
-        if place not in self.arrays:
-            return 11, 0
-        array, starts, counts, values = self.arrays[place], numbers(starts), numbers(counts), elements(branch, items)
-        code = self.patch_code(array, starts, counts, values)
+        """Does an operation, or gives the code by which it is refused."""
+        op = Operation(item[1:])
+        code = self.op_code(op) if op.suits() else 5
         if code is not None:
-            return code, 0
-        patched = self.patched(array, starts, counts, values)
-        self.arrays[place] = dict(array, values=(branch, patched), written=at)
-        return None, 256 + texts + array_bytes(values)
+            return code, 0, None
+        self.do(op)
+        return None, op.counted(), op.change()
+
+    def op_code(self, op):
+        """The code by which what stands refuses an operation."""
+        if op.what == "object":
+            return None if op.key[0] in self.spaces else 11
+        if op.what == "gone":
+            return None if op.key[1] in self.objects else 11
+        if op.what == "array":
+            return None if op.key[1] in self.objects else 11
+        found = self.arrays.get(op.key[1:])
+        return self.patch_code(found, op.starts, op.counts, op.values) if found else 11
+
+    def do(self, op):
+        """Does an operation that goes with its key, whatever stands."""
+        space, uri, path = op.key
+        if op.what == "object":
+            made = self.objects.get(uri, {"created": op.at})["created"]
+            self.objects[uri] = dict(op.object, space=space, words=op.words, written=op.at, created=made)
+        elif op.what == "gone":
+            self.objects.pop(uri, None)
+            self.arrays = {key: array for key, array in self.arrays.items() if key[0] != uri}
+        elif op.what == "array":
+            made = self.arrays.get((uri, path), {"created": op.at})["created"]
+            self.arrays[uri, path] = dict(op.array, space=space, words=op.words, written=op.at, created=made)
+        else:
+            found = self.arrays.get((uri, path))
+            if found and self.patch_code(found, op.starts, op.counts, op.values) is None:
+                patched = self.patched(found, op.starts, op.counts, op.values)
+                self.arrays[uri, path] = dict(found, values=(op.values[0], patched), written=op.at)
+
+    def commit(self, by, at, items):
+        touched = [(key_of(word), int(mark)) for kind, word, mark in (item for item in items if item[0] == "touch")]
+        ops = [Operation(item[1:]) for item in items if item[0] == "do"]
+        places = [self.first_change(key, mark) for key, mark in touched]
+        places = [place for place in places if place is not None]
+        if places:
+            return ["conflict %d" % min(places)]
+        if not ops:
+            return ["committed"]
+        counted = sum(op.counted() for op in ops) + sum(64 + key_bytes(key) for key, _ in touched)
+        suiting = [op for op in ops if op.suits()]
+        if not self.add(by, at, "commit %d %d" % (len(ops), len(touched)), counted, [op.change() for op in suiting]):
+            return ["journal full"]
+        for op in suiting:
+            self.do(op)
+        return ["committed"]
+
+    def first_change(self, key, mark):
+        """The first place from a mark on whose entry changed a key."""
+        places = range(mark, len(self.changes))
+        return next((place for place in places if any(changes_key(change, key) for change in self.changes[place])), None)
 
     def patched(self, array, starts, counts, values):
         patched = list(array["values"][1])
@@ -478,11 +553,11 @@ class Store:
             earlier = channel in named
             named.add(channel)
             if not self.is_channel(channel):
-                return 11, 0
+                return 11, 0, None
             if not -FAR <= end <= FAR or earlier:
-                return 5, 0
+                return 5, 0, None
             self.points[channel] = [point for point in self.points[channel] if point[0] <= end]
-            return None, 16
+            return None, 16, None
         lines = self.judged(by, at, items, "truncate", judge)
         if lines == ["journal full"]:
             self.points = points
@@ -596,8 +671,12 @@ store 50 any bytes
 0 1 append:0 8 x1*67109020
 0 1 append:0 9 x1*129
 0 1 append:0 8 x1*129
+0 1 commit:touch space/- 10;do 1 object/-/Well/1 gone
+0 1 commit:do 1 array/-/Well/1/p*23 gone
+0 1 commit:touch space/- 10;touch object/-/Well/1 10;touch object/-/Well/2 10;touch array/-/Well/1/p 10
 0 1 enter
 10 1 append:0 9 n;0 10 n;0 11 n;0 12 n;0 13 n;0 14 n
+10 1 commit:do 1 space/p*17 gone
 10 1 replace 0 9 20:0 9 n;0 10 n;0 11 n;0 12 n
 10 1 replace 0 9 20:0 9 n;0 10 n;0 11 n
 10 1 append:0 9 n
@@ -612,6 +691,8 @@ store 50 any bytes
 10 1 range:0 5 7
 10 1 range:0 5 5;0 9 20
 10 1 meta:a - Channel 0
+10 1 commit:do 1 space/- gone
+10 1 commit:touch space/- 0
 0 1 enter
 journal"""
 
@@ -652,6 +733,69 @@ store 20 any long,int
 0 4 drop_spaces:b x;a x
 0 4 put_spaces:a x -
 0 4 look:object x Well 1;space x
+journal"""
+
+COMMITS = """\
+store 40 any long
+0 1 enter
+0 1 enter
+0 1 enter
+1 2 put:a 2 object/-/Well/1 object - Well 1 - - 0 0 - xml x
+1 9 commit:touch object/-/Well/1 5;touch space/- 5;do 3 object/-/Well/1 object - Well 1 - - 0 0 - xml y
+2 9 commit:touch object/-/Well/1 5;touch space/- 5;do 4 object/-/Well/1 object - Well 1 - - 0 0 - xml z
+3 9 commit:touch object/-/Well/1 5;touch object/-/Well/2 5;touch space/- 5;do 5 object/-/Well/2 object - Well 2 - - 0 0 - xml z
+3 9 look:object - Well 1;object - Well 2
+3 9 commit:touch object/-/Well/1 6;touch object/-/Well/2 6;touch space/- 6;do 5 object/-/Well/2 object - Well 2 - - 0 0 - xml z
+3 9 commit:touch object/-/Well/2 0;touch object/-/Well/1 0
+3 9 commit:touch object/-/Well/1 0;touch object/-/Well/2 0
+3 9 commit:touch object/-/Well/2 6;touch object/-/Well/1 5
+3 9 commit:touch object/-/Well/2 7;touch object/-/Well/2 6;touch object/-/Well/1 6
+3 9 commit:touch space/- 0;touch object/-/Well/3 0;touch array/-/Well/1/p 0;touch object/-/Well/2 7;touch object/-/Well/2 18446744073709551615
+0 9 put_spaces:a w -
+0 9 commit:touch object/w/Well/9 0;touch array/w/Well/9/p 0;touch space/v 0
+0 9 commit:touch object/w/Well/9 0;touch space/w 7
+0 9 put:a 9 object/w/Well/1 object w Well 1 - - 0 0 - xml -
+0 9 put:a 9 array/w/Well/1/p array 2 - long 1,2 0 -
+0 9 commit:touch space/w 8;touch object/w/Well/1 9;touch array/w/Well/1/q 0;touch array/w/Well/2/p 0
+0 9 commit:touch array/w/Well/1/p 9
+0 9 put:a 9 object/w/Well/1 gone
+0 9 commit:touch array/w/Well/1/q 0
+0 9 commit:touch array/w/Well/2/p 0;touch object/w/Well/2 0;touch space/w 8;touch array/-/Well/1/p 0
+0 9 commit:touch object/w/Well/1 10;touch array/w/Well/1/p 10
+0 9 drop_spaces:a w
+0 9 commit:touch object/w/Well/9 0
+0 9 commit:touch array/w/Well/9/p 0
+0 9 commit:touch array/w/Log/1/q 0;touch space/w 8
+0 9 commit:touch space/w 12;touch object/w/Well/1 12;touch array/w/Well/1/p 12;touch space/v 0;touch space/- 0
+0 9 append:0 1 n
+0 9 commit:touch space/w 12;touch object/w/Well/1 12;do -5 object/w/Well/1 object w Well 1 eml:///,x N 3 1 k=l1 xml -;do 6 array/w/Well/2/p array 2,2 1,1 int 1,2,3,4 4 k=n
+0 9 look:object w Well 1;array w Well 2 p;space w
+0 9 commit:touch array/w/Well/2/p 14;do 7 array/w/Well/2/p patch 0,1 2,1 int 8,9;do 8 array/w/Well/2/p patch 0,2 2,1 int 8,9;do 9 array/w/Well/2/p patch 0,0 1,1 long 5;do 10 array/w/Well/2/q patch 0 1 int 5
+0 9 look:array w Well 2 p;array w Well 2 q
+0 9 commit:touch array/w/Well/2/q 15;do 1 array/w/Well/2/q patch 0 1 int 5;do 2 array/w/Well/2/q array 2 - int 3,4 0 -;do 3 array/w/Well/2/q patch 1 1 int 5;do 4 array/w/Well/2/q patch 0 1 int 6
+0 9 commit:touch array/w/Well/2/q 16;do 1 array/w/Well/2/q patch 0 1 int 5;do 2 array/w/Well/2/q array 2 - int 3,4 0 -;do 3 array/w/Well/2/q patch 1 1 int 5;do 4 array/w/Well/2/q patch 0 1 int 6
+0 9 look:array w Well 2 p;array w Well 2 q;shape w Well 2 q
+0 9 commit:do 1 object/w/Well/2 gone;do 2 array/w/Well/1/p gone;do 3 array/w/Well/1/p array 3 - int 1,2 0 -;do 4 object/w/Well/1 object w Well 3 - - 0 0 - xml -;do 5 space/w gone
+0 9 look:array w Well 2 p;array w Well 2 q;object w Well 1;array w Well 1 p
+0 9 commit:touch array/w/Well/1/p 17;touch object/w/Well/1 17;touch space/w 17;touch object/w/Well/3 17
+0 9 commit:touch array/w/Well/2/p 17
+0 9 commit:do 1 space/v gone
+0 9 commit:touch space/v 0;touch space/- 0
+0 9 commit:do 1 object/w/Well/3 object w Well 3 - - 0 0 - xml -;do 2 array/w/Well/3/p array 1 - long 1 0 -;do 3 object/w/Well/3 gone;do 4 object/w/Well/3 object w Well 3 - - 0 0 - xml -
+0 9 look:object w Well 3;array w Well 3 p
+0 9 commit
+77 9 commit:touch space/- 0
+journal
+store 4 any long
+0 1 put_spaces:a w -
+0 1 commit:touch space/v 0;do 1 object/w/Well/1 object w Well 1 - - 0 0 - xml -
+0 1 commit:touch object/w/Well/1 2;do 1 object/w/Well/1 gone
+0 1 put_spaces:a v -
+0 1 commit:touch object/w/Well/1 3;do 1 object/w/Well/1 gone
+0 1 commit:touch object/w/Well/1 2;do 1 object/w/Well/1 gone
+0 1 commit:touch object/w/Well/1 3
+0 1 commit
+0 1 look:object w Well 1
 journal"""
 
 NAMES = ["a", "b", "c", "d", "aa", "B", "b1", "\u00e4"]
@@ -745,18 +889,23 @@ class Draw:
 
     def region(self, words):
         found = self.store.arrays.get((uri_of(*words[:3]), text(words[3])))
-        dims = found["dims"] if found else [3]
+        return (found, *self.region_of(found["dims"] if found else [3]))
+
+    def region_of(self, dims):
         starts = [self.draw.randrange(dim + 1) for dim in dims]
         counts = [self.draw.randrange(dim - start + 1) for dim, start in zip(dims, starts)]
         if self.rare(5):
             starts, counts = self.draw.choice([
                 (starts, counts[1:]), (starts + [0], counts), ([-1] + starts[1:], counts), (starts, [count + 9 for count in counts]),
                 ([FAR] + starts[1:], [FAR] + counts[1:]), (starts, [-1] * len(counts))])
-        return found, starts, counts
+        return starts, counts
 
     def patch(self, words):
         found, starts, counts = self.region(words)
-        kind = found["values"][0] if found and not self.rare(8) else self.draw.choice(KINDS)
+        return self.patch_of(found["values"][0] if found else self.draw.choice(KINDS), starts, counts)
+
+    def patch_of(self, kind, starts, counts):
+        kind = self.draw.choice(KINDS) if self.rare(8) else kind
         count = product(counts) if 0 <= product(counts) < 100 else 1
         if self.rare(8):
             count += 1
@@ -785,6 +934,41 @@ class Draw:
             if self.rare(15):
                 key = self.one("space/w", "object/w/Well/1")
         return [name, at, key] + what
+
+    def key(self):
+        kind = self.draw.randrange(6)
+        if kind == 0:
+            return "space/" + self.path()
+        if kind < 4:
+            return "/".join(["object"] + self.object_uri())
+        return "/".join(["array"] + self.array_words())
+
+    def mark(self, late):
+        if self.rare(40):
+            return self.one(0, len(self.store.journal) + 1, 2 ** 64 - 1)
+        return max(0, len(self.store.journal) - self.one(*late))
+
+    def staged_array(self):
+        """The operations by which an array is set and then patched."""
+        key, array = "/".join(["array"] + self.object_uri() + [self.one("p", "q", "r")]), self.array()
+        patches = []
+        for _ in range(self.one(1, 1, 2)):
+            starts, counts = self.region_of([max(dim, 0) for dim in numbers(array[1])][:4])
+            patches.append(self.patch_of(array[3], starts, counts))
+        return [["do", str(self.moment()), key] + what for what in [array] + patches]
+
+    def staged(self):
+        """A transaction: what it does, and the keys that it touched, mostly those of what it does."""
+        ops = [self.operation("do") for _ in range(self.one(0, 1, 1, 2, 3))]
+        if self.rare(4):
+            ops += self.staged_array()
+        late = self.one([0], [0, 1], [0, 1, 2, 3], [1, 4, 9, 20], [20, 60, 200])
+        keys = [op[2] for op in ops if not self.rare(6)] + [self.key() for _ in range(self.one(0, 0, 1, 2, 4))]
+        keys = keys if self.rare(8) else list(dict.fromkeys(keys))
+        items = [["touch", key, str(self.mark(late))] for key in keys] + ops
+        if self.rare(4):
+            self.draw.shuffle(items)
+        return items
 
     def want(self):
         kind = self.draw.choice(["space", "known", "object", "object", "array", "array", "slice", "slice", "shape"])
@@ -872,7 +1056,9 @@ class Draw:
 
     def call(self):
         """A call's words, and its items."""
-        kind = self.draw.randrange(100)
+        kind = self.draw.randrange(120)
+        if kind >= 100:
+            return "commit", self.staged()
         if kind < 3:
             return "enter", []
         if kind < 9:
@@ -917,7 +1103,7 @@ def drawn():
 
 
 def main():
-    lines = LIMITS.splitlines() + ORDER.splitlines() + drawn()
+    lines = [line for part in (LIMITS, ORDER, COMMITS) for line in part.splitlines()] + drawn()
     if sys.argv[1:] == ["cases"]:
         print("\n".join(lines))
     elif sys.argv[1:] == ["answer"]:

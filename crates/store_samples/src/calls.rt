@@ -1,5 +1,6 @@
 //! Calls, by their words and the words of their items.
 use crate::items::{cuttings, ops, paths, points, ranges, space_puts, uris, wants};
+use crate::staged::staged;
 use crate::words::{number, numbers};
 use etp_values::NoMemory;
 use std::alloc::Global;
@@ -34,6 +35,9 @@ fn table_call(alloc: Global, name: &str, items: &[&str]) -> Result<StoreCall, No
         }),
         "put" => Ok(StoreCall::Put {
             items: ops(alloc, items)?,
+        }),
+        "commit" => Ok(StoreCall::Commit {
+            staged: staged(alloc, items)?,
         }),
         _ => Ok(StoreCall::Spaces { newer: None }),
     }

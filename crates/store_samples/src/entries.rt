@@ -20,7 +20,7 @@ fn print_act(rt: &HostRuntime, act: &Act) -> io::Result<()> {
         Act::PutSpaces(items) => println!(rt; "put_spaces {}", items.len()),
         Act::DropSpaces(items) => println!(rt; "drop_spaces {}", items.len()),
         Act::Put(items) => println!(rt; "put {}", items.len()),
-        Act::Commit(_) => println!(rt; "commit"),
+        Act::Commit(staged) => println!(rt; "commit {} {}", staged.ops.len(), staged.touched.len()),
         Act::Append(items) => println!(rt; "append {}", items.len()),
         Act::Replace {
             channels,

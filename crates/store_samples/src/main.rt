@@ -15,6 +15,7 @@ mod operations;
 mod replies;
 mod sessions;
 mod showing;
+mod staged;
 mod values;
 mod words;
 
