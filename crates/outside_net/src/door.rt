@@ -3,6 +3,7 @@ ghost use Rattle.std.specs.Prelude.{◌≡◌, ◌≤◌, None, false, IfSome};
 ghost use Rattle.etp_outside.specs.Faults.{Rose};
 ghost use Rattle.etp_outside.specs.Doors.{IsAccepted};
 
+use crate::bells::{Post, lone_post, posts};
 use crate::handshake::shake_hands;
 use crate::link::WsLink;
 use etp_outside::{Link, Listened, Listener, Next};
@@ -17,7 +18,7 @@ const TRIES: u32 = 64;
 /// A link to a client that connected.
 pub type ServerLink = WsLink<TcpStream, NoMask>;
 
-/// A listener over TCP. It skips a connection whose handshake fails, and does each handshake before it accepts the next
+/// A listener over TCP, with bells for the links that it gives. It skips a connection whose handshake fails, and does each handshake before it accepts the next
 /// connection, so a client that says nothing holds the others up for a second.
 #[derive(Drop)]
 pub struct TcpDoor<'a, R> {
@@ -26,6 +27,8 @@ pub struct TcpDoor<'a, R> {
     faults: u64,
     given: u64,
     stopped: bool,
+    /// The posts at which no link waits. None before the first link is asked for.
+    posts: Option<Vec<Post>>,
 }
 
 impl<'a, R: Net<Listener = TcpListener, Stream = TcpStream>> TcpDoor<'a, R> {
@@ -41,6 +44,7 @@ impl<'a, R: Net<Listener = TcpListener, Stream = TcpStream>> TcpDoor<'a, R> {
             faults: 0,
             given: 0,
             stopped: false,
+            posts: None,
         }
     }
 
@@ -64,18 +68,61 @@ impl<'a, R: Net<Listener = TcpListener, Stream = TcpStream>> TcpDoor<'a, R> {
         self.faults = self.faults.saturating_add(1);
     }
 
-    /// The next connection whose handshake is done. None where the listener failed.
-    fn next_link(&self, alloc: Global) -> Option<ServerLink>
-        ensures { IfSome result (λ l. IsAccepted (⟦<ServerLink as Link>⟧.talk l) (⟦<ServerLink as Link>⟧.faults l) (⟦<ServerLink as Link>⟧.ended l)) }
+    /// A post for the next link. None where the system gives none.
+    fn post(&mut self, alloc: Global) -> Option<Post>
+        ensures faults { self.new.faults ≡ self.old.faults }
+        ensures given { self.new.given ≡ self.old.given }
+        ensures stopped { self.new.stopped ≡ self.old.stopped }
     {
-        let Some(listener) = &self.listener else {
+        if self.posts.is_none() {
+            self.posts = Some(posts(self.rt, alloc));
+        }
+        let free = match &mut self.posts {
+            Some(free) => free.pop(),
+            None => None,
+        };
+        match free {
+            Some(post) => Some(post),
+            None => lone_post(self.rt, alloc),
+        }
+    }
+
+    /// The link over a connection, if its handshake is done and the system has what it needs to wait.
+    fn welcome(&mut self, alloc: Global, stream: TcpStream) -> Option<ServerLink>
+        ensures link { IfSome result (λ l. IsAccepted (⟦<ServerLink as Link>⟧.talk l) (⟦<ServerLink as Link>⟧.faults l) (⟦<ServerLink as Link>⟧.ended l)) }
+        ensures faults { self.new.faults ≡ self.old.faults }
+        ensures given { self.new.given ≡ self.old.given }
+        ensures stopped { self.new.stopped ≡ self.old.stopped }
+    {
+        let Some(socket) = shake_hands(alloc, stream) else {
             return None;
         };
+        match self.post(alloc) {
+            Some(post) => WsLink::new(socket, post),
+            None => None,
+        }
+    }
+
+    /// The next connection. None where the listener failed.
+    fn accept(&self) -> Option<TcpStream> {
+        match &self.listener {
+            Some(listener) => accept(listener),
+            None => None,
+        }
+    }
+
+    /// The next connection whose handshake is done. None where the listener failed.
+    fn next_link(&mut self, alloc: Global) -> Option<ServerLink>
+        ensures link { IfSome result (λ l. IsAccepted (⟦<ServerLink as Link>⟧.talk l) (⟦<ServerLink as Link>⟧.faults l) (⟦<ServerLink as Link>⟧.ended l)) }
+        ensures faults { self.new.faults ≡ self.old.faults }
+        ensures given { self.new.given ≡ self.old.given }
+        ensures stopped { self.new.stopped ≡ self.old.stopped }
+    {
         for _ in 0..u64::MAX {
-            let Some(stream) = accept(listener) else {
+            let Some(stream) = self.accept() else {
                 return None;
             };
-            if let Some(link) = welcome(alloc, stream) {
+            if let Some(link) = self.welcome(alloc, stream) {
                 return Some(link);
             }
         }
@@ -109,16 +156,6 @@ fn is_of_one_connection(kind: ErrorKind) -> bool {
             | ErrorKind::NetworkUnreachable
             | ErrorKind::HostUnreachable
     )
-}
-
-/// The link over a connection, if its handshake is done.
-fn welcome(alloc: Global, stream: TcpStream) -> Option<ServerLink>
-    ensures { IfSome result (λ l. IsAccepted (⟦<ServerLink as Link>⟧.talk l) (⟦<ServerLink as Link>⟧.faults l) (⟦<ServerLink as Link>⟧.ended l)) }
-{
-    match shake_hands(alloc, stream) {
-        Some(socket) => WsLink::new(socket),
-        None => None,
-    }
 }
 
 impl<'a, R: Net<Listener = TcpListener, Stream = TcpStream>> Listener for TcpDoor<'a, R> {
@@ -165,6 +202,10 @@ impl<'a, R: Net<Listener = TcpListener, Stream = TcpStream>> Listener for TcpDoo
     }
 
     fn back(&mut self, link: ServerLink, _number: u64, _end: u8) {
-        drop(link);
+        let post = link.into_post();
+        if let Some(posts) = &mut self.posts {
+            // A post that finds no room is closed.
+            let _ = posts.push(post);
+        }
     }
 }

@@ -7,10 +7,12 @@
 #![tactic(auto)]
 
 mod arrival;
+mod bells;
 mod door;
 mod handshake;
 mod link;
 mod metered;
+mod pace;
 mod silence;
 
 pub use door::{ServerLink, TcpDoor};

@@ -5,7 +5,9 @@ ghost use Rattle.etp_outside.specs.Talk.{is_end};
 ghost use Rattle.etp_outside.specs.Doors.{IsAccepted};
 
 use crate::arrival::{Arrival, receive};
+use crate::bells::{Post, Woken};
 use crate::metered::Metered;
+use crate::pace::Pace;
 use crate::silence::{Call, Silence};
 use bytes::Bytes;
 use etp_outside::{Link, Recv, Sent};
@@ -13,15 +15,13 @@ use etp_values::Blob;
 use std::alloc::Global;
 use std::io::{self, Read, Write};
 use std::net::{OpenStream, Shutdown};
+use std::os::fd::AsRawFd;
 use std::time::Duration;
 use tungstenite::{Error, MaskKeys, Message, WebSocket};
 
-/// The shortest and the longest time that a read waits, in milliseconds. A busy link waits the shortest time, so that its
-/// session soon looks at what the others did; each turn in which nothing came doubles the wait, so that a quiet link costs
-/// little.
-const SHORTEST_WAIT: u64 = 4;
-
-const LONGEST_WAIT: u64 = 32;
+/// How long a read waits for what is missing of a frame, in milliseconds. A read is begun where something has come, or may
+/// have.
+const READ_WAIT: u64 = 1;
 
 /// How long a write waits for the peer to take something, in milliseconds. A peer that takes nothing for so long is a fault.
 const WRITE_WAIT: u64 = 30_000;
@@ -33,6 +33,10 @@ const GOODBYE_WAIT: u64 = 50;
 
 /// A WebSocket as a link. What is sent waits in its output and leaves at the next receive, past 128 KiB, or as it closes: so
 /// the replies of one turn leave in one write. After a fault every call is a fault.
+///
+/// A link waits for its socket and for its bell. It rings the bells of the others when it receives again after a message: what
+/// the message was for is done then, and its entry, if any, is in the journal. A bell ends a turn in which nothing came, so that
+/// the session looks at once at what the others did.
 #[derive(Drop)]
 pub struct WsLink<S, K> {
     socket: WebSocket<Metered<S>, K>,
@@ -40,19 +44,23 @@ pub struct WsLink<S, K> {
     ended: bool,
     broken: bool,
     closed: bool,
-    /// How long a read waits, in milliseconds.
-    wait: u64,
+    /// Whether the socket may hold more than what was read: it is read before the link waits.
+    unread: bool,
+    /// Whether a message was handed on, and the others' bells are not rung yet.
+    handed: bool,
+    pace: Pace,
     silence: Silence,
+    post: Post,
 }
 
-impl<S: Read + Write + OpenStream + Drop + Send, K: MaskKeys + Drop + Send> WsLink<S, K> {
-    /// A link over a WebSocket whose handshake is done. None where the stream takes no limits of time: a read or a write of it
-    /// could wait for ever.
-    pub fn new(socket: WebSocket<Metered<S>, K>) -> Option<WsLink<S, K>>
+impl<S: Read + Write + OpenStream + AsRawFd + Drop + Send, K: MaskKeys + Drop + Send> WsLink<S, K> {
+    /// A link over a WebSocket whose handshake is done, which waits at a post. None where the stream takes no limits of time: a
+    /// read or a write of it could wait for ever.
+    pub(crate) fn new(socket: WebSocket<Metered<S>, K>, post: Post) -> Option<WsLink<S, K>>
         ensures { IfSome result (λ l. IsAccepted (⟦<WsLink<S, K> as Link>⟧.talk l) (⟦<WsLink<S, K> as Link>⟧.faults l) (⟦<WsLink<S, K> as Link>⟧.ended l)) }
     {
-        let limits = limit(socket.get_ref().stream());
-        if limits.is_err() {
+        let stream = socket.get_ref().stream();
+        if limit(stream).is_err() || !post.watch(stream.as_raw_fd()) {
             return None;
         }
         Some(WsLink {
@@ -61,33 +69,23 @@ impl<S: Read + Write + OpenStream + Drop + Send, K: MaskKeys + Drop + Send> WsLi
             ended: false,
             broken: false,
             closed: false,
-            wait: SHORTEST_WAIT,
+            unread: true,
+            handed: false,
+            pace: Pace::new(),
             silence: Silence::new(),
+            post,
         })
+    }
+
+    /// The post at which the link waited, for another link. The connection is over.
+    pub(crate) fn into_post(self) -> Post {
+        let WsLink { socket, post, .. } = self;
+        drop(socket);
+        post
     }
 }
 
 impl<S: Read + Write + OpenStream + Drop, K: MaskKeys + Drop> WsLink<S, K> {
-    /// Has reads wait so many milliseconds from now on.
-    fn pace(&mut self, wait: u64)
-        ensures faults { self.new.faults ≡ self.old.faults }
-        ensures ended { self.new.ended ≡ self.old.ended }
-    {
-        if wait == self.wait {
-            return;
-        }
-        let limit = Some(Duration::from_millis(wait));
-        if self
-            .socket
-            .get_ref()
-            .stream()
-            .set_read_timeout(limit)
-            .is_ok()
-        {
-            self.wait = wait;
-        }
-    }
-
     /// Counts a fault, and has every later call fail.
     fn fault(&mut self)
         ensures rose { Rose self.old.faults self.new.faults }
@@ -98,17 +96,54 @@ impl<S: Read + Write + OpenStream + Drop, K: MaskKeys + Drop> WsLink<S, K> {
         self.faults = self.faults.saturating_add(1);
     }
 
+    /// Waits until there may be something to read, and says whether a bell ended that.
+    fn hears_bell(&mut self) -> bool
+        ensures faults { self.new.faults ≡ self.old.faults }
+        ensures ended { self.new.ended ≡ self.old.ended }
+    {
+        if self.unread {
+            return false;
+        }
+        self.post.wait(self.pace.rest, self.pace.wait) == Woken::Bell
+    }
+
+    /// A turn that a bell ended.
+    fn belled(&mut self) -> Recv
+        ensures kept { self.old.faults ≤ self.new.faults }
+        ensures cause { result ≡ Recv.Failed → Rose self.old.faults self.new.faults }
+        ensures ended { self.new.ended ≡ (self.old.ended || is_end result) }
+    {
+        let rested = self.pace.rest;
+        self.pace.belled();
+        self.silent(rested)
+    }
+
     /// A turn in which no frame came.
     fn waited(&mut self) -> Recv
         ensures kept { self.old.faults ≤ self.new.faults }
         ensures cause { result ≡ Recv.Failed → Rose self.old.faults self.new.faults }
         ensures ended { self.new.ended ≡ (self.old.ended || is_end result) }
     {
+        if self.unread {
+            self.unread = false;
+            return self.silent(READ_WAIT);
+        }
+        let waited = self.pace.wait;
+        self.pace.quiet();
+        self.silent(waited)
+    }
+
+    /// A turn in which nothing came for so many milliseconds.
+    fn silent(&mut self, lasted: u64) -> Recv
+        ensures kept { self.old.faults ≤ self.new.faults }
+        ensures cause { result ≡ Recv.Failed → Rose self.old.faults self.new.faults }
+        ensures ended { self.new.ended ≡ (self.old.ended || is_end result) }
+    {
         let heard = self.socket.get_ref().heard();
-        match self.silence.after(heard, self.wait) {
-            Call::Nothing => self.idle(),
+        match self.silence.after(heard, lasted) {
+            Call::Nothing => Recv::Idle,
             Call::Ping => match self.put(Message::Ping(Bytes::new())) {
-                Sent::Done => self.idle(),
+                Sent::Done => Recv::Idle,
                 Sent::Failed => Recv::Failed,
                 Sent::NoMemory => Recv::NoMemory,
             },
@@ -117,15 +152,6 @@ impl<S: Read + Write + OpenStream + Drop, K: MaskKeys + Drop> WsLink<S, K> {
                 Recv::Failed
             }
         }
-    }
-
-    fn idle(&mut self) -> Recv
-        ensures idle { result ≡ Recv.Idle }
-        ensures faults { self.new.faults ≡ self.old.faults }
-        ensures ended { self.new.ended ≡ self.old.ended }
-    {
-        self.pace(self.wait.saturating_mul(2).min(LONGEST_WAIT));
-        Recv::Idle
     }
 
     /// Puts a message into the output.
@@ -155,52 +181,34 @@ impl<S: Read + Write + OpenStream + Drop, K: MaskKeys + Drop> WsLink<S, K> {
         }
     }
 
-    /// Sends the goodbye, and reads until the peer's has come or has not come in time.
-    fn say_goodbye(&mut self)
+    /// Rings the bells of the others, where a message was handed on since they were rung.
+    fn ring(&mut self)
         ensures faults { self.new.faults ≡ self.old.faults }
         ensures ended { self.new.ended ≡ self.old.ended }
     {
-        self.pace(GOODBYE_WAIT);
-        if self.socket.close(None).is_err() {
-            return;
-        }
-        for _ in 0..GOODBYE_READS {
-            match receive(&mut self.socket) {
-                Arrival::Message(_) | Arrival::Frame | Arrival::Nothing => {}
-                Arrival::End | Arrival::Fault | Arrival::NoMemory => return,
-            }
+        if self.handed {
+            self.handed = false;
+            self.post.ring();
         }
     }
-}
 
-/// Sets the limits of time of a link that begins.
-fn limit<S: OpenStream>(stream: &S) -> io::Result<()> {
-    stream.set_read_timeout(Some(Duration::from_millis(SHORTEST_WAIT)))?;
-    stream.set_write_timeout(Some(Duration::from_millis(WRITE_WAIT)))
-}
-
-impl<S: Read + Write + OpenStream + Drop + Send, K: MaskKeys + Drop + Send> Link for WsLink<S, K> {
-    ghost talk = { λ l. None };
-
-    ghost faults = { λ l. l.faults };
-
-    ghost ended = { λ l. l.ended };
-
-    fn recv(&mut self, _alloc: Global) -> Recv {
-        if self.ended {
-            return Recv::End;
-        }
-        // What was sent leaves now. A read would pass over a peer that takes nothing.
-        if self.broken || self.socket.flush().is_err() {
-            self.fault();
-            return Recv::Failed;
-        }
+    /// Reads what has come.
+    fn read(&mut self) -> Recv
+        ensures kept { self.old.faults ≤ self.new.faults }
+        ensures cause { result ≡ Recv.Failed → Rose self.old.faults self.new.faults }
+        ensures ended { self.new.ended ≡ (self.old.ended || is_end result) }
+    {
         match receive(&mut self.socket) {
             Arrival::Message(message) => {
-                self.pace(SHORTEST_WAIT);
+                self.unread = true;
+                self.handed = true;
+                self.pace.busy();
                 Recv::Got(message)
             }
-            Arrival::Frame => Recv::Idle,
+            Arrival::Frame => {
+                self.unread = true;
+                Recv::Idle
+            }
             Arrival::Nothing => self.waited(),
             Arrival::End => {
                 // The answer to a goodbye.
@@ -220,6 +228,65 @@ impl<S: Read + Write + OpenStream + Drop + Send, K: MaskKeys + Drop + Send> Link
         }
     }
 
+    /// Sends the goodbye, and reads until the peer's has come or has not come in time.
+    fn say_goodbye(&mut self)
+        ensures faults { self.new.faults ≡ self.old.faults }
+        ensures ended { self.new.ended ≡ self.old.ended }
+    {
+        let wait = Some(Duration::from_millis(GOODBYE_WAIT));
+        if self
+            .socket
+            .get_ref()
+            .stream()
+            .set_read_timeout(wait)
+            .is_err()
+        {
+            return;
+        }
+        if self.socket.close(None).is_err() {
+            return;
+        }
+        for _ in 0..GOODBYE_READS {
+            match receive(&mut self.socket) {
+                Arrival::Message(_) | Arrival::Frame | Arrival::Nothing => {}
+                Arrival::End | Arrival::Fault | Arrival::NoMemory => return,
+            }
+        }
+    }
+}
+
+/// Sets the limits of time of a link that begins.
+fn limit<S: OpenStream>(stream: &S) -> io::Result<()> {
+    stream.set_read_timeout(Some(Duration::from_millis(READ_WAIT)))?;
+    stream.set_write_timeout(Some(Duration::from_millis(WRITE_WAIT)))
+}
+
+impl<S: Read + Write + OpenStream + Drop + Send, K: MaskKeys + Drop + Send> Link for WsLink<S, K> {
+    ghost talk = { λ l. None };
+
+    ghost faults = { λ l. l.faults };
+
+    ghost ended = { λ l. l.ended };
+
+    fn recv(&mut self, _alloc: Global) -> Recv {
+        if self.ended {
+            return Recv::End;
+        }
+        // What was sent leaves now. A read would pass over a peer that takes nothing.
+        if self.broken || self.socket.flush().is_err() {
+            self.fault();
+            return Recv::Failed;
+        }
+        self.ring();
+        let recv = if self.hears_bell() {
+            self.belled()
+        } else {
+            self.read()
+        };
+        self.post.look();
+        recv
+    }
+
     fn send(&mut self, _alloc: Global, message: &Blob) -> Sent {
         if self.broken {
             self.fault();
@@ -228,9 +295,8 @@ impl<S: Read + Write + OpenStream + Drop + Send, K: MaskKeys + Drop + Send> Link
         let Ok(shared) = message.share() else {
             return Sent::NoMemory;
         };
-        let sent = self.put(Message::Binary(shared.into_bytes()));
-        self.pace(SHORTEST_WAIT);
-        sent
+        self.pace.told();
+        self.put(Message::Binary(shared.into_bytes()))
     }
 
     fn close(&mut self) {
@@ -238,6 +304,7 @@ impl<S: Read + Write + OpenStream + Drop + Send, K: MaskKeys + Drop + Send> Link
             return;
         }
         self.closed = true;
+        self.ring();
         if !self.ended && !self.broken {
             self.say_goodbye();
         }
