@@ -4,3 +4,4 @@ pub mod Opening
 pub mod Dataspaces
 pub mod ObjectChecks
 pub mod Objects
+pub mod Transactions

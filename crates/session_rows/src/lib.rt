@@ -3,13 +3,15 @@
 //! A request is handed what it has to know of the session, and answers an
 //! [`Outcome`](keyed_requests::Outcome): its reply, or a call of the store with what the store's answer is to be
 //! joined with. [`opening_of`] is RequestSession; [`dataspace_outcome`] and [`dataspace_reply`] are the two halves
-//! of a request of the Dataspace protocol, [`object_outcome`] and [`object_reply`] those of one of the Store protocol.
+//! of a request of the Dataspace protocol, [`object_outcome`] and [`object_reply`] those of one of the Store protocol, and
+//! [`transaction_request`] and [`transaction_reply`] those of one of the Transaction protocol.
 #![tactic(auto)]
 
 mod dataspaces;
 mod formats;
 mod objects;
 mod opening;
+mod transactions;
 
 pub use dataspaces::{
     DataspaceOutcome, DataspacePending, MAX_CUSTOM_SIZE, dataspace_outcome, dataspace_reply,
@@ -17,3 +19,7 @@ pub use dataspaces::{
 pub use formats::Format;
 pub use objects::{MAX_EXTRAS_SIZE, ObjectOutcome, ObjectPending, object_outcome, object_reply};
 pub use opening::{Opening, PART_LIMIT, opening_of};
+pub use transactions::{
+    MAX_SPACES, Transacting, TransactionOutcome, TransactionPending, transaction_reply,
+    transaction_request,
+};
