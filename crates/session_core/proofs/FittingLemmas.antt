@@ -3,12 +3,14 @@ use Rattle.std.specs.Prelude.{ℕ, suc, ℤ, pos, Bool, true, false, cond, not, 
 use Rattle.std.specs.List.{flat_map}
 use Rattle.std.specs.Map.{keys_of, values_of}
 use Rattle.std.specs.Option.{option_map}
+use Rattle.std.specs.Str.{bytes_eq}
 use Rattle.std.proofs.Common.{ap, ◌∙◌, arith}
 use Rattle.array_rows.specs.Arrays as arrays
 use Rattle.array_rows.specs.Changing.{change_response, checked_made, checked_patch, op_of, patch_array, put_wants, set_array}
 use Rattle.array_rows.specs.Changing.{checked_put as checked_put_array}
 use Rattle.array_rows.specs.Naming.{named_array, named_region}
 use Rattle.array_rows.specs.Reading.{arrays_response, metadata_response, slice_want, slices_response}
+use Rattle.array_rows.specs.declared.arrays.ArrayPending.{ArrayPending}
 use Rattle.array_rows.specs.declared.arrays.ArrayPending.TheVariants as keeps_array
 use Rattle.array_rows.specs.declared.changing.ArrayChange.{ArrayChange}
 use Rattle.array_rows.specs.declared.changing.ArrayChange.TheVariants as change
@@ -58,6 +60,9 @@ use Rattle.msg_core.specs.declared.core_messages.CoreMessage.TheVariants as core
 use Rattle.msg_core.specs.declared.core_messages.RequestSession.{RequestSession}
 use Rattle.msg_core.specs.declared.dataspace_messages.DataspaceMessage.{DataspaceMessage}
 use Rattle.msg_core.specs.declared.dataspace_messages.DataspaceMessage.TheVariants as space
+use Rattle.msg_core.specs.declared.transaction_messages.StartTransaction.{StartTransaction}
+use Rattle.msg_core.specs.declared.transaction_messages.TransactionMessage.{TransactionMessage}
+use Rattle.msg_core.specs.declared.transaction_messages.TransactionMessage.TheVariants as transacts
 use Rattle.msg_store.specs.declared.array_records.DataArrayIdentifier.{DataArrayIdentifier}
 use Rattle.msg_store.specs.declared.array_records.GetDataSubarraysType.{GetDataSubarraysType}
 use Rattle.msg_store.specs.declared.array_records.PutDataArraysType.{PutDataArraysType}
@@ -74,12 +79,16 @@ use Rattle.session_rows.specs.Dataspaces.{DataspaceOutcome, change_refusal, chan
 use Rattle.session_rows.specs.ObjectChecks.{checked_object, named_object, session_format}
 use Rattle.session_rows.specs.Objects as objects
 use Rattle.session_rows.specs.Opening.{opening_of}
+use Rattle.session_rows.specs.Transactions as transactions
 use Rattle.session_rows.specs.declared.dataspaces.DataspacePending.TheVariants as keeps
 use Rattle.session_rows.specs.declared.formats.Format.{Format}
 use Rattle.session_rows.specs.declared.opening.Opening.{Opening}
+use Rattle.session_rows.specs.declared.objects.ObjectPending.{ObjectPending}
 use Rattle.session_rows.specs.declared.opening.Opening.TheVariants as opens
-use Rattle.store_machine.specs.Answers.{answer, answered, has_room, ranges_after, seen_after, sofar_with, starts_after, verdicts, wanted, written}
+use Rattle.session_rows.specs.declared.transactions.TransactionPending.TheVariants as commits
+use Rattle.store_machine.specs.Answers.{answer, answered, commit_reply, has_room, ranges_after, seen_after, sofar_with, starts_after, verdicts, wanted, written}
 use Rattle.store_machine.specs.Channels.{channels_of, code_of}
+use Rattle.store_machine.specs.Clash.{conflict}
 use Rattle.store_machine.specs.Cuts.{cut_verdicts}
 use Rattle.store_machine.specs.History.{Change, DropSpace, Operate, changes_of, set_space, value_after}
 use Rattle.store_machine.specs.News.{dues, joined, lag, news_after, news_by, taken}
@@ -113,8 +122,8 @@ use Rattle.session_core.specs.declared.state.Phase.{Phase}
 use Rattle.session_core.specs.declared.state.Phase.TheVariants as phase
 use Rattle.session_core.specs.State.{State}
 use Rattle.session_core.specs.Arriving.{arrived, request_of}
-use Rattle.session_core.specs.Fitting.{AnswersFit, Fits, FitsArrays, FitsDataspaces, FitsLoads, FitsObjects, FitsPoints, FitsSubscriptions}
-use Rattle.session_core.specs.Machine.{Taken, accepting, by_event, by_phase, may_acknowledge, no_call, on_arrays, on_core, on_dataspaces, on_join, on_joined, on_loads_by, on_message, on_objects, on_ping, on_poll, on_protocol, on_received, on_request_session, on_row, on_store, on_subscriptions_by, on_whole, opened, protocol_refusal, put_request, refuses}
+use Rattle.session_core.specs.Fitting.{AnswersFit, Fits, FitsArrays, FitsDataspaces, FitsLoads, FitsObjects, FitsPoints, FitsSubscriptions, FitsTransactions}
+use Rattle.session_core.specs.Machine.{Taken, accepting, arrays_kept, by_event, by_phase, may_acknowledge, no_call, objects_kept, on_arrays, on_core, on_dataspaces, on_join, on_joined, on_loads_by, on_message, on_objects, on_ping, on_poll, on_protocol, on_received, on_request_session, on_row, on_store, on_subscriptions_by, on_transactions_by, on_whole, opened, protocol_refusal, put_request, refuses}
 use Rattle.session_core.specs.Replies.{receipt}
 use Rattle.session_core.specs.Run.{takes}
 use Rattle.session_core.specs.Sending.{said}
@@ -404,6 +413,50 @@ module _ (config : Config) (h : List Entry) where
   array_message stage at (array.PutDataSubarraysResponse m) = tt
   array_message stage at (array.PutUninitializedDataArraysResponse m) = tt
 
+  -- ---- Transaction
+  abbrev TransactionsFit : transactions.TransactionOutcome → Type 0
+  TransactionsFit (Replies sendings) = Unit {0}
+  TransactionsFit (Calls c p) = FitsTransactions p (answer config h c).reply
+
+  commit_or_full : (room : Bool) (id : List ℕ) (place : Option ℕ) → FitsTransactions (commits.Commit id) (cond room (commit_reply place) JournalFull)
+  commit_or_full true id None = tt
+  commit_or_full true id (Some place) = tt
+  commit_or_full false id place = tt
+
+  commit_fits : (id : List ℕ) (x : Transaction) → TransactionsFit (transactions.commit id x)
+  commit_fits id x = commit_or_full (has_room config h (wanted config h (call.Commit (transactions.to_commit x)))) id (conflict x.touched h)
+
+  start_fits : (instance : List ℕ) (number starts : ℕ) (read_only : Bool) (paths : Decision (List (List ℕ))) → TransactionsFit (transactions.start_with instance number starts read_only paths).outcome
+  start_fits instance number starts read_only (Refused code) = tt
+  start_fits instance number starts read_only (Granted ps) = tt
+
+  start_fits_unless : (many : Bool) (instance : List ℕ) (number starts : ℕ) (read_only : Bool) (paths : Decision (List (List ℕ)))
+      → TransactionsFit (if many then transactions.refuses None starts code.LimitExceeded else transactions.start_with instance number starts read_only paths).outcome
+  start_fits_unless true instance number starts read_only paths = tt
+  start_fits_unless false instance number starts read_only paths = start_fits instance number starts read_only paths
+
+  started_fits : (instance : List ℕ) (number : ℕ) (stage : Option Transaction) (starts : ℕ) (m : StartTransaction) → TransactionsFit (transactions.start instance number stage starts m).outcome
+  started_fits instance number (Some x) starts m = tt
+  started_fits instance number None starts m = start_fits_unless (nat_lt 1024 (length m.dataspace_uris)) instance number starts m.read_only (transactions.space_paths m.dataspace_uris)
+
+  end_fits : (same : Bool) (x : Transaction) (starts : ℕ) (o : transactions.TransactionOutcome) → TransactionsFit o
+      → TransactionsFit (if same then transactions.leaves None starts o else transactions.refuses (Some x) starts code.InvalidArgument).outcome
+  end_fits true x starts o fits = fits
+  end_fits false x starts o fits = tt
+
+  ends_fit : (stage : Option Transaction) (starts : ℕ) (id : List ℕ) (outcome : Transaction → transactions.TransactionOutcome) → ((x : Transaction) → TransactionsFit (outcome x))
+      → TransactionsFit (transactions.ends stage starts id outcome).outcome
+  ends_fit None starts id outcome fits = tt
+  ends_fit (Some x) starts id outcome fits = end_fits (bytes_eq x.id id) x starts (outcome x) (fits x)
+
+  transaction_message : (instance : List ℕ) (number : ℕ) (stage : Option Transaction) (starts : ℕ) (m : TransactionMessage) → TransactionsFit (transactions.transaction_request instance number stage starts m).outcome
+  transaction_message instance number stage starts (transacts.StartTransaction m) = started_fits instance number stage starts m
+  transaction_message instance number stage starts (transacts.CommitTransaction m) = ends_fit stage starts m.transaction_uuid (transactions.commit m.transaction_uuid) (commit_fits m.transaction_uuid)
+  transaction_message instance number stage starts (transacts.RollbackTransaction m) = ends_fit stage starts m.transaction_uuid (transactions.rollback m.transaction_uuid) (λ x. tt)
+  transaction_message instance number stage starts (transacts.StartTransactionResponse m) = tt
+  transaction_message instance number stage starts (transacts.CommitTransactionResponse m) = tt
+  transaction_message instance number stage starts (transacts.RollbackTransactionResponse m) = tt
+
   -- ---- ChannelDataLoad
   abbrev LoadsFit : loads.LoadOutcome → Type 0
   LoadsFit (Replies sendings) = Unit {0}
@@ -531,15 +584,28 @@ module _ (config : Config) (h : List Entry) where
   of_dataspaces r (Replies sendings) s fits = refl
   of_dataspaces r (Calls c p) s fits = fits
 
-  of_objects : (r : Request) (o : objects.ObjectOutcome) (s : State) → ObjectsFit o → TakenFits s (on_objects r o s)
+  objects_kept_fit : (stage : Option Transaction) (r : Request) (c : StoreCall) (p : ObjectPending) → FitsObjects p (answer config h c).reply → Fits (answered config h c).reply (objects_kept stage r c p)
   unfolding answered
+  objects_kept_fit None r c p fits = fits
+  objects_kept_fit (Some x) r c p fits = fits
+
+  of_objects : (r : Request) (o : objects.ObjectOutcome) (s : State) → ObjectsFit o → TakenFits s (on_objects r o s)
   of_objects r (Replies sendings) s fits = refl
-  of_objects r (Calls c p) s fits = fits
+  of_objects r (Calls c p) s fits = objects_kept_fit s.stage r c p fits
+
+  arrays_kept_fit : (stage : Option Transaction) (r : Request) (c : StoreCall) (p : ArrayPending) → FitsArrays p (answer config h c).reply → Fits (answered config h c).reply (arrays_kept stage r c p)
+  unfolding answered
+  arrays_kept_fit None r c p fits = fits
+  arrays_kept_fit (Some x) r c p fits = fits
 
   of_arrays : (r : Request) (o : arrays.ArrayOutcome) (s : State) → ArraysFit o → TakenFits s (on_arrays r o s)
-  unfolding answered
   of_arrays r (Replies sendings) s fits = refl
-  of_arrays r (Calls c p) s fits = fits
+  of_arrays r (Calls c p) s fits = arrays_kept_fit s.stage r c p fits
+
+  of_transactions : (r : Request) (o : transactions.TransactionOutcome) (s : State) → TransactionsFit o → TakenFits s (on_transactions_by r o s)
+  unfolding answered
+  of_transactions r (Replies sendings) s fits = refl
+  of_transactions r (Calls c p) s fits = fits
 
   of_loads : (r : Request) (o : loads.LoadOutcome) (s : State) → LoadsFit o → TakenFits s (on_loads_by r o s)
   unfolding answered
@@ -573,6 +639,9 @@ module _ (config : Config) (h : List Entry) where
   of_row hd moment (message.Dataspace m) s = of_dataspaces (request_of hd) (dataspace_outcome m (is_some s.stage)) s (dataspaces m (is_some s.stage))
   of_row hd moment (message.Store m) s = of_store hd moment m s
   of_row hd moment (message.DataArray m) s = of_arrays (request_of hd) (arrays.array_outcome s.stage moment m) s (array_message s.stage moment m)
+  of_row hd moment (message.Transaction m) s =
+      let t = transactions.transaction_request s.config.instance s.number s.stage s.starts m in
+      of_transactions (request_of hd) t.outcome (record s { stage = t.stage; starts = t.starts }) (transaction_message s.config.instance s.number s.stage s.starts m)
   of_row hd moment (message.ChannelSubscribe m) s = of_subscriptions (request_of hd) (subscribes.subscribe_request s.subs m).outcome (record s { subs = (subscribes.subscribe_request s.subs m).subs }) (subscribe_message s.subs m)
   of_row hd moment (message.ChannelDataLoad m) s = of_loads (request_of hd) (loads.load_outcome s.opens moment m).outcome (record s { opens = (loads.load_outcome s.opens moment m).opens }) (load_message s.opens moment m)
   of_row hd moment _ s = refl

@@ -5,3 +5,6 @@ pub mod StepLemmas
 pub mod FittingLemmas
 pub mod WritableLemmas
 pub mod JoiningLemmas
+pub mod NotingLemmas
+pub mod ChannelCalls
+pub mod StagedLemmas

@@ -21,7 +21,7 @@ more q c = record c { places = c.places ++ q }
 
 module _ (config : Config) (n : ℕ) where
   -- ---- one more event
-  run_snoc : (h : List Entry) (c : Course) (es : List Event) (e : Event) → run_from config n h c (es ++ e ∷ []) ≡ happens config n h (run_from config n h c es) e
+  pub run_snoc : (h : List Entry) (c : Course) (es : List Event) (e : Event) → run_from config n h c (es ++ e ∷ []) ≡ happens config n h (run_from config n h c es) e
   run_snoc h c [] e = refl
   run_snoc h c (x ∷ es) e = run_snoc h (happens config n h c x) es e
 

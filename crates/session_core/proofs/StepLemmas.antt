@@ -1,20 +1,16 @@
 -- What holds of every half step.
-use Rattle.std.specs.Prelude.{ℕ, ℤ, ◌==◌, Bool, true, false, not, length, List, [], ◌∷◌, ◌≡◌, Option, Some, None, Result, Ok, Err, is_some, nat_lt, if◌then◌else◌, IfSome, IfOk, refl}
+use Rattle.std.specs.Prelude.{ℕ, ℤ, Bool, true, false, length, List, ◌≡◌, Option, Some, None, Result, Ok, Err, is_some, nat_lt, if◌then◌else◌, IfSome, IfOk, refl}
+use Rattle.std.specs.Str.{bytes_eq}
 use Rattle.std.proofs.Common.{subst, sym}
 use Rattle.array_rows.specs.Arrays as arrays
 use Rattle.array_rows.specs.declared.arrays.ArrayPending.{ArrayPending}
 use Rattle.array_rows.specs.declared.changing.ArrayChange.{ArrayChange}
 use Rattle.channel_rows.specs.Loads as loads
-use Rattle.channel_rows.specs.Opens.{are_open}
-use Rattle.channel_rows.specs.Points.{ends_of}
 use Rattle.channel_rows.specs.Subscriptions as subscribes
-use Rattle.channel_rows.specs.declared.subscriptions.SubscribePending.{SubscribePending}
-use Rattle.channel_rows.specs.declared.subscriptions.SubscribePending.TheVariants as keeps_subscription
 use Rattle.channel_store.specs.declared.subscription.Sub.{Sub}
 use Rattle.etp_values.specs.declared.code.ErrorCode.{ErrorCode}
 use Rattle.etp_values.specs.declared.code.ErrorCode.TheVariants as code
 use Rattle.etp_values.specs.declared.memory.NoMemory.{NoMemory}
-use Rattle.etp_values.specs.declared.point.ChannelPoint.{ChannelPoint}
 use Rattle.etp_values.specs.declared.uri.StoreUri.{StoreUri}
 use Rattle.etp_frame.specs.Joining.{Awaited, joins}
 use Rattle.etp_frame.specs.declared.header.Header.{Header}
@@ -23,22 +19,17 @@ use Rattle.etp_frame.specs.declared.joining.Joined.TheVariants.{More, Whole}
 use Rattle.etp_frame.specs.declared.joining.JoinError.{JoinError}
 use Rattle.etp_frame.specs.declared.message.Message.{Message}
 use Rattle.etp_frame.specs.declared.message.Message.TheVariants as message
-use Rattle.keyed_requests.specs.Keys.{keys_refusal}
 use Rattle.keyed_requests.specs.Plain.{plain_outcome}
-use Rattle.keyed_requests.specs.Sending.{refusal_alone, unless_refused}
+use Rattle.keyed_requests.specs.Sending.{unless_refused}
 use Rattle.keyed_requests.specs.declared.keys.Decision.{Decision}
 use Rattle.keyed_requests.specs.declared.keys.Decision.TheVariants.{Granted, Refused}
 use Rattle.keyed_requests.specs.declared.sending.Outcome.{Outcome}
 use Rattle.keyed_requests.specs.declared.sending.Outcome.TheVariants.{Replies, Calls}
-use Rattle.msg_channel.specs.declared.channel_data_load_messages.ChannelDataLoadMessage.{ChannelDataLoadMessage}
-use Rattle.msg_channel.specs.declared.channel_data_load_messages.ChannelDataLoadMessage.TheVariants as load
-use Rattle.msg_channel.specs.declared.channel_data_load_messages.ReplaceRange.{ReplaceRange}
-use Rattle.msg_channel.specs.declared.channel_subscribe_messages.ChannelSubscribeInfo.{ChannelSubscribeInfo}
-use Rattle.msg_channel.specs.declared.channel_subscribe_messages.ChannelSubscribeMessage.{ChannelSubscribeMessage}
-use Rattle.msg_channel.specs.declared.channel_subscribe_messages.ChannelSubscribeMessage.TheVariants as subscribe
-use Rattle.msg_channel.specs.declared.points.TruncateInfo.{TruncateInfo}
 use Rattle.msg_core.specs.declared.dataspace_messages.DataspaceMessage.{DataspaceMessage}
 use Rattle.msg_core.specs.declared.dataspace_messages.DataspaceMessage.TheVariants as space
+use Rattle.msg_core.specs.declared.transaction_messages.StartTransaction.{StartTransaction}
+use Rattle.msg_core.specs.declared.transaction_messages.TransactionMessage.{TransactionMessage}
+use Rattle.msg_core.specs.declared.transaction_messages.TransactionMessage.TheVariants as transacts
 use Rattle.msg_store.specs.declared.array_records.DataArrayIdentifier.{DataArrayIdentifier}
 use Rattle.msg_store.specs.declared.array_records.GetDataSubarraysType.{GetDataSubarraysType}
 use Rattle.msg_store.specs.declared.array_records.PutDataArraysType.{PutDataArraysType}
@@ -54,17 +45,15 @@ use Rattle.request_scope.specs.Scope.{is_read_only}
 use Rattle.session_rows.specs.Dataspaces as rows
 use Rattle.session_rows.specs.ObjectChecks.{session_format}
 use Rattle.session_rows.specs.Objects as objects
+use Rattle.session_rows.specs.Transactions as transactions
 use Rattle.session_rows.specs.declared.formats.Format.{Format}
 use Rattle.store_machine.specs.Laws.{IsCallAt}
 use Rattle.store_machine.specs.declared.journal.Entry.{Entry}
 use Rattle.store_machine.specs.declared.call.Answer.{Answer}
-use Rattle.store_machine.specs.declared.call.Cutting.{Cutting}
-use Rattle.store_machine.specs.declared.call.RangeAsk.{RangeAsk}
 use Rattle.store_machine.specs.declared.call.SpacePut.{SpacePut}
-use Rattle.store_machine.specs.declared.call.StartAsk.{StartAsk}
 use Rattle.store_machine.specs.declared.call.StoreCall.{StoreCall}
 use Rattle.store_machine.specs.declared.call.StoreCall.TheVariants as call
-use Rattle.subscribe_core.specs.Subscriptions.{Subbed, asked_from}
+use Rattle.subscribe_core.specs.Subscriptions.{asked_from}
 use Rattle.tx_stage.specs.Staging.{Transaction}
 use Rattle.tx_stage.specs.declared.look.Want.{Want}
 use Rattle.tx_stage.specs.declared.op.Op.{Op}
@@ -74,11 +63,13 @@ use Rattle.session_core.specs.declared.state.Arrived.TheVariants as arrives
 use Rattle.session_core.specs.declared.state.Live.{Live}
 use Rattle.session_core.specs.declared.state.Pending.{Pending}
 use Rattle.session_core.specs.declared.state.Pending.TheVariants as pending
+use Rattle.session_core.specs.declared.state.StagedPending.TheVariants as staged
 use Rattle.session_core.specs.declared.state.Phase.{Phase}
 use Rattle.session_core.specs.declared.state.Phase.TheVariants as phase
 use Rattle.session_core.specs.State.{State}
-use Rattle.session_core.specs.Arriving.{Event, arrived, request_of}
-use Rattle.session_core.specs.Machine.{taken, acknowledged, by_phase, by_event, no_call, on_arrays, on_dataspaces, on_join, on_joined, on_loads_by, on_message, on_objects, on_poll, on_protocol, on_received, on_row, on_store, on_subscriptions_by, on_whole, protocol_refusal, put_request, refuses, accepting, given_to}
+use Rattle.session_core.specs.Arriving.{arrived, request_of}
+use Rattle.session_core.specs.Machine.{taken, acknowledged, by_phase, by_event, no_call, on_arrays, on_dataspaces, on_join, on_joined, on_loads_by, on_message, on_objects, on_poll, on_protocol, on_received, on_row, on_store, on_subscriptions_by, on_transactions_by, on_whole, protocol_refusal, put_request, refuses, accepting, given_to}
+use Rattle.session_core.proofs.ChannelCalls.{CallsOfChannels, channels_ask, of_load_message, of_subscribe_message}
 use Rattle.session_core.specs.Run.{takes, hears, Remembers, Asks, FirstRemembers, TakingRemembers, TakingAsks, HearingRemembers, MoreIsRemembered, DrainedRemembers, AnswersAreLast}
 
 -- ---- the calls of a session, at any history
@@ -200,96 +191,37 @@ module _ (h : List Entry) where
   of_array_message stage at (array.PutDataSubarraysResponse m) = tt
   of_array_message stage at (array.PutUninitializedDataArraysResponse m) = tt
 
-  -- ---- ChannelDataLoad
-  open_channels : (o : Outcome (List (List ℕ × StoreUri)) (List (List ℕ × Decision (Unit {0}))) ChannelDataLoadMessage) → CallsAsk (loads.open_called o)
-  open_channels (Replies sendings) = tt
-  open_channels (Calls c p) = tt
+  -- ---- Transaction
+  starts_with : (instance : List ℕ) (number starts : ℕ) (read_only : Bool) (paths : Decision (List (List ℕ))) → CallsAsk (transactions.start_with instance number starts read_only paths).outcome
+  starts_with instance number starts read_only (Refused code) = tt
+  starts_with instance number starts read_only (Granted ps) = tt
 
-  truncate_channels : (at : ℤ) (o : Outcome (List (List ℕ × Cutting)) (List (List ℕ × Decision (Unit {0}))) ChannelDataLoadMessage) → CallsAsk (loads.truncate_called at o)
-  truncate_channels at (Replies sendings) = tt
-  truncate_channels at (Calls c p) = tt
+  starts_unless : (many : Bool) (instance : List ℕ) (number starts : ℕ) (read_only : Bool) (paths : Decision (List (List ℕ)))
+      → CallsAsk (if many then transactions.refuses None starts code.LimitExceeded else transactions.start_with instance number starts read_only paths).outcome
+  starts_unless true instance number starts read_only paths = tt
+  starts_unless false instance number starts read_only paths = starts_with instance number starts read_only paths
 
-  load_points : (d : Decision (List ChannelPoint)) → CallsAsk (loads.load_called d)
-  load_points (Refused code) = tt
-  load_points (Granted []) = tt
-  load_points (Granted (p ∷ ps)) = tt
+  start : (instance : List ℕ) (number : ℕ) (stage : Option Transaction) (starts : ℕ) (m : StartTransaction) → CallsAsk (transactions.start instance number stage starts m).outcome
+  start instance number (Some x) starts m = tt
+  start instance number None starts m = starts_unless (nat_lt 1024 (length m.dataspace_uris)) instance number starts m.read_only (transactions.space_paths m.dataspace_uris)
 
-  replace_points : (at : ℤ) (channels : List ℤ) (ends : ℤ × ℤ) (d : Decision (List ChannelPoint)) → CallsAsk (loads.replace_called at channels ends d)
-  replace_points at channels ends (Refused code) = tt
-  replace_points at channels ends (Granted ps) = tt
+  ends_if : (same : Bool) (x : Transaction) (starts : ℕ) (o : transactions.TransactionOutcome) → CallsAsk o
+      → CallsAsk (if same then transactions.leaves None starts o else transactions.refuses (Some x) starts code.InvalidArgument).outcome
+  ends_if true x starts o asks = asks
+  ends_if false x starts o asks = tt
 
-  replace_within : (opens : List Bool) (at : ℤ) (m : ReplaceRange) (ends : Option (ℤ × ℤ)) → CallsAsk (loads.replace_within opens at m ends)
-  replace_within opens at m None = tt
-  replace_within opens at m (Some ends) = replace_points at m.channel_ids ends _
+  ends : (stage : Option Transaction) (starts : ℕ) (id : List ℕ) (outcome : Transaction → transactions.TransactionOutcome) → ((x : Transaction) → CallsAsk (outcome x))
+      → CallsAsk (transactions.ends stage starts id outcome).outcome
+  ends None starts id outcome asks = tt
+  ends (Some x) starts id outcome asks = ends_if (bytes_eq x.id id) x starts (outcome x) (asks x)
 
-  open_uris : (uris : List (List ℕ × List ℕ)) → CallsAsk (loads.open_outcome uris)
-  open_uris uris = open_channels _
-
-  truncate_items : (opens : List Bool) (at : ℤ) (items : List (List ℕ × TruncateInfo)) → CallsAsk (loads.truncate_outcome opens at items)
-  truncate_items opens at items = truncate_channels at _
-
-  -- a replacement without channels, or of some that are not all open, is refused
-  abbrev replaced : Bool → Bool → List Bool → ℤ → ReplaceRange → loads.LoadOutcome
-  replaced none some_closed opens at m =
-      if none then Replies (refusal_alone code.InvalidArgument)
-      else if some_closed then Replies (refusal_alone code.NotFound)
-      else loads.replace_within opens at m (ends_of m.changed_interval)
-
-  replace_range : (none some_closed : Bool) (opens : List Bool) (at : ℤ) (m : ReplaceRange) → CallsAsk (replaced none some_closed opens at m)
-  replace_range true some_closed opens at m = tt
-  replace_range false true opens at m = tt
-  replace_range false false opens at m = replace_within opens at m (ends_of m.changed_interval)
-
-  leaving : (why : Option ErrorCode) (opens : List Bool) (l : loads.Loading) → CallsAsk l.outcome → CallsAsk (loads.unless_leaving why opens l).outcome
-  leaving (Some code) opens l asks = tt
-  leaving None opens l asks = asks
-
-  of_load_message : (opens : List Bool) (at : ℤ) (m : ChannelDataLoadMessage) → CallsAsk (loads.load_outcome opens at m).outcome
-  of_load_message opens at (load.OpenChannels m) = unless _ _ (open_uris m.uris)
-  of_load_message opens at (load.CloseChannels m) = leaving (keys_refusal m.id) opens (loads.closing opens m.id) tt
-  of_load_message opens at (load.LoadChannelData m) = load_points _
-  of_load_message opens at (load.ReplaceRange m) = replace_range (length m.channel_ids == 0) (not (are_open opens m.channel_ids)) opens at m
-  of_load_message opens at (load.TruncateChannels m) = unless _ _ (truncate_items opens at m.channels)
-  of_load_message opens at (load.OpenChannelsResponse m) = tt
-  of_load_message opens at (load.ChannelsClosed m) = tt
-  of_load_message opens at (load.ReplaceRangeResponse m) = tt
-  of_load_message opens at (load.TruncateChannelsResponse m) = tt
-
-  -- ---- ChannelSubscribe
-  channel_metadata : (o : Outcome (List (List ℕ × StoreUri)) (List (List ℕ × Decision (Unit {0}))) ChannelSubscribeMessage) → CallsAsk (subscribes.metadata_called o)
-  channel_metadata (Replies sendings) = tt
-  channel_metadata (Calls c p) = tt
-
-  subscribe_channels : (o : Outcome (List (List ℕ × StartAsk)) (List (List ℕ × Decision StartAsk)) ChannelSubscribeMessage) → CallsAsk (subscribes.subscribe_called o)
-  subscribe_channels (Replies sendings) = tt
-  subscribe_channels (Calls c p) = tt
-
-  stopping : (why : Option ErrorCode) (v : Subbed) (l : subscribes.Subscribing) → CallsAsk l.outcome → CallsAsk (subscribes.unless_leaving why v l).outcome
-  stopping (Some code) v l asks = tt
-  stopping None v l asks = asks
-
-  metadata_uris : (uris : List (List ℕ × List ℕ)) → CallsAsk (subscribes.metadata_outcome uris)
-  metadata_uris uris = channel_metadata _
-
-  subscribe_items : (subs : List Sub) (items : List (List ℕ × ChannelSubscribeInfo)) → CallsAsk (subscribes.subscribe_outcome subs items)
-  subscribe_items subs items = subscribe_channels _
-
-  get_ranges : (why : Option ErrorCode) (asks : List RangeAsk) → CallsAsk {P = SubscribePending} {M = ChannelSubscribeMessage} (unless_refused why (Calls (call.Range asks) keeps_subscription.Ranges))
-  get_ranges (Some code) asks = tt
-  get_ranges None asks = tt
-
-  of_subscribe_message : (v : Subbed) (m : ChannelSubscribeMessage) → CallsAsk (subscribes.subscribe_request v m).outcome
-  of_subscribe_message v (subscribe.GetChannelMetadata m) = unless _ _ (metadata_uris m.uris)
-  of_subscribe_message v (subscribe.SubscribeChannels m) = unless _ _ (subscribe_items v.subs m.channels)
-  of_subscribe_message v (subscribe.UnsubscribeChannels m) = stopping (keys_refusal m.channel_ids) v (subscribes.stopping v m.channel_ids) tt
-  of_subscribe_message v (subscribe.GetRanges m) = get_ranges (subscribes.ranges_refusal m.channel_ranges) (subscribes.asks_of m.channel_ranges)
-  of_subscribe_message v (subscribe.GetChannelMetadataResponse m) = tt
-  of_subscribe_message v (subscribe.ChannelData m) = tt
-  of_subscribe_message v (subscribe.RangeReplaced m) = tt
-  of_subscribe_message v (subscribe.SubscriptionsStopped m) = tt
-  of_subscribe_message v (subscribe.GetRangesResponse m) = tt
-  of_subscribe_message v (subscribe.SubscribeChannelsResponse m) = tt
-  of_subscribe_message v (subscribe.ChannelsTruncated m) = tt
+  of_transaction_message : (instance : List ℕ) (number : ℕ) (stage : Option Transaction) (starts : ℕ) (m : TransactionMessage) → CallsAsk (transactions.transaction_request instance number stage starts m).outcome
+  of_transaction_message instance number stage starts (transacts.StartTransaction m) = start instance number stage starts m
+  of_transaction_message instance number stage starts (transacts.CommitTransaction m) = ends stage starts m.transaction_uuid (transactions.commit m.transaction_uuid) (λ x. tt)
+  of_transaction_message instance number stage starts (transacts.RollbackTransaction m) = ends stage starts m.transaction_uuid (transactions.rollback m.transaction_uuid) (λ x. tt)
+  of_transaction_message instance number stage starts (transacts.StartTransactionResponse m) = tt
+  of_transaction_message instance number stage starts (transacts.CommitTransactionResponse m) = tt
+  of_transaction_message instance number stage starts (transacts.RollbackTransactionResponse m) = tt
 
   -- ---- a half step
   of_dataspaces : (r : Request) (o : rows.DataspaceOutcome) (s : State) → CallsAsk o → IfSome (on_dataspaces r o s).call (IsCallAt h)
@@ -304,13 +236,17 @@ module _ (h : List Entry) where
   of_arrays r (Replies sendings) s asks = tt
   of_arrays r (Calls c p) s asks = asks
 
-  of_loads : (r : Request) (o : loads.LoadOutcome) (s : State) → CallsAsk o → IfSome (on_loads_by r o s).call (IsCallAt h)
-  of_loads r (Replies sendings) s asks = tt
-  of_loads r (Calls c p) s asks = asks
+  of_transactions : (r : Request) (o : transactions.TransactionOutcome) (s : State) → CallsAsk o → IfSome (on_transactions_by r o s).call (IsCallAt h)
+  of_transactions r (Replies sendings) s asks = tt
+  of_transactions r (Calls c p) s asks = asks
 
-  of_subscriptions : (r : Request) (o : subscribes.SubscribeOutcome) (s : State) → CallsAsk o → IfSome (on_subscriptions_by r o s).call (IsCallAt h)
-  of_subscriptions r (Replies sendings) s asks = tt
-  of_subscriptions r (Calls c p) s asks = asks
+  of_loads : (r : Request) (o : loads.LoadOutcome) (s : State) → CallsOfChannels o → IfSome (on_loads_by r o s).call (IsCallAt h)
+  of_loads r (Replies sendings) s of = tt
+  of_loads r (Calls c p) s of = channels_ask h c of
+
+  of_subscriptions : (r : Request) (o : subscribes.SubscribeOutcome) (s : State) → CallsOfChannels o → IfSome (on_subscriptions_by r o s).call (IsCallAt h)
+  of_subscriptions r (Replies sendings) s of = tt
+  of_subscriptions r (Calls c p) s of = channels_ask h c of
 
   of_whole : (r : Request) (moment : ℤ) (m : Message) (s : State) → IfSome (on_whole r moment m s).call (IsCallAt h)
   of_whole r moment (message.Store m) s = of_objects r (objects.object_outcome s.formats s.config.types s.stage moment m) s (of_object_message s.formats s.config.types s.stage moment m)
@@ -334,6 +270,9 @@ module _ (h : List Entry) where
   of_row hd moment (message.Dataspace m) s = of_dataspaces (request_of hd) (rows.dataspace_outcome m (is_some s.stage)) s (dataspaces m (is_some s.stage))
   of_row hd moment (message.Store m) s = of_store hd moment m s
   of_row hd moment (message.DataArray m) s = of_arrays (request_of hd) (arrays.array_outcome s.stage moment m) s (of_array_message s.stage moment m)
+  of_row hd moment (message.Transaction m) s =
+      let t = transactions.transaction_request s.config.instance s.number s.stage s.starts m in
+      of_transactions (request_of hd) t.outcome (record s { stage = t.stage; starts = t.starts }) (of_transaction_message s.config.instance s.number s.stage s.starts m)
   of_row hd moment (message.ChannelSubscribe m) s = of_subscriptions (request_of hd) (subscribes.subscribe_request s.subs m).outcome (record s { subs = (subscribes.subscribe_request s.subs m).subs }) (of_subscribe_message s.subs m)
   of_row hd moment (message.ChannelDataLoad m) s = of_loads (request_of hd) (loads.load_outcome s.opens moment m).outcome (record s { opens = (loads.load_outcome s.opens moment m).opens }) (of_load_message s.opens moment m)
   of_row hd moment _ s = tt
@@ -410,6 +349,9 @@ by_pending None a s is = is
 by_pending (Some (pending.Dataspaces r p)) a s is = is
 by_pending (Some (pending.Objects r p)) a s is = is
 by_pending (Some (pending.Arrays r p)) a s is = is
+by_pending (Some (pending.Staged r keys (staged.Objects p))) a s is = is
+by_pending (Some (pending.Staged r keys (staged.Arrays p))) a s is = is
+by_pending (Some (pending.Transactions r p)) a s is = is
 by_pending (Some (pending.Loads r p)) a s is = is
 by_pending (Some (pending.Subscriptions r p)) a s is = is
 

@@ -13,12 +13,16 @@ use Rattle.session_rows.specs.declared.dataspaces.DataspacePending.{DataspacePen
 use Rattle.session_rows.specs.declared.dataspaces.DataspacePending.TheVariants as keeps
 use Rattle.session_rows.specs.declared.objects.ObjectPending.{ObjectPending}
 use Rattle.session_rows.specs.declared.objects.ObjectPending.TheVariants as objects
+use Rattle.session_rows.specs.declared.transactions.TransactionPending.{TransactionPending}
+use Rattle.session_rows.specs.declared.transactions.TransactionPending.TheVariants as commits
 use Rattle.store_machine.specs.Answers.{answered}
 use Rattle.store_machine.specs.declared.call.Reply.{Reply}
 use Rattle.store_machine.specs.declared.call.Reply.TheVariants as reply
 use Rattle.store_machine.specs.declared.journal.Entry.{Entry}
 use Rattle.session_core.specs.declared.state.Pending.{Pending}
 use Rattle.session_core.specs.declared.state.Pending.TheVariants as pending
+use Rattle.session_core.specs.declared.state.StagedPending.{StagedPending}
+use Rattle.session_core.specs.declared.state.StagedPending.TheVariants as staged
 use Rattle.session_core.specs.State.{State}
 use Rattle.session_core.specs.Arriving.{Event}
 use Rattle.session_core.specs.Run.{takes}
@@ -69,6 +73,18 @@ FitsArrays (arrays.StagedPut what at items) _ = ⊥
 FitsArrays (arrays.StagedPatch at items) (reply.Looked looks) = length looks ≡ length (granted items)
 FitsArrays (arrays.StagedPatch at items) _ = ⊥
 
+-- the transaction is committed, or it is said why it is not
+abbrev pub FitsTransactions : TransactionPending → Reply → Type 0
+FitsTransactions (commits.Commit id) reply.Committed = Unit {0}
+FitsTransactions (commits.Commit id) (reply.Conflict place) = Unit {0}
+FitsTransactions (commits.Commit id) reply.JournalFull = Unit {0}
+FitsTransactions (commits.Commit id) _ = ⊥
+
+-- the same of a request in a transaction, of which this is kept beside its keys
+abbrev pub FitsStaged : StagedPending → Reply → Type 0
+FitsStaged (staged.Objects kept) r = FitsObjects kept r
+FitsStaged (staged.Arrays kept) r = FitsArrays kept r
+
 -- points are taken, or refused as a whole, or find the journal full
 abbrev pub FitsPoints : Reply → Type 0
 FitsPoints reply.Written = Unit {0}
@@ -103,6 +119,8 @@ abbrev pub Fits : Reply → Pending → Type 0
 Fits r (pending.Dataspaces request kept) = FitsDataspaces kept r
 Fits r (pending.Objects request kept) = FitsObjects kept r
 Fits r (pending.Arrays request kept) = FitsArrays kept r
+Fits r (pending.Staged request keys kept) = FitsStaged kept r
+Fits r (pending.Transactions request kept) = FitsTransactions kept r
 Fits r (pending.Loads request kept) = FitsLoads kept r
 Fits r (pending.Subscriptions request kept) = FitsSubscriptions kept r
 

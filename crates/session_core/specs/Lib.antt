@@ -2,7 +2,9 @@ pub mod Replies
 pub mod State
 pub mod Arriving
 pub mod Sending
+pub mod Noting
 pub mod Machine
 pub mod Session
 pub mod Run
 pub mod Fitting
+pub mod Staged

@@ -3,6 +3,7 @@ use Rattle.std.specs.Prelude.{ℕ, ℤ, pos, Bool, true, false, not, ◌&&◌, L
 use Rattle.std.specs.List.{list_any}
 use Rattle.std.specs.Ordering.{int_eq}
 use Rattle.array_rows.specs.Arrays.{ArrayOutcome, ArraysAnswered, array_outcome, array_reply}
+use Rattle.array_rows.specs.declared.arrays.ArrayPending.{ArrayPending}
 use Rattle.channel_rows.specs.Loads.{LoadOutcome, Loaded, Loading, load_outcome, load_reply}
 use Rattle.channel_rows.specs.Notices.{Told}
 use Rattle.channel_rows.specs.Subscriptions.{SubscribeOutcome, Subscribing, news_call, subscribe_reply, subscribe_request}
@@ -26,17 +27,25 @@ use Rattle.msg_store.specs.declared.store_messages.StoreMessage.{StoreMessage}
 use Rattle.msg_store.specs.declared.store_messages.StoreMessage.TheVariants as objects
 use Rattle.request_scope.specs.Scope.{is_read_only}
 use Rattle.store_machine.specs.declared.call.Answer.{Answer}
+use Rattle.store_machine.specs.declared.call.Reply.{Reply}
 use Rattle.store_machine.specs.declared.call.StoreCall.{StoreCall}
 use Rattle.session_rows.specs.Dataspaces.{DataspaceOutcome, dataspace_outcome, dataspace_reply}
 use Rattle.session_rows.specs.Objects.{ObjectOutcome, ObjectsAnswered, object_outcome, object_reply}
 use Rattle.session_rows.specs.Opening.{opening_of}
+use Rattle.session_rows.specs.Transactions.{TransactionOutcome, transaction_reply, transaction_request}
+use Rattle.session_rows.specs.declared.objects.ObjectPending.{ObjectPending}
 use Rattle.session_rows.specs.declared.opening.Opening.{Opening}
 use Rattle.session_rows.specs.declared.opening.Opening.TheVariants as opens
+use Rattle.session_rows.specs.declared.transactions.Transacting.{Transacting}
+use Rattle.tx_stage.specs.Staging.{Transaction}
+use Rattle.tx_stage.specs.declared.key.Key.{Key}
 use Rattle.session_core.specs.declared.state.Request.{Request}
 use Rattle.session_core.specs.declared.state.Arrived.{Arrived}
 use Rattle.session_core.specs.declared.state.Arrived.TheVariants as arrives
 use Rattle.session_core.specs.declared.state.Pending.{Pending}
 use Rattle.session_core.specs.declared.state.Pending.TheVariants as pending
+use Rattle.session_core.specs.declared.state.StagedPending.{StagedPending}
+use Rattle.session_core.specs.declared.state.StagedPending.TheVariants as staged
 use Rattle.session_core.specs.declared.state.Phase.{Phase}
 use Rattle.session_core.specs.declared.state.Phase.TheVariants as phase
 use Rattle.session_core.specs.declared.state.Live.{Live}
@@ -45,6 +54,7 @@ use Rattle.session_core.specs.declared.state.End.TheVariants as end
 use Rattle.session_core.specs.Replies.{receipt, refusal, sayings_of, to_request}
 use Rattle.session_core.specs.State.{State}
 use Rattle.session_core.specs.Arriving.{Event, arrived, request_of}
+use Rattle.session_core.specs.Noting.{keys_in, noting, reply_noted}
 use Rattle.session_core.specs.Sending.{said}
 
 -- a state and the store call that is made in it, if any
@@ -106,13 +116,29 @@ abbrev pub on_dataspaces : Request → DataspaceOutcome → State → Taken
 on_dataspaces r (Replies sendings) s = no_call (said r (sayings_of message.Dataspace sendings) s)
 on_dataspaces r (Calls c p) s = asks (pending.Dataspaces r p) c s
 
+-- in a transaction the keys that the call looks at are kept beside what the request keeps
+abbrev pub objects_kept : Option Transaction → Request → StoreCall → ObjectPending → Pending
+objects_kept None r c p = pending.Objects r p
+objects_kept (Some x) r c p = pending.Staged r (keys_in c) (staged.Objects p)
+
+abbrev pub arrays_kept : Option Transaction → Request → StoreCall → ArrayPending → Pending
+arrays_kept None r c p = pending.Arrays r p
+arrays_kept (Some x) r c p = pending.Staged r (keys_in c) (staged.Arrays p)
+
 abbrev pub on_objects : Request → ObjectOutcome → State → Taken
 on_objects r (Replies sendings) s = no_call (said r (sayings_of message.Store sendings) s)
-on_objects r (Calls c p) s = asks (pending.Objects r p) c s
+on_objects r (Calls c p) s = asks (objects_kept s.stage r c p) c s
 
 abbrev pub on_arrays : Request → ArrayOutcome → State → Taken
 on_arrays r (Replies sendings) s = no_call (said r (sayings_of message.DataArray sendings) s)
-on_arrays r (Calls c p) s = asks (pending.Arrays r p) c s
+on_arrays r (Calls c p) s = asks (arrays_kept s.stage r c p) c s
+
+abbrev pub on_transactions_by : Request → TransactionOutcome → State → Taken
+on_transactions_by r (Replies sendings) s = no_call (said r (sayings_of message.Transaction sendings) s)
+on_transactions_by r (Calls c p) s = asks (pending.Transactions r p) c s
+
+abbrev pub on_transactions : Request → Transacting → State → Taken
+on_transactions r t s = on_transactions_by r t.outcome (record s { stage = t.stage; starts = t.starts })
 
 abbrev pub on_loads_by : Request → LoadOutcome → State → Taken
 on_loads_by r (Replies sendings) s = no_call (said r (sayings_of message.ChannelDataLoad sendings) s)
@@ -182,11 +208,12 @@ abbrev pub on_poll : Option StoreCall → State → Taken
 on_poll None s = no_call s
 on_poll (Some c) s = asks (pending.Subscriptions unread subscribes.News) c s
 
--- ---- a message of an accepted protocol; no transaction is taken yet
+-- ---- a message of an accepted protocol
 abbrev pub on_row : Header → ℤ → Message → State → Taken
 on_row h moment (message.Dataspace m) s = on_dataspaces (request_of h) (dataspace_outcome m (is_some s.stage)) s
 on_row h moment (message.Store m) s = on_store h moment m s
 on_row h moment (message.DataArray m) s = on_arrays (request_of h) (array_outcome s.stage moment m) s
+on_row h moment (message.Transaction m) s = on_transactions (request_of h) (transaction_request s.config.instance s.number s.stage s.starts m) s
 on_row h moment (message.ChannelSubscribe m) s = on_subscriptions (request_of h) (subscribe_request s.subs m) s
 on_row h moment (message.ChannelDataLoad m) s = on_loads (request_of h) (load_outcome s.opens moment m) s
 on_row h moment _ s = no_call (refuses (request_of h) code.InvalidMessageType s)
@@ -265,12 +292,23 @@ on_loaded r l s = said r (sayings_of message.ChannelDataLoad l.sendings) (record
 abbrev pub on_told : Request → Told → State → State
 on_told r t s = said r (sayings_of message.ChannelSubscribe t.sendings) (record s { subs = t.subs })
 
+-- the same of a request in a transaction
+abbrev pub on_noted : Request → StagedPending → Reply → State → State
+on_noted r (staged.Objects p) answer s = on_objects_answered r (object_reply s.stage p answer) s
+on_noted r (staged.Arrays p) answer s = on_arrays_answered r (array_reply s.limit s.stage p answer) s
+
+-- first the keys that it looked at are noted at the answer's mark
+abbrev pub on_staged_answered : Request → List Key → StagedPending → Answer → State → State
+on_staged_answered r keys p a s = on_noted r p (reply_noted a.mark keys s.stage a.reply) (record s { stage = noting a.mark keys s.stage })
+
 -- the answer is joined with the request that awaits it; where none does, it says nothing
 abbrev pub given_to : Option Pending → Answer → State → State
 given_to None a s = s
 given_to (Some (pending.Dataspaces r p)) a s = said r (sayings_of message.Dataspace (dataspace_reply p a.reply)) s
 given_to (Some (pending.Objects r p)) a s = on_objects_answered r (object_reply s.stage p a.reply) s
 given_to (Some (pending.Arrays r p)) a s = on_arrays_answered r (array_reply s.limit s.stage p a.reply) s
+given_to (Some (pending.Staged r keys p)) a s = on_staged_answered r keys p a s
+given_to (Some (pending.Transactions r p)) a s = said r (sayings_of message.Transaction (transaction_reply p a.reply)) s
 given_to (Some (pending.Loads r p)) a s = on_loaded r (load_reply s.config.channels s.opens p a.reply) s
 given_to (Some (pending.Subscriptions r p)) a s = on_told r (subscribe_reply s.config.channels s.config.lag s.subs p a) s
 

@@ -22,7 +22,7 @@ takes s e = taken s e
 unfoldable pub hears : State → Answer → State
 hears s a = given s a
 
--- no place that the state remembers is past a history of this length. No state remembers a place yet
+-- no place that the state remembers is past a history of this length. No call depends on one, so nothing is asked of them yet
 unfoldable pub Remembers : ℕ → State → Type 0
 Remembers len s = Unit {0}
 

@@ -30,6 +30,8 @@ pub record State : Type 0 where
   pub blobs : ℕ
   -- the open transaction, if any
   pub stage : Option Transaction
+  -- how many transactions were started
+  pub starts : ℕ
   -- the put that awaits chunks, if any
   pub joiner : Option Awaited
   -- the channels that are open, each by a flag
@@ -54,6 +56,7 @@ first_state config number first_id = record {
   limit = 16777216;
   blobs = 0;
   stage = None;
+  starts = 0;
   joiner = None;
   opens = [];
   subs = nothing;

@@ -2,6 +2,7 @@
 ghost use Rattle.session_core.specs.Run.{FirstRemembers, TakingRemembers, TakingAsks, HearingRemembers, MoreIsRemembered, DrainedRemembers, AnswersAreLast};
 ghost use Rattle.session_core.specs.Run.{PlayIsRun, RunGoesOn, RunIsSame};
 ghost use Rattle.session_core.specs.Fitting.{AnswersFit};
+ghost use Rattle.session_core.specs.Staged.{CallsWithin, LooksAddNothing, UncommittedIsUnseen};
 
 /// A session remembers no place past the history that it was told of; each call that it makes is one that a session may make
 /// at a history with all these places, never the one by which it is entered; and no request is left when its answer was given.
@@ -29,4 +30,13 @@ pub fn runs()
 /// kept.
 pub fn answer_fits()
     ensures { AnswersFit }
+{}
+
+/// Before its commit nothing of a transaction is in the history. Within a transaction a request of Store or DataArray makes a look at
+/// the keys that are noted at its answer, and no other call; a look adds no entry; and as long as no commit is asked for, the
+/// session adds none that changes what stands at keys. A commit is of exactly what was staged.
+pub fn staged()
+    ensures calls { CallsWithin }
+    ensures looks { LooksAddNothing }
+    ensures unseen { UncommittedIsUnseen }
 {}

@@ -8,18 +8,22 @@
 //!
 //! An event goes in stages: the bytes arrive as a typed message, or are refused (`specs/Arriving`); the phase says
 //! whether the message is taken; then its protocol answers it ([`session_rows`]), knowing nothing of the session
-//! but what it is handed. Its reply is given headers at the end of the half step, in one place (`specs/Sending`),
+//! but what it is handed. In a transaction the keys that it looks at are noted before it sees what was found there
+//! (`specs/Noting`). Its reply is given headers at the end of the half step, in one place (`specs/Sending`),
 //! and encoded when it is sent.
 #![tactic(auto)]
 
 mod arriving;
 mod laws;
+mod noting;
 mod outbox;
 mod parting;
 mod replies;
 mod session;
 mod state;
 
-pub use laws::{answer_fits, runs, steps};
+pub use laws::{answer_fits, runs, staged, steps};
 pub use session::Session;
-pub use state::{Addressee, Arrived, End, Live, Outgoing, Part, Pending, Phase, Request, Saying};
+pub use state::{
+    Addressee, Arrived, End, Live, Outgoing, Part, Pending, Phase, Request, Saying, StagedPending,
+};

@@ -7,7 +7,9 @@ use etp_frame::Message;
 use etp_values::{ErrorCode, List, Named, NoMemory, Text};
 use keyed_requests::Sending;
 use msg_channel::{ChannelDataLoadMessage, ChannelSubscribeMessage};
-use msg_core::{Acknowledge, CoreMessage, DataspaceMessage, ErrorInfo, ProtocolException};
+use msg_core::{
+    Acknowledge, CoreMessage, DataspaceMessage, ErrorInfo, ProtocolException, TransactionMessage,
+};
 use msg_store::{DataArrayMessage, StoreMessage};
 use std::alloc::Global;
 
@@ -59,6 +61,16 @@ impl IntoMessage for ChannelDataLoadMessage {
 
     fn into_message(self) -> Message {
         Message::ChannelDataLoad(self)
+    }
+}
+
+impl IntoMessage for TransactionMessage {
+    ghost use Rattle.etp_frame.specs.declared.message.Message.TheVariants.{Transaction};
+
+    ghost wrapped = { λ message. Transaction message };
+
+    fn into_message(self) -> Message {
+        Message::Transaction(self)
     }
 }
 

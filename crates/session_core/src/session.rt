@@ -49,6 +49,7 @@ pub struct Session {
     limit: u64,
     blobs: u64,
     stage: Option<Stage>,
+    starts: u64,
     joiner: Joiner,
     opens: Opens,
     /// None before the first message of ChannelSubscribe.
@@ -62,7 +63,7 @@ impl Model for Session {
 
     ghost Value = { State };
 
-    ghost view = { λ s. record { config = s.config; number = s.number; phase = s.phase; last_id = s.last_id; next_id = s.next_id; accepted = s.accepted; formats = s.formats; limit = s.limit; blobs = s.blobs; stage = s.stage; joiner = s.joiner; opens = s.opens; subs = subbed s.subs; pending = s.pending; out = s.out } };
+    ghost view = { λ s. record { config = s.config; number = s.number; phase = s.phase; last_id = s.last_id; next_id = s.next_id; accepted = s.accepted; formats = s.formats; limit = s.limit; blobs = s.blobs; stage = s.stage; starts = s.starts; joiner = s.joiner; opens = s.opens; subs = subbed s.subs; pending = s.pending; out = s.out } };
 }
 
 impl Session {
@@ -89,6 +90,7 @@ impl Session {
             limit: PART_LIMIT as u64,
             blobs: 0,
             stage: None,
+            starts: 0,
             joiner: Joiner::new(),
             opens: Opens::none(alloc),
             subs: None,

@@ -2,8 +2,9 @@
 use array_rows::ArrayPending;
 use channel_rows::{LoadPending, SubscribePending};
 use etp_frame::{Header, Message};
-use etp_values::ErrorCode;
-use session_rows::{DataspacePending, ObjectPending};
+use etp_values::{ErrorCode, List};
+use session_rows::{DataspacePending, ObjectPending, TransactionPending};
+use tx_stage::Key;
 
 /// How a session ended.
 #[derive(Clone, Copy, Debug, PartialEq, Eq, Drop)]
@@ -40,6 +41,13 @@ pub struct Request {
     pub id: i64,
 }
 
+/// What a request in a transaction keeps while the store is asked, by its protocol.
+#[derive(Drop)]
+pub enum StagedPending {
+    Objects(ObjectPending),
+    Arrays(ArrayPending),
+}
+
 /// A request that awaits the store's answer, with what its protocol kept of it.
 #[derive(Drop)]
 pub enum Pending {
@@ -54,6 +62,16 @@ pub enum Pending {
     Arrays {
         request: Request,
         pending: ArrayPending,
+    },
+    /// A request of Store or DataArray in a transaction, with the keys that it looks at.
+    Staged {
+        request: Request,
+        keys: List<Key>,
+        pending: StagedPending,
+    },
+    Transactions {
+        request: Request,
+        pending: TransactionPending,
     },
     Loads {
         request: Request,

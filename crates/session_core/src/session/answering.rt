@@ -4,19 +4,21 @@ ghost use Rattle.array_rows.specs.Arrays.{array_reply};
 ghost use Rattle.channel_rows.specs.Loads.{load_reply};
 ghost use Rattle.channel_rows.specs.Subscriptions.{subscribe_reply};
 ghost use Rattle.session_rows.specs.Objects.{object_reply};
-ghost use Rattle.session_core.specs.Machine.{given_to, on_arrays_answered, on_loaded, on_objects_answered, on_told};
+ghost use Rattle.session_core.specs.Machine.{given_to, on_arrays_answered, on_loaded, on_noted, on_objects_answered, on_staged_answered, on_told};
 
+use crate::noting::note_reply;
 use crate::replies::sayings_of;
 use crate::session::Session;
 use crate::session::rows::taken_subs;
-use crate::state::{Pending, Request};
+use crate::state::{Pending, Request, StagedPending};
 use array_rows::{ArrayPending, array_reply};
 use channel_rows::{LoadPending, SubscribePending, load_reply, subscribe_reply};
-use etp_values::NoMemory;
+use etp_values::{List, NoMemory};
 use request_scope::Answered;
-use session_rows::{ObjectPending, dataspace_reply, object_reply};
+use session_rows::{ObjectPending, dataspace_reply, object_reply, transaction_reply};
 use std::alloc::Global;
 use store_machine::{Answer, Reply};
+use tx_stage::Key;
 
 impl Session {
     /// The answer is joined with the request that awaits it; where none does, it says nothing.
@@ -40,6 +42,18 @@ impl Session {
             }
             Some(Pending::Arrays { request, pending }) => {
                 self.answer_arrays(alloc, &request, pending, reply_of(answer))
+            }
+            Some(
+                Pending::Staged {
+                    request,
+                    keys,
+                    pending,
+                },
+            ) => self.answer_staged(alloc, &request, keys, pending, answer),
+            Some(Pending::Transactions { request, pending }) => {
+                let sendings = transaction_reply(alloc, pending, reply_of(answer))?;
+                let sayings = sayings_of(alloc, sendings)?;
+                self.say(alloc, &request, sayings)
             }
             Some(Pending::Loads { request, pending }) => {
                 self.answer_loads(alloc, &request, pending, reply_of(answer))
@@ -82,6 +96,43 @@ impl Session {
         self.stage = stage;
         let sayings = sayings_of(alloc, sendings)?;
         self.say(alloc, request, sayings)
+    }
+
+    /// The answer to a request in a transaction: its keys are noted before anything comes of what was found.
+    fn answer_staged(
+        &mut self,
+        alloc: Global,
+        request: &Request,
+        keys: List<Key>,
+        pending: StagedPending,
+        answer: Answer,
+    ) -> Result<(), NoMemory>
+        ensures { OnOk result (self.new ≡ on_staged_answered request.now keys pending answer self.old) }
+    {
+        let Answer { mark, reply } = answer;
+        match note_reply(alloc, &mut self.stage, mark, keys, reply) {
+            Ok(reply) => self.answer_noted(alloc, request, pending, reply),
+            Err(error) => {
+                drop(pending);
+                Err(error)
+            }
+        }
+    }
+
+    /// The same, once the keys are noted.
+    fn answer_noted(
+        &mut self,
+        alloc: Global,
+        request: &Request,
+        pending: StagedPending,
+        reply: Reply,
+    ) -> Result<(), NoMemory>
+        ensures { OnOk result (self.new ≡ on_noted request.now pending reply self.old) }
+    {
+        match pending {
+            StagedPending::Objects(pending) => self.answer_objects(alloc, request, pending, reply),
+            StagedPending::Arrays(pending) => self.answer_arrays(alloc, request, pending, reply),
+        }
     }
 
     fn answer_loads(

@@ -1,24 +1,31 @@
 //! Messages of the protocols other than Core.
 ghost use Rattle.std.specs.List.{list_any};
 ghost use Rattle.std.specs.Ordering.{int_eq};
-ghost use Rattle.std.specs.Prelude.{◌≡◌, IfOk, OnOk};
+ghost use Rattle.std.specs.Prelude.{◌≡◌, IfOk, OnOk, Some};
 ghost use Rattle.channel_rows.specs.Loads.{load_outcome};
 ghost use Rattle.channel_rows.specs.Subscriptions.{subscribe_request};
 ghost use Rattle.session_core.specs.Arriving.{request_of};
-ghost use Rattle.session_core.specs.Machine.{on_arrays, on_dataspaces, on_loads, on_loads_by, on_message, on_objects, on_protocol, on_row, on_subscriptions, on_subscriptions_by, protocol_refusal};
+ghost use Rattle.session_core.specs.Machine.{arrays_kept, asks, objects_kept, on_arrays, on_dataspaces, on_loads, on_loads_by, on_message, on_objects, on_protocol, on_row, on_subscriptions, on_subscriptions_by, on_transactions, on_transactions_by, protocol_refusal};
+ghost use Rattle.session_core.specs.Noting.{keys_in};
 ghost use Rattle.session_core.specs.State.{subbed};
+ghost use Rattle.session_rows.specs.Transactions.{transaction_request};
 
 use crate::arriving::request_of;
+use crate::noting::keys_in;
 use crate::replies::sayings_of;
 use crate::session::Session;
-use crate::state::{Live, Pending, Request};
-use array_rows::{ArrayOutcome, array_outcome};
+use crate::state::{Live, Pending, Request, StagedPending};
+use array_rows::{ArrayOutcome, ArrayPending, array_outcome};
 use channel_rows::{LoadOutcome, SubscribeOutcome, load_outcome, subscribe_outcome};
 use etp_frame::{Header, Message};
 use etp_values::{ErrorCode, NoMemory};
 use keyed_requests::Outcome;
 use msg_channel::{ChannelDataLoadMessage, ChannelSubscribeMessage};
-use session_rows::{DataspaceOutcome, ObjectOutcome, dataspace_outcome};
+use msg_core::TransactionMessage;
+use session_rows::{
+    DataspaceOutcome, ObjectOutcome, ObjectPending, Transacting, TransactionOutcome,
+    dataspace_outcome, transaction_request,
+};
 use std::alloc::Global;
 use store_machine::StoreCall;
 use subscribe_core::Subs;
@@ -86,6 +93,7 @@ impl Session {
                 let outcome = array_outcome(alloc, &self.stage, moment, message)?;
                 self.on_arrays(alloc, request, outcome)
             }
+            Message::Transaction(message) => self.on_transactions(alloc, request, message),
             Message::ChannelSubscribe(message) => self.on_subscriptions(alloc, request, message),
             Message::ChannelDataLoad(message) => self.on_loads(alloc, request, moment, message),
             other => self.turn_away(alloc, &request, other, ErrorCode::InvalidMessageType),
@@ -129,10 +137,28 @@ impl Session {
                 self.say(alloc, &request, sayings)?;
                 Ok(None)
             }
-            Outcome::Calls { call, pending } => {
+            Outcome::Calls { call, pending } => self.ask_objects(alloc, request, call, pending),
+        }
+    }
+
+    /// Asks the store for a request of Store. In a transaction the keys that are looked at are kept, to be noted at the answer.
+    fn ask_objects(
+        &mut self,
+        alloc: Global,
+        request: Request,
+        call: StoreCall,
+        pending: ObjectPending,
+    ) -> Result<Option<StoreCall>, NoMemory>
+        ensures call { IfOk result (λ c. c ≡ Some call) }
+        ensures state { let kept = objects_kept self.old.stage request call pending in
+            OnOk result (self.new ≡ (asks kept call self.old).state) }
+    {
+        match &self.stage {
+            None => {
                 self.pending = Some(Pending::Objects { request, pending });
                 Ok(Some(call))
             }
+            Some(_) => self.ask_staged(alloc, request, call, StagedPending::Objects(pending)),
         }
     }
 
@@ -151,8 +177,112 @@ impl Session {
                 self.say(alloc, &request, sayings)?;
                 Ok(None)
             }
-            Outcome::Calls { call, pending } => {
+            Outcome::Calls { call, pending } => self.ask_arrays(alloc, request, call, pending),
+        }
+    }
+
+    /// Asks the store for a request of DataArray. In a transaction the keys that are looked at are kept, to be noted at the answer.
+    fn ask_arrays(
+        &mut self,
+        alloc: Global,
+        request: Request,
+        call: StoreCall,
+        pending: ArrayPending,
+    ) -> Result<Option<StoreCall>, NoMemory>
+        ensures call { IfOk result (λ c. c ≡ Some call) }
+        ensures state { let kept = arrays_kept self.old.stage request call pending in
+            OnOk result (self.new ≡ (asks kept call self.old).state) }
+    {
+        match &self.stage {
+            None => {
                 self.pending = Some(Pending::Arrays { request, pending });
+                Ok(Some(call))
+            }
+            Some(_) => self.ask_staged(alloc, request, call, StagedPending::Arrays(pending)),
+        }
+    }
+
+    /// Asks the store for a request in a transaction, and keeps the keys that are looked at.
+    fn ask_staged(
+        &mut self,
+        alloc: Global,
+        request: Request,
+        call: StoreCall,
+        pending: StagedPending,
+    ) -> Result<Option<StoreCall>, NoMemory>
+        ensures call { IfOk result (λ c. c ≡ Some call) }
+        ensures state { let kept = Pending.Staged request (keys_in call) pending in
+            OnOk result (self.new ≡ (asks kept call self.old).state) }
+    {
+        match keys_in(alloc, &call) {
+            Ok(keys) => {
+                self.pending = Some(Pending::Staged {
+                    request,
+                    keys,
+                    pending,
+                });
+                Ok(Some(call))
+            }
+            Err(error) => {
+                drop(call);
+                drop(pending);
+                Err(error)
+            }
+        }
+    }
+
+    /// A message of Transaction.
+    fn on_transactions(
+        &mut self,
+        alloc: Global,
+        request: Request,
+        message: TransactionMessage,
+    ) -> Result<Option<StoreCall>, NoMemory>
+        ensures call { let s = self.old in
+            let transacting = transaction_request s.config.instance s.number s.stage s.starts message in
+            IfOk result (λ call. call ≡ (on_transactions request transacting s).call) }
+        ensures state { let s = self.old in
+            let transacting = transaction_request s.config.instance s.number s.stage s.starts message in
+            OnOk result (self.new ≡ (on_transactions request transacting s).state) }
+    {
+        let instance = self.config.instance;
+        let number = self.number;
+        let stage = self.stage.take();
+        let transacting = transaction_request(
+            alloc,
+            instance,
+            number,
+            stage,
+            self.starts,
+            message,
+        )?;
+        let Transacting {
+            stage,
+            starts,
+            outcome,
+        } = transacting;
+        self.stage = stage;
+        self.starts = starts;
+        self.on_transactions_by(alloc, request, outcome)
+    }
+
+    fn on_transactions_by(
+        &mut self,
+        alloc: Global,
+        request: Request,
+        outcome: TransactionOutcome,
+    ) -> Result<Option<StoreCall>, NoMemory>
+        ensures call { IfOk result (λ call. call ≡ (on_transactions_by request outcome self.old).call) }
+        ensures state { OnOk result (self.new ≡ (on_transactions_by request outcome self.old).state) }
+    {
+        match outcome {
+            Outcome::Replies(sendings) => {
+                let sayings = sayings_of(alloc, sendings)?;
+                self.say(alloc, &request, sayings)?;
+                Ok(None)
+            }
+            Outcome::Calls { call, pending } => {
+                self.pending = Some(Pending::Transactions { request, pending });
                 Ok(Some(call))
             }
         }
