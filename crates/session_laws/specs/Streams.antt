@@ -1,0 +1,208 @@
+-- What a client hears of a channel in the messages that a session sent, and what it is to hear: of a subscription the points that
+-- were there and each later change, in their order, of the one history.
+use Rattle.std.specs.Prelude.{ℕ, ℤ, ◌≡◌, ◌≤◌, ◌<◌, ◌^◌, Bool, true, false, List, [], ◌∷◌, ◌++◌, Option, Some, None, fold, length, take, drop, max, if◌then◌else◌}
+use Rattle.std.specs.List.{flat_map, list_any}
+use Rattle.std.specs.Ordering.{int_eq}
+use mathlib.Core.List.{IsPrefix}
+use Rattle.chan_defs.specs.declared.config.Config.{Config}
+use Rattle.channel_rows.specs.Notices.{reason_of}
+use Rattle.channel_rows.specs.Points.{ends_of, long_in}
+use Rattle.channel_store.specs.Points.{append_of}
+use Rattle.channel_store.specs.declared.change.What.{What}
+use Rattle.channel_store.specs.declared.change.What.TheVariants.{Replace, Truncate}
+use Rattle.channel_store.specs.declared.subscription.Sub.{Sub}
+use Rattle.etp_frame.specs.Header.{final_part, has_flag}
+use Rattle.etp_frame.specs.declared.message.Message.{Message}
+use Rattle.etp_frame.specs.declared.message.Message.TheVariants as message
+use Rattle.etp_values.specs.declared.data.DataValue.{DataValue}
+use Rattle.etp_values.specs.declared.point.Point.{Point}
+use Rattle.msg_channel.specs.declared.channel_subscribe_messages.ChannelSubscribeMessage.{ChannelSubscribeMessage}
+use Rattle.msg_channel.specs.declared.channel_subscribe_messages.ChannelSubscribeMessage.TheVariants as subscribe
+use Rattle.msg_channel.specs.declared.indexes.IndexValue.{IndexValue}
+use Rattle.msg_channel.specs.declared.indexes.IndexValue.TheVariants as index
+use Rattle.msg_channel.specs.declared.points.DataItem.{DataItem}
+use Rattle.msg_channel.specs.declared.points.TruncateInfo.{TruncateInfo}
+use Rattle.store_machine.specs.News.{dues, lag, stream}
+use Rattle.store_machine.specs.declared.journal.Entry.{Entry}
+use Rattle.subscribe_core.specs.Subscriptions.{Subbed}
+use Rattle.subscribe_core.specs.Views.{sub_of}
+use Rattle.subscribe_core.specs.declared.stop.StopCause.{StopCause}
+use Rattle.subscribe_core.specs.declared.stop.StopCause.TheVariants.{Unsubscribed, Lagged}
+use Rattle.session_core.specs.declared.state.End.TheVariants as end
+use Rattle.session_core.specs.declared.state.Live.{Live}
+use Rattle.session_core.specs.declared.state.Outgoing.{Outgoing}
+use Rattle.session_core.specs.declared.state.Phase.{Phase}
+use Rattle.session_core.specs.declared.state.Phase.TheVariants as phase
+use Rattle.session_core.specs.Arriving.{Event, Receives, Polls}
+use Rattle.session_core.specs.Run.{Course, Heeds, run, takes}
+
+-- ---- what a client hears
+
+-- a subscription that was stopped: the reason that was given, and what was told of the channel up to then
+pub record Stopped : Type 0 where
+  pub reason : List ℕ
+  pub told : List What
+
+-- what is heard of a channel: the subscriptions that were stopped, the changes since the last stop, and the points of a notice
+-- whose last part is to come
+pub record Heard : Type 0 where
+  pub stops : List Stopped
+  pub told : List What
+  pub part : List Point
+
+-- nothing was said yet
+abbrev pub silence : Heard
+silence = record { stops = []; told = []; part = [] }
+
+-- the point of an item, which has one long index
+abbrev pub point_in : DataValue → List IndexValue → List Point
+point_in value (index.Long z ∷ []) = record { index = z; value = value } ∷ []
+point_in value _ = []
+
+-- the points of a channel among items
+abbrev pub points_in : ℤ → List DataItem → List Point
+points_in channel items = flat_map (λ x. if int_eq x.channel_id channel then point_in x.value x.indexes else []) items
+
+-- a change of these points, when their last part came; else they are kept
+abbrev pub gathers : Bool → (List Point → List What) → List Point → Heard → Heard
+gathers false whole points k = record k { part = k.part ++ points }
+gathers true whole points k = record k { told = k.told ++ whole (k.part ++ points); part = [] }
+
+-- a replacement between two longs
+abbrev pub replace_in : Option (ℤ × ℤ) → List Point → List What
+replace_in None points = []
+replace_in (Some ends) points = Replace ends.0 ends.1 points ∷ []
+
+-- a truncation at a long
+abbrev pub cut_at : Option ℤ → List What
+cut_at None = []
+cut_at (Some end) = Truncate end ∷ []
+
+-- the truncations of a channel
+abbrev pub cuts_in : ℤ → List TruncateInfo → List What
+cuts_in channel cuts = flat_map (λ x. if int_eq x.channel_id channel then cut_at (long_in x.new_end_index) else []) cuts
+
+-- the subscription is stopped
+abbrev pub stops_for : List ℕ → Heard → Heard
+stops_for reason k = record { stops = k.stops ++ record { reason = reason; told = k.told } ∷ []; told = []; part = [] }
+
+-- the same where a stop names the channel
+abbrev pub hear_stops : ℤ → List ℕ → List (List ℕ × ℤ) → Heard → Heard
+hear_stops channel reason ids k = fold (λ k x. if int_eq x.1 channel then stops_for reason k else k) k ids
+
+-- what is heard of a channel in a message of the ChannelSubscribe protocol, which may be the last part
+abbrev pub hear_notice : ℤ → Bool → ChannelSubscribeMessage → Heard → Heard
+hear_notice channel last (subscribe.ChannelData m) k = gathers last append_of (points_in channel m.payload) k
+hear_notice channel last (subscribe.RangeReplaced m) k =
+    if list_any (int_eq channel) m.channel_ids then gathers last (replace_in (ends_of m.changed_interval)) (points_in channel m.payload) k else k
+hear_notice channel last (subscribe.ChannelsTruncated m) k = record k { told = k.told ++ cuts_in channel m.channels }
+hear_notice channel last (subscribe.SubscriptionsStopped m) k = hear_stops channel m.reason m.channel_ids k
+hear_notice channel last _ k = k
+
+-- any other message says nothing of it
+abbrev pub hear_message : ℤ → Bool → Message → Heard → Heard
+hear_message channel last (message.ChannelSubscribe m) k = hear_notice channel last m k
+hear_message channel last _ k = k
+
+-- what is heard in a message as it was sent
+abbrev pub hear : ℤ → Heard → Outgoing → Heard
+hear channel k o = hear_message channel (has_flag o.header.flags final_part) o.message k
+
+-- what is heard in all messages that were sent
+abbrev pub heard : ℤ → List Outgoing → Heard
+heard channel sent = fold (hear channel) silence sent
+
+-- ---- what is to be heard
+
+-- of a subscription its stream up to a cursor of this history
+abbrev pub stream_to : List Entry → ℕ → Sub → List What
+stream_to h cursor s = stream s.channel s.start s.all s.from (take (max s.from cursor) h)
+
+abbrev pub owed_to : List Entry → ℕ → Option Sub → List What
+owed_to h cursor None = []
+owed_to h cursor (Some s) = stream_to h cursor s
+
+-- of a channel the stream of its subscription up to the session's cursor, and without one nothing
+abbrev pub owed : List Entry → Subbed → ℤ → List What
+owed h v channel = owed_to h v.cursor (sub_of channel v.subs)
+
+-- ---- the laws
+
+-- these places never fall: the first is not below `low`, and none is above `high`
+abbrev pub Rises : ℕ → List ℕ → ℕ → Type 0
+Rises low [] high = low ≤ high
+Rises low (p ∷ ps) high = (low ≤ p) × Rises p ps high
+
+-- a session's message ids are spent
+abbrev pub is_spent_phase : Phase → Bool
+is_spent_phase (phase.Ended end.IdsSpent) = true
+is_spent_phase _ = false
+
+abbrev pub is_spent_course : Course → Bool
+is_spent_course r = is_spent_phase r.state.phase
+
+-- the channels have ids of 64 bits
+abbrev pub HasIds : Config → Type 0
+HasIds config = length config.channels < 2 ^ 63
+
+-- of each channel a session has told what it owed, no more and no less, and each notice to its last part. So a subscription has
+-- been told the stream from its own start and place on, and after its stop nothing is told
+abbrev pub RunStreams : Type 0
+RunStreams = (config : Config) (n : ℕ) (h : List Entry) (places : List ℕ) (es : List Event) → HasIds config → Rises 0 places (length h)
+    → let r = run config n h places es in
+    is_spent_course r ≡ false → (channel : ℤ) → ((heard channel r.sent).told ≡ owed h r.state.subs channel) × ((heard channel r.sent).part ≡ [])
+
+-- a message of the client's stops subscriptions because it asks for that
+abbrev pub IsAsked : StopCause → Type 0
+IsAsked Unsubscribed = Unit {0}
+IsAsked (Lagged k) = ⊥
+
+-- a poll stops them where more entries are left to tell than may be, of those before the place at which it is answered
+abbrev pub IsLate : Config → List Entry → Subbed → List ℕ → StopCause → Type 0
+IsLate config h v [] cause = ⊥
+IsLate config h v (p ∷ ps) Unsubscribed = ⊥
+IsLate config h v (p ∷ ps) (Lagged k) = (k ≡ lag (dues config v.subs v.cursor (drop v.cursor (take p h)))) × (config.lag < k)
+
+-- why an event stops a subscription, by the subscriptions and the places that are left before it
+abbrev pub IsStopCause : Config → List Entry → Subbed → List ℕ → Event → StopCause → Type 0
+IsStopCause config h v places (Receives bytes moment) cause = IsAsked cause
+IsStopCause config h v places (Polls front) cause = IsLate config h v places cause
+
+-- a subscription that one more event ends is stopped with its cause and what was told up to then; any other is not stopped, and
+-- stays as it is
+abbrev pub IsStopped : (StopCause → Type 0) → Option Sub → Option Sub → List What → List Stopped → List Stopped → Type 0
+IsStopped Causes None after told old new = new ≡ old
+IsStopped Causes (Some s) (Some t) told old new = (new ≡ old) × (t ≡ s)
+IsStopped Causes (Some s) None told old new = (cause : StopCause) × Causes cause × (new ≡ old ++ record { reason = reason_of cause; told = told } ∷ [])
+
+abbrev pub RunStops : Type 0
+RunStops = (config : Config) (n : ℕ) (h : List Entry) (places : List ℕ) (es : List Event) (e : Event) → HasIds config → Rises 0 places (length h)
+    → let r = run config n h places es in let t = run config n h places (es ++ e ∷ []) in
+    is_spent_course t ≡ false → (channel : ℤ)
+    → IsStopped (IsStopCause config h r.state.subs r.places e) (sub_of channel r.state.subs.subs) (sub_of channel t.state.subs.subs) (heard channel r.sent).told (heard channel r.sent).stops (heard channel t.sent).stops
+
+-- what a channel was owed at most by an event: by the cursor after it where it leaves a subscription, else by the one before it
+abbrev pub owed_by : List Entry → Subbed → Subbed → Option Sub → ℤ → List What
+owed_by h before after None channel = owed h before channel
+owed_by h before after (Some s) channel = stream_to h after.cursor s
+
+-- where a run has spent its ids, one of its events did: what was told to its last part is a beginning of what was owed by that
+-- event, and no subscription is stopped but as that event stops them
+abbrev pub SpentStreams : Type 0
+SpentStreams = (config : Config) (n : ℕ) (h : List Entry) (places : List ℕ) (es : List Event) → HasIds config → Rises 0 places (length h)
+    → let t = run config n h places es in
+    is_spent_course t ≡ true
+    → (before : List Event) × (e : Event) × (later : List Event) × (es ≡ before ++ e ∷ later) × (is_spent_course (run config n h places before) ≡ false)
+    × ((channel : ℤ) → let r = run config n h places before in
+    IsPrefix (heard channel t.sent).told (owed_by h r.state.subs t.state.subs (sub_of channel t.state.subs.subs) channel)
+    × ((all : List Stopped)
+    × IsStopped (IsStopCause config h r.state.subs r.places e) (sub_of channel r.state.subs.subs) (sub_of channel t.state.subs.subs) (heard channel r.sent).told (heard channel r.sent).stops all
+    × IsPrefix (heard channel t.sent).stops all))
+
+-- where a poll asks nothing, its front is what the session has seen of the history, and each subscription was told its stream up to
+-- there
+abbrev pub IdlePolls : Type 0
+IdlePolls = (config : Config) (n : ℕ) (h : List Entry) (places : List ℕ) (es : List Event) (front : ℕ) → HasIds config → Rises 0 places (length h) → Heeds config n h places (es ++ Polls front ∷ [])
+    → let r = run config n h places es in
+    (live : Live) → r.state.phase ≡ phase.Live live → (takes r.state (Polls front)).call ≡ None → (channel : ℤ) (s : Sub) → sub_of channel r.state.subs.subs ≡ Some s
+    → (front ≡ r.reach) × ((heard channel r.sent).told ≡ stream s.channel s.start s.all s.from (take front h))
