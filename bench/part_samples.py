@@ -64,7 +64,10 @@ def has_room(node, group, limit):
 
 
 def groups(node, items, limit):
-    """Each item goes into the last group if there is room, and else begins another."""
+    """Each item goes into the last group if there is room, and else begins another; where there is room for all, that is one group."""
+    items = like(items, in_order(items))
+    if has_room(node, items, limit):
+        return [items]
     made = [[]]
     for item in in_order(items):
         if made[-1] and not has_room(node, like(items, made[-1] + [item]), limit):

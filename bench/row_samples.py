@@ -15,8 +15,8 @@ import wire
 TEXTS = {
     2: "no supported protocols", 3: "invalid message type", 4: "unsupported protocol", 5: "invalid argument", 6: "request denied",
     8: "invalid state", 9: "invalid URI", 11: "not found", 12: "limit exceeded", 13: "compression not supported",
-    16: "data object type not supported", 17: "size exceeded", 19: "invalid message", 20: "invalid index kind", 21: "no supported formats",
-    31: "invalid append",
+    15: "too many transactions", 16: "data object type not supported", 17: "size exceeded", 19: "invalid message", 20: "invalid index kind",
+    21: "no supported formats", 31: "invalid append",
 }
 INSTANCE = uuid.UUID(int=1)
 VERSION = {"major": 1, "minor": 2, "revision": 0, "patch": 0}
@@ -131,97 +131,147 @@ def dims_code(dims, count, size):
 # --- the store ---------------------------------------------------------------------------------------------------------
 
 
-class Store:
+class Contents:
+    """What stands in the dataspaces: tables by path, by URI, and by URI and path."""
+
+    def __init__(self):
+        self.spaces = {"": {"written": 0, "created": 0, "custom": {}}}
+        self.objects, self.arrays = {}, {}
+
+    def tables(self):
+        return dict(self.spaces), dict(self.objects), dict(self.arrays)
+
+    # An operation is the name of what does it, what it is done to, and what it is done with. It has a test, which answers the code that
+    # refuses it, and is done by a function that asks nothing.
+
+    def refusal(self, operation):
+        return getattr(self, "test_" + operation[0])(*operation[1:])
+
+    def do(self, operation):
+        getattr(self, operation[0])(*operation[1:])
+
+    def accepted(self, items, refuse=None):
+        """The codes of operations in the order of their keys, each after the accepted ones before it, and these."""
+        codes, done = {}, []
+        for key in in_order(items):
+            codes[key] = self.refusal(items[key])
+            if codes[key] is None and refuse is not None:
+                codes[key] = refuse(items[key])
+            if codes[key] is None:
+                self.do(items[key])
+                done.append(items[key])
+        return codes, done
+
+    def test_put_space(self, path, custom, moment):
+        return None
+
+    def put_space(self, path, custom, moment):
+        created = self.spaces.get(path, {"created": moment})["created"]
+        self.spaces[path] = {"written": moment, "created": created, "custom": custom}
+
+    def test_drop_space(self, path):
+        return None if path in self.spaces else 11
+
+    def drop_space(self, path):
+        del self.spaces[path]
+        self.objects = {uri: each for uri, each in self.objects.items() if each["space"] != path}
+        self.arrays = {key: each for key, each in self.arrays.items() if key[0] in self.objects}
+
+    def test_put_object(self, uri, space, given, moment):
+        return None if space in self.spaces else 11
+
+    def put_object(self, uri, space, given, moment):
+        created = self.objects.get(uri, {"created": moment})["created"]
+        self.objects[uri] = dict(given, space=space, written=moment, created=created)
+
+    def test_delete_object(self, uri):
+        return None if uri in self.objects else 11
+
+    def delete_object(self, uri):
+        self.objects.pop(uri, None)
+        self.arrays = {key: each for key, each in self.arrays.items() if key[0] != uri}
+
+    def test_put_array(self, key, given, moment):
+        return None if key[0] in self.objects else 11
+
+    def put_array(self, key, given, moment):
+        created = self.arrays.get(key, {"created": moment})["created"]
+        self.arrays[key] = dict(given, written=moment, created=created)
+
+    def test_patch_array(self, key, starts, counts, values, moment):
+        if key not in self.arrays:
+            return 11
+        array = self.arrays[key]
+        if not is_region(array["dims"], starts, counts) or values[0] != array["values"][0] or product(counts) != len(elements(values)):
+            return 5
+        return 17 if array_bytes(self.patched(array, starts, counts, values)) > 33_554_432 else None
+
+    @staticmethod
+    def patched(array, starts, counts, values):
+        made = list(elements(array["values"]))
+        for place, element in zip(places(array["dims"], starts, counts), elements(values)):
+            made[place] = element
+        return like(values[0], made)
+
+    def patch_array(self, key, starts, counts, values, moment):
+        if self.test_patch_array(key, starts, counts, values, moment) is None:
+            array = self.arrays[key]
+            self.arrays[key] = dict(array, values=self.patched(array, starts, counts, values), written=moment)
+
+
+class Store(Contents):
     """What stands in the dataspaces, the channels' points, and of each entry what it did to channels."""
 
     def __init__(self, channels, journal):
+        super().__init__()
         self.limit = journal
         self.entries = [[]]
-        self.spaces = {"": {"written": 0, "created": 0, "custom": {}}}
-        self.objects, self.arrays = {}, {}
         self.channels = [dict(channel, points=[]) for channel in channels]
 
-    def add(self, changes=()):
+    def add(self, changes=(), operations=()):
         """Adds an entry; without room for it the call is refused."""
         if len(self.entries) >= self.limit:
             raise Refused(12)
         self.entries.append(list(changes))
 
-    def judged(self, items, judge):
-        """The codes of items in the order of their keys, each after the accepted ones before it: one entry or none."""
-        before = dict(self.spaces), dict(self.objects), dict(self.arrays)
-        codes = {key: judge(items[key]) for key in in_order(items)}
-        if None in codes.values():
+    def judged(self, items):
+        """The codes of operations: the accepted ones make one entry, or none where there are none."""
+        before = self.tables()
+        codes, done = self.accepted(items)
+        if done:
             try:
-                self.add()
+                self.add(operations=done)
             except Refused:
                 self.spaces, self.objects, self.arrays = before
                 raise
         return codes
 
-    def put_spaces(self, items, moment):
-        def judge(item):
-            path, custom = item
-            created = self.spaces.get(path, {"created": moment})["created"]
-            self.spaces[path] = {"written": moment, "created": created, "custom": custom}
+    def objects_at(self, uris):
+        """The objects at URIs, or the codes that refuse them, the later ones where all of them would be too many bytes."""
+        given, found = 0, {}
+        for key, uri in uris.items():
+            each = self.objects.get(uri)
+            if each is None:
+                found[key] = 11
+            elif given + len(each["data"]) > PAYLOAD_LIMIT:
+                found[key] = 12
+            else:
+                given += len(each["data"])
+                found[key] = each
+        return found
 
-        return self.judged(items, judge)
-
-    def drop_spaces(self, items):
-        def judge(item):
-            if item[0] not in self.spaces:
-                return 11
-            del self.spaces[item[0]]
-            self.objects = {uri: each for uri, each in self.objects.items() if each["space"] != item[0]}
-            self.arrays = {key: each for key, each in self.arrays.items() if key[0] in self.objects}
-
-        return self.judged(items, judge)
-
-    def put_objects(self, items, moment):
-        def judge(item):
-            space, uri, given = item
-            if space not in self.spaces:
-                return 11
-            created = self.objects.get(uri, {"created": moment})["created"]
-            self.objects[uri] = dict(given, space=space, written=moment, created=created)
-
-        return self.judged(items, judge)
-
-    def delete_objects(self, items):
-        def judge(item):
-            if item[2] not in self.objects:
-                return 11
-            del self.objects[item[2]]
-            self.arrays = {key: each for key, each in self.arrays.items() if key[0] != item[2]}
-
-        return self.judged(items, judge)
-
-    def put_arrays(self, items, moment):
-        def judge(item):
-            key, given = item
-            if key[0] not in self.objects:
-                return 11
-            created = self.arrays.get(key, {"created": moment})["created"]
-            self.arrays[key] = dict(given, written=moment, created=created)
-
-        return self.judged(items, judge)
-
-    def patch_arrays(self, items, moment):
-        def judge(item):
-            key, starts, counts, values = item
-            if key not in self.arrays:
-                return 11
-            array = self.arrays[key]
-            if not is_region(array["dims"], starts, counts) or values[0] != array["values"][0] or product(counts) != len(elements(values)):
-                return 5
-            patched = list(elements(array["values"]))
-            for place, element in zip(places(array["dims"], starts, counts), elements(values)):
-                patched[place] = element
-            if array_bytes(like(values[0], patched)) > 33_554_432:
-                return 17
-            self.arrays[key] = dict(array, values=like(values[0], patched), written=moment)
-
-        return self.judged(items, judge)
+    def arrays_at(self, items, see):
+        """What is seen of arrays, or the codes that refuse it, the later ones where all that is given would be too many bytes."""
+        given, found = 0, {}
+        for key, (name, *rest) in items.items():
+            array = self.arrays.get(name)
+            found[key] = 11 if array is None else see(array, *rest)
+            size = array_bytes(found[key]["data"]["item"]) if not isinstance(found[key], int) and "data" in found[key] else 0
+            if given + size > PAYLOAD_LIMIT:
+                found[key] = 12
+            else:
+                given += size
+        return found
 
     # -- channels
 
@@ -296,6 +346,21 @@ class Session:
         self.next_id, self.last_id, self.accepted, self.end = 1, 0, None, None
         self.formats, self.limit, self.sender = [], MESSAGE_LIMIT, part_samples.Sender()
         self.awaited, self.open, self.subs, self.cursor = None, set(), [], None
+
+    # what a request works on, what it may name, and whether it may write; a session within a transaction has others
+
+    @property
+    def contents(self):
+        return self.store
+
+    def object_name(self, uri):
+        return object_name(uri)
+
+    def ask_to_write(self):
+        pass
+
+    def ask_to_change_spaces(self):
+        pass
 
     # -- sending
 
@@ -418,7 +483,7 @@ class Session:
         return replies + ([(protocol, 1000, {"error": (0, None), "errors": errors})] if errors else [])
 
     def by_verdicts(self, protocol, items, check, change, kind, response, done, whole=None):
-        """The same where the store judges each item; what is accepted is answered by `done`."""
+        """The same where each item is judged; what is accepted is answered by `done`."""
 
         def call(granted):
             codes = change(granted)
@@ -440,41 +505,41 @@ class Session:
             path = space_path(item["uri"])
             if isinstance(path, int):
                 return path
-            return 17 if written_size(CUSTOM, item["customData"]) > EXTRAS_LIMIT else (path[0], item["customData"])
+            return 17 if written_size(CUSTOM, item["customData"]) > EXTRAS_LIMIT else ("put_space", path[0], item["customData"], moment)
 
-        put = lambda items: self.store.put_spaces(items, moment)
-        return self.by_verdicts(24, value["dataspaces"], check, put, 6, lambda done: {"success": done}, lambda item: "")
+        self.ask_to_change_spaces()
+        return self.by_verdicts(24, value["dataspaces"], check, self.store.judged, 6, lambda done: {"success": done}, lambda item: "")
 
     def on_delete_dataspaces(self, moment, value):
-        return self.by_verdicts(
-            24, value["uris"], space_path, self.store.drop_spaces, 5, lambda done: {"success": done}, lambda item: "")
+        def check(uri):
+            path = space_path(uri)
+            return path if isinstance(path, int) else ("drop_space", path[0])
+
+        self.ask_to_change_spaces()
+        return self.by_verdicts(24, value["uris"], check, self.store.judged, 5, lambda done: {"success": done}, lambda item: "")
 
     # -- objects
 
     def on_get_data_objects(self, moment, value):
         asked = value["format"] or "xml"
 
+        def given(uri, found):
+            if isinstance(found, int):
+                return found
+            return 21 if found["format"] != asked else {
+                "resource": dict(found["resource"], uri=uri, storeLastWrite=found["written"], storeCreated=found["created"]),
+                "format": found["format"], "blobId": (0, None), "data": found["data"]}
+
         def look(granted):
-            given, found = 0, {}
-            for key, (_, _, uri) in granted.items():
-                each = self.store.objects.get(uri)
-                if each is None:
-                    found[key] = 11
-                elif given + len(each["data"]) > PAYLOAD_LIMIT:
-                    found[key] = 12
-                else:
-                    given += len(each["data"])
-                    found[key] = 21 if each["format"] != asked else {
-                        "resource": dict(each["resource"], uri=uri, storeLastWrite=each["written"], storeCreated=each["created"]),
-                        "format": each["format"], "blobId": (0, None), "data": each["data"]}
-            return found
+            uris = {key: uri for key, (_, _, uri) in granted.items()}
+            return {key: given(uris[key], found) for key, found in self.contents.objects_at(uris).items()}
 
         whole = None if asked in self.formats else 21
-        return self.by_keys(4, value["uris"], object_name, look, 4, lambda found: {"dataObjects": found}, whole)
+        return self.by_keys(4, value["uris"], self.object_name, look, 4, lambda found: {"dataObjects": found}, whole)
 
     def put_objects(self, moment, value):
         def check(item):
-            name = object_name(item["resource"]["uri"])
+            name = self.object_name(item["resource"]["uri"])
             if isinstance(name, int):
                 return name
             types = self.server.types
@@ -489,22 +554,27 @@ class Session:
             if size > EXTRAS_LIMIT:
                 return 17
             kept = dict(resource, sourceCount=(0, None), targetCount=(0, None))
-            return name[0], name[2], {"resource": kept, "format": form, "data": item["data"]}
+            return "put_object", name[2], name[0], {"resource": kept, "format": form, "data": item["data"]}, moment
 
-        put = lambda items: self.store.put_objects(items, moment)
+        self.ask_to_write()
         whole = 5 if value["pruneContainedObjects"] else None
         done = lambda item: {name: [] for name in LISTS}
-        return self.by_verdicts(4, value["dataObjects"], check, put, 9, lambda made: {"success": made}, done, whole)
+        return self.by_verdicts(4, value["dataObjects"], check, self.contents.judged, 9, lambda made: {"success": made}, done, whole)
 
     def on_delete_data_objects(self, moment, value):
+        def check(uri):
+            name = self.object_name(uri)
+            return name if isinstance(name, int) else ("delete_object", name[2])
+
+        self.ask_to_write()
         whole = 5 if value["pruneContainedObjects"] else None
-        done = lambda name: {"values": [name[2]]}
-        return self.by_verdicts(
-            4, value["uris"], object_name, self.store.delete_objects, 10, lambda gone: {"deletedUris": gone}, done, whole)
+        done = lambda operation: {"values": [operation[1]]}
+        return self.by_verdicts(4, value["uris"], check, self.contents.judged, 10, lambda gone: {"deletedUris": gone}, done, whole)
 
     def join(self, moment, header, name, value):
         """A put or a chunk: the put is done once all its chunks are there, and answered under its own id."""
         if name == "PutDataObjects":
+            self.ask_to_write()
             blobs = [each["blobId"][1] for each in value["dataObjects"].values() if each["blobId"][0]]
             beside = any(each["blobId"][0] and each["data"] for each in value["dataObjects"].values())
             awaited, self.awaited = self.awaited, None
@@ -547,42 +617,37 @@ class Session:
         name = object_name(uid["uri"])
         if isinstance(name, int):
             return name
-        return (name[2], uid["pathInResource"]) if 1 <= len(uid["pathInResource"].encode()) <= 1024 else 5
+        if not 1 <= len(uid["pathInResource"].encode()) <= 1024:
+            return 5
+        name = self.object_name(uid["uri"])
+        return name if isinstance(name, int) else (name[2], uid["pathInResource"])
 
     def fitting(self, node, key, value):
         """What is answered of a key, unless it is too large for a message."""
+        if isinstance(value, int):
+            return value
         size = written_size(wire.TYPES["string"], key) + written_size(wire.TYPES[node], value)
         nodes = part_samples.count_nodes(wire.TYPES[node], value)
         return 17 if size > self.limit - 4096 or nodes > part_samples.ITEM_NODES else value
 
-    def looked(self, granted, node, see):
-        given, found = 0, {}
-        for key, item in granted.items():
-            array = self.store.arrays.get(item if isinstance(item[0], str) else item[0])
-            seen = 11 if array is None else see(array, item)
-            if isinstance(seen, int):
-                found[key] = seen
-                continue
-            size = array_bytes(seen["data"]["item"]) if "data" in seen else 0
-            if given + size > PAYLOAD_LIMIT:
-                found[key] = 12
-            else:
-                given += size
-                found[key] = self.fitting(node, key, seen)
-        return found
+    def looked(self, items, node, see):
+        return {key: self.fitting(node, key, seen) for key, seen in self.contents.arrays_at(items, see).items()}
+
+    def whole_array(self, uid):
+        name = self.array_name(uid)
+        return name if isinstance(name, int) else (name,)
 
     def on_get_data_arrays(self, moment, value):
-        see = lambda array, item: {"dimensions": array["dims"], "data": {"item": array["values"]}}
+        see = lambda array: {"dimensions": array["dims"], "data": {"item": array["values"]}}
         look = lambda granted: self.looked(granted, "DataArray", see)
-        return self.by_keys(9, value["dataArrays"], self.array_name, look, 1, lambda found: {"dataArrays": found})
+        return self.by_keys(9, value["dataArrays"], self.whole_array, look, 1, lambda found: {"dataArrays": found})
 
     def on_get_data_subarrays(self, moment, value):
         def check(item):
             name = self.array_name(item["uid"])
             return name if isinstance(name, int) else (name, item["starts"], item["counts"])
 
-        def see(array, item):
-            _, starts, counts = item
+        def see(array, starts, counts):
             if not is_region(array["dims"], starts, counts):
                 return 5
             branch, items = array["values"][0], elements(array["values"])
@@ -593,12 +658,12 @@ class Session:
         return self.by_keys(9, value["dataSubarrays"], check, look, 8, lambda found: {"dataSubarrays": found})
 
     def on_get_data_array_metadata(self, moment, value):
-        see = lambda array, item: {
+        see = lambda array: {
             "dimensions": array["dims"], "preferredSubarrayDimensions": array["preferred"], "transportArrayType": array["values"][0],
             "logicalArrayType": array["logical"], "storeLastWrite": array["written"], "storeCreated": array["created"],
             "customData": array["custom"]}
         look = lambda granted: self.looked(granted, "DataArrayMetadata", see)
-        return self.by_keys(9, value["dataArrays"], self.array_name, look, 7, lambda found: {"arrayMetadata": found})
+        return self.by_keys(9, value["dataArrays"], self.whole_array, look, 7, lambda found: {"arrayMetadata": found})
 
     def on_put_data_arrays(self, moment, value):
         def check(item):
@@ -610,10 +675,12 @@ class Session:
                 return code
             if written_size(CUSTOM, item["customData"]) > EXTRAS_LIMIT:
                 return 17
-            return name, {"dims": dims, "preferred": dims, "values": values, "logical": LOGICAL[values[0]], "custom": item["customData"]}
+            made = {"dims": dims, "preferred": dims, "values": values, "logical": LOGICAL[values[0]], "custom": item["customData"]}
+            return "put_array", name, made, moment
 
-        put = lambda items: self.store.put_arrays(items, moment)
-        return self.by_verdicts(9, value["dataArrays"], check, put, 10, lambda done: {"success": done}, lambda item: "")
+        self.ask_to_write()
+        return self.by_verdicts(
+            9, value["dataArrays"], check, self.contents.judged, 10, lambda done: {"success": done}, lambda item: "")
 
     def on_put_uninitialized_data_arrays(self, moment, value):
         paid = 0
@@ -634,20 +701,23 @@ class Session:
             if paid + size * product(dims) > PAYLOAD_LIMIT or written_size(CUSTOM, meta["customData"]) > EXTRAS_LIMIT:
                 return 17
             paid += size * product(dims)
-            return name, {
+            made = {
                 "dims": dims, "preferred": preferred, "values": like(branch, [blank] * product(dims)), "logical": meta["logicalArrayType"],
                 "custom": meta["customData"]}
+            return "put_array", name, made, moment
 
-        put = lambda items: self.store.put_arrays(items, moment)
-        return self.by_verdicts(9, value["dataArrays"], check, put, 12, lambda done: {"success": done}, lambda item: "")
+        self.ask_to_write()
+        return self.by_verdicts(
+            9, value["dataArrays"], check, self.contents.judged, 12, lambda done: {"success": done}, lambda item: "")
 
     def on_put_data_subarrays(self, moment, value):
         def check(item):
             name = self.array_name(item["uid"])
-            return name if isinstance(name, int) else (name, item["starts"], item["counts"], item["data"]["item"])
+            return name if isinstance(name, int) else ("patch_array", name, item["starts"], item["counts"], item["data"]["item"], moment)
 
-        patch = lambda items: self.store.patch_arrays(items, moment)
-        return self.by_verdicts(9, value["dataSubarrays"], check, patch, 11, lambda done: {"success": done}, lambda item: "")
+        self.ask_to_write()
+        return self.by_verdicts(
+            9, value["dataSubarrays"], check, self.contents.judged, 11, lambda done: {"success": done}, lambda item: "")
 
     # -- channels
 
@@ -857,8 +927,10 @@ class Session:
 
 
 class Server:
+    make_store, make_session = Store, Session
+
     def __init__(self, channels, lag, journal, types):
-        self.store, self.lag, self.types = Store(channels, journal), lag, types
+        self.store, self.lag, self.types = self.make_store(channels, journal), lag, types
         self.tags, self.sent = {}, []
 
     def play(self, kind, tag, moment, data):
@@ -870,7 +942,7 @@ class Server:
                 self.store.add()
             except Refused:
                 return [wire.write_frame(19, tag, moment, b"\5")]
-            self.tags[tag] = Session(self, number)
+            self.tags[tag] = self.make_session(self, number)
         session = self.tags[tag]
         if kind == 1:
             session.take(moment, data)

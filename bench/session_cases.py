@@ -183,7 +183,6 @@ def refused_messages():
     other = script.client(1)
     other.open(19, protocols=[(4, VERSION, "store"), (18, VERSION, "store")])
     other.get(20)
-    other.say(22, 18, 1, {"readOnly": False, "message": "", "dataspaceUris": []})
     other.close(23)
     rig.leave(24)
     other.ping(25)

@@ -4,8 +4,9 @@
     python3 tool_cases.py ../crates/tool_cases
 
 Messages are written by the schema of `wire.py` alone, and what answers them was worked out from the rules, case by case. The captures
-of `session_cases.py` are answered by the server of `sessions.py`, those of `row_samples.py` by its own, and those of `row_captures.py`
-have their answers beside them.
+of `session_cases.py` are answered by the server of `sessions.py`, those of `row_samples.py` by its own, those of
+`transaction_samples.py` by that of `transactions.py`, and those of `row_captures.py` and `transaction_captures.py` have their answers
+beside them.
 """
 import pathlib
 import sys
@@ -14,6 +15,8 @@ import uuid
 import row_captures
 import row_samples
 import session_cases
+import transaction_captures
+import transaction_samples
 import wire
 from sessions import INSTANCE, TEXTS
 
@@ -351,8 +354,10 @@ def add_listings(cases):
 
 
 def add_rows(cases):
-    """Requests on dataspaces, objects, arrays and channels."""
-    for name, config, bytes_in, bytes_out in [*row_captures.cases(), *row_samples.cases()]:
+    """Requests on dataspaces, objects, arrays and channels, and transactions."""
+    for name, config, bytes_in, bytes_out in [
+        *row_captures.cases(), *row_samples.cases(), *transaction_captures.cases(), *transaction_samples.cases()
+    ]:
         cases.replay(f"{name}.cap", bytes_in, bytes_out, config=cases.file(f"{config[0]}.toml", config[1].encode()))
 
 
