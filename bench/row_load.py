@@ -7,6 +7,9 @@
     python3 row_load.py points SIZE SUBSCRIBERS > FILE
                                                     a million points of eight channels are loaded, SIZE a message, while so many
                                                     other sessions are told of them, polled once in a while
+    python3 row_load.py commits COUNT SIZE ENTRIES > FILE
+                                                    behind ENTRIES loads of a point, each an entry, COUNT transactions put the same SIZE
+                                                    objects each, and are committed
 """
 import sys
 import uuid
@@ -26,6 +29,13 @@ def channel(number):
     return f"eml:///witsml21.Channel({uuid.UUID(int=number)})"
 
 
+def data_object(number, data):
+    resource = dict(
+        uri=f"eml:///witsml21.Well({uuid.UUID(int=number)})", alternateUris=[], name="", sourceCount=(0, None), targetCount=(0, None),
+        lastChanged=0, storeLastWrite=0, storeCreated=0, activeStatus=0, customData={})
+    return dict(resource=resource, format="xml", blobId=(0, None), data=data)
+
+
 class Client:
     """Writes the frames of a tag, each message with the next even id."""
 
@@ -42,17 +52,14 @@ class Client:
         self.frame(1, wire.write_message(header, wire.BODIES[protocol, kind, "C"], value))
 
     def open(self):
-        asked = [dict(protocol=number, protocolVersion=VERSION, role="store", protocolCapabilities={}) for number in (4, 9, 21, 22)]
+        asked = [dict(protocol=number, protocolVersion=VERSION, role="store", protocolCapabilities={}) for number in (4, 9, 18, 21, 22)]
         self.message(0, 1, dict(
             applicationName="bench", applicationVersion="1", clientInstanceId=bytes(16), requestedProtocols=asked, supportedDataObjects=[],
             supportedCompression=[], supportedFormats=["xml"], currentDateTime=0, earliestRetainedChangeTime=0,
             serverAuthorizationRequired=False, endpointCapabilities={}))
 
     def put(self, number, data):
-        resource = dict(
-            uri=f"eml:///witsml21.Well({uuid.UUID(int=number)})", alternateUris=[], name="", sourceCount=(0, None), targetCount=(0, None),
-            lastChanged=0, storeLastWrite=0, storeCreated=0, activeStatus=0, customData={})
-        self.message(4, 2, dict(dataObjects={"k": dict(resource=resource, format="xml", blobId=(0, None), data=data)}, pruneContainedObjects=False))
+        self.message(4, 2, dict(dataObjects={"k": data_object(number, data)}, pruneContainedObjects=False))
 
 
 def objects():
@@ -99,6 +106,20 @@ def points(size, subscribers):
                 office.frame(2)
 
 
+def commits(count, size, entries):
+    client = Client()
+    client.open()
+    client.message(22, 1, dict(uris={"c": channel(0)}))
+    for index in range(entries):
+        item = dict(channelId=0, indexes=[dict(item=(1, index))], value=dict(item=(3, index)), valueAttributes=[])
+        client.message(22, 4, dict(data=[item]))
+    objects = {f"k{number}": data_object(number, b"") for number in range(1, size + 1)}
+    for nth in range(1, count + 1):
+        client.message(18, 1, dict(readOnly=False, message="", dataspaceUris=[]))
+        client.message(4, 2, dict(dataObjects=objects, pruneContainedObjects=False))
+        client.message(18, 3, dict(transactionUuid=uuid.uuid5(uuid.UUID(int=1), f"tx:1:{nth}").bytes))
+
+
 def main():
     match sys.argv[1]:
         case "config":
@@ -114,6 +135,9 @@ def main():
         case "points":
             sys.stdout.buffer.write(wire.MAGIC)
             points(int(sys.argv[2]), int(sys.argv[3]))
+        case "commits":
+            sys.stdout.buffer.write(wire.MAGIC)
+            commits(*map(int, sys.argv[2:5]))
 
 
 if __name__ == "__main__":
