@@ -2,4 +2,3 @@ mod Finding
 mod Passes
 mod Settings
 mod Walks
-pub mod CountLemmas

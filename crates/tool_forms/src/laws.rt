@@ -1,7 +1,6 @@
 //! The laws of the tool. Each stands on an empty function, so that it is proved with the crate.
 ghost use Rattle.chan_defs.specs.declared.config.Config.{Config};
 ghost use Rattle.capture_run.specs.Laws.{StopsOnce};
-ghost use Rattle.tool_forms.specs.Loads.{AnswersAreWritten};
 ghost use Rattle.tool_forms.specs.Replay.{replay_plan};
 ghost use Rattle.capture_listing.specs.Listing.{show_plan, check_plan};
 ghost use Rattle.tool_forms.specs.TagRuns.{PlayIsRuns};
@@ -30,8 +29,3 @@ pub fn tags_are_runs()
     number_laws();
     growth_laws();
 }
-
-/// The frames of which a summary counts the messages are those that a run writes.
-pub fn answers_are_written()
-    ensures { AnswersAreWritten }
-{}

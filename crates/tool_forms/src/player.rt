@@ -1,5 +1,5 @@
 //! Plays frames: the sessions of a capture over one store.
-ghost use Rattle.std.specs.Prelude.{◌≡◌, IfOk, OnOk, length};
+ghost use Rattle.std.specs.Prelude.{◌≡◌, IfOk, OnOk};
 ghost use Rattle.tool_forms.specs.Play.{first_world, state_of, has_ended};
 ghost use Rattle.tool_forms.specs.Plays.{Plays};
 ghost use Rattle.tool_forms.specs.Sound.{IsSound};
@@ -47,13 +47,6 @@ impl Player {
             store,
             tags: BTreeMap::new(alloc),
         })
-    }
-
-    /// How many entries the journal has.
-    pub(crate) fn entries(&self) -> u64
-        ensures { result ≡ length self.now.journal }
-    {
-        self.store.entries()
     }
 
     /// Plays a frame, and appends the frames that answer it. Answers whether the frame is refused. After `NoMemory` nothing

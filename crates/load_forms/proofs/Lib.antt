@@ -1,4 +1,0 @@
-pub mod Changes
-pub mod Counting
-pub mod Ending
-pub mod Tallies

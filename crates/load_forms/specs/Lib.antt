@@ -1,3 +1,0 @@
-pub mod Tally
-pub mod Summary
-pub mod Writing
