@@ -1,9 +1,9 @@
 #!/usr/bin/env python3
-"""What the program `hostile_messages` has to print for a capture: the same messages, made and read here.
+"""What the part `hostile` of the program `frame_samples` has to print for a capture: the same messages, made and read here.
 
-    python3 hostile_messages.py [SEED THOUSANDS [lines]] < ../crates/hostile_messages/stdin > ../crates/hostile_messages/stdout
+    python3 hostile_messages.py [SEED THOUSANDS [lines]] < ../crates/frame_samples/data/samples.cap
 
-The messages are made as the program's own documentation says: random bytes without and with a header by turns, and then samples
+The messages are made as the part's own documentation says: random bytes without and with a header by turns, and then samples
 that are damaged in one to three places.
 """
 import sys
@@ -101,10 +101,10 @@ def digest(start, data):
     return start
 
 
-def main():
-    words = sys.argv[1:]
+def answer(capture, words=()):
+    """The lines of all messages where there is a third word, and else a line for every thousand."""
     seed, thousands = (int(word) for word in words[:2] or (1, 10))
-    samples = [frame for frame in wire.read_frames(sys.stdin.buffer.read()) if frame.kind in wire.SENDERS]
+    samples = [frame for frame in wire.read_frames(capture) if frame.kind in wire.SENDERS]
     lines = refused = 0
     marker = 0xCBF2_9CE4_8422_2325
     for count, frame in enumerate(make_frames(seed, thousands, samples), 1):
@@ -112,11 +112,16 @@ def main():
         refused += checked != ""
         lines += 1 + (checked != "")
         if len(words) > 2:
-            sys.stdout.write(shown + checked)
+            yield shown + checked
             continue
         marker = digest(marker, (shown + checked).encode())
         if count % 1000 == 0:
-            print(f"messages {count} lines {lines} taken {count - refused} refused {refused} digest {marker:016x}")
+            yield f"messages {count} lines {lines} taken {count - refused} refused {refused} digest {marker:016x}\n"
+
+
+def main():
+    for lines in answer(sys.stdin.buffer.read(), sys.argv[1:]):
+        sys.stdout.write(lines)
 
 
 if __name__ == "__main__":

@@ -1,7 +1,7 @@
 #!/usr/bin/env python3
 """Messages with objects and chunks of their data, and what a joiner makes of each.
 
-    join_samples.py capture     the input of the program `join_samples`
+    join_samples.py capture     the capture whose messages the program `frame_samples` joins
     join_samples.py answer      what it prints
 
 The joiner here keeps whole messages as dicts, and looks through all objects for each chunk.
@@ -227,7 +227,15 @@ def script():
     return made.frames
 
 
+def capture():
+    return wire.MAGIC + b"".join(wire.write_frame(kind, 1, 0, data) for kind, data in script())
+
+
 def answer():
+    return "".join(line + "\n" for line in answers())
+
+
+def answers():
     joiner = Joiner()
     for kind, data in script():
         header, body, value = wire.read_message(data, wire.SENDERS[kind])
@@ -242,10 +250,9 @@ def answer():
 def main():
     match sys.argv[1]:
         case "capture":
-            frames = (wire.write_frame(kind, 1, 0, data) for kind, data in script())
-            sys.stdout.buffer.write(wire.MAGIC + b"".join(frames))
+            sys.stdout.buffer.write(capture())
         case "answer":
-            sys.stdout.write("".join(line + "\n" for line in answer()))
+            sys.stdout.write(answer())
 
 
 if __name__ == "__main__":

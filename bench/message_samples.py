@@ -1,14 +1,14 @@
 #!/usr/bin/env python3
 """One sample of every message of the profile, with every field filled.
 
-    python3 message_samples.py samples > ../crates/hostile_messages/stdin
-    python3 message_samples.py capture > ../crates/message_samples/stdin
-    python3 message_samples.py answer > ../crates/message_samples/stdout
+    python3 message_samples.py samples     the capture of the samples alone
+    python3 message_samples.py capture     the capture of which the program `frame_samples` prints what it reads
+    python3 message_samples.py answer      what it prints
 
 The capture has each message once for each side that sends it, those that every protocol has under Core and under one other; a
 few of them come twice, the second time spelled otherwise than they are written. One frame of each kind that has no message
 follows. These are the samples; the capture has besides a message for each cause that refuses one, and ends in a frame that is
-cut. The answer is what the program `message_samples` has to print for it.
+cut.
 """
 import itertools
 import re
@@ -330,12 +330,20 @@ def answer():
     return "".join(lines)
 
 
+def samples_capture():
+    return capture_of(samples())
+
+
+def capture():
+    return capture_of([*samples(), *REFUSED], CUT)
+
+
 def main():
     match sys.argv[1]:
         case "samples":
-            sys.stdout.buffer.write(capture_of(samples()))
+            sys.stdout.buffer.write(samples_capture())
         case "capture":
-            sys.stdout.buffer.write(capture_of([*samples(), *REFUSED], CUT))
+            sys.stdout.buffer.write(capture())
         case "answer":
             sys.stdout.buffer.write(answer().encode())
 

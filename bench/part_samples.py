@@ -1,7 +1,7 @@
 #!/usr/bin/env python3
 """Long messages, and the parts in which each is sent.
 
-    part_samples.py capture     the input of the program `part_samples`
+    part_samples.py capture     the capture whose messages the program `frame_samples` cuts
     part_samples.py answer      what it prints
     part_samples.py parts       the parts themselves
 
@@ -208,7 +208,15 @@ def script(count=2000):
         yield 1 + place % 3 * 1000, limit, key, header, body, filler.message(body, limit)
 
 
-def answer():
+def capture():
+    frames = (
+        wire.write_frame(1 if key[2] == "C" else 17, number, limit, wire.write_message(header, body, value))
+        for number, limit, key, header, body, value in script()
+    )
+    return wire.MAGIC + b"".join(frames)
+
+
+def printed():
     """Of each message the number of its blobs, and its parts as they are printed."""
     sender = Sender()
     for number, limit, _, header, body, value in script():
@@ -225,25 +233,22 @@ def sum_of(raw):
     return made
 
 
-def sums():
-    for blobs, parts in answer():
-        yield f"{blobs} blobs"
-        for part in parts:
-            yield f"{len(part.encode())} {sum_of(part.encode())}"
+def answer():
+    lines = []
+    for blobs, parts in printed():
+        lines.append(f"{blobs} blobs\n")
+        lines += (f"{len(part.encode())} {sum_of(part.encode())}\n" for part in parts)
+    return "".join(lines)
 
 
 def main():
     match sys.argv[1]:
         case "capture":
-            frames = (
-                wire.write_frame(1 if key[2] == "C" else 17, number, limit, wire.write_message(header, body, value))
-                for number, limit, key, header, body, value in script()
-            )
-            sys.stdout.buffer.write(wire.MAGIC + b"".join(frames))
+            sys.stdout.buffer.write(capture())
         case "answer":
-            sys.stdout.write("".join(line + "\n" for line in sums()))
+            sys.stdout.write(answer())
         case "parts":
-            for blobs, parts in answer():
+            for blobs, parts in printed():
                 print(f"{blobs} blobs", *parts, sep="\n")
 
 

@@ -1,5 +1,6 @@
 #!/usr/bin/env python3
-"""Runs of the server over links in memory, for the program `server_cases`, and what is answered to them by the server of `sessions.py`.
+"""Runs of the server over links in memory, and sessions with few ids left, for the program `server_cases`, and what is answered to them
+by the server of `sessions.py`.
 
     python3 server_cases.py ../crates/server_cases
 
@@ -9,6 +10,7 @@ further one.
 import pathlib
 import sys
 
+import spent_ids
 from session_cases import Script, space
 from sessions import INSTANCE, JOURNAL_FULL, PEER_END, Server
 
@@ -39,7 +41,7 @@ class Run:
             for tag, messages in enumerate(self.links)
         ]
         rules = ",".join(".".join(map(str, rule)) for rule in self.rules) or "-"
-        return " ".join([self.config, str(len(links)), rules, *links])
+        return " ".join(["serve", self.config, str(len(links)), rules, *links])
 
     def answer(self, order=None):
         """What is printed, where the messages are answered in the order of these links, or one link after the other."""
@@ -135,7 +137,7 @@ def main():
     folder = pathlib.Path(sys.argv[1])
     for name, (text, _) in CONFIGS.items():
         (folder / "data" / name).write_text(text)
-    made = [(run.line(), run.answer(order)) for run, order in runs()]
+    made = [(run.line(), run.answer(order)) for run, order in runs()] + list(spent_ids.cases())
     (folder / "stdin").write_text("".join(line + "\n" for line, _ in made))
     (folder / "stdout").write_text("".join(answer for _, answer in made))
 

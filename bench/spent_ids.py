@@ -1,13 +1,5 @@
 #!/usr/bin/env python3
-"""Sessions with few ids left, for the program `spent_ids`, and what they send.
-
-    python3 spent_ids.py ../crates/spent_ids
-
-writes its input and its expected output.
-"""
-import pathlib
-import sys
-
+"""Sessions with few ids left, and what they send. `server_cases.py` takes them into the cases of the program `server_cases`."""
 from session_cases import Script
 from sessions import CLOSED, ID_LIMIT, IDS_SPENT, Session, Store
 
@@ -27,18 +19,13 @@ def messages(close):
     return [data for _, _, _, data in script.frames]
 
 
-def main():
-    lines, answers = [], []
+def cases():
+    """Pairs of a line of the program's input and what is printed of it."""
     for first, said in [(ID_LIMIT - less, messages(False)) for less in (1, 3, 5, 7, 9, 11, 13)] + [(1, messages(True))]:
-        lines.append(f"{first} " + " ".join(data.hex().upper() for data in said))
+        answers = []
         session = Session(Store(2), (), 1, first)
         for data in said:
             answers += [message.hex().upper() for message in session.take(1, data)]
             answers += [] if session.end is None else ["ended " + ENDS[session.end]]
-    folder = pathlib.Path(sys.argv[1])
-    (folder / "stdin").write_text("\n".join(lines) + "\n")
-    (folder / "stdout").write_text("\n".join(answers) + "\n")
-
-
-if __name__ == "__main__":
-    main()
+        line = " ".join(["ids", str(first), *(data.hex().upper() for data in said)])
+        yield line, "".join(answer + "\n" for answer in answers)

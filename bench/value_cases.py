@@ -1,12 +1,12 @@
 #!/usr/bin/env python3
-"""Lines for the program `value_cases`, and what each has to give.
+"""Lines on values for the program `frame_samples`, and what each has to give.
 
-    python3 value_cases.py ../crates/value_cases
+    value_cases.py lines      the lines
+    value_cases.py answer     what they give
 
-writes its input and its expected output. Texts and what they are refused for are written out by hand, values are read and written
+Texts and what they are refused for are written out by hand, values are read and written
 by `wire.py`.
 """
-import pathlib
 import struct
 import sys
 import uuid
@@ -210,14 +210,18 @@ def add_nodes(lines):
     lines.add("too_long", "too long")
 
 
-def main():
+def cases():
+    """The lines, and what they give."""
     lines = Lines()
     add_texts(lines)
     add_values(lines)
     add_nodes(lines)
-    folder = pathlib.Path(sys.argv[1])
-    (folder / "stdin").write_text("\n".join(lines.lines) + "\n")
-    (folder / "stdout").write_text("\n".join(lines.answers) + "\n")
+    return tuple("".join(line + "\n" for line in side) for side in (lines.lines, lines.answers))
+
+
+def main():
+    lines, answers = cases()
+    sys.stdout.write(lines if sys.argv[1] == "lines" else answers)
 
 
 if __name__ == "__main__":

@@ -1,22 +1,27 @@
-//! Runs the server over links in memory, each session in a thread of its own, and prints what each was answered.
+//! Runs the server over links in memory, each session in a thread of its own, and sessions with few ids left, and prints what each was
+//! answered, in hexadecimal.
 //!
-//! A line of the input is a run: `CONFIG SESSIONS RULES LINK ..`. CONFIG is the file of the configuration, and SESSIONS how many
+//! A line `serve CONFIG SESSIONS RULES LINK ..` of the input is a run. CONFIG is the file of the configuration, and SESSIONS how many
 //! links are served. A link is `FAIL:ITEM,..`: the number of its call that fails, or 0, and what comes over it, where `-` is an idle
 //! turn and anything else a message in hexadecimal. The rules, `-` for none, hold sessions up where the order of what they do matters (`gates`).
-//!
 //! What is printed is the server's report and its status, and then, in the order of their numbers, how each session ended and what
-//! it was sent, in hexadecimal. The runs and what is expected of them were made outside of this product
-//! (`bench/server_cases.py`).
+//! it was sent.
+//!
+//! A line `ids FIRST MESSAGE ..` is a session alone: the first of its own ids, and the messages that it gets, each in hexadecimal.
+//!
+//! The lines and what is expected of them were made outside of this product (`bench/server_cases.py`).
 #![tactic(auto)]
 
 mod gates;
 mod links;
+mod spent_ids;
 
 use etp_outside::{DirHost, MemDoor, MemLink, MemSink, StepClock};
 use etp_values::{List, NoMemory};
 use gates::{Turns, gate_of};
 use links::door_of;
 use server_forms::run_server;
+use spent_ids::play_from;
 use std::alloc::{AllocError, Global};
 use std::io::{self, BufRead, BufReader, Write};
 use std::rt::Files;
@@ -94,16 +99,30 @@ fn run<R: AllocGlobal + Files + Print + Threads + Wait + Sync>(
     print_sessions(rt, &door)
 }
 
+/// Makes the server's command line, and runs it.
+fn run_case<R: AllocGlobal + Files + Print + Threads + Wait + Sync>(
+    rt: &R,
+    config: &str,
+    sessions: &str,
+    rules: &str,
+    links: &[&str],
+) -> io::Result<()> {
+    let command = command(rt.alloc(), config, sessions).map_err(|_| AllocError)?;
+    run(rt, command.as_slice(), rules, links)
+}
+
 fn run_line<R: AllocGlobal + Files + Print + Threads + Wait + Sync>(
     rt: &R,
     line: &str,
 ) -> io::Result<()> {
     let words: Vec<&str> = line.split_whitespace().collect(rt.alloc())?;
-    let [config, sessions, rules, links @ ..] = words.as_slice() else {
-        return println!(rt; "no run");
-    };
-    let command = command(rt.alloc(), config, sessions).map_err(|_| AllocError)?;
-    run(rt, command.as_slice(), rules, links)
+    match words.as_slice() {
+        ["serve", config, sessions, rules, links @ ..] => {
+            run_case(rt, config, sessions, rules, links)
+        }
+        ["ids", first, messages @ ..] => play_from(rt, first, messages),
+        _ => println!(rt; "no run"),
+    }
 }
 
 fn main(rt: HostRuntime) -> io::Result<()> {

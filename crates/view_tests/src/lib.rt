@@ -1,5 +1,0 @@
-//! Tests of views and boards.
-#![tactic(auto)]
-
-#[cfg(test)]
-mod boards;
