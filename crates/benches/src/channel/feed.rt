@@ -1,8 +1,8 @@
 //! A store of one channel that counts the places of its changes itself.
 ghost use Rattle.std.specs.Prelude.{◌≡◌, ◌+◌, IfOk, OnErr, length};
 
-use crate::changes::Change;
-use crate::error::FeedError;
+use crate::channel::changes::Change;
+use crate::channel::error::FeedError;
 use chan_defs::{ChannelDef, Config, ValueKind};
 use channel_store::ChannelStore;
 use etp_values::{

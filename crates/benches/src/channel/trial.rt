@@ -1,8 +1,8 @@
 //! The thousand changes of one channel, kept by the store and by a plain list.
-use crate::changes::{Change, Numbers};
-use crate::error::FeedError;
-use crate::feed::Feed;
-use crate::plain::{apply, is_same, last_index};
+use crate::channel::changes::{Change, Numbers};
+use crate::channel::error::FeedError;
+use crate::channel::feed::Feed;
+use crate::channel::plain::{apply, is_same, last_index};
 use channel_store::{MAX_INDEX, MIN_INDEX};
 use std::alloc::Global;
 use std::io;
@@ -115,7 +115,8 @@ fn show(rt: &HostRuntime, trial: &Trial) -> io::Result<()> {
     println!(rt; "{}", if trial.same { "same" } else { "different" })
 }
 
-pub(crate) fn run(rt: &HostRuntime) -> io::Result<()> {
+/// Takes a channel through its changes and prints what came of it, and how many points a range gives that were appended at once.
+pub(crate) fn run_trial(rt: &HostRuntime) -> io::Result<()> {
     match thousand(rt.alloc()) {
         Ok(trial) => show(rt, &trial)?,
         Err(error) => println!(rt; "{error:?}")?,

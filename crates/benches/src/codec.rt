@@ -1,9 +1,4 @@
 //! Measures the codec: writes and reads an array of longs, an array of doubles or a map of longs, as a tree and as typed values.
-//!
-//! With no word it takes a few values of each kind and prints how many bytes they have. With a kind (`longs`, `doubles`,
-//! `map`) and a count it also prints how many bytes a second were written and read.
-#![tactic(auto)]
-
 ghost use Rattle.std.specs.Prelude.{◌<◌};
 
 mod values;
@@ -11,8 +6,8 @@ mod values;
 use avro_bin::{Node, Refusal, Table, decode, encode};
 use etp_schema::{OnWire, read_body, write_body};
 use etp_values::NoMemory;
+use std::io;
 use std::time::{Duration, Instant};
-use std::{env, io};
 use values::{doubles, longs, map};
 
 static TABLE: Table = Table {
@@ -137,27 +132,17 @@ fn measure<T: OnWire>(
     measure_typed(rt, kind, &value, timed)
 }
 
-fn measure_kind(rt: &HostRuntime, kind: &str, count: u32, timed: bool) -> io::Result<()> {
+/// Measures so many values of a kind, and prints how many bytes they have, and how fast they were written and read where `timed`.
+pub(crate) fn measure_kind(
+    rt: &HostRuntime,
+    kind: &str,
+    count: u32,
+    timed: bool,
+) -> io::Result<()> {
     let alloc = rt.alloc();
     match kind {
         "longs" => measure(rt, kind, longs(alloc, count), timed),
         "doubles" => measure(rt, kind, doubles(alloc, count), timed),
         _ => measure(rt, kind, map(alloc, count), timed),
-    }
-}
-
-fn main(rt: HostRuntime) -> io::Result<()> {
-    let mut words = env::args(&rt)?;
-    let _program = words.next();
-    match (words.next(), words.next()) {
-        (Some(kind), Some(count)) => {
-            let count = count.as_str().parse::<u32>().unwrap_or(0);
-            measure_kind(&rt, kind.as_str(), count, true)
-        }
-        _ => {
-            measure_kind(&rt, "longs", 5, false)?;
-            measure_kind(&rt, "doubles", 5, false)?;
-            measure_kind(&rt, "map", 5, false)
-        }
     }
 }

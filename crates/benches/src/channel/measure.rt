@@ -1,6 +1,6 @@
 //! The time that appending and reading take.
-use crate::error::FeedError;
-use crate::feed::Feed;
+use crate::channel::error::FeedError;
+use crate::channel::feed::Feed;
 use std::alloc::Global;
 use std::io;
 use std::time::{Duration, Instant};
@@ -37,7 +37,8 @@ fn read(feed: &Feed, count: u32) -> Result<u64, FeedError> {
     Ok(found)
 }
 
-pub(crate) fn measure(rt: &HostRuntime, count: u32, at_once: u32) -> io::Result<()> {
+/// Appends so many points and reads them by ranges, and prints the time that a point took.
+pub(crate) fn measure_points(rt: &HostRuntime, count: u32, at_once: u32) -> io::Result<()> {
     let Ok(mut feed) = Feed::new(rt.alloc()) else {
         return println!(rt; "no memory for the store");
     };

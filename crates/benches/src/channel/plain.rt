@@ -1,5 +1,5 @@
 //! The points of the channel as a plain list.
-use crate::changes::Change;
+use crate::channel::changes::Change;
 use etp_values::{DataValue, NoMemory, Point};
 
 /// Puts points in the place of those from `from` to `to`.

@@ -1,4 +1,4 @@
-use Rattle.channel_bench.proofs.feed.Feed.new.Goals as goal
+use Rattle.benches.proofs.channel.feed.Feed.new.Goals as goal
 
 -- every place is new in a new store
 pub invariant_of-result : goal.invariant_of-result
