@@ -96,9 +96,6 @@ sent_keys limit number k [] = refl
 sent_keys limit number k (x ∷ xs) =
     key_at limit number k x (as_sent limit number (next_blob k) xs) (as_sent limit number k xs) (keys_of xs) (is_long limit x.1.payload) (sent_keys limit number (next_blob k) xs) (sent_keys limit number k xs)
 
-abbrev pub object_key : Object → List ℕ
-object_key x = x.0
-
 abbrev pub InOrder : List (List ℕ) → Type 0
 InOrder ks = IsStrictlySortedBy (slice_cmp nat_cmp) ks
 

@@ -10,7 +10,7 @@ use Rattle.std.specs.Ordering.{nat_cmp}
 use Rattle.std.specs.Str.{bytes_eq}
 use Rattle.msg_store.specs.declared.store_messages.Chunk.{Chunk}
 use Rattle.etp_frame.specs.Joining.{Objects, is_blob, awaits, is_double, is_awaited, shares_blob, fed}
-use Rattle.etp_frame.specs.Kept.{last_piece, place_from, any_but, awaits_at, filled_at, Finds, FindsEach, IsPlace, AddsPlace, place_at}
+use Rattle.etp_frame.specs.Kept.{last_piece, place_from, any_but, awaits_at, filled_at, Finds, FindsEach, AddsPlace, place_at}
 use Rattle.etp_frame.proofs.PieceLemmas.{Object, neither, fed_here, fed_later, length_fed, no_data}
 
 -- ---- one place
@@ -191,10 +191,6 @@ found_none entries id xs h is = subst (λ (f : Option ℕ). Finds f id xs) is (h
 
 pub found_place : (entries : List (List ℕ × ℕ)) (id : List ℕ) (xs : Objects) (k : ℕ) → FindsEach entries xs → place_at entries id ≡ Some k → (k < length xs) × (any_but k id xs ≡ false)
 found_place entries id xs k h is = subst (λ (f : Option ℕ). Finds f id xs) is (h id)
-
-pub is_place_awaited : (found : Option ℕ) (id : List ℕ) (xs : Objects) → IsPlace found id xs → is_some found ≡ list_any (awaits id) xs
-is_place_awaited None id xs h = sym h
-is_place_awaited (Some k) id xs h = sym (any_at_place k id xs h.1 ∙ h.2)
 
 pub fed_none : (c : Chunk) (xs : Objects) → list_any (awaits c.blob_id) xs ≡ false → fed xs c ≡ xs
 fed_none c [] h = refl

@@ -1,4 +1,6 @@
 //! The system with its faults.
+ghost use Rattle.std.specs.Io.{WritesAtMost};
+
 use std::alloc::{Allocator, Global};
 use std::env::FillError;
 use std::fmt::Display;
@@ -9,17 +11,29 @@ use std::rt::{Env, Files};
 /// A capture of one poll: the eight bytes that a capture begins with, and the head of a frame of kind 2.
 const POLL: &[u8] = b"ETPCAP01\x02\0\0\0\0\0\0\0\0\0\0\0\0\0\0\0\0";
 
-/// The process's words and memory, an input of one frame, no memory for files, and an output that takes nothing.
+/// Words, the process's memory, an input of one frame, no memory for files, and an output that takes nothing.
 #[derive(Drop)]
 pub struct FaultySystem<'a> {
     rt: &'a HostRuntime,
+    words: &'a [&'a str],
 }
 
 impl<'a> FaultySystem<'a> {
-    /// A system over that of the process.
-    pub fn new(rt: &'a HostRuntime) -> FaultySystem<'a> {
-        FaultySystem { rt }
+    /// A system over that of the process, with these words, of which the first is the program's name.
+    pub fn new(rt: &'a HostRuntime, words: &'a [&'a str]) -> FaultySystem<'a> {
+        FaultySystem { rt, words }
     }
+}
+
+/// Copies a word to the start of a buffer.
+fn fill(word: &[u8], buf: &mut [u8]) -> Result<usize, FillError>
+    ensures { WritesAtMost result buf.new }
+{
+    if word.len() > buf.len() {
+        return Err(FillError::TooLong);
+    }
+    buf[..word.len()].copy_from_slice(word);
+    Ok(word.len())
 }
 
 /// Nothing but opening files is asked of the system.
@@ -42,7 +56,10 @@ impl<'a> Alloc for FaultySystem<'a> {
 
 impl<'a> Env for FaultySystem<'a> {
     fn arg(&self, i: usize, buf: &mut [u8]) -> Result<usize, FillError> {
-        self.rt.arg(i, buf)
+        match self.words.get(i) {
+            Some(word) => fill(word.as_bytes(), buf),
+            None => Err(FillError::NotPresent),
+        }
     }
 
     fn var(&self, name: &str, buf: &mut [u8]) -> Result<usize, FillError> {

@@ -11,4 +11,5 @@ mod within;
 
 pub use finding::refused_look;
 pub use reply::{Answered, scoped_reply};
+pub use staging::refusal_code;
 pub use within::{Scope, is_read_only, may_use};

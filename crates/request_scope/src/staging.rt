@@ -61,21 +61,24 @@ pub(crate) fn put_in(stage: &mut Stage, op: Op) -> Result<Option<ErrorCode>, NoM
 {
     match stage.put(op) {
         Ok(()) => Ok(None),
-        Err(error) => refused(error),
+        Err(error) => {
+            let code = refusal_code(error)?;
+            Ok(Some(code))
+        }
     }
 }
 
-/// The code of a transaction's refusal; want of memory is none.
-fn refused(error: StageError) -> Result<Option<ErrorCode>, NoMemory>
-    ensures code { IfOk result (λ code. code ≡ Some (code_of error)) }
-    ensures memory { IfOk result (λ code. error ≢ StageError.NoMemory) }
+/// The code by which a transaction's refusal of a key or an operation is answered; want of memory is none.
+pub fn refusal_code(error: StageError) -> Result<ErrorCode, NoMemory>
+    ensures code { IfOk result (λ code. code ≡ code_of error) }
+    ensures memory { OnOk result (error ≢ StageError.NoMemory) }
 {
     match error {
-        StageError::ReadOnly => Ok(Some(ErrorCode::RequestDenied)),
-        StageError::Space(_) => Ok(Some(ErrorCode::RequestDenied)),
-        StageError::Operations => Ok(Some(ErrorCode::LimitExceeded)),
-        StageError::Bytes => Ok(Some(ErrorCode::LimitExceeded)),
-        StageError::Keys => Ok(Some(ErrorCode::LimitExceeded)),
+        StageError::ReadOnly => Ok(ErrorCode::RequestDenied),
+        StageError::Space(_) => Ok(ErrorCode::RequestDenied),
+        StageError::Operations => Ok(ErrorCode::LimitExceeded),
+        StageError::Bytes => Ok(ErrorCode::LimitExceeded),
+        StageError::Keys => Ok(ErrorCode::LimitExceeded),
         StageError::NoMemory => Err(NoMemory),
     }
 }

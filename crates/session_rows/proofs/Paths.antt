@@ -3,7 +3,8 @@ use Rattle.std.specs.Prelude.{ℕ, List, [], ◌∷◌, ◌++◌, ◌≡◌, ref
 use Rattle.std.proofs.Common.{ap, sym, ◌∙◌, append_assoc}
 use Rattle.keyed_requests.specs.declared.keys.Decision.{Decision}
 use Rattle.keyed_requests.specs.declared.keys.Decision.TheVariants.{Granted, Refused}
-use Rattle.session_rows.specs.Transactions.{path_first, paths_after, space_path, space_paths}
+use Rattle.session_rows.specs.Spaces.{space_path}
+use Rattle.session_rows.specs.Transactions.{path_first, paths_after, space_paths}
 
 -- paths behind these
 abbrev pub paths_behind : List (List ℕ) → Decision (List (List ℕ)) → Decision (List (List ℕ))

@@ -1,15 +1,12 @@
 -- The requests of the Dataspace protocol.
-use Rattle.std.specs.Prelude.{ℕ, Bool, true, false, List, [], ◌∷◌, Option, Some, None, Result, Ok, Err, nat_lt, length, map, if◌then◌else◌}
+use Rattle.std.specs.Prelude.{ℕ, Bool, true, false, List, [], ◌∷◌, Option, Some, None, nat_lt, length, map, if◌then◌else◌}
 use Rattle.avro_bin.specs.Plain.{plain}
 use Rattle.etp_schema.specs.Form.{named_form}
 use Rattle.etp_schema.specs.DataValue.{data_value_form}
-use Rattle.etp_values.specs.Uri.{plain_uri, uri_of}
+use Rattle.etp_values.specs.Uri.{plain_uri}
 use Rattle.etp_values.specs.declared.code.ErrorCode.{ErrorCode}
-use Rattle.etp_values.specs.declared.code.ErrorCode.TheVariants.{InvalidMessageType, InvalidState, InvalidUri, RequestDenied, SizeExceeded, LimitExceeded}
+use Rattle.etp_values.specs.declared.code.ErrorCode.TheVariants.{InvalidMessageType, InvalidState, RequestDenied, SizeExceeded, LimitExceeded}
 use Rattle.etp_values.specs.declared.data.DataValue.{DataValue}
-use Rattle.etp_values.specs.declared.uri.ObjectName.{ObjectName}
-use Rattle.etp_values.specs.declared.uri.StoreUri.{StoreUri}
-use Rattle.etp_values.specs.declared.uri.UriError.{UriError}
 use Rattle.keyed_requests.specs.Keys.{keys_refusal}
 use Rattle.keyed_requests.specs.Plain.{plain_outcome, plain_reply}
 use Rattle.keyed_requests.specs.Sending.{refusal_alone, reply_alone, unless_refused}
@@ -29,6 +26,7 @@ use Rattle.store_machine.specs.declared.call.StoreCall.{StoreCall}
 use Rattle.store_machine.specs.declared.call.StoreCall.TheVariants as call
 use Rattle.store_machine.specs.declared.call.Verdict.{Verdict}
 use Rattle.store_machine.specs.declared.call.Verdict.TheVariants as verdict
+use Rattle.session_rows.specs.Spaces.{space_path}
 use Rattle.session_rows.specs.declared.dataspaces.DataspacePending.{DataspacePending}
 use Rattle.session_rows.specs.declared.dataspaces.DataspacePending.TheVariants as pending
 
@@ -39,19 +37,13 @@ abbrev pub path_granted : List ℕ → Decision (List ℕ)
 path_granted [] = Refused RequestDenied
 path_granted (c ∷ cs) = Granted (c ∷ cs)
 
--- the URI of an object is none of a dataspace
-abbrev pub path_in_uri : List ℕ → Option ObjectName → Decision (List ℕ)
-path_in_uri path None = path_granted path
-path_in_uri path (Some name) = Refused InvalidUri
-
--- the path in what was read of a URI
-abbrev pub path_in_read : Result StoreUri UriError → Decision (List ℕ)
-path_in_read (Ok u) = path_in_uri u.space u.object
-path_in_read (Err e) = Refused InvalidUri
+abbrev pub changeable : Decision (List ℕ) → Decision (List ℕ)
+changeable (Granted path) = path_granted path
+changeable (Refused code) = Refused code
 
 -- the path of a dataspace that can be changed, by its URI's text
 abbrev pub changeable_path : List ℕ → Decision (List ℕ)
-changeable_path text = path_in_read (uri_of text)
+changeable_path text = changeable (space_path text)
 
 -- how many bytes custom data has on the wire
 abbrev pub custom_size : List (List ℕ × DataValue) → ℕ

@@ -1,6 +1,7 @@
 pub mod Once
 pub mod Formats
 pub mod Opening
+pub mod Spaces
 pub mod Dataspaces
 pub mod ObjectChecks
 pub mod Objects

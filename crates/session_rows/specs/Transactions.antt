@@ -1,14 +1,10 @@
 -- The requests of the Transaction protocol: what a session answers, and what it asks of the store.
-use Rattle.std.specs.Prelude.{ℕ, ◌+◌, ◌-◌, ◌^◌, Bool, true, false, List, [], ◌∷◌, ◌++◌, Option, Some, None, Result, Ok, Err, codes, length, min, nat_lt, if◌then◌else◌}
+use Rattle.std.specs.Prelude.{ℕ, ◌+◌, ◌-◌, ◌^◌, Bool, true, false, List, [], ◌∷◌, ◌++◌, Option, Some, None, codes, length, min, nat_lt, if◌then◌else◌}
 use Rattle.std.specs.Fmt.{decimal}
 use Rattle.std.specs.Str.{bytes_eq}
 use Rattle.etp_values.specs.Id.{version5}
-use Rattle.etp_values.specs.Uri.{uri_of}
 use Rattle.etp_values.specs.declared.code.ErrorCode.{ErrorCode}
-use Rattle.etp_values.specs.declared.code.ErrorCode.TheVariants.{InvalidArgument, InvalidMessageType, InvalidState, InvalidUri, LimitExceeded, TooManyTransactions}
-use Rattle.etp_values.specs.declared.uri.ObjectName.{ObjectName}
-use Rattle.etp_values.specs.declared.uri.StoreUri.{StoreUri}
-use Rattle.etp_values.specs.declared.uri.UriError.{UriError}
+use Rattle.etp_values.specs.declared.code.ErrorCode.TheVariants.{InvalidArgument, InvalidMessageType, InvalidState, LimitExceeded, TooManyTransactions}
 use Rattle.keyed_requests.specs.Sending.{refusal_alone, reply_alone}
 use Rattle.keyed_requests.specs.declared.keys.Decision.{Decision}
 use Rattle.keyed_requests.specs.declared.keys.Decision.TheVariants.{Granted, Refused}
@@ -24,6 +20,7 @@ use Rattle.store_machine.specs.declared.call.StoreCall.{StoreCall}
 use Rattle.store_machine.specs.declared.call.StoreCall.TheVariants as call
 use Rattle.tx_stage.specs.Staging.{Transaction}
 use Rattle.tx_stage.specs.declared.touch.Staged.{Staged}
+use Rattle.session_rows.specs.Spaces.{space_path}
 use Rattle.session_rows.specs.declared.transactions.TransactionPending.{TransactionPending}
 use Rattle.session_rows.specs.declared.transactions.TransactionPending.TheVariants as pending
 use Rattle.session_rows.specs.declared.transactions.Transacting.{Transacting}
@@ -44,19 +41,6 @@ refuses stage starts code = leaves stage starts (Replies (refusal_alone code))
 -- the identifier of the transaction that the session of a number starts as so many-th
 abbrev pub transaction_id : List ℕ → ℕ → ℕ → List ℕ
 transaction_id instance number nth = version5 instance (codes "tx:" ++ decimal number ++ codes ":" ++ decimal nth)
-
--- the path of a dataspace's URI; that of an object is none
-abbrev pub path_in_uri : List ℕ → Option ObjectName → Decision (List ℕ)
-path_in_uri path None = Granted path
-path_in_uri path (Some name) = Refused InvalidUri
-
-abbrev pub path_in_read : Result StoreUri UriError → Decision (List ℕ)
-path_in_read (Ok u) = path_in_uri u.space u.object
-path_in_read (Err e) = Refused InvalidUri
-
--- the path of the dataspace that a text names
-abbrev pub space_path : List ℕ → Decision (List ℕ)
-space_path text = path_in_read (uri_of text)
 
 -- a path before these
 abbrev pub path_first : List ℕ → Decision (List (List ℕ)) → Decision (List (List ℕ))

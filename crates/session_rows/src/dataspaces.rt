@@ -3,10 +3,11 @@ ghost use Rattle.std.specs.Prelude.{◌≡◌, [], IfOk};
 ghost use Rattle.etp_values.specs.Uri.{space_text};
 ghost use Rattle.keyed_requests.specs.Plain.{plain_outcome, plain_reply};
 ghost use Rattle.keyed_requests.specs.Sending.{refusal_alone};
-ghost use Rattle.session_rows.specs.Dataspaces.{change_refusal, changeable_path, checked_put, dataspace_of, dataspace_outcome, dataspace_reply, decided, decided_found, delete_called, delete_response, is_custom_large, listed, path_in_uri, put_called, put_response, records_reply, verdicts_reply};
+ghost use Rattle.session_rows.specs.Dataspaces.{change_refusal, changeable_path, checked_put, dataspace_of, dataspace_outcome, dataspace_reply, decided, decided_found, delete_called, delete_response, is_custom_large, listed, path_granted, put_called, put_response, records_reply, verdicts_reply};
 
+use crate::spaces::space_path;
 use etp_schema::encoded_size;
-use etp_values::{Copied, DataValue, ErrorCode, List, Named, NoMemory, StoreUri, Text, UriError};
+use etp_values::{Copied, DataValue, ErrorCode, List, Named, NoMemory, StoreUri, Text};
 use keyed_requests::{
     Decision, Findings, Outcome, Plain, PlainReply, PlainRequest, Sending, keys_refusal,
     refusal_alone, refused_outcome, reply_alone, request_outcome, request_reply,
@@ -36,27 +37,23 @@ pub enum DataspacePending {
 /// What comes of a request of the Dataspace protocol.
 pub type DataspaceOutcome = Outcome<StoreCall, DataspacePending, DataspaceMessage>;
 
-/// The path of a dataspace that can be changed.
+/// The path of a dataspace that can be changed, which the default one can't.
 fn changeable_path(alloc: Global, uri: &str) -> Result<Decision<Text>, NoMemory>
     ensures { IfOk result (λ d. d ≡ changeable_path uri.now) }
 {
-    match StoreUri::read(alloc, uri) {
-        Ok(uri) => Ok(path_in_uri(uri)),
-        Err(UriError::NoMemory) => Err(NoMemory),
-        Err(_) => Ok(Decision::Refused(ErrorCode::InvalidUri)),
+    match space_path(alloc, uri)? {
+        Decision::Granted(path) => Ok(path_granted(path)),
+        Decision::Refused(code) => Ok(Decision::Refused(code)),
     }
 }
 
-fn path_in_uri(uri: StoreUri) -> Decision<Text>
-    ensures { result ≡ path_in_uri uri.space uri.object }
+fn path_granted(path: Text) -> Decision<Text>
+    ensures { result ≡ path_granted path }
 {
-    if uri.object.is_some() {
-        return Decision::Refused(ErrorCode::InvalidUri);
-    }
-    if uri.space.is_empty() {
+    if path.is_empty() {
         return Decision::Refused(ErrorCode::RequestDenied);
     }
-    Decision::Granted(uri.space)
+    Decision::Granted(path)
 }
 
 fn is_custom_large(alloc: Global, custom: &Named<DataValue>) -> Result<bool, NoMemory>

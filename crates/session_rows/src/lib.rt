@@ -11,6 +11,7 @@ mod dataspaces;
 mod formats;
 mod objects;
 mod opening;
+mod spaces;
 mod transactions;
 
 pub use dataspaces::{

@@ -3,9 +3,10 @@ ghost use Rattle.std.specs.Prelude.{◌≡◌, ◌++◌, [], codes, IfOk};
 ghost use Rattle.std.specs.Fmt.{decimal};
 ghost use Rattle.std.specs.Str.{bytes_eq};
 ghost use Rattle.keyed_requests.specs.Sending.{reply_alone};
-ghost use Rattle.session_rows.specs.Transactions.{commit, commit_response, ends, path_in_uri, refuses, rollback, rollback_response, space_path, space_paths, start, start_response, start_with, transaction_id, transaction_reply, transaction_request};
+ghost use Rattle.session_rows.specs.Transactions.{commit, commit_response, ends, refuses, rollback, rollback_response, space_paths, start, start_response, start_with, transaction_id, transaction_reply, transaction_request};
 
-use etp_values::{ErrorCode, Id16, List, NoMemory, StoreUri, Text, UriError};
+use crate::spaces::space_path;
+use etp_values::{ErrorCode, Id16, List, NoMemory, Text};
 use keyed_requests::{Decision, Outcome, Sending, refused_outcome, reply_alone};
 use msg_core::{
     CommitTransactionResponse, RollbackTransactionResponse, StartTransaction,
@@ -60,26 +61,6 @@ fn transaction_id(alloc: Global, instance: Id16, number: u64, nth: u64) -> Resul
 {
     let name = format!(in alloc; "tx:{number}:{nth}")?;
     Ok(Id16::named(instance, name.as_str()))
-}
-
-fn path_in_uri(uri: StoreUri) -> Decision<Text>
-    ensures { result ≡ path_in_uri uri.space uri.object }
-{
-    if uri.object.is_some() {
-        return Decision::Refused(ErrorCode::InvalidUri);
-    }
-    Decision::Granted(uri.space)
-}
-
-/// The path of the dataspace that a text names.
-fn space_path(alloc: Global, text: &str) -> Result<Decision<Text>, NoMemory>
-    ensures { IfOk result (λ path. path ≡ space_path text.now) }
-{
-    match StoreUri::read(alloc, text) {
-        Ok(uri) => Ok(path_in_uri(uri)),
-        Err(UriError::NoMemory) => Err(NoMemory),
-        Err(_) => Ok(Decision::Refused(ErrorCode::InvalidUri)),
-    }
 }
 
 /// The paths of the dataspaces that texts name; the first that names none refuses all.

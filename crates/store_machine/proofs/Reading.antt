@@ -1,7 +1,7 @@
 -- Ranges that are gathered one after the other are those of the definition.
 use Rattle.std.specs.Prelude.{ℕ, ◌≡◌, List, [], ◌∷◌, ◌++◌, Option, Some, None, Result, Ok, Err, length, map, refl}
 use Rattle.std.specs.Map.{keys_of}
-use Rattle.std.proofs.Common.{ap, sym, subst, ◌∙◌, ◌+◌, ◌<◌, append_assoc, append-nil, add-one, drop, drop-cons, get_or}
+use Rattle.std.proofs.Common.{ap, sym, ◌∙◌, append_assoc, append-nil}
 use Rattle.etp_values.specs.declared.code.ErrorCode.{ErrorCode}
 use Rattle.etp_values.specs.declared.code.ErrorCode.TheVariants.{LimitExceeded}
 use Rattle.etp_values.specs.declared.point.ChannelPoint.{ChannelPoint}
@@ -102,27 +102,6 @@ nothing-behind (Err code) = refl
 -- all were gathered
 pub ranges-done : (items : List ChannelPoint) (r : Result (List ChannelPoint) ErrorCode) → behind items (Ok []) ≡ r → replied.Points items ≡ range_reply r
 ranges-done items r h = ap replied.Points (sym (append-nil items)) ∙ ap range_reply h
-
--- one was refused
-ranges-refused : (items : List ChannelPoint) (code : ErrorCode) (r rest : Result (List ChannelPoint) ErrorCode) → behind items rest ≡ r → rest ≡ Err code → replied.Refused code ≡ range_reply r
-ranges-refused items code r rest h e = ap range_reply (sym (ap (behind items) e) ∙ h)
-
--- the range at a place, and those behind it
-drop-here : {X : Type 0} (xs : List X) (k : ℕ) (x : X) → k < length xs → x ≡ get_or xs k x → drop k xs ≡ x ∷ drop (k + 1) xs
-drop-here xs k x within at = drop-cons xs k x within ∙ (λ j. sym at j ∷ drop (sym (add-one k) j) xs)
-
--- one joined those before it
-pub ranges-step : (cs : List Channel) (asks : List RangeAsk) (k : ℕ) (a : RangeAsk) (room left : Room) (items more : List ChannelPoint) (r : Option ErrorCode) (whole : Result (List ChannelPoint) ErrorCode)
-    → k < length asks → a ≡ get_or asks k a → r ≡ None → JoinsRange r cs a room left items more → behind items (ranged cs room (drop k asks)) ≡ whole → behind more (ranged cs left (drop (k + 1) asks)) ≡ whole
-ranges-step cs asks k a room left items more r whole within at none joins h =
-    let taken = subst (λ (o : Option ErrorCode). JoinsRange o cs a room left items more) none joins in
-    taken (drop (k + 1) asks) ∙ ap (λ l. behind items (ranged cs room l)) (sym (drop-here asks k a within at)) ∙ h
-
--- one was refused, so all are
-pub ranges-stop : (cs : List Channel) (asks : List RangeAsk) (k : ℕ) (a : RangeAsk) (room left : Room) (items more : List ChannelPoint) (code : ErrorCode) (whole : Result (List ChannelPoint) ErrorCode)
-    → k < length asks → a ≡ get_or asks k a → JoinsRange (Some code) cs a room left items more → behind items (ranged cs room (drop k asks)) ≡ whole → replied.Refused code ≡ range_reply whole
-ranges-stop cs asks k a room left items more code whole within at joins h =
-    ranges-refused items code whole (ranged cs room (drop k asks)) h (ap (ranged cs room) (drop-here asks k a within at) ∙ joins (drop (k + 1) asks))
 
 -- ---- metas
 
