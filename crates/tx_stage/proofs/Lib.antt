@@ -1,5 +1,6 @@
 pub mod LookLemmas
 pub mod OverlayLemmas
+pub mod PatchLemmas
 pub mod PlanLemmas
 pub mod RefusedLemmas
 pub mod StageLemmas

@@ -66,10 +66,10 @@ arrays-next t p q x o added =
     ∙ ap (option_map value.Array) (fold_push (array_after x) (array_in t.arrays x) p.arrays.items o)
 
 -- nothing was added
-spaces-same : (t : Contents) (p q : Plan) (x : List ℕ) → q.objects.items ≡ p.objects.items → state_now t q (Space x) ≡ state_now t p (Space x)
+pub spaces-same : (t : Contents) (p q : Plan) (x : List ℕ) → q.objects.items ≡ p.objects.items → state_now t q (Space x) ≡ state_now t p (Space x)
 spaces-same t p q x same = ap (λ os. option_map value.Space (fold (space_after x) (space_in t.objects x) os)) same
 
-objects-same : (t : Contents) (p q : Plan) (x : StoreUri) → q.objects.items ≡ p.objects.items → state_now t q (Object x) ≡ state_now t p (Object x)
+pub objects-same : (t : Contents) (p q : Plan) (x : StoreUri) → q.objects.items ≡ p.objects.items → state_now t q (Object x) ≡ state_now t p (Object x)
 objects-same t p q x same = ap (λ os. option_map value.Object (fold (object_after x) (object_in t.objects x) os)) same
 
 arrays-same : (t : Contents) (p q : Plan) (x : ArrayKey) → q.arrays.items ≡ p.arrays.items → state_now t q (Array x) ≡ state_now t p (Array x)
@@ -189,7 +189,7 @@ undated-after key [] x y same = same
 undated-after key (o ∷ sets) x y same = undated-after key sets (array_given key x o) (array_after key y o) (undated-next key o x y same)
 
 -- something stands in both
-undated-some : (x : Option ArrayRecord) → is_some (undated x) ≡ is_some x
+pub undated-some : (x : Option ArrayRecord) → is_some (undated x) ≡ is_some x
 undated-some None = refl
 undated-some (Some r) = refl
 
@@ -217,7 +217,7 @@ pub no-patch : (y : Option ArrayRecord) (ss cs : List ℤ) (vs : AnyArray) → y
 no-patch y ss cs vs none = ap (λ o. misfit (Patch ss cs vs) (option_map value.Array o)) (sym none)
 
 -- a patch that fits: what is put is what the patch leaves of what stands
-accepted-patch : (e : Option ArrayError) (b s : ArrayRecord) (at : ℤ) (ss cs : List ℤ) (vs : AnyArray) → e ≡ None → s ≡ record b { created = s.created } → write_refusal b ss cs vs ≡ e
+pub accepted-patch : (e : Option ArrayError) (b s : ArrayRecord) (at : ℤ) (ss cs : List ℤ) (vs : AnyArray) → e ≡ None → s ≡ record b { created = s.created } → write_refusal b ss cs vs ≡ e
     → record (patched_at at ss cs vs b) { created = s.created } ≡ patched_at at ss cs vs s
 accepted-patch None b s at ss cs vs none dated fits =
     let whole = rewritten (patch_array b ss cs vs) at in

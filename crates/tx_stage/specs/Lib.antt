@@ -5,6 +5,7 @@ pub mod Laws
 pub mod Looks
 pub mod Ops
 pub mod Overlay
+pub mod Patching
 pub mod SameKey
 pub mod Staging
 pub mod Standing

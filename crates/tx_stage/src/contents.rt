@@ -1,11 +1,12 @@
 //! The dataspaces, objects and arrays of a store, and how operations on them are judged, planned and done.
-ghost use Rattle.std.specs.Prelude.{◌≡◌, ◌≤◌, IfOk, IsSome, OnOk, OnErr, is_some, fold};
+ghost use Rattle.std.specs.Prelude.{◌≡◌, ◌≤◌, IfOk, IfSome, IsSome, OnOk, OnErr, is_some, fold};
 ghost use Rattle.std.specs.Option.{option_copied, option_map};
 ghost use Rattle.array_store.specs.Table.{array_in};
 ghost use Rattle.object_store.specs.Tables.{ListsSpaces};
 ghost use Rattle.tx_stage.specs.Looks.{given, key_of, looks, seen_of};
 ghost use Rattle.tx_stage.specs.Overlay.{misfit, needed, op_refusal};
 ghost use Rattle.tx_stage.specs.Keys.{owner};
+ghost use Rattle.tx_stage.specs.Patching.{SetsOver};
 ghost use Rattle.tx_stage.specs.Standing.{array_given};
 ghost use Rattle.tx_stage.specs.State.{state_in, state_now, first, Advances, PlansUnless};
 ghost use Rattle.tx_stage.specs.declared.key.Key.{Key as AKey};
@@ -19,6 +20,7 @@ use crate::look::{
     see_shape, see_space,
 };
 use crate::op::{Op, OpWhat};
+use crate::patching::{before, patch_set, place_of_set};
 use crate::plan::Plan;
 use crate::standing::{array_after, object_after, space_after};
 use crate::value::patch_array;
@@ -239,8 +241,72 @@ impl Contents {
         }
     }
 
-    /// Plans a patch, where there is an array that it fits.
+    /// The place of the operation of a plan that sets the array of a key last, where an array stands before it.
+    fn place_to_patch(&self, plan: &Plan, key: &ArrayKey) -> Option<usize>
+        ensures { IfSome result (SetsOver key.now (array_in self.now.arrays key.now) plan.now.arrays.items) }
+    {
+        let ops = plan.arrays.as_slice();
+        let Some(place) = place_of_set(ops, key) else {
+            return None;
+        };
+        if array_after(self.arrays.get(key), before(ops, place), key).is_none() {
+            return None;
+        }
+        Some(place)
+    }
+
+    /// Plans a patch, where there is an array that it fits. An array that the plan has a copy of is patched there.
     fn add_patch(
+        &self,
+        alloc: Global,
+        plan: &mut Plan,
+        key: &ArrayKey,
+        at: i64,
+        starts: &List<i64>,
+        counts: &List<i64>,
+        values: &AnyArray,
+    ) -> Result<Option<ErrorCode>, NoMemory>
+        ensures code { IfOk result (λ r.
+            r ≡ misfit (done.Patch starts.now counts.now values.now)
+            (state_now self.now plan.old (keyed.Array key.now))) }
+        ensures plan { OnOk result (Advances self.now plan.old plan.new (keyed.Array key.now)
+            (done.Patch starts.now counts.now values.now) at) }
+        ensures same { IfOk result (λ r. IsSome r → plan.new ≡ plan.old) }
+    {
+        match self.place_to_patch(plan, key) {
+            Some(place) => {
+                self.patch_planned(alloc, plan, place, key, at, starts, counts, values)
+            }
+            None => self.patch_copy(alloc, plan, key, at, starts, counts, values),
+        }
+    }
+
+    /// Plans a patch of the array that the operation at a place sets. It is written there: what stands before it keeps the moment
+    /// when the array was made.
+    fn patch_planned(
+        &self,
+        alloc: Global,
+        plan: &mut Plan,
+        place: usize,
+        key: &ArrayKey,
+        at: i64,
+        starts: &List<i64>,
+        counts: &List<i64>,
+        values: &AnyArray,
+    ) -> Result<Option<ErrorCode>, NoMemory>
+        requires { SetsOver key.now (array_in self.now.arrays key.now) plan.old.arrays.items place }
+        ensures code { IfOk result (λ r.
+            r ≡ misfit (done.Patch starts.now counts.now values.now)
+            (state_now self.now plan.old (keyed.Array key.now))) }
+        ensures plan { OnOk result (Advances self.now plan.old plan.new (keyed.Array key.now)
+            (done.Patch starts.now counts.now values.now) at) }
+        ensures same { IfOk result (λ r. IsSome r → plan.new ≡ plan.old) }
+    {
+        patch_set(alloc, &mut plan.arrays[place], at, starts, counts, values)
+    }
+
+    /// Plans a patch of a copy of the array that will stand.
+    fn patch_copy(
         &self,
         alloc: Global,
         plan: &mut Plan,

@@ -18,6 +18,7 @@ mod limits;
 mod look;
 mod op;
 mod overlaying;
+mod patching;
 mod plan;
 mod spaces;
 mod stage;

@@ -1,5 +1,5 @@
 //! What can stand at a key, and what an operation leaves of it.
-ghost use Rattle.std.specs.Prelude.{◌≡◌, IfOk, None};
+ghost use Rattle.std.specs.Prelude.{◌≡◌, IfOk, OnOk, None};
 ghost use Rattle.std.specs.Option.{option_copied, option_map};
 ghost use Rattle.array_store.specs.Codes.{code_of};
 ghost use Rattle.array_store.specs.Refusals.{record_refusal, write_refusal};
@@ -90,6 +90,34 @@ fn refused(error: ArrayError) -> Result<ErrorCode, NoMemory>
     }
 }
 
+/// Writes values into a region of an array, at this moment; where they do not fit it stays as it was, and the code of the refusal
+/// is answered.
+pub(crate) fn patch_in_place(
+    alloc: Global,
+    array: &mut ArrayRecord,
+    at: i64,
+    starts: &List<i64>,
+    counts: &List<i64>,
+    values: &AnyArray,
+) -> Result<Option<ErrorCode>, NoMemory>
+    ensures value { OnOk result (array.new ≡ patched_at at starts.now counts.now values.now array.old) }
+    ensures code { IfOk result (λ code.
+        code ≡ option_map code_of (write_refusal array.old starts.now counts.now values.now)) }
+    ensures sound { IfOk result (λ code. code ≡ None → record_refusal array.new ≡ None) }
+{
+    let values = values.copy(alloc)?;
+    match write_patch(alloc, array, starts, counts, values) {
+        Ok(()) => {
+            array.written = at;
+            Ok(None)
+        }
+        Err(error) => {
+            let code = refused(error)?;
+            Ok(Some(code))
+        }
+    }
+}
+
 /// An array with values in a region, written at this moment; or as it was, with the code of the refusal.
 pub(crate) fn patch_array(
     alloc: Global,
@@ -104,17 +132,8 @@ pub(crate) fn patch_array(
         p.1 ≡ option_map code_of (write_refusal array starts.now counts.now values.now)) }
     ensures sound { IfOk result (λ p. p.1 ≡ None → record_refusal p.0 ≡ None) }
 {
-    let values = values.copy(alloc)?;
-    match write_patch(alloc, &mut array, starts, counts, values) {
-        Ok(()) => {
-            array.written = at;
-            Ok((array, None))
-        }
-        Err(error) => {
-            let code = refused(error)?;
-            Ok((array, Some(code)))
-        }
-    }
+    let code = patch_in_place(alloc, &mut array, at, starts, counts, values)?;
+    Ok((array, code))
 }
 
 /// A value with a patch, where it is an array that the patch fits.

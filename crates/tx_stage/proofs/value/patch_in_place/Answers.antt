@@ -4,11 +4,11 @@ use Rattle.array_store.specs.declared.error.ArrayError.TheVariants.{NoMemory}
 use Rattle.array_store.specs.Refusals.{write_refusal}
 use Rattle.array_store.specs.Table.{patch_array, rewritten}
 use Rattle.tx_stage.proofs.RefusedLemmas.{patch-refused}
-use Rattle.tx_stage.proofs.value.patch_array.Goals as goal
+use Rattle.tx_stage.proofs.value.patch_in_place.Goals as goal
 
 pub returns-in_ok-code-in-Err-clause-value : goal.returns-in_ok-code-in-Err-clause-value
 returns-in_ok-code-in-Err-clause-value c =
-    let array = c.args.array in
+    let array = c.args.array.now in
     let starts = c.args.starts.now in
     let counts = c.args.counts.now in
     let values = c.args.values.now in
@@ -18,7 +18,7 @@ returns-in_ok-code-in-Err-clause-value c =
 
 pub returns-in_ok-code-in-Err-clause-code : goal.returns-in_ok-code-in-Err-clause-code
 returns-in_ok-code-in-Err-clause-code c =
-    let array = c.args.array in
+    let array = c.args.array.now in
     let starts = c.args.starts.now in
     let counts = c.args.counts.now in
     let values = c.args.values.now in

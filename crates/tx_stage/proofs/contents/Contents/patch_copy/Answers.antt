@@ -11,7 +11,7 @@ use Rattle.etp_values.specs.declared.code.ErrorCode.{ErrorCode}
 use Rattle.tx_stage.specs.Ops.{patched_at}
 use Rattle.tx_stage.specs.Standing.{array_given}
 use Rattle.tx_stage.proofs.PlanLemmas.{undated, undated-after, none-alike, no-patch, leaves-none, patch-misfit, leaves-refused, patches-array, refused-some, refused-none}
-use Rattle.tx_stage.proofs.contents.Contents.add_patch.Goals as goal
+use Rattle.tx_stage.proofs.contents.Contents.patch_copy.Goals as goal
 
 pub returns-in_default-clause-code : goal.returns-in_default-clause-code
 returns-in_default-clause-code c =

@@ -1,0 +1,80 @@
+//! Patches of an array that a plan sets, in the operation that sets it.
+ghost use Rattle.std.specs.Prelude.{◌≡◌, ◌≤◌, IfOk, IfSome, OnOk, None, length, take, true};
+ghost use Rattle.std.specs.Option.{option_map};
+ghost use Rattle.array_store.specs.Codes.{code_of};
+ghost use Rattle.tx_stage.specs.Patching.{SetsLater, is_sound, patched_op, set_refusal, sets, takes_away};
+
+use crate::value::patch_in_place;
+use array_store::{ArrayKey, ArrayOp, record_refusal};
+use etp_values::{AnyArray, ErrorCode, List, NoMemory};
+use std::alloc::Global;
+
+/// Whether an operation sets the array of a key.
+fn sets(op: &ArrayOp, key: &ArrayKey) -> bool
+    ensures { result ≡ sets key.now op.now }
+{
+    match op {
+        ArrayOp::SetArray(other, array) => *key == *other && record_refusal(array).is_none(),
+        ArrayOp::DropArraysOf(_) => false,
+        ArrayOp::DropArraysIn(_) => false,
+    }
+}
+
+/// Whether an operation takes the array of a key away.
+fn takes_away(op: &ArrayOp, key: &ArrayKey) -> bool
+    ensures { result ≡ takes_away key.now op.now }
+{
+    match op {
+        ArrayOp::SetArray(_, _) => false,
+        ArrayOp::DropArraysOf(uri) => uri.same(&key.uri),
+        ArrayOp::DropArraysIn(path) => *path == key.uri.space,
+    }
+}
+
+/// The place of the operation that sets the array of a key last; none, where a later one takes it away.
+pub(crate) fn place_of_set(ops: &[ArrayOp], key: &ArrayKey) -> Option<usize>
+    ensures { IfSome result (λ place. SetsLater key.now ops.now place) }
+{
+    let mut place = ops.len();
+    while place > 0 {
+        place -= 1;
+        if sets(&ops[place], key) {
+            return Some(place);
+        }
+        if takes_away(&ops[place], key) {
+            return None;
+        }
+    }
+    None
+}
+
+/// The operations before a place.
+pub(crate) fn before(ops: &[ArrayOp], place: usize) -> &[ArrayOp]
+    requires { place ≤ length ops.now }
+    ensures { result.now ≡ take place ops.now }
+{
+    let (front, _) = ops.split_at(place);
+    front
+}
+
+/// Patches the array that an operation sets. Where the patch does not fit, the operation stays as it was, and the code of the
+/// refusal is answered.
+pub(crate) fn patch_set(
+    alloc: Global,
+    op: &mut ArrayOp,
+    at: i64,
+    starts: &List<i64>,
+    counts: &List<i64>,
+    values: &AnyArray,
+) -> Result<Option<ErrorCode>, NoMemory>
+    ensures op { OnOk result (op.new ≡ patched_op at starts.now counts.now values.now op.old) }
+    ensures code { IfOk result (λ code.
+        code ≡ option_map code_of (set_refusal starts.now counts.now values.now op.old)) }
+    ensures sound { IfOk result (λ code. code ≡ None → is_sound op.new ≡ true) }
+{
+    match op {
+        ArrayOp::SetArray(_, array) => patch_in_place(alloc, array, at, starts, counts, values),
+        ArrayOp::DropArraysOf(_) => Ok(None),
+        ArrayOp::DropArraysIn(_) => Ok(None),
+    }
+}
