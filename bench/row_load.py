@@ -10,6 +10,7 @@
     python3 row_load.py commits COUNT SIZE ENTRIES > FILE
                                                     behind ENTRIES loads of a point, each an entry, COUNT transactions put the same SIZE
                                                     objects each, and are committed
+    python3 row_load.py patches COUNT > FILE       one transaction of COUNT patches of one array of 4,194,304 doubles, and its commit
 """
 import sys
 import uuid
@@ -120,6 +121,23 @@ def commits(count, size, entries):
         client.message(18, 3, dict(transactionUuid=uuid.uuid5(uuid.UUID(int=1), f"tx:1:{nth}").bytes))
 
 
+def patches(count, size=4_194_304, part=16):
+    """One transaction of so many patches of one array, by turns at its beginning and its end."""
+    client = Client()
+    client.open()
+    client.put(1, b"")
+    uid = dict(uri=well(), pathInResource="a")
+    client.message(9, 9, dict(dataArrays={"k": dict(uid=uid, metadata=dict(
+        dimensions=[size], preferredSubarrayDimensions=[], transportArrayType=4, logicalArrayType=10, storeLastWrite=0, storeCreated=0,
+        customData={}))}))
+    client.message(18, 1, dict(readOnly=False, message="", dataspaceUris=[]))
+    for nth in range(count):
+        values = (4, dict(values=[nth] * part))
+        start = (nth % 2) * (size - part)
+        client.message(9, 5, dict(dataSubarrays={"k": dict(uid=uid, data=dict(item=values), starts=[start], counts=[part])}))
+    client.message(18, 3, dict(transactionUuid=uuid.uuid5(uuid.UUID(int=1), "tx:1:1").bytes))
+
+
 def main():
     match sys.argv[1]:
         case "config":
@@ -138,6 +156,9 @@ def main():
         case "commits":
             sys.stdout.buffer.write(wire.MAGIC)
             commits(*map(int, sys.argv[2:5]))
+        case "patches":
+            sys.stdout.buffer.write(wire.MAGIC)
+            patches(int(sys.argv[2]))
 
 
 if __name__ == "__main__":
