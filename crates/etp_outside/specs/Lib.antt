@@ -5,6 +5,7 @@ pub mod Sink
 pub mod Host
 pub mod Talk
 pub mod Doors
+pub mod Dials
 pub mod Moments
 pub mod Whole
 pub mod Calls
@@ -13,10 +14,13 @@ pub mod Output
 pub mod Folder
 pub mod Line
 pub mod Porch
+pub mod Phone
 pub mod Memory
 pub mod MemLinks
 pub mod MemDoors
 pub mod DoorLaws
+pub mod Rolls
+pub mod MemDials
 pub mod Tallies
 pub mod Steps
 pub mod StepLaws

@@ -4,6 +4,7 @@ use Rattle.std.specs.List.{slice_get}
 use Rattle.etp_outside.specs.Calls.{fails_next, new_script}
 use Rattle.etp_outside.specs.Line.{Line}
 use Rattle.etp_outside.specs.Talk.{Talk}
+use Rattle.etp_outside.specs.declared.link.Address.{Address}
 use Rattle.etp_outside.specs.declared.link.Item.{Item}
 use Rattle.etp_outside.specs.declared.link.Item.TheVariants.{Message, Idle}
 use Rattle.etp_outside.specs.declared.link.Recv.{Recv}
@@ -18,6 +19,14 @@ first_talk items = record { coming = items; taken = []; sent = []; to = None }
 -- the link before its first call
 abbrev pub renewed : Line → Line
 renewed l = record { talk = first_talk (l.talk.taken ++ l.talk.coming); ended = false; script = new_script l.script.fails }
+
+-- the link before its first call, where it was dialed to this address
+abbrev pub dialed_to : Address → Line → Line
+dialed_to address l = record {
+  talk = record { coming = l.talk.taken ++ l.talk.coming; taken = []; sent = []; to = Some address };
+  ended = false;
+  script = new_script l.script.fails;
+}
 
 -- the item at a place, as it is received
 abbrev pub IsItemAt : List Item → ℕ → Recv → Type 0

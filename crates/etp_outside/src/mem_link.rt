@@ -3,9 +3,10 @@ ghost use Rattle.std.specs.Prelude.{◌≡◌, ◌≤◌, ◌||◌, Some, false}
 ghost use Rattle.etp_outside.specs.Calls.{after_call, new_script};
 ghost use Rattle.etp_outside.specs.Faults.{Rose};
 ghost use Rattle.etp_outside.specs.Talk.{Received, Sends, is_end};
-ghost use Rattle.etp_outside.specs.MemLinks.{IsItemAt, IsRecvAnswer, IsSendAnswer, first_talk, recv_failed, renewed, send_failed};
+ghost use Rattle.etp_outside.specs.MemLinks.{IsItemAt, IsRecvAnswer, IsSendAnswer, dialed_to, first_talk, recv_failed, renewed, send_failed};
+ghost use Rattle.std.specs.Option.{option_copied};
 
-use crate::link::{Item, Link, Recv, Sent};
+use crate::link::{Address, Item, Link, Recv, Sent};
 use crate::script::Script;
 use etp_values::{Blob, List};
 use std::alloc::Global;
@@ -18,18 +19,19 @@ pub struct MemLink {
     items: List<Item>,
     at: usize,
     sent: Vec<Blob>,
+    to: Option<Address>,
     ended: bool,
     script: Script,
 }
 
 impl Model for MemLink {
-    ghost use Rattle.std.specs.Prelude.{◌≤◌, length, take, drop, None};
+    ghost use Rattle.std.specs.Prelude.{◌≤◌, length, take, drop};
     ghost use Rattle.etp_outside.specs.Line.{Line};
 
     ghost Value = { Line };
 
     ghost view = { λ l. record {
-      talk = record { coming = drop l.at l.items; taken = take l.at l.items; sent = l.sent.items; to = None };
+      talk = record { coming = drop l.at l.items; taken = take l.at l.items; sent = l.sent.items; to = l.to };
       ended = l.ended;
       script = l.script;
     } };
@@ -46,6 +48,7 @@ impl MemLink {
             items: coming,
             at: 0,
             sent: Vec::new(alloc),
+            to: None,
             ended: false,
             script: Script::new(fails),
         }
@@ -58,11 +61,25 @@ impl MemLink {
         self.sent.as_slice()
     }
 
+    /// Where it was dialed to, if it was.
+    pub fn to(&self) -> Option<&Address>
+        ensures { option_copied result ≡ self.now.talk.to }
+    {
+        self.to.as_ref()
+    }
+
     /// How often it failed.
     pub fn faults(&self) -> u64
         ensures { result ≡ self.now.script.faults }
     {
         self.script.faults
+    }
+
+    /// Whether it has said that the peer ended it.
+    pub fn has_ended(&self) -> bool
+        ensures { result ≡ self.now.ended }
+    {
+        self.ended
     }
 
     /// Begins anew: as when no call was made over it.
@@ -71,8 +88,17 @@ impl MemLink {
     {
         self.at = 0;
         self.sent.clear();
+        self.to = None;
         self.ended = false;
         self.script.renew();
+    }
+
+    /// Begins anew, as a link that was dialed to this address.
+    pub(crate) fn dialed(&mut self, to: Address)
+        ensures { self.new ≡ dialed_to to self.old }
+    {
+        self.renew();
+        self.to = Some(to);
     }
 }
 

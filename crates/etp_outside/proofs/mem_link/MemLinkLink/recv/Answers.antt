@@ -12,10 +12,10 @@ returns-in-Got-clause-talk c =
     let l = c.self.inside in
     let item : Item = Message c.in-Got.bytes in
     let here : slice_get l.items l.at ≡ Some item = subst (λ (xs : List Item). slice_get xs l.at ≡ Some item) c.as_slice.ensures c.in-Got.ensures in
-    subst (λ (x : Line). Takes item x.talk (talk_at l.items (l.at + 1) l.sent.items)) c.self.view_is (takes_item l.items l.at l.sent.items item here)
+    subst (λ (x : Line). Takes item x.talk (talk_at l.items (l.at + 1) l.sent.items l.to)) c.self.view_is (takes_item l.items l.at l.sent.items l.to item here)
 
 pub returns-in-Idle-clause-talk : goal.returns-in-Idle-clause-talk
 returns-in-Idle-clause-talk c =
     let l = c.self.inside in
     let here : slice_get l.items l.at ≡ Some Idle = subst (λ (xs : List Item). slice_get xs l.at ≡ Some Idle) c.as_slice.ensures c.in-Idle.ensures in
-    subst (λ (x : Line). Takes Idle x.talk (talk_at l.items (l.at + 1) l.sent.items)) c.self.view_is (takes_item l.items l.at l.sent.items Idle here)
+    subst (λ (x : Line). Takes Idle x.talk (talk_at l.items (l.at + 1) l.sent.items l.to)) c.self.view_is (takes_item l.items l.at l.sent.items l.to Idle here)

@@ -1,0 +1,53 @@
+//! Where a client's links come from.
+ghost use Rattle.std.specs.Prelude.{◌≡◌, ◌<◌, ◌≤◌, ◌||◌, ℕ, Bool, List, IsSome};
+ghost use Rattle.std.specs.declared.option.Option.{Option};
+ghost use Rattle.etp_outside.specs.Faults.{Rose};
+ghost use Rattle.etp_outside.specs.Told.{Told};
+ghost use Rattle.etp_outside.specs.Talk.{Talk};
+ghost use Rattle.etp_outside.specs.Dials.{HangsUp, IfDialed, IsDialed, address_of};
+
+use crate::link::Link;
+use std::alloc::Global;
+
+/// What dialing gave.
+#[derive(Debug, Drop)]
+pub enum Dialed<L> {
+    /// A link over which nothing came or went yet.
+    Link(L),
+    /// The dialer failed, or there is no peer that answers there.
+    Failed,
+    /// Memory was refused.
+    NoMemory,
+}
+
+/// What makes links to peers. Whoever dials a link hands it back when it is done with.
+pub trait Dialer {
+    /// A link that was dialed.
+    type Link: Link;
+
+    /// How often it failed, or took back a link that had failed. A count at the greatest `u64` stays there.
+    ghost faults: { Self → ℕ };
+
+    /// Whether it took back a link whose peer had ended it.
+    ghost ended: { Self → Bool };
+
+    /// What the links that it took back tell, where it tells them.
+    ghost backs: { Self → Option (List (Option Talk)) };
+
+    /// Makes a link to a host's port. The path is what a WebSocket's request asks for there. A host that is an IPv6 address
+    /// stands in brackets.
+    fn dial(&mut self, alloc: Global, host: &str, port: u16, path: &str) -> Dialed<Self::Link>
+        ensures link { IfDialed result (λ l. IsDialed (address_of host.now port path.now) (Self.Link.talk l) (Self.Link.faults l) (Self.Link.ended l)) }
+        ensures tells { IfDialed result (λ l. IsSome (backs self.new) → IsSome (Self.Link.talk l)) }
+        ensures ended { ended self.new ≡ ended self.old }
+        ensures backs { backs self.new ≡ backs self.old }
+        ensures kept { faults self.old ≤ faults self.new }
+        ensures cause { result ≡ Dialed.Failed → Rose (faults self.old) (faults self.new) };
+
+    /// Takes a link back, and closes it.
+    fn hang_up(&mut self, link: Self::Link)
+        ensures back { Told (backs self.old) (backs self.new) (HangsUp (Self.Link.talk link)) }
+        ensures ended { ended self.new ≡ (ended self.old || Self.Link.ended link) }
+        ensures kept { faults self.old ≤ faults self.new }
+        ensures cause { 0 < Self.Link.faults link → Rose (faults self.old) (faults self.new) };
+}
