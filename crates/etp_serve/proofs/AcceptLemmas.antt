@@ -18,7 +18,7 @@ use Rattle.etp_outside.specs.Told.{Told}
 use Rattle.etp_outside.specs.Talk.{Talk}
 use Rattle.etp_outside.specs.declared.link.Item.{Item}
 use Rattle.etp_outside.proofs.ToldLemmas.{told_self}
-use Rattle.turn_book.specs.Lists.{Each, own}
+use Rattle.turn_book.specs.Lists.{Each, Rises, own}
 use Rattle.turn_book.specs.Rules.{IsSettled}
 use Rattle.turn_book.specs.Steps.{met_of}
 use Rattle.turn_book.specs.declared.view.Met.{Met}
@@ -27,7 +27,7 @@ use Rattle.store_hub.specs.declared.hub.Hub.{Hub}
 use Rattle.store_hub.specs.Notes.{Meets, SeesMore}
 use Rattle.store_hub.specs.Words.{Known, by_of, enters_of}
 use Rattle.session_core.specs.Arriving.{Event}
-use Rattle.session_core.specs.Run.{AllWithin, Course, run}
+use Rattle.session_core.specs.Run.{AllWithin, Course, Heeds, run}
 use Rattle.session_core.specs.Session.{bytes_of, end_of}
 use Rattle.session_core.specs.declared.state.Outgoing.{Outgoing}
 use Rattle.etp_serve.specs.Accepted.{Accepts, AsSession, Backs, Came, HadMemory, HadMemoryBut, IsBack, IsBegun, IsCame, IsDone, IsLeft, IsOfItsOwn, IsOneLess, IsReached, IsSettledIn, OnFull, OnLack, ServesAll, Session, WasServed, end_number, mets}
@@ -41,6 +41,7 @@ use Rattle.etp_serve.specs.declared.served.Served.{Served}
 use Rattle.etp_serve.specs.declared.served.Served.TheVariants.{Stopped, ListenFault, NoMemory}
 use Rattle.etp_serve.specs.declared.thread.Started.{Started}
 use Rattle.etp_serve.proofs.Rans.{within_all}
+use Rattle.etp_serve.proofs.RunLaws.{is_serial, is_streamed, is_told_at_idle}
 use Rattle.etp_serve.proofs.Turns.{sent_all}
 
 -- ---- a session that was served over a history was served so over a longer one
@@ -70,14 +71,20 @@ served_longer laws config old new end n places moments fronts taken pre mine s =
     let within : AllWithin (length old) places = (within_all (n + 1) places (length old) s.rises).1 in
     let same = laws.same config n old new places es pre within in
     let is : run config n old places es ≡ run config n new places es = sym same.0 in
+    let rises : Rises (n + 1) places (length new) = rises_wider (n + 1) places (length old) (length new) s.rises (prefix_length old new pre) in
+    let heeds : Heeds config n new places es = same.1 s.heeds in
     record {
       own = subst (λ l. Owns end n l places (run config n new places es).made) (sym mine) (subst (λ (c : Course). Owns end n (own by_of n old) places c.made) is s.own);
       ends = subst (EndsAs end) is s.ends;
       used = ap (λ (c : Course). c.places) same.0 ∙ s.used;
-      rises = rises_wider (n + 1) places (length old) (length new) s.rises (prefix_length old new pre);
+      rises = rises;
       turns = s.turns;
       before_end = open_longer laws config n old new places es pre within s.before_end;
-      heeds = same.1 s.heeds;
+      heeds = heeds;
+      serial = is_serial laws config n new places es rises;
+      ids = s.ids;
+      streams = is_streamed laws config n new places es rises s.ids;
+      idle = is_told_at_idle laws config n new places es rises s.ids heeds;
     }
 
 pub was_served : Laws → (test : List ℤ → Bool) (config : Config) (old new : List Entry) (s : Session) → IsPrefix old new → own by_of s.met.number new ≡ own by_of s.met.number old → WasServed test config old s → WasServed test config new s

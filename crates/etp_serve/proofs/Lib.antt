@@ -3,6 +3,7 @@ pub mod Causes
 pub mod TalkLemmas
 pub mod Drained
 pub mod Rans
+pub mod RunLaws
 pub mod Settling
 pub mod Turns
 pub mod Tails

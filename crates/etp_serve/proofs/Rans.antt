@@ -21,6 +21,7 @@ use Rattle.session_core.specs.Arriving.{Event}
 use Rattle.session_core.specs.Run.{takes, hears, drained, moment_of, at_place, Course, tells, own_number, IsHeeded, asked, run, Heeds, AllWithin}
 use Rattle.session_core.specs.Session.{end_of}
 use Rattle.session_core.specs.State.{State, first_state}
+use Rattle.session_core.specs.Streams.{HasIds}
 use Rattle.session_core.specs.declared.state.Outgoing.{Outgoing}
 use Rattle.etp_serve.specs.Events.{AllOpen}
 use Rattle.etp_serve.specs.Laws.{Laws}
@@ -132,6 +133,7 @@ pub record Cut (config : Config) (n : ℕ) (v : Known) (es : List Event) (said :
   pub rises : Rises (n + 1) places (length v.seen)
   pub before_end : AllOpen config n v.seen places es
   pub heeds : Heeds config n v.seen places es
+  pub ids : HasIds config
 
 asked_cut : (config : Config) (n : ℕ) (h : List Entry) (at : ℤ) (s st : State) (said : List Outgoing) (made : List (ℕ × Entry)) (reach : ℕ) (o : Option StoreCall)
     → let d = asked config n h at (record { state = s; places = []; sent = said; made = made; short = false; reach = reach }) st o in
@@ -141,8 +143,8 @@ asked_cut config n h at s st said made reach (Some call) = (refl, refl, refl)
 
 module _ (laws : Laws) (config : Config) (n : ℕ) where
   -- no event was run
-  pub ran_start : (v : Known) (e : Entry) → v.places ≡ n ∷ [] → own by_of n v.seen ≡ (n, e) ∷ [] → enters_of e ≡ true → Ran config n v [] (first_state config n (pos 1)) []
-  ran_start v e places mine enters =
+  pub ran_start : HasIds config → (v : Known) (e : Entry) → v.places ≡ n ∷ [] → own by_of n v.seen ≡ (n, e) ∷ [] → enters_of e ≡ true → Ran config n v [] (first_state config n (pos 1)) []
+  ran_start ids v e places mine enters =
       let inside : n < 0 + length v.seen = own_within n 0 v.seen n e [] mine in
       let long : n + 1 ≤ length v.seen = omega arith in
       record {
@@ -156,6 +158,7 @@ module _ (laws : Laws) (config : Config) (n : ℕ) where
         before_end = inl refl;
         heeds = tt;
         within = long;
+        ids = ids;
       }
 
   -- the journal's length was found
@@ -171,6 +174,7 @@ module _ (laws : Laws) (config : Config) (n : ℕ) where
     before_end = r.before_end;
     heeds = r.heeds;
     within = r.within;
+    ids = r.ids;
   }
 
   -- ---- an event that follows
@@ -212,6 +216,7 @@ module _ (laws : Laws) (config : Config) (n : ℕ) where
       before_end = last_open v.seen r.places [] (prefix_self v.seen) (sym (append-nil r.places));
       heeds = quiet_heeds;
       within = r.within;
+      ids = r.ids;
     }
 
     -- the run with the call's place
@@ -264,6 +269,7 @@ module _ (laws : Laws) (config : Config) (n : ℕ) where
               (last_open (log ++ more) (r.places ++ length log ∷ []) (length log ∷ []) (prefix_trans v.seen log (log ++ more) ans.before after) refl);
           heeds = subst (λ (h : List Entry). Heeds config n h (r.places ++ length log ∷ []) (es ++ e ∷ [])) (sym seen) (called_heeds log (log ++ more) ans.before after);
           within = omega arith;
+          ids = r.ids;
         }
 
     -- the event was settled
@@ -291,6 +297,7 @@ module _ (laws : Laws) (config : Config) (n : ℕ) where
           rises = r.rises;
           before_end = last_open v.seen r.places [] (prefix_self v.seen) (sym (append-nil r.places));
           heeds = quiet_heeds;
+          ids = r.ids;
         }
 
     -- for the store to answer its call
@@ -314,6 +321,7 @@ module _ (laws : Laws) (config : Config) (n : ℕ) where
           before_end = subst (λ (h : List Entry). AllOpen config n h (r.places ++ length log ∷ []) (es ++ e ∷ [])) (sym seen)
               (last_open log (r.places ++ length log ∷ []) (length log ∷ []) no_room.before refl);
           heeds = subst (λ (h : List Entry). Heeds config n h (r.places ++ length log ∷ []) (es ++ e ∷ [])) (sym seen) (called_heeds log log no_room.before (prefix_self log));
+          ids = r.ids;
         }
 
   -- what was said by the first of the events is said
@@ -327,6 +335,7 @@ module _ (laws : Laws) (config : Config) (n : ℕ) where
     rises = r.rises;
     before_end = r.before_end;
     heeds = r.heeds;
+    ids = r.ids;
   }
 
   -- for the store's answer, or for the session to take it

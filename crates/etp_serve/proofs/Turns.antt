@@ -19,6 +19,7 @@ use Rattle.session_core.specs.Arriving.{Event, Receives, Polls}
 use Rattle.session_core.specs.Run.{takes, drained, moment_of, Course, IsHeeded, run, Heeds}
 use Rattle.session_core.specs.Session.{bytes_of, end_of}
 use Rattle.session_core.specs.State.{State, first_state}
+use Rattle.session_core.specs.Streams.{HasIds}
 use Rattle.session_core.specs.declared.state.End.{End}
 use Rattle.session_core.specs.declared.state.End.TheVariants as ending
 use Rattle.session_core.specs.declared.state.Outgoing.{Outgoing}
@@ -33,6 +34,7 @@ use Rattle.etp_serve.specs.declared.ended.Ended.TheVariants.{Closed, Refused, Id
 use Rattle.etp_serve.specs.declared.steps.Asked.{Asked}
 use Rattle.etp_serve.proofs.EventLemmas.{events_message, events_turn, matched_turn}
 use Rattle.etp_serve.proofs.Rans.{Cut, ran_start, ran_hears, ran_settled, cut_begun, cut_broken, settles_heard, breaks_heard}
+use Rattle.etp_serve.proofs.RunLaws.{is_serial, is_streamed, is_told_at_idle}
 use Rattle.etp_serve.proofs.TalkLemmas.{told_none, told_same, told_takes, told_sends, told_ticks}
 
 -- ---- what holds of each end alike
@@ -92,7 +94,9 @@ module _ (laws : Laws) (config : Config) (n : ℕ) (a0 : Option Talk) (c0 : Opti
       → EndsAs end (record { state = s; places = []; sent = said; made = r.made; short = false; reach = r.reach }) → Serves end config n v a0 a c0 c
   serves_ran end v a c taken moments es s said are turns r talk clock ends =
       let d : Course = record { state = s; places = []; sent = said; made = r.made; short = false; reach = r.reach } in
-      let is : d ≡ run config n v.seen r.places (events taken moments v.heard) = sym r.run ∙ ap (run config n v.seen r.places) are in
+      let all : List Event = events taken moments v.heard in
+      let is : d ≡ run config n v.seen r.places all = sym r.run ∙ ap (run config n v.seen r.places) are in
+      let heeds : Heeds config n v.seen r.places all = subst (Heeds config n v.seen r.places) are r.heeds in
       record {
         taken = taken;
         moments = moments;
@@ -107,14 +111,20 @@ module _ (laws : Laws) (config : Config) (n : ℕ) (a0 : Option Talk) (c0 : Opti
           rises = r.rises;
           turns = turns;
           before_end = subst (AllOpen config n v.seen r.places) are r.before_end;
-          heeds = subst (Heeds config n v.seen r.places) are r.heeds;
+          heeds = heeds;
+          serial = is_serial laws config n v.seen r.places all r.rises;
+          ids = r.ids;
+          streams = is_streamed laws config n v.seen r.places all r.rises r.ids;
+          idle = is_told_at_idle laws config n v.seen r.places all r.rises r.ids heeds;
         };
       }
 
   serves_cut : (v : Known) (a : Option Talk) (c : Option (List ℤ)) (taken : List Item) (moments : List ℤ) (es : List Event) (said : List Outgoing)
       → es ≡ events taken moments v.heard → Turned NoMemory taken moments v.heard → Cut config n v es said → Told a0 a (Talked taken (map bytes_of said)) → Told c0 c (λ x y. y ≡ x ++ moments) → Serves NoMemory config n v a0 a c0 c
   serves_cut v a c taken moments es said are turns r talk clock =
-      let is : run config n v.seen r.places es ≡ run config n v.seen r.places (events taken moments v.heard) = ap (run config n v.seen r.places) are in
+      let all : List Event = events taken moments v.heard in
+      let is : run config n v.seen r.places es ≡ run config n v.seen r.places all = ap (run config n v.seen r.places) are in
+      let heeds : Heeds config n v.seen r.places all = subst (Heeds config n v.seen r.places) are r.heeds in
       record {
         taken = taken;
         moments = moments;
@@ -131,7 +141,11 @@ module _ (laws : Laws) (config : Config) (n : ℕ) (a0 : Option Talk) (c0 : Opti
           rises = r.rises;
           turns = turns;
           before_end = subst (AllOpen config n v.seen r.places) are r.before_end;
-          heeds = subst (Heeds config n v.seen r.places) are r.heeds;
+          heeds = heeds;
+          serial = is_serial laws config n v.seen r.places all r.rises;
+          ids = r.ids;
+          streams = is_streamed laws config n v.seen r.places all r.rises r.ids;
+          idle = is_told_at_idle laws config n v.seen r.places all r.rises r.ids heeds;
         };
       }
 
@@ -299,13 +313,13 @@ module _ (laws : Laws) (config : Config) (n : ℕ) (a0 : Option Talk) (c0 : Opti
       }
 
 -- a session that was just let in
-pub run_start : (laws : Laws) (config : Config) (n : ℕ) (v : Known) (e : Entry) (a : Option Talk) (c : Option (List ℤ)) → v.places ≡ n ∷ [] → v.heard ≡ [] → own by_of n v.seen ≡ (n, e) ∷ [] → enters_of e ≡ true
+pub run_start : (laws : Laws) (config : Config) (n : ℕ) → HasIds config → (v : Known) (e : Entry) (a : Option Talk) (c : Option (List ℤ)) → v.places ≡ n ∷ [] → v.heard ≡ [] → own by_of n v.seen ≡ (n, e) ∷ [] → enters_of e ≡ true
     → IsBeforeTurn config n a c v (first_state config n (pos 1)) a c
-run_start laws config n v e a c places heard mine enters = record {
+run_start laws config n ids v e a c places heard mine enters = record {
   taken = [];
   moments = [];
   said = [];
-  ran = ran_start laws config n v e places mine enters;
+  ran = ran_start laws config n ids v e places mine enters;
   going = refl;
   matched = subst (Matched [] []) (sym heard) tt;
   link = told_none a;

@@ -9,8 +9,10 @@ use Rattle.turn_book.specs.Lists.{own, Rises}
 use Rattle.store_hub.specs.Words.{Known, by_of, enters_of}
 use Rattle.session_core.specs.Arriving.{Event}
 use Rattle.session_core.specs.Run.{run, Heeds}
+use Rattle.session_core.specs.Serial.{IsSerial}
 use Rattle.session_core.specs.Session.{bytes_of, end_of}
 use Rattle.session_core.specs.State.{State}
+use Rattle.session_core.specs.Streams.{HasIds, IsStreamed, IsToldAtIdle}
 use Rattle.session_core.specs.declared.state.Outgoing.{Outgoing}
 use Rattle.etp_serve.specs.Ends.{EndsAs}
 use Rattle.etp_serve.specs.Events.{events, event_of, Matched, HasMoment, Turned, AllOpen}
@@ -50,7 +52,9 @@ Owns NoMemory n mine places made = IsEnterAnd n mine made ⊎ LacksLast n mine p
 -- The session of this number was served over a history, with its calls answered at these places, the items that its link
 -- gave, the moments that its clock told, and the lengths of the journal that its polls found. Its own entries are those
 -- of the run; the run ended so, and used all places, which never fall; each poll found no less than was seen before; and
--- no event came after the session's end
+-- no event came after the session's end. Whatever other sessions did between these places, each transaction that it
+-- committed was answered as if it had stood alone at the place of its commit, and of each channel it was told the stream of
+-- its subscription in this history, which at a poll that asked nothing is all that there was
 pub record IsServed (end : Ended) (config : Config) (n : ℕ) (h : List Entry) (places : List ℕ) (moments : List ℤ) (fronts : List ℕ) (taken : List Item) : Type 0 where
   pub own : Owns end n (own by_of n h) places (run config n h places (events taken moments fronts)).made
   pub ends : EndsAs end (run config n h places (events taken moments fronts))
@@ -59,6 +63,10 @@ pub record IsServed (end : Ended) (config : Config) (n : ℕ) (h : List Entry) (
   pub turns : Turned end taken moments fronts
   pub before_end : AllOpen config n h places (events taken moments fronts)
   pub heeds : Heeds config n h places (events taken moments fronts)
+  pub serial : IsSerial config n h places (events taken moments fronts)
+  pub ids : HasIds config
+  pub streams : IsStreamed config n h places (events taken moments fronts)
+  pub idle : IsToldAtIdle config n h places (events taken moments fronts)
 
 -- what the link was told to do: the items were taken, and the messages of the run sent, all or a part of them
 abbrev pub Serving : Ended → List Item → List Outgoing → Talk → Talk → Type 0
@@ -89,6 +97,7 @@ pub record Ran (config : Config) (n : ℕ) (v : Known) (es : List Event) (s : St
   pub before_end : AllOpen config n v.seen places es
   pub heeds : Heeds config n v.seen places es
   pub within : reach ≤ length v.seen
+  pub ids : HasIds config
 
 -- before a turn
 pub record IsBeforeTurn (config : Config) (n : ℕ) (a0 : Option Talk) (c0 : Option (List ℤ)) (v : Known) (s : State) (a : Option Talk) (c : Option (List ℤ)) : Type 0 where

@@ -2,7 +2,7 @@
 ghost use Rattle.etp_serve.specs.Closing.{EachEntered, ServedInTheEnd};
 ghost use Rattle.etp_serve.specs.Laws.{Laws};
 
-use session_core::{runs, steps};
+use session_core::{run_streams, runs, serial, steps};
 use store_machine::{number_laws, room_laws};
 
 /// What holds of runs, of half steps, and of the entries of a session's calls.
@@ -10,6 +10,8 @@ pub(crate) fn laws()
     ensures { Laws }
 {
     runs();
+    serial();
+    run_streams();
     steps();
     number_laws();
 }

@@ -3,7 +3,9 @@
 //! [`serve_session`] is a session from its entering to its end: turn by turn it takes an item from its [`Link`], hands a
 //! message to the session's machine, has the store answer the machine's call, sends what the machine says, and then polls.
 //! Its contract (`Serves` in `specs/Served`) is in whole lists: what the session was sent is what a run of the machine
-//! says, over the one history of all sessions, with each call answered at a place of that history.
+//! says, over the one history of all sessions, with each call answered at a place of that history. Whatever others do between
+//! these places, a transaction that it commits is answered as if it stood alone at the place of its commit, and of a channel it
+//! is told the stream of its subscription (`IsServed`).
 //!
 //! [`serve_all`] serves the links that a [`Listener`] gives, each in a thread of its own. Its contract (`ServesAll` in
 //! `specs/Accepted`) says of each link what became of it: the session that was served over it, or why there was none.

@@ -1,5 +1,5 @@
 //! A session, turn by turn.
-ghost use Rattle.std.specs.Prelude.{◌≡◌, ◌≤◌, ℤ, List, Option, length, IfNone, IfOk, IfSome, Some, true, pos};
+ghost use Rattle.std.specs.Prelude.{◌≡◌, ◌≤◌, ◌<◌, ◌^◌, ℤ, List, Option, length, IfNone, IfOk, IfSome, Some, true, pos};
 ghost use Rattle.etp_outside.specs.Faults.{Rose};
 ghost use Rattle.etp_outside.specs.Talk.{Talk};
 ghost use Rattle.session_core.specs.Run.{Remembers};
@@ -11,7 +11,7 @@ ghost use Rattle.etp_serve.specs.Served.{IsBeforeTurn, IsWithinTurn, Serves};
 use crate::ended::Ended;
 use crate::laws::laws;
 use crate::steps::{Asked, carry_out};
-use chan_defs::Config;
+use chan_defs::{ChannelDef, Config};
 use etp_outside::{Clock, Gate, Link, Recv};
 use etp_values::{Copied, NoMemory};
 use session_core::Session;
@@ -102,6 +102,12 @@ fn begin(alloc: Global, conf: &Config, number: u64) -> Result<Session, NoMemory>
     Session::new(alloc, config, number, 1)
 }
 
+/// A list in memory is not so long that a channel of it has no id of 64 bits.
+fn each_has_id(channels: &[ChannelDef])
+    ensures { length channels.now < 2 ^ 63 }
+{
+}
+
 /// Serves a session that was just let in, until it ends, its link does, or memory is refused. Each turn passes the gate,
 /// receives once, serves the message, if one came, and polls. It waits for the store's turn and for the link.
 pub fn serve_session<L: Link, C: Clock, G: Gate, R: Wait>(
@@ -125,9 +131,11 @@ pub fn serve_session<L: Link, C: Clock, G: Gate, R: Wait>(
     ensures cause { HasCause result (L.faults link.old) (L.faults link.new) (L.ended link.new) }
     ensures test { C.passes clock.new ≡ C.passes clock.old }
 {
-    // For the proof alone: what a fresh pass has entered, and that a session that begins remembers no place.
+    // For the proof alone: what a fresh pass has entered, that a session that begins remembers no place, and that each channel
+    // has an id.
     pass_laws();
     laws();
+    each_has_id(conf.channels.get().as_slice());
     let Ok(mut session) = begin(alloc, conf, pass.number()) else {
         return Ended::NoMemory;
     };

@@ -8,3 +8,24 @@ pub mod JoiningLemmas
 pub mod NotingLemmas
 pub mod ChannelCalls
 pub mod StagedLemmas
+mod Retouched
+mod Asking
+mod Marked
+mod Beside
+mod Named
+mod Alone
+mod Requesting
+mod Committed
+mod Reached
+mod Witness
+mod Hearing
+mod Telling
+mod Owing
+mod Standing
+mod Starting
+mod Stopping
+mod Moving
+mod Newsing
+mod Walking
+mod Subscribing
+mod Streaming

@@ -8,3 +8,6 @@ pub mod Session
 pub mod Run
 pub mod Fitting
 pub mod Staged
+pub mod Serial
+pub mod Streams
+pub mod Committing

@@ -2,7 +2,13 @@
 ghost use Rattle.session_core.specs.Run.{FirstRemembers, TakingRemembers, TakingAsks, HearingRemembers, MoreIsRemembered, DrainedRemembers, AnswersAreLast};
 ghost use Rattle.session_core.specs.Run.{PlayIsRun, RunGoesOn, RunIsSame};
 ghost use Rattle.session_core.specs.Fitting.{AnswersFit};
+ghost use Rattle.session_core.specs.Committing.{SerialIsMet};
+ghost use Rattle.session_core.specs.Serial.{CommittedIsSerial, RunIsSerial};
 ghost use Rattle.session_core.specs.Staged.{CallsWithin, LooksAddNothing, UncommittedIsUnseen};
+ghost use Rattle.session_core.specs.Streams.{RunIsStreamed, RunIsToldAtIdle};
+
+use store_machine::{conflict_laws, news_laws, state_laws};
+use tx_stage::look_laws;
 
 /// A session remembers no place past the history that it was told of; each call that it makes is one that a session may make
 /// at a history with all these places, never the one by which it is entered; and no request is left when its answer was given.
@@ -40,3 +46,30 @@ pub fn staged()
     ensures looks { LooksAddNothing }
     ensures unseen { UncommittedIsUnseen }
 {}
+
+/// Committed transactions are serial. Where a transaction's commit succeeds after the entries below a place, what its requests
+/// were answered is what this session alone answers them from its start on, with every look made at that one place, whatever
+/// others did in between; but for a transaction in which a key was refused for there being too many. So it is from any state in
+/// which a transaction has just begun, and in each run of a session whose places never fall, split at any event. What is asked of
+/// the transaction can be met.
+pub fn serial()
+    ensures law { CommittedIsSerial }
+    ensures run { RunIsSerial }
+    ensures met { SerialIsMet }
+{
+    state_laws();
+    conflict_laws();
+    look_laws();
+}
+
+/// A subscription is told a segment of the one history: the channel's points from its start on as they were when the store
+/// accepted it, and then each later change up to the session's cursor, clipped to its start and kind, whatever others did in
+/// between. It is stopped once, with its cause and at what was told up to then, and nothing of it follows its stop. Where an
+/// event spends the session's message ids, what was sent to its last part is a beginning of that; where a poll asks nothing, the
+/// cursor is the front that it told of.
+pub fn run_streams()
+    ensures streams { RunIsStreamed }
+    ensures idle { RunIsToldAtIdle }
+{
+    news_laws();
+}

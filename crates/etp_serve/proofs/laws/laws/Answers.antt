@@ -4,6 +4,9 @@ pub returns : goal.returns
 returns c = record {
   same = c.runs.ensures.same;
   next = c.runs.ensures.next;
+  serial = c.serial.ensures.run;
+  streams = c.run_streams.ensures.streams;
+  idle = c.run_streams.ensures.idle;
   first = c.steps.ensures.first;
   taken = c.steps.ensures.taken;
   given = c.steps.ensures.given;

@@ -2,11 +2,13 @@ use Rattle.std.proofs.Common.{◌≡◌, ℕ, length, pos, arith, ap, sym, ◌�
 use Rattle.chan_defs.specs.declared.config.Config.{Config}
 use Rattle.session_core.specs.Run.{Remembers}
 use Rattle.session_core.specs.State.{State, first_state}
+use Rattle.session_core.specs.Streams.{HasIds}
 use Rattle.store_hub.specs.Passes.{known, config_of}
 use Rattle.etp_serve.specs.Served.{Serves, IsBeforeTurn, IsWithinTurn}
 use Rattle.etp_serve.specs.declared.ended.Ended.TheVariants.{NoMemory}
 use Rattle.etp_outside.proofs.ToldLemmas.{told_self}
 use Rattle.etp_serve.proofs.Causes.{cause_by}
+use Rattle.etp_serve.proofs.RunLaws.{each_has_one}
 use Rattle.etp_serve.proofs.Turns.{run_start, run_stops}
 use Rattle.etp_serve.proofs.serving.serve_session.Goals as goal
 
@@ -17,8 +19,9 @@ returns-in_default-clause-serves g c =
     let entered = c.pass_laws.ensures.fresh pass c.requires.fresh in
     let a = g.L.Link.talk c.args.link.now in
     let told = g.C.Clock.told c.args.clock.now in
+    let ids = subst HasIds c.requires.conf (each_has_one c.args.conf.now c.get.result.now c.as_slice.result.now c.get.ensures c.as_slice.ensures c.each_has_id.ensures) in
     run_stops c.laws.ensures config pass.number a told (known pass) (first_state config pass.number (pos 1)) a a told NoMemory
-    (run_start c.laws.ensures config pass.number (known pass) entered.0 a told c.requires.fresh.0 c.requires.fresh.1 entered.1 entered.2)
+    (run_start c.laws.ensures config pass.number ids (known pass) entered.0 a told c.requires.fresh.0 c.requires.fresh.1 entered.1 entered.2)
     (told_self a (λ x y. y ≡ x) (λ x. refl)) (λ made said reach. tt)
 
 pub loop-init : goal.loop-init
@@ -28,6 +31,7 @@ loop-init g c =
     let entered = c.pass_laws.ensures.fresh pass c.requires.fresh in
     let a = g.L.Link.talk c.args.link.now in
     let told = g.C.Clock.told c.args.clock.now in
+    let ids = subst HasIds c.requires.conf (each_has_one c.args.conf.now c.get.result.now c.as_slice.result.now c.get.ensures c.as_slice.ensures c.each_has_id.ensures) in
     let new : c.in-Ok.session ≡ first_state config pass.number (pos 1) =
     c.in-Ok.ensures ∙ (ap (λ (k : Config). first_state k c.number.result (pos 1)) c.requires.conf ∙ ap (λ (k : ℕ). first_state config k (pos 1)) c.number.ensures) in
     record {
@@ -36,7 +40,7 @@ loop-init g c =
       met = refl;
       remembers = subst (Remembers (length (known pass).seen)) (sym new) (c.laws.ensures.first config pass.number (length (known pass).seen) (pos 1));
       run = subst (λ (s : State). IsBeforeTurn config pass.number a told (known pass) s a told) (sym new)
-          (run_start c.laws.ensures config pass.number (known pass) entered.0 a told c.requires.fresh.0 c.requires.fresh.1 entered.1 entered.2);
+          (run_start c.laws.ensures config pass.number ids (known pass) entered.0 a told c.requires.fresh.0 c.requires.fresh.1 entered.1 entered.2);
       kept = omega arith;
       test = refl;
     }

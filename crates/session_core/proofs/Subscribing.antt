@@ -60,15 +60,15 @@ use Rattle.session_core.specs.State.{State}
 use Rattle.session_core.specs.Machine.{Taken, asks, given, on_poll, on_subscriptions, on_subscriptions_by, on_told, unread}
 use Rattle.session_core.specs.Replies.{saying_of, sayings_of}
 use Rattle.session_core.specs.Sending.{blobs_after, ended, parts_of}
-use Rattle.session_laws.specs.Streams.{Heard, HasIds, hear_stops}
-use Rattle.session_laws.proofs.Hearing.{IsQuiet, all_append, hear_parts, kinds_one, notice_stops, notice_tells, parts_quiet, stops, tells}
-use Rattle.session_laws.proofs.Moving.{After, AreQuiet, Flow, Flowing, Hushed, all_weaker, grown_after, hushed_said, keeps_on, stopped_after}
-use Rattle.session_laws.proofs.Newsing.{come, news_heard, news_keep, news_of, notes_said, told_on}
-use Rattle.session_laws.proofs.Standing.{IsChannel, apart-others}
-use Rattle.session_laws.proofs.Starting.{Begins, IsKnown, IsNamedIn, Keeps, all_begin, are_starts, owes, told_as}
-use Rattle.session_laws.proofs.Stopping.{Ends, all_stopped, kept_after, stop_heard, stop_reply_heard, unsubscribed}
-use Rattle.session_laws.proofs.Telling.{note, notes_heard}
-use Rattle.session_laws.proofs.Walking.{LeadsTo, quiet_call, quiet_leads}
+use Rattle.session_core.specs.Streams.{Heard, HasIds, hear_stops}
+use Rattle.session_core.proofs.Hearing.{IsQuiet, all_append, hear_parts, kinds_one, notice_stops, notice_tells, parts_quiet, stops, tells}
+use Rattle.session_core.proofs.Moving.{After, AreQuiet, Flow, Flowing, Hushed, all_weaker, grown_after, hushed_said, keeps_on, stopped_after}
+use Rattle.session_core.proofs.Newsing.{come, news_heard, news_keep, news_of, notes_said, told_on}
+use Rattle.session_core.proofs.Standing.{IsChannel, apart-others}
+use Rattle.session_core.proofs.Starting.{Begins, IsKnown, IsNamedIn, Keeps, all_begin, are_starts, owes, told_as}
+use Rattle.session_core.proofs.Stopping.{Ends, all_stopped, kept_after, stop_heard, stop_reply_heard, unsubscribed}
+use Rattle.session_core.proofs.Telling.{note, notes_heard}
+use Rattle.session_core.proofs.Walking.{LeadsTo, quiet_call, quiet_leads}
 
 -- ---- quiet replies
 

@@ -28,7 +28,7 @@ use Rattle.store_machine.specs.declared.journal.Entry.{Entry}
 use Rattle.subscribe_core.specs.Calls.{AreApart}
 use Rattle.subscribe_core.specs.Subscriptions.{has_sub, others}
 use Rattle.subscribe_core.specs.Views.{sub_of}
-use Rattle.session_laws.proofs.Owing.{since}
+use Rattle.session_core.proofs.Owing.{since}
 
 -- ---- finding
 

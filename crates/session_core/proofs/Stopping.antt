@@ -35,9 +35,9 @@ use Rattle.session_core.specs.declared.state.Part.{Part}
 use Rattle.session_core.specs.declared.state.Saying.{Saying}
 use Rattle.session_core.specs.Replies.{refused_keys as refused_message, sayings_of, to_request}
 use Rattle.session_core.specs.Sending.{blobs_after, ended, parts_of}
-use Rattle.session_laws.specs.Streams.{Heard, hear_stops, stops_for}
-use Rattle.session_laws.proofs.Hearing.{IsQuiet, hear_parts, kinds_of, named, parts_quiet, stops, tells}
-use Rattle.session_laws.proofs.Standing.{found-others, none-others, same_channel}
+use Rattle.session_core.specs.Streams.{Heard, hear_stops, stops_for}
+use Rattle.session_core.proofs.Hearing.{IsQuiet, hear_parts, kinds_of, named, parts_quiet, stops, tells}
+use Rattle.session_core.proofs.Standing.{found-others, none-others, same_channel}
 
 -- ---- a stop, in parts
 

@@ -21,11 +21,11 @@ use Rattle.session_core.specs.declared.state.Request.{Request}
 use Rattle.session_core.specs.declared.state.Saying.{Saying}
 use Rattle.session_core.specs.State.{State}
 use Rattle.session_core.specs.Sending.{is_spent, numbered, parts_of, said, spent_phase}
-use Rattle.session_laws.specs.Streams.{Heard, IsStopped, Stopped, hear, heard, is_spent_phase, owed, owed_by, owed_to, silence, stream_to}
-use Rattle.session_laws.proofs.Hearing.{IsQuiet, hear_parts, kinds_of, numbered_back, numbered_front, numbered_heard, numbered_quiet, numbered_stops, prefix_none, prefix_self, stops, tells}
-use Rattle.session_laws.proofs.Owing.{is_stream}
-use Rattle.session_laws.proofs.Starting.{IsKnown, Keeps, owes, owes_to}
-use Rattle.session_laws.proofs.Stopping.{Ends}
+use Rattle.session_core.specs.Streams.{Heard, IsStopped, Stopped, hear, heard, is_spent_phase, owed, owed_by, owed_to, silence, stream_to}
+use Rattle.session_core.proofs.Hearing.{IsQuiet, hear_parts, kinds_of, numbered_back, numbered_front, numbered_heard, numbered_quiet, numbered_stops, prefix_none, prefix_self, stops, tells}
+use Rattle.session_core.proofs.Owing.{is_stream}
+use Rattle.session_core.proofs.Starting.{IsKnown, Keeps, owes, owes_to}
+use Rattle.session_core.proofs.Stopping.{Ends}
 
 -- ---- what is owed
 

@@ -28,12 +28,12 @@ use Rattle.session_core.specs.State.{State}
 use Rattle.session_core.specs.Arriving.{Event, arrived, request_of}
 use Rattle.session_core.specs.Machine.{Taken, by_event}
 use Rattle.session_core.specs.Run.{Course, asked, answered_at, at_place, drained, hears, moment_of, own_number, takes}
-use Rattle.session_laws.specs.Serial.{CommitsAt, EndsBy, Rises, Succeeds, after_call, after_event, alone, bodies, is_request_as, replies, requests, where_so, while_open}
-use Rattle.session_laws.proofs.Beside.{AreNamed, Aside, Beside, Commits, Drops, Goes, IsApart, IsBegun, IsNamed, KeepsApart, accepted, event_aside}
-use Rattle.session_laws.proofs.Marked.{AreWithin, marked, marks-rise}
-use Rattle.session_laws.proofs.Retouched.{retouched}
+use Rattle.session_core.specs.Serial.{CommitsAt, EndsBy, Rises, Succeeds, after_call, after_event, alone, bodies, is_request_as, replies, requests, where_so, while_open}
+use Rattle.session_core.proofs.Beside.{AreNamed, Aside, Beside, Commits, Drops, Goes, IsApart, IsBegun, IsNamed, KeepsApart, accepted, event_aside}
+use Rattle.session_core.proofs.Marked.{AreWithin, marked, marks-rise}
+use Rattle.session_core.proofs.Retouched.{retouched}
 use Rattle.etp_values.specs.declared.code.ErrorCode.TheVariants as code
-use Rattle.session_laws.proofs.Alone.{Induction, Lawful, Later, at, course, ended-fails, short-fails}
+use Rattle.session_core.proofs.Alone.{Induction, Lawful, Later, at, course, ended-fails, short-fails}
 use Rattle.std.specs.Prelude.{IfOk, int_rem}
 use Rattle.std.specs.Ordering.{int_eq}
 use Rattle.etp_frame.specs.Reading.{read_of}
@@ -41,11 +41,11 @@ use Rattle.etp_frame.specs.declared.error.FrameError.{FrameError}
 use Rattle.etp_frame.specs.declared.error.FrameError.TheVariants as frame
 use Rattle.etp_schema.specs.declared.body.Side.TheVariants.{Client}
 use Rattle.session_core.specs.Arriving.{Receives, Polls, arrived_as, arrived_by, error_event, follows, max_message_len, unless_stale}
-use Rattle.session_laws.specs.Serial.{Begins, CommittedIsSerial}
-use Rattle.session_laws.proofs.Alone.{committed}
-use Rattle.session_laws.proofs.Beside.{beside-trans, heard_beside}
-use Rattle.session_laws.proofs.Named.{int_lt_trans, read_is_named}
-use Rattle.session_laws.proofs.Requesting.{request_both}
+use Rattle.session_core.specs.Serial.{Begins, CommittedIsSerial}
+use Rattle.session_core.proofs.Alone.{committed}
+use Rattle.session_core.proofs.Beside.{beside-trans, heard_beside}
+use Rattle.session_core.proofs.Named.{int_lt_trans, read_is_named}
+use Rattle.session_core.proofs.Requesting.{request_both}
 
 -- ---- ids
 

@@ -28,7 +28,7 @@ use Rattle.session_core.specs.declared.state.Part.{Part}
 use Rattle.session_core.specs.declared.state.Request.{Request}
 use Rattle.session_core.specs.declared.state.Saying.{Saying}
 use Rattle.session_core.specs.Sending.{blobs_after, ended, flags_to, is_spent, max_id, numbered, outgoing, parts_of, replies_in}
-use Rattle.session_laws.specs.Streams.{Heard, gathers, hear, hear_message, hear_notice, hear_stops, stops_for}
+use Rattle.session_core.specs.Streams.{Heard, gathers, hear, hear_message, hear_notice, hear_stops, stops_for}
 
 -- ---- messages that tell changes, and those that stop
 

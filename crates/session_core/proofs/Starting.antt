@@ -38,10 +38,10 @@ use Rattle.subscribe_core.specs.Calls.{AreApart}
 use Rattle.subscribe_core.specs.Streams.{of_channel}
 use Rattle.subscribe_core.specs.Subscriptions.{Subbed, cursor_after, has_sub}
 use Rattle.subscribe_core.specs.Views.{sub_of}
-use Rattle.session_laws.proofs.Hearing.{all_append}
-use Rattle.session_laws.proofs.Owing.{begins_at, told_up_to}
-use Rattle.session_laws.proofs.Standing.{IsChannel, absent-has, absent-push, apart-push, begun_is, found-push, has-absent, same_channel}
-use Rattle.session_laws.proofs.Telling.{AreSolid, IsSolid, of-append}
+use Rattle.session_core.proofs.Hearing.{all_append}
+use Rattle.session_core.proofs.Owing.{begins_at, told_up_to}
+use Rattle.session_core.proofs.Standing.{IsChannel, absent-has, absent-push, apart-push, begun_is, found-push, has-absent, same_channel}
+use Rattle.session_core.proofs.Telling.{AreSolid, IsSolid, of-append}
 
 -- ---- what holds of subscriptions at a place
 

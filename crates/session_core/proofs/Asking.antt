@@ -54,7 +54,7 @@ use Rattle.tx_stage.specs.Staging.{Transaction, has_space}
 use Rattle.tx_stage.specs.declared.look.Want.{Want}
 use Rattle.tx_stage.specs.declared.look.Want.TheVariants as want
 use Rattle.tx_stage.specs.declared.touch.Touch.{Touch}
-use Rattle.session_laws.proofs.Retouched.{retouched}
+use Rattle.session_core.proofs.Retouched.{retouched}
 
 -- ---- whatever a transaction touched, the same is asked
 

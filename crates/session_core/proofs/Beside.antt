@@ -44,7 +44,7 @@ use Rattle.session_core.specs.Machine.{Taken, accepting, by_event, given_to, may
 use Rattle.session_core.specs.Run.{hears}
 use Rattle.session_core.specs.Replies.{saying_of, sayings_of, receipt, refusal, to_request}
 use Rattle.session_core.specs.Sending.{blobs_after, blobs_sent, is_spent, max_id, next_after, parts_of, said, spent_phase}
-use Rattle.session_laws.specs.Serial.{is_request_as, is_staged}
+use Rattle.session_core.specs.Serial.{is_request_as, is_staged}
 
 -- ---- sayings with no blob
 

@@ -21,7 +21,7 @@ use Rattle.msg_core.specs.Dataspace.{dataspace_kinds}
 use Rattle.msg_core.specs.Transaction.{transaction_kinds}
 use Rattle.msg_store.specs.DataArray.{data_array_kinds}
 use Rattle.msg_store.specs.Store.{store_kinds}
-use Rattle.session_laws.proofs.Beside.{IsNamed}
+use Rattle.session_core.proofs.Beside.{IsNamed}
 
 pub int_lt_trans : (a b c : ℤ) → int_lt a b ≡ true → int_lt b c ≡ true → int_lt a c ≡ true
 int_lt_trans a b c h k = grind (arith, ints)

@@ -52,16 +52,16 @@ use Rattle.session_core.specs.Noting.{found_noted, note_all}
 use Rattle.session_core.specs.Replies.{receipt, refusal, sayings_of, to_request}
 use Rattle.session_core.specs.Run.{Course, asked, answered_at, at_place, drained, hears, own_number}
 use Rattle.session_core.specs.Sending.{blobs_sent, is_spent, next_after, numbered, parts_of, said, spent_phase}
-use Rattle.session_laws.specs.Serial.{AllNoted, EndsBy, Rises, Succeeds, after_call, alone, bodies, is_request_as, is_staged, replies, requests, while_open}
-use Rattle.session_laws.proofs.Asking.{LooksWithin, OnCalls, arrays_look, arrays_same, objects_look, objects_same}
-use Rattle.session_laws.proofs.Beside.{AreNamed, IsNamed, blobs-low}
-use Rattle.session_laws.proofs.Marked.{AreWithin, all_touched, marked, marked-found, marked-notes, marks, marks-rise, notes-after, notes-before, take-short, wants-clear}
-use Rattle.session_laws.proofs.Retouched.{arrays_answered, objects_answered, retouched}
+use Rattle.session_core.specs.Serial.{AllNoted, EndsBy, Rises, Succeeds, after_call, alone, bodies, is_request_as, is_staged, replies, requests, while_open}
+use Rattle.session_core.proofs.Asking.{LooksWithin, OnCalls, arrays_look, arrays_same, objects_look, objects_same}
+use Rattle.session_core.proofs.Beside.{AreNamed, IsNamed, blobs-low}
+use Rattle.session_core.proofs.Marked.{AreWithin, all_touched, marked, marked-found, marked-notes, marks, marks-rise, notes-after, notes-before, take-short, wants-clear}
+use Rattle.session_core.proofs.Retouched.{arrays_answered, objects_answered, retouched}
 use Rattle.etp_values.specs.declared.code.ErrorCode.TheVariants as code
 use Rattle.store_machine.specs.Clash.{clash}
 use Rattle.session_core.specs.declared.state.End.TheVariants as end
 use Rattle.session_core.specs.declared.state.StagedPending.{StagedPending}
-use Rattle.session_laws.proofs.Alone.{Induction, Lawful, at, bodies-append, bodies-numbered, course, ended-fails, look-answered, looks-same, next-less, part_bodies, short-fails, spent-less}
+use Rattle.session_core.proofs.Alone.{Induction, Lawful, at, bodies-append, bodies-numbered, course, ended-fails, look-answered, looks-same, next-less, part_bodies, short-fails, spent-less}
 
 -- ---- one event of a run and of its session alone
 

@@ -20,8 +20,8 @@ use Rattle.tx_stage.specs.declared.look.Looked.{Looked}
 use Rattle.tx_stage.specs.declared.look.Want.{Want}
 use Rattle.tx_stage.specs.declared.touch.Touch.{Touch}
 use Rattle.session_core.specs.Noting.{found_by, found_noted, note, note_all, note_by}
-use Rattle.session_laws.specs.Serial.{AllNoted}
-use Rattle.session_laws.proofs.Retouched.{retouched}
+use Rattle.session_core.specs.Serial.{AllNoted}
+use Rattle.session_core.proofs.Retouched.{retouched}
 
 -- every mark is this one
 abbrev pub marks : ℕ → List Touch → List Touch

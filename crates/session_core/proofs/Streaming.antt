@@ -33,13 +33,13 @@ use Rattle.session_core.specs.declared.state.Request.{Request}
 use Rattle.session_core.specs.State.{State}
 use Rattle.session_core.specs.Arriving.{Event, Receives, Polls, arrived, arrived_as, arrived_by, error_event, follows, max_message_len, request_of, unless_stale}
 use Rattle.session_core.specs.Machine.{by_phase, given, on_poll, taken}
-use Rattle.session_core.specs.Run.{Course, HeedsFrom, IsHeeded, answered_at, asked, drained, first_course, happens, happens_unless, hears, moment_of, run, run_from, takes}
-use Rattle.session_laws.specs.Streams.{HasIds, Stopped, IsStopCause, IsStopped, Rises, RunStops, RunStreams, IdlePolls, SpentStreams, heard, is_spent_course, is_spent_phase, owed, owed_by, owed_to}
-use Rattle.session_laws.proofs.Moving.{After, Flow, Flowing, hushed_after, hushed_self, known_of, owed_is, stopped_same}
+use Rattle.session_core.specs.Run.{Course, Heeds, HeedsFrom, IsHeeded, answered_at, asked, drained, first_course, happens, happens_unless, hears, moment_of, run, run_from, takes}
+use Rattle.session_core.specs.Streams.{HasIds, HasSpent, HasStopped, HasTold, Stopped, IsStopCause, IsStopped, Rises, RunIsStreamed, RunIsToldAtIdle, heard, is_spent_course, is_spent_phase, owed, owed_by, owed_to}
+use Rattle.session_core.proofs.Moving.{After, Flow, Flowing, hushed_after, hushed_self, known_of, owed_is, stopped_same}
 use Rattle.session_core.proofs.RunLemmas.{run_snoc}
-use Rattle.session_laws.proofs.Starting.{IsKnown, Keeps}
-use Rattle.session_laws.proofs.Subscribing.{polling_leads, subscribing_leads}
-use Rattle.session_laws.proofs.Walking.{IsReceived, Leads, phase_leads, quiet_leads}
+use Rattle.session_core.proofs.Starting.{IsKnown, Keeps}
+use Rattle.session_core.proofs.Subscribing.{polling_leads, subscribing_leads}
+use Rattle.session_core.proofs.Walking.{IsReceived, Leads, phase_leads, quiet_leads}
 
 -- ---- a message is no poll
 
@@ -343,9 +343,9 @@ module _ (config : Config) (n : ℕ) (h : List Entry) (small : HasIds config) (s
 
   -- ---- polls that ask nothing
 
-  heeded_last : (r : Course) (es : List Event) (e : Event) → HeedsFrom config n h r (es ++ e ∷ []) → IsHeeded (run_from config n h r es).reach e
-  heeded_last r [] e all = all.0
-  heeded_last r (x ∷ es) e all = heeded_last (happens config n h r x) es e all.1
+  heeded_at : (r : Course) (es later : List Event) (e : Event) → HeedsFrom config n h r (es ++ e ∷ later) → IsHeeded (run_from config n h r es).reach e
+  heeded_at r [] later e all = all.0
+  heeded_at r (x ∷ es) later e all = heeded_at (happens config n h r x) es later e all.1
 
   -- a poll that asks nothing tells of no more than the cursor
   no_news : (s : State) (c : ℤ) (x : Sub) (front : ℕ) → sub_of c s.subs.subs ≡ Some x → (on_poll (news_call s.subs front) s).call ≡ None → front ≤ s.subs.cursor
@@ -378,24 +378,32 @@ module _ (config : Config) (n : ℕ) (h : List Entry) (small : HasIds config) (s
 -- ---- the laws
 
 module _ (stay : NewsStayWithin) (due : NewsAreTheDue) (each : NewsOfEach) where
-  pub run-streams : RunStreams
-  run-streams config n h places es small rises live channel = course_streams config n h small stay due each (run config n h places es) (kept_run config n h small stay due each places es rises) live channel
+  module _ (config : Config) (n : ℕ) (h : List Entry) (places : List ℕ) (small : HasIds config) (rises : Rises 0 places (length h)) where
+    has_told : (es : List Event) → HasTold config n h places es
+    has_told es live channel = course_streams config n h small stay due each (run config n h places es) (kept_run config n h small stay due each places es rises) live channel
 
-  pub run-stops : RunStops
-  run-stops config n h places es e small rises live channel =
-      let r : Course = run config n h places es in
-      subst (λ (t : Course). is_spent_course t ≡ false
-      → IsStopped (IsStopCause config h r.state.subs r.places e) (sub_of channel r.state.subs.subs) (sub_of channel t.state.subs.subs) (heard channel r.sent).told (heard channel r.sent).stops (heard channel t.sent).stops)
-      (sym (run_snoc config n h (first_course config n places) es e))
-      (λ alive. course_stops config n h small stay due each r.short r e (kept_run config n h small stay due each places es rises) alive channel) live
+    has_stopped : (es : List Event) (e : Event) → HasStopped config n h places es e
+    has_stopped es e live channel =
+        let r : Course = run config n h places es in
+        subst (λ (t : Course). is_spent_course t ≡ false
+        → IsStopped (IsStopCause config h r.state.subs r.places e) (sub_of channel r.state.subs.subs) (sub_of channel t.state.subs.subs) (heard channel r.sent).told (heard channel r.sent).stops (heard channel t.sent).stops)
+        (sym (run_snoc config n h (first_course config n places) es e))
+        (λ alive. course_stops config n h small stay due each r.short r e (kept_run config n h small stay due each places es rises) alive channel) live
 
-  pub spent-streams : SpentStreams
-  spent-streams config n h places es small rises spent =
-      let first : Course = first_course config n places in
-      let x = spent_at config n h small stay due each first es (kept_first config n h small stay due each places rises) refl spent in
-      (x.before, x.e, x.later, x.split, x.alive, λ channel. x.cut channel)
+    has_spent : (es : List Event) → HasSpent config n h places es
+    has_spent es spent =
+        let first : Course = first_course config n places in
+        let x = spent_at config n h small stay due each first es (kept_first config n h small stay due each places rises) refl spent in
+        (x.before, x.e, x.later, x.split, x.alive, λ channel. x.cut channel)
 
-  pub idle-polls : IdlePolls
-  idle-polls config n h places es front small rises heeds live is none channel s found =
-      idle config n h small stay due each (run config n h places es) (kept_run config n h small stay due each places es rises) front live is
-      (heeded_last config n h small stay due each (first_course config n places) es (Polls front) heeds) none channel s found
+  pub run_is_streamed : RunIsStreamed
+  run_is_streamed config n h places es small rises = record {
+    told = λ before later is. has_told config n h places small rises before;
+    stops = λ before later e is. has_stopped config n h places small rises before e;
+    spent = has_spent config n h places small rises es;
+  }
+
+  pub run_is_told_at_idle : RunIsToldAtIdle
+  run_is_told_at_idle config n h places es small rises heeds before later front split live is none channel s found =
+      idle config n h small stay due each (run config n h places before) (kept_run config n h small stay due each places before rises) front live is
+      (heeded_at config n h small stay due each (first_course config n places) before later (Polls front) (subst (Heeds config n h places) split heeds)) none channel s found

@@ -34,8 +34,8 @@ use Rattle.session_core.specs.State.{State}
 use Rattle.session_core.specs.Arriving.{Event}
 use Rattle.session_core.specs.Run.{Course, drained, happens, happens_unless, takes}
 use Rattle.session_core.specs.Sending.{is_spent, max_id, next_after, numbered, outgoing, replies_in}
-use Rattle.session_laws.specs.Serial.{EndsBy, Rises, Succeeds, alone, bodies, replies, requests}
-use Rattle.session_laws.proofs.Marked.{AreFree, AreWithin, marked}
+use Rattle.session_core.specs.Serial.{EndsBy, Rises, Succeeds, alone, bodies, replies, requests}
+use Rattle.session_core.proofs.Marked.{AreFree, AreWithin, marked}
 
 -- ---- states and courses
 

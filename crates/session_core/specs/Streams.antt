@@ -145,11 +145,11 @@ is_spent_course r = is_spent_phase r.state.phase
 abbrev pub HasIds : Config → Type 0
 HasIds config = length config.channels < 2 ^ 63
 
--- of each channel a session has told what it owed, no more and no less, and each notice to its last part. So a subscription has
--- been told the stream from its own start and place on, and after its stop nothing is told
-abbrev pub RunStreams : Type 0
-RunStreams = (config : Config) (n : ℕ) (h : List Entry) (places : List ℕ) (es : List Event) → HasIds config → Rises 0 places (length h)
-    → let r = run config n h places es in
+-- of each channel a session has told what it owed, no more and no less, and each notice to its last part, as long as its ids are
+-- not spent. So a subscription has been told the stream from its own start and place on, and after its stop nothing is told
+abbrev pub HasTold : Config → ℕ → List Entry → List ℕ → List Event → Type 0
+HasTold config n h places es =
+    let r = run config n h places es in
     is_spent_course r ≡ false → (channel : ℤ) → ((heard channel r.sent).told ≡ owed h r.state.subs channel) × ((heard channel r.sent).part ≡ [])
 
 -- a message of the client's stops subscriptions because it asks for that
@@ -175,9 +175,10 @@ IsStopped Causes None after told old new = new ≡ old
 IsStopped Causes (Some s) (Some t) told old new = (new ≡ old) × (t ≡ s)
 IsStopped Causes (Some s) None told old new = (cause : StopCause) × Causes cause × (new ≡ old ++ record { reason = reason_of cause; told = told } ∷ [])
 
-abbrev pub RunStops : Type 0
-RunStops = (config : Config) (n : ℕ) (h : List Entry) (places : List ℕ) (es : List Event) (e : Event) → HasIds config → Rises 0 places (length h)
-    → let r = run config n h places es in let t = run config n h places (es ++ e ∷ []) in
+-- so it is at an event that follows these
+abbrev pub HasStopped : Config → ℕ → List Entry → List ℕ → List Event → Event → Type 0
+HasStopped config n h places es e =
+    let r = run config n h places es in let t = run config n h places (es ++ e ∷ []) in
     is_spent_course t ≡ false → (channel : ℤ)
     → IsStopped (IsStopCause config h r.state.subs r.places e) (sub_of channel r.state.subs.subs) (sub_of channel t.state.subs.subs) (heard channel r.sent).told (heard channel r.sent).stops (heard channel t.sent).stops
 
@@ -188,9 +189,9 @@ owed_by h before after (Some s) channel = stream_to h after.cursor s
 
 -- where a run has spent its ids, one of its events did: what was told to its last part is a beginning of what was owed by that
 -- event, and no subscription is stopped but as that event stops them
-abbrev pub SpentStreams : Type 0
-SpentStreams = (config : Config) (n : ℕ) (h : List Entry) (places : List ℕ) (es : List Event) → HasIds config → Rises 0 places (length h)
-    → let t = run config n h places es in
+abbrev pub HasSpent : Config → ℕ → List Entry → List ℕ → List Event → Type 0
+HasSpent config n h places es =
+    let t = run config n h places es in
     is_spent_course t ≡ true
     → (before : List Event) × (e : Event) × (later : List Event) × (es ≡ before ++ e ∷ later) × (is_spent_course (run config n h places before) ≡ false)
     × ((channel : ℤ) → let r = run config n h places before in
@@ -199,10 +200,24 @@ SpentStreams = (config : Config) (n : ℕ) (h : List Entry) (places : List ℕ) 
     × IsStopped (IsStopCause config h r.state.subs r.places e) (sub_of channel r.state.subs.subs) (sub_of channel t.state.subs.subs) (heard channel r.sent).told (heard channel r.sent).stops all
     × IsPrefix (heard channel t.sent).stops all))
 
--- where a poll asks nothing, its front is what the session has seen of the history, and each subscription was told its stream up to
--- there
-abbrev pub IdlePolls : Type 0
-IdlePolls = (config : Config) (n : ℕ) (h : List Entry) (places : List ℕ) (es : List Event) (front : ℕ) → HasIds config → Rises 0 places (length h) → Heeds config n h places (es ++ Polls front ∷ [])
-    → let r = run config n h places es in
+-- in the run of these events: what was told is so before each of them and after all, each of them stops subscriptions so, and
+-- where they spent the ids, it is so
+pub record IsStreamed (config : Config) (n : ℕ) (h : List Entry) (places : List ℕ) (es : List Event) : Type 0 where
+  pub told : (before later : List Event) → es ≡ before ++ later → HasTold config n h places before
+  pub stops : (before later : List Event) (e : Event) → es ≡ before ++ e ∷ later → HasStopped config n h places before e
+  pub spent : HasSpent config n h places es
+
+abbrev pub RunIsStreamed : Type 0
+RunIsStreamed = (config : Config) (n : ℕ) (h : List Entry) (places : List ℕ) (es : List Event) → HasIds config → Rises 0 places (length h) → IsStreamed config n h places es
+
+-- where a poll among these events asks nothing, its front is what the session has seen of the history, and each subscription was
+-- told its stream up to there
+abbrev pub IsToldAtIdle : Config → ℕ → List Entry → List ℕ → List Event → Type 0
+IsToldAtIdle config n h places es = (before later : List Event) (front : ℕ) → es ≡ before ++ Polls front ∷ later
+    → let r = run config n h places before in
     (live : Live) → r.state.phase ≡ phase.Live live → (takes r.state (Polls front)).call ≡ None → (channel : ℤ) (s : Sub) → sub_of channel r.state.subs.subs ≡ Some s
     → (front ≡ r.reach) × ((heard channel r.sent).told ≡ stream s.channel s.start s.all s.from (take front h))
+
+abbrev pub RunIsToldAtIdle : Type 0
+RunIsToldAtIdle = (config : Config) (n : ℕ) (h : List Entry) (places : List ℕ) (es : List Event) → HasIds config → Rises 0 places (length h) → Heeds config n h places es
+    → IsToldAtIdle config n h places es

@@ -18,13 +18,13 @@ use Rattle.subscribe_core.specs.Subscriptions.{Subbed}
 use Rattle.subscribe_core.specs.Views.{sub_of, told}
 use Rattle.session_core.specs.Replies.{sayings_of}
 use Rattle.session_core.specs.Sending.{parts_of}
-use Rattle.session_laws.specs.Streams.{Heard}
-use Rattle.session_laws.proofs.Hearing.{hear_parts}
-use Rattle.session_laws.proofs.Moving.{Flow, keeps_on, known_of}
-use Rattle.session_laws.proofs.Owing.{goes_on, since, told_up_to, window}
-use Rattle.session_laws.proofs.Standing.{due_changes, found-channel}
-use Rattle.session_laws.proofs.Starting.{IsKnown, Keeps, owes, owes_to}
-use Rattle.session_laws.proofs.Telling.{note, notes_heard, solid_told, told-silent, told-stream, with_told}
+use Rattle.session_core.specs.Streams.{Heard}
+use Rattle.session_core.proofs.Hearing.{hear_parts}
+use Rattle.session_core.proofs.Moving.{Flow, keeps_on, known_of}
+use Rattle.session_core.proofs.Owing.{goes_on, since, told_up_to, window}
+use Rattle.session_core.proofs.Standing.{due_changes, found-channel}
+use Rattle.session_core.proofs.Starting.{IsKnown, Keeps, owes, owes_to}
+use Rattle.session_core.proofs.Telling.{note, notes_heard, solid_told, told-silent, told-stream, with_told}
 
 pub notes_said : (xs : List ChannelChange) → sayings_of message.ChannelSubscribe (map notice xs) ≡ map note xs
 notes_said [] = refl

@@ -56,8 +56,8 @@ use Rattle.session_core.specs.Machine.{Taken, accepting, acknowledged, arrays_ke
 use Rattle.session_core.specs.Noting.{noting, reply_noted}
 use Rattle.session_core.specs.Replies.{receipt, refusal, sayings_of, to_request}
 use Rattle.session_core.specs.Sending.{said}
-use Rattle.session_laws.proofs.Hearing.{IsQuiet, stops, tells}
-use Rattle.session_laws.proofs.Moving.{After, AreQuiet, Flowing, Hushed, hushed_after, hushed_said, hushed_self}
+use Rattle.session_core.proofs.Hearing.{IsQuiet, stops, tells}
+use Rattle.session_core.proofs.Moving.{After, AreQuiet, Flowing, Hushed, hushed_after, hushed_said, hushed_self}
 
 -- messages of a protocol without subscriptions
 pub quiet_sayings : {M : Type 0} (wrap : M → Message) → ((x : M) → IsQuiet (tells (wrap x)) (stops (wrap x))) → (xs : List (Sending M)) → AreQuiet (sayings_of wrap xs)

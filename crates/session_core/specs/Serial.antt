@@ -141,9 +141,13 @@ CommittedIsSerial = (config : Config) (n : ℕ) (h : List Entry) (p : ℕ) (c : 
     → c.short ≡ false → Begins c.state x → Rises 0 c.places → Succeeds config n h p c es
     → replies config n h c es ≡ alone config (take p h) c.state (requests config n h c es)
 
--- the same in the run of a session, split at any event
-abbrev pub RunIsSerial : Type 0
-RunIsSerial = (config : Config) (n : ℕ) (h : List Entry) (places : List ℕ) (before es : List Event) (p : ℕ) (x : Transaction) → Rises 0 places
+-- in the run of these events, wherever it is split: a transaction that has just begun there, and is committed successfully by the
+-- later ones after the entries below a place, was answered so
+abbrev pub IsSerial : Config → ℕ → List Entry → List ℕ → List Event → Type 0
+IsSerial config n h places es = (before later : List Event) (p : ℕ) (x : Transaction) → es ≡ before ++ later
     → let c = run config n h places before in
-    c.short ≡ false → c.state.stage ≡ Some x → x.touched ≡ [] → Succeeds config n h p c es
-    → replies config n h c es ≡ alone config (take p h) c.state (requests config n h c es)
+    c.state.stage ≡ Some x → x.touched ≡ [] → Succeeds config n h p c later
+    → replies config n h c later ≡ alone config (take p h) c.state (requests config n h c later)
+
+abbrev pub RunIsSerial : Type 0
+RunIsSerial = (config : Config) (n : ℕ) (h : List Entry) (places : List ℕ) (es : List Event) → Rises 0 places → IsSerial config n h places es

@@ -58,10 +58,10 @@ use Rattle.session_core.specs.Noting.{noting, reply_noted}
 use Rattle.session_core.specs.Replies.{receipt, refusal, sayings_of, to_request}
 use Rattle.session_core.specs.Run.{AnswersAreLast, Course, answered_at, asked, first_course, happens, happens_unless, hears, moment_of, run, run_from, takes}
 use Rattle.session_core.specs.Sending.{is_spent, parts_of, said, spent_phase}
-use Rattle.session_laws.specs.Serial.{Begins, Rises, RunIsSerial, Succeeds}
-use Rattle.session_laws.proofs.Alone.{course, ended-fails}
-use Rattle.session_laws.proofs.Beside.{IsApart, IsBegun, IsReady, begun-spent, blobs-low}
-use Rattle.session_laws.proofs.Committed.{committed_is_serial}
+use Rattle.session_core.specs.Serial.{Begins, EndsBy, Rises, RunIsSerial, Succeeds}
+use Rattle.session_core.proofs.Alone.{course, ended-fails}
+use Rattle.session_core.proofs.Beside.{IsApart, IsBegun, IsReady, begun-spent, blobs-low}
+use Rattle.session_core.proofs.Committed.{committed_is_serial}
 
 -- ---- an open session stays begun, and counts its blobs by 64 bits
 
@@ -338,16 +338,64 @@ module _ (fits : AnswersFit) (last : AnswersAreLast) (config : Config) (n : ℕ)
       let there : c ≡ course (record c.state { phase = phase.Ended e }) c.places c.sent c.made c.reach = λ j. record { state = record c.state { phase = at j }; places = c.places; sent = c.sent; made = c.made; short = short j; reach = c.reach } in
       absurd (ended-fails config n h p es e c.state c.places c.sent c.made c.reach (subst (λ d. Succeeds config n h p d es) there succ))
 
+-- ---- a run that has stopped short commits nothing
+
+module _ (config : Config) (n : ℕ) (h : List Entry) where
+  -- no place is left
+  abbrev IsUsedUp : Course → Type 0
+  IsUsedUp c = c.short ≡ true → c.places ≡ []
+
+  answered_used : (moment : ℤ) (c : Course) (s : State) (k : StoreCall) (ps : List ℕ) → IsUsedUp (answered_at config n h moment c s k ps)
+  answered_used moment c s k [] short = refl
+  answered_used moment c s k (p ∷ ps) short = absurd (false≢true short)
+
+  asked_used : (moment : ℤ) (c : Course) (s : State) (k : Option StoreCall) → IsUsedUp (asked config n h moment c s k)
+  asked_used moment c s None short = absurd (false≢true short)
+  asked_used moment c s (Some k) short = answered_used moment c s k c.places short
+
+  happens_used : (b : Bool) (c : Course) (e : Event) → IsUsedUp c → IsUsedUp (happens_unless config n h b c e)
+  happens_used true c e used = used
+  happens_used false c e used = asked_used (moment_of e) c (takes c.state e).state (takes c.state e).call
+
+  run_used : (es : List Event) (c : Course) → IsUsedUp c → IsUsedUp (run_from config n h c es)
+  run_used [] c used = used
+  run_used (e ∷ es) c used = run_used es (happens config n h c e) (happens_used c.short c e used)
+
+  nothing_ends : (p : ℕ) (x : Option Transaction) (kept : Option Pending) (k : Option StoreCall) (ps : List ℕ) (Later : Type 0) → ps ≡ [] → (Later → ⊥) → EndsBy config h p x kept k ps Later → ⊥
+  nothing_ends p (Some x) kept k ps Later none never ends = never ends.1
+  nothing_ends p None kept None ps Later none never ends = ends
+  nothing_ends p None kept (Some k) [] Later none never ends = ends
+  nothing_ends p None kept (Some k) (q ∷ qs) Later none never ends = cc
+
+  stays_short : (b : Bool) (c : Course) (e : Event) → b ≡ true → happens_unless config n h b c e ≡ c
+  stays_short true c e is = refl
+  stays_short false c e is = absurd (false≢true is)
+
+  short-fails : (p : ℕ) (c : Course) (es : List Event) → c.short ≡ true → c.places ≡ [] → Succeeds config n h p c es → ⊥
+  short-fails p c [] short none succ = succ
+  short-fails p c (e ∷ es) short none succ =
+      nothing_ends p (takes c.state e).state.stage (takes c.state e).state.pending (takes c.state e).call c.places (Succeeds config n h p (happens config n h c e) es) none
+      (λ later. short-fails p c es short none (subst (λ (d : Course). Succeeds config n h p d es) (stays_short c.short c e short) later)) succ
+
+  going : (p : ℕ) (c : Course) (es : List Event) → IsUsedUp c → Succeeds config n h p c es → c.short ≡ false
+  going p c es used succ = by c.short refl
+    where
+      by : (b : Bool) → c.short ≡ b → c.short ≡ false
+      by true is = absurd (short-fails p c es is (used is) succ)
+      by false is = is
+
 pub run_is_serial : ValuesStayBetween → NoConflictIsFree → LooksAtOwnKeys → AnswersFit → AnswersAreLast → RunIsSerial
-run_is_serial between no_conflict own_keys fits last config n h places before es p x rises short stage touched succ =
+run_is_serial between no_conflict own_keys fits last config n h places es rises before later p x split stage touched succ =
     let c = run config n h places before in
-    let r = run_reached fits last config n h before (first_course config n places) (record { sound = (omega arith, refl); idle = λ is. refl; out = refl; places = rises }) in
+    let first : Course = first_course config n places in
+    let r = run_reached fits last config n h before first (record { sound = (omega arith, refl); idle = λ is. refl; out = refl; places = rises }) in
+    let short : c.short ≡ false = going config n h p c later (run_used config n h before first (λ is. absurd (false≢true is))) succ in
     let begins : Begins c.state x = record {
-      phase = is_open fits last config n h p x c es short stage r.sound succ c.state.phase refl r.sound.1;
+      phase = is_open fits last config n h p x c later short stage r.sound succ c.state.phase refl r.sound.1;
       stage = stage;
       touched = touched;
       kept = r.idle short;
       out = r.out;
       blobs = r.sound.0;
     } in
-    committed_is_serial between no_conflict own_keys config n h p c x es short begins r.places succ
+    committed_is_serial between no_conflict own_keys config n h p c x later short begins r.places succ

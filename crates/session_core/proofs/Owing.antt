@@ -14,7 +14,7 @@ use Rattle.channel_store.specs.declared.change.What.{What}
 use Rattle.channel_store.specs.declared.subscription.Sub.{Sub}
 use Rattle.store_machine.specs.Channels.{change_by, change_list, changes_from, channel_points, what_of}
 use Rattle.store_machine.specs.declared.journal.Entry.{Entry}
-use Rattle.session_laws.specs.Streams.{stream_to}
+use Rattle.session_core.specs.Streams.{stream_to}
 
 -- ---- beginnings of lists
 
