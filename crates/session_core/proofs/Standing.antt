@@ -2,7 +2,6 @@
 use Rattle.std.specs.Prelude.{ℕ, zero, suc, ℤ, pos, negsuc, Bool, true, false, cond, List, [], ◌∷◌, ◌++◌, ◌≡◌, ◌+◌, ◌<◌, ◌&&◌, ◌||◌, not, nat_le, Option, Some, None, is_some, filter, length, slice_get, if◌then◌else◌, refl}
 use Rattle.std.specs.Ordering.{int_eq}
 use Rattle.std.proofs.Common.{ap, sym, ◌∙◌, arith}
-use Rattle.std.proofs.lemmas.Bool.{false≢true}
 use Rattle.std.proofs.lemmas.Int.{ints}
 use Rattle.std.proofs.lemmas.List.Elements.{filter-append}
 use Rattle.std.proofs.lemmas.Option.{none-some, same_Some}
@@ -28,25 +27,16 @@ use Rattle.store_machine.specs.declared.journal.Entry.{Entry}
 use Rattle.subscribe_core.specs.Calls.{AreApart}
 use Rattle.subscribe_core.specs.Subscriptions.{has_sub, others}
 use Rattle.subscribe_core.specs.Views.{sub_of}
+use Rattle.subscribe_core.proofs.SubLemmas.{absent-has}
 use Rattle.session_core.proofs.Owing.{since}
 
 -- ---- finding
-
-pub absent-has : (c : ℤ) (xs : List Sub) → has_sub c xs ≡ false → sub_of c xs ≡ None
-absent-has c xs h = by (sub_of c xs) h
-  where
-    by : (o : Option Sub) → is_some o ≡ false → o ≡ None
-    by None h = refl
-    by (Some x) h = absurd (false≢true (sym h))
 
 pub has-absent : (c : ℤ) (xs : List Sub) → sub_of c xs ≡ None → has_sub c xs ≡ false
 has-absent c xs h = ap is_some h
 
 pub same_channel : (a b : ℤ) → int_eq a b ≡ true → a ≡ b
 same_channel a b e = grind (arith, ints)
-
-other_way : (a b : ℤ) → int_eq a b ≡ false → int_eq b a ≡ false
-other_way a b h = grind (arith, ints)
 
 -- what is found is of the channel
 pub found-channel : (c : ℤ) (xs : List Sub) (s : Sub) → sub_of c xs ≡ Some s → s.channel ≡ c
@@ -58,14 +48,6 @@ found-channel c (y ∷ ys) s h = by (int_eq y.channel c) refl h (found-channel c
     by false e h rest = rest h
 
 -- one more
-pub found-push : (c : ℤ) (xs : List Sub) (s x : Sub) → sub_of c xs ≡ Some x → sub_of c (xs ++ s ∷ []) ≡ Some x
-found-push c [] s x h = absurd (none-some x h)
-found-push c (y ∷ ys) s x h = by (int_eq y.channel c) (found-push c ys s x) h
-  where
-    by : (b : Bool) → (sub_of c ys ≡ Some x → sub_of c (ys ++ s ∷ []) ≡ Some x) → cond b (Some y) (sub_of c ys) ≡ Some x → cond b (Some y) (sub_of c (ys ++ s ∷ [])) ≡ Some x
-    by true rest h = h
-    by false rest h = rest h
-
 pub absent-push : (c : ℤ) (xs : List Sub) (s : Sub) → sub_of c xs ≡ None → sub_of c (xs ++ s ∷ []) ≡ (if int_eq s.channel c then Some s else None)
 absent-push c [] s h = refl
 absent-push c (y ∷ ys) s h = by (int_eq y.channel c) (absent-push c ys s) h
@@ -76,18 +58,6 @@ absent-push c (y ∷ ys) s h = by (int_eq y.channel c) (absent-push c ys s) h
     by false rest h = rest h
 
 -- without those of a channel
-apart_from : (a b c : ℤ) → int_eq a b ≡ true → int_eq b c ≡ false → int_eq a c ≡ false
-apart_from a b c h n = grind (arith, ints)
-
-pub found-others : (c d : ℤ) → int_eq d c ≡ false → (xs : List Sub) → sub_of c (others d xs) ≡ sub_of c xs
-found-others c d n [] = refl
-found-others c d n (y ∷ ys) = by (int_eq y.channel d) refl (found-others c d n ys)
-  where
-    by : (b : Bool) → int_eq y.channel d ≡ b → sub_of c (others d ys) ≡ sub_of c ys
-        → sub_of c (cond (not b) (y ∷ others d ys) (others d ys)) ≡ cond (int_eq y.channel c) (Some y) (sub_of c ys)
-    by true e rest = rest ∙ sym (ap (λ b. cond b (Some y) (sub_of c ys)) (apart_from y.channel d c e n))
-    by false e rest = ap (λ o. cond (int_eq y.channel c) (Some y) o) rest
-
 pub none-others : (c : ℤ) (xs : List Sub) → sub_of c (others c xs) ≡ None
 none-others c [] = refl
 none-others c (y ∷ ys) = by (int_eq y.channel c) refl (none-others c ys)
@@ -95,32 +65,6 @@ none-others c (y ∷ ys) = by (int_eq y.channel c) refl (none-others c ys)
     by : (b : Bool) → int_eq y.channel c ≡ b → sub_of c (others c ys) ≡ None → sub_of c (cond (not b) (y ∷ others c ys) (others c ys)) ≡ None
     by true e rest = rest
     by false e rest = ap (λ b. cond b (Some y) (sub_of c (others c ys))) e ∙ rest
-
-absent-others : (c d : ℤ) (xs : List Sub) → sub_of c xs ≡ None → sub_of c (others d xs) ≡ None
-absent-others c d xs h = by (int_eq d c) refl
-  where
-    by : (b : Bool) → int_eq d c ≡ b → sub_of c (others d xs) ≡ None
-    by true e = ap (λ z. sub_of z (others d xs)) (sym (same_channel d c e)) ∙ none-others d xs
-    by false e = found-others c d e xs ∙ h
-
--- at most one of a channel
-pub apart-others : (d : ℤ) (xs : List Sub) → AreApart xs → AreApart (others d xs)
-apart-others d [] a = tt
-apart-others d (y ∷ ys) a = by (int_eq y.channel d) (apart-others d ys a.1)
-  where
-    by : (b : Bool) → AreApart (others d ys) → AreApart (cond (not b) (y ∷ others d ys) (others d ys))
-    by true rest = rest
-    by false rest = (has-absent y.channel (others d ys) (absent-others y.channel d ys (absent-has y.channel ys a.0)), rest)
-
-pub apart-push : (xs : List Sub) (s : Sub) → sub_of s.channel xs ≡ None → AreApart xs → AreApart (xs ++ s ∷ [])
-apart-push [] s h a = (refl, tt)
-apart-push (y ∷ ys) s h a = by (int_eq y.channel s.channel) refl h (λ k. apart-push ys s k a.1)
-  where
-    by : (b : Bool) → int_eq y.channel s.channel ≡ b → cond b (Some y) (sub_of s.channel ys) ≡ None → (sub_of s.channel ys ≡ None → AreApart (ys ++ s ∷ []))
-        → AreApart (y ∷ (ys ++ s ∷ []))
-    by true e h rest = absurd (none-some y (sym h))
-    by false e h rest =
-        (has-absent y.channel (ys ++ s ∷ []) (absent-push y.channel ys s (absent-has y.channel ys a.0) ∙ ap (λ (b : Bool). if b then Some s else None) (other_way y.channel s.channel e)), rest h)
 
 -- ---- what is due
 

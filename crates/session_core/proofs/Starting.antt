@@ -40,7 +40,8 @@ use Rattle.subscribe_core.specs.Subscriptions.{Subbed, cursor_after, has_sub}
 use Rattle.subscribe_core.specs.Views.{sub_of}
 use Rattle.session_core.proofs.Hearing.{all_append}
 use Rattle.session_core.proofs.Owing.{begins_at, told_up_to}
-use Rattle.session_core.proofs.Standing.{IsChannel, absent-has, absent-push, apart-push, begun_is, found-push, has-absent, same_channel}
+use Rattle.subscribe_core.proofs.SubLemmas.{absent-has, apart-push, found-push}
+use Rattle.session_core.proofs.Standing.{IsChannel, absent-push, begun_is, has-absent, same_channel}
 use Rattle.session_core.proofs.Telling.{AreSolid, IsSolid, of-append}
 
 -- ---- what holds of subscriptions at a place

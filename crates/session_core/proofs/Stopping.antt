@@ -37,7 +37,8 @@ use Rattle.session_core.specs.Replies.{refused_keys as refused_message, sayings_
 use Rattle.session_core.specs.Sending.{blobs_after, ended, parts_of}
 use Rattle.session_core.specs.Streams.{Heard, hear_stops, stops_for}
 use Rattle.session_core.proofs.Hearing.{IsQuiet, hear_parts, kinds_of, named, parts_quiet, stops, tells}
-use Rattle.session_core.proofs.Standing.{found-others, none-others, same_channel}
+use Rattle.subscribe_core.proofs.SubLemmas.{found-others}
+use Rattle.session_core.proofs.Standing.{none-others, same_channel}
 
 -- ---- a stop, in parts
 

@@ -64,7 +64,8 @@ use Rattle.session_core.specs.Streams.{Heard, HasIds, hear_stops}
 use Rattle.session_core.proofs.Hearing.{IsQuiet, all_append, hear_parts, kinds_one, notice_stops, notice_tells, parts_quiet, stops, tells}
 use Rattle.session_core.proofs.Moving.{After, AreQuiet, Flow, Flowing, Hushed, all_weaker, grown_after, hushed_said, keeps_on, stopped_after}
 use Rattle.session_core.proofs.Newsing.{come, news_heard, news_keep, news_of, notes_said, told_on}
-use Rattle.session_core.proofs.Standing.{IsChannel, apart-others}
+use Rattle.subscribe_core.proofs.SubLemmas.{apart-others}
+use Rattle.session_core.proofs.Standing.{IsChannel}
 use Rattle.session_core.proofs.Starting.{Begins, IsKnown, IsNamedIn, Keeps, all_begin, are_starts, owes, told_as}
 use Rattle.session_core.proofs.Stopping.{Ends, all_stopped, kept_after, stop_heard, stop_reply_heard, unsubscribed}
 use Rattle.session_core.proofs.Telling.{note, notes_heard}
