@@ -1,14 +1,14 @@
 //! In a transaction the keys that a request looks at are noted, before anything comes of what was found there.
-ghost use Rattle.std.specs.Prelude.{◌≡◌, ◌≢◌, ◌++◌, IfOk, IsOk, OnOk, Some, drop, map, take};
-ghost use Rattle.request_scope.specs.Scope.{code_of};
+ghost use Rattle.std.specs.Prelude.{◌≡◌, ◌++◌, IfOk, IsOk, OnOk, Some, drop, map, take};
 ghost use Rattle.session_core.specs.Noting.{found_by, found_noted, key_refusal, keys_in, note, note_all, noting, reply_noted};
 ghost use Rattle.tx_stage.specs.Looks.{key_of};
 
 use etp_values::{Copied, ErrorCode, List, NoMemory};
+use request_scope::refusal_code;
 use std::alloc::Global;
 use std::collections::VecDeque;
 use store_machine::{Looked, Reply, StoreCall, Want};
-use tx_stage::{Key, Stage, StageError};
+use tx_stage::{Key, Stage};
 
 /// The key that is looked at.
 fn key_of(alloc: Global, want: &Want) -> Result<Key, NoMemory>
@@ -45,21 +45,6 @@ pub(crate) fn keys_in(alloc: Global, call: &StoreCall) -> Result<List<Key>, NoMe
     }
 }
 
-/// The code by which a key is refused; want of memory is none.
-fn refused(error: StageError) -> Result<ErrorCode, NoMemory>
-    ensures code { IfOk result (λ code. code ≡ code_of error) }
-    ensures memory { OnOk result (error ≢ StageError.NoMemory) }
-{
-    match error {
-        StageError::ReadOnly => Ok(ErrorCode::RequestDenied),
-        StageError::Space(_) => Ok(ErrorCode::RequestDenied),
-        StageError::Operations => Ok(ErrorCode::LimitExceeded),
-        StageError::Bytes => Ok(ErrorCode::LimitExceeded),
-        StageError::Keys => Ok(ErrorCode::LimitExceeded),
-        StageError::NoMemory => Err(NoMemory),
-    }
-}
-
 /// Notes a key at a mark, or answers why it is refused.
 fn note(stage: &mut Stage, key: Key, mark: u64) -> Result<Option<ErrorCode>, NoMemory>
     ensures refusal { IfOk result (λ code. code ≡ key_refusal stage.old key) }
@@ -70,7 +55,7 @@ fn note(stage: &mut Stage, key: Key, mark: u64) -> Result<Option<ErrorCode>, NoM
     match noted {
         Ok(()) => Ok(None),
         Err(error) => {
-            let code = refused(error)?;
+            let code = refusal_code(error)?;
             Ok(Some(code))
         }
     }
