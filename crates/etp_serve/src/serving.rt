@@ -105,8 +105,7 @@ fn begin(alloc: Global, conf: &Config, number: u64) -> Result<Session, NoMemory>
 /// A list in memory is not so long that a channel of it has no id of 64 bits.
 fn each_has_id(channels: &[ChannelDef])
     ensures { length channels.now < 2 ^ 63 }
-{
-}
+{}
 
 /// Serves a session that was just let in, until it ends, its link does, or memory is refused. Each turn passes the gate,
 /// receives once, serves the message, if one came, and polls. It waits for the store's turn and for the link.
