@@ -8,7 +8,8 @@ use std::process::ExitCode;
 use tool_forms::run_program;
 
 fn main(rt: HostRuntime) -> ExitCode {
-    let shown = run_program(&FaultySystem::new(&rt, &["etptool", "show"]), rt.stderr());
+    let words = ["etptool", "show"];
+    let shown = run_program(&FaultySystem::new(&rt, &words), rt.stderr());
     if shown != ExitCode::from(Status::WriteFault.number()) {
         return ExitCode::FAILURE;
     }
