@@ -97,8 +97,9 @@ impl<'a, R: Net<Listener = TcpListener, Stream = TcpStream>> TcpDoor<'a, R> {
         let Some(socket) = shake_hands(alloc, stream) else {
             return None;
         };
-        match self.post(alloc) {
-            Some(post) => WsLink::new(socket, post),
+        let post = self.post(alloc)?;
+        match WsLink::new(socket, post) {
+            Some(link) => Some(link),
             None => None,
         }
     }

@@ -1,8 +1,7 @@
 //! A WebSocket as a link.
-ghost use Rattle.std.specs.Prelude.{◌≡◌, ◌≤◌, ◌||◌, None, IfSome};
+ghost use Rattle.std.specs.Prelude.{◌≡◌, ◌≤◌, ◌||◌, None, false, IfSome};
 ghost use Rattle.etp_outside.specs.Faults.{Rose};
 ghost use Rattle.etp_outside.specs.Talk.{is_end};
-ghost use Rattle.etp_outside.specs.Doors.{IsAccepted};
 
 use crate::arrival::{Arrival, receive};
 use crate::bells::{Post, Woken};
@@ -53,11 +52,12 @@ pub struct WsLink<S, K> {
     post: Post,
 }
 
-impl<S: Read + Write + OpenStream + AsRawFd + Drop + Send, K: MaskKeys + Drop + Send> WsLink<S, K> {
+impl<S: Read + Write + OpenStream + AsRawFd + Drop, K: MaskKeys + Drop> WsLink<S, K> {
     /// A link over a WebSocket whose handshake is done, which waits at a post. None where the stream takes no limits of time: a
     /// read or a write of it could wait for ever.
     pub(crate) fn new(socket: WebSocket<Metered<S>, K>, post: Post) -> Option<WsLink<S, K>>
-        ensures { IfSome result (λ l. IsAccepted (⟦<WsLink<S, K> as Link>⟧.talk l) (⟦<WsLink<S, K> as Link>⟧.faults l) (⟦<WsLink<S, K> as Link>⟧.ended l)) }
+        ensures faults { IfSome result (λ l. l.faults ≡ 0) }
+        ensures ended { IfSome result (λ l. l.ended ≡ false) }
     {
         let stream = socket.get_ref().stream();
         if limit(stream).is_err() || !post.watch(stream.as_raw_fd()) {
@@ -86,6 +86,20 @@ impl<S: Read + Write + OpenStream + AsRawFd + Drop + Send, K: MaskKeys + Drop + 
 }
 
 impl<S: Read + Write + OpenStream + Drop, K: MaskKeys + Drop> WsLink<S, K> {
+    /// How often it failed.
+    pub(crate) fn faults(&self) -> u64
+        ensures { result ≡ self.now.faults }
+    {
+        self.faults
+    }
+
+    /// Whether the peer has ended it.
+    pub(crate) fn has_ended(&self) -> bool
+        ensures { result ≡ self.now.ended }
+    {
+        self.ended
+    }
+
     /// Counts a fault, and has every later call fail.
     fn fault(&mut self)
         ensures rose { Rose self.old.faults self.new.faults }
@@ -253,6 +267,22 @@ impl<S: Read + Write + OpenStream + Drop, K: MaskKeys + Drop> WsLink<S, K> {
             }
         }
     }
+
+    /// Says goodbye and shuts the stream down, the first time that it is called.
+    pub(crate) fn end(&mut self)
+        ensures faults { self.new.faults ≡ self.old.faults }
+        ensures ended { self.new.ended ≡ self.old.ended }
+    {
+        if self.closed {
+            return;
+        }
+        self.closed = true;
+        self.ring();
+        if !self.ended && !self.broken {
+            self.say_goodbye();
+        }
+        let _ = self.socket.get_ref().stream().shutdown(Shutdown::Both);
+    }
 }
 
 /// Sets the limits of time of a link that begins.
@@ -300,14 +330,6 @@ impl<S: Read + Write + OpenStream + Drop + Send, K: MaskKeys + Drop + Send> Link
     }
 
     fn close(&mut self) {
-        if self.closed {
-            return;
-        }
-        self.closed = true;
-        self.ring();
-        if !self.ended && !self.broken {
-            self.say_goodbye();
-        }
-        let _ = self.socket.get_ref().stream().shutdown(Shutdown::Both);
+        self.end();
     }
 }

@@ -1,5 +1,7 @@
-//! Tests of links and doors over sockets.
+//! Tests of links, doors and dialers over sockets.
 #![tactic(auto)]
 
+#[cfg(test)]
+mod dials;
 #[cfg(test)]
 mod sockets;

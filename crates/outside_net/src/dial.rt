@@ -1,0 +1,153 @@
+//! A dialer over TCP.
+ghost use Rattle.std.specs.Prelude.{◌≡◌, ◌≤◌, ◌||◌, None, false, IfOk};
+ghost use Rattle.etp_outside.specs.Faults.{Rose};
+
+use crate::bells::lone_post;
+use crate::handshake::{Missed, ask_for_upgrade};
+use crate::link::WsLink;
+use etp_outside::{Dialed, Dialer};
+use std::alloc::{AllocError, Global};
+use std::net::{Net, TcpListener, TcpStream, ToSocketAddrs};
+use std::random::RandomSource;
+use std::time::Duration;
+use tungstenite::RandomKeys;
+
+/// How long a connection to an address may take, and how long a read of the handshake waits, in milliseconds.
+const PATIENCE: u64 = 10_000;
+
+/// A link to a server that was dialed. The system's random bytes mask what it sends.
+pub type ClientLink<'a, R> = WsLink<TcpStream, RandomKeys<&'a R>>;
+
+/// A dialer over TCP. It tries each address of a host in turn, and asks for a WebSocket with the subprotocol of ETP 1.2. A server
+/// that chooses none, or another, is a fault.
+#[derive(Drop)]
+pub struct TcpDial<'a, R> {
+    rt: &'a R,
+    patience: Duration,
+    faults: u64,
+    ended: bool,
+}
+
+impl<'a, R: Net<Listener = TcpListener, Stream = TcpStream> + RandomSource + Sync> TcpDial<'a, R> {
+    /// A dialer that has dialed nothing yet.
+    pub fn new(rt: &'a R) -> TcpDial<'a, R>
+        ensures faults { ⟦<TcpDial<'a, R> as Dialer>⟧.faults result ≡ 0 }
+        ensures ended { ⟦<TcpDial<'a, R> as Dialer>⟧.ended result ≡ false }
+    {
+        TcpDial {
+            rt,
+            patience: Duration::from_millis(PATIENCE),
+            faults: 0,
+            ended: false,
+        }
+    }
+
+    /// The same with another patience: so long a connection to an address may take, and a read of the handshake.
+    pub fn with_patience(rt: &'a R, patience: Duration) -> TcpDial<'a, R>
+        ensures faults { ⟦<TcpDial<'a, R> as Dialer>⟧.faults result ≡ 0 }
+        ensures ended { ⟦<TcpDial<'a, R> as Dialer>⟧.ended result ≡ false }
+    {
+        TcpDial {
+            rt,
+            patience,
+            faults: 0,
+            ended: false,
+        }
+    }
+}
+
+impl<'a, R: Net<Listener = TcpListener, Stream = TcpStream> + RandomSource> TcpDial<'a, R> {
+    fn fault(&mut self)
+        ensures rose { Rose self.old.faults self.new.faults }
+        ensures kept { self.old.faults ≤ self.new.faults }
+        ensures ended { self.new.ended ≡ self.old.ended }
+    {
+        self.faults = self.faults.saturating_add(1);
+    }
+
+    /// A connection to the first address of a host that takes one.
+    fn connect(&self, host: &str, port: u16) -> Option<TcpStream> {
+        let Ok(addresses) = (without_brackets(host), port).to_socket_addrs(self.rt) else {
+            return None;
+        };
+        for address in addresses {
+            if let Ok(stream) = TcpStream::connect_timeout(self.rt, &address, self.patience) {
+                return Some(stream);
+            }
+        }
+        None
+    }
+
+    /// A link over a new connection, whose handshake is done.
+    fn call(
+        &self,
+        alloc: Global,
+        host: &str,
+        port: u16,
+        path: &str,
+    ) -> Result<ClientLink<'a, R>, Missed>
+        ensures faults { IfOk result (λ l. l.faults ≡ 0) }
+        ensures ended { IfOk result (λ l. l.ended ≡ false) }
+    {
+        let url = url_of(alloc, host, port, path)?;
+        let Some(stream) = self.connect(host, port) else {
+            return Err(Missed::Fault);
+        };
+        let socket = ask_for_upgrade(alloc, stream, self.rt, url.as_str(), self.patience)?;
+        let Some(post) = lone_post(self.rt, alloc) else {
+            return Err(Missed::Fault);
+        };
+        match WsLink::new(socket, post) {
+            Some(link) => Ok(link),
+            None => Err(Missed::Fault),
+        }
+    }
+}
+
+/// The host as it is looked up: an IPv6 address has no brackets there.
+fn without_brackets(host: &str) -> &str {
+    match host.strip_prefix('[') {
+        Some(rest) => rest.strip_suffix(']').unwrap_or(host),
+        None => host,
+    }
+}
+
+fn url_of(alloc: Global, host: &str, port: u16, path: &str) -> Result<String, AllocError> {
+    format!(in alloc; "ws://{host}:{port}{path}")
+}
+
+impl<'a, R: Net<Listener = TcpListener, Stream = TcpStream> + RandomSource + Sync> Dialer
+    for TcpDial<'a, R> {
+    type Link = ClientLink<'a, R>;
+
+    ghost faults = { λ d. d.faults };
+
+    ghost ended = { λ d. d.ended };
+
+    ghost backs = { λ d. None };
+
+    fn dial(
+        &mut self,
+        alloc: Global,
+        host: &str,
+        port: u16,
+        path: &str,
+    ) -> Dialed<ClientLink<'a, R>> {
+        match self.call(alloc, host, port, path) {
+            Ok(link) => Dialed::Link(link),
+            Err(Missed::NoMemory) => Dialed::NoMemory,
+            Err(Missed::Fault) => {
+                self.fault();
+                Dialed::Failed
+            }
+        }
+    }
+
+    fn hang_up(&mut self, mut link: ClientLink<'a, R>) {
+        if link.faults() > 0 {
+            self.fault();
+        }
+        self.ended = self.ended || link.has_ended();
+        link.end();
+    }
+}
