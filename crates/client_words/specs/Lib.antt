@@ -1,0 +1,3 @@
+pub mod Address
+pub mod Words
+pub mod Forms

@@ -1,0 +1,5 @@
+mod NumeralLemmas
+mod BitLemmas
+mod MarkLemmas
+mod LineLemmas
+mod TextLemmas

@@ -1,0 +1,5 @@
+pub mod Numerals
+pub mod Points
+pub mod Lines
+pub mod Marks
+pub mod Reads
