@@ -2,3 +2,4 @@ mod Finding
 mod Passes
 mod Settings
 mod Walks
+pub mod CountLemmas

@@ -5,7 +5,9 @@
 //! command in [`parsing`], so `clap` gives back every one of them as it is, the empty word and `help` too.
 #![tactic(auto)]
 
+mod counts;
 mod parsing;
 mod words;
 
+pub use counts::count_in;
 pub use words::words_of;
