@@ -1,3 +1,4 @@
+pub mod Given
 pub mod Headers
 pub mod Single
 pub mod Steps

@@ -1,0 +1,4 @@
+pub mod Changes
+pub mod Counting
+pub mod Ending
+pub mod Tallies
