@@ -1,0 +1,4 @@
+pub mod KeyedLemmas
+pub mod NumberingLemmas
+pub mod RefusalLemmas
+pub mod CopyLemmas
