@@ -6,13 +6,12 @@
 Messages are written by the schema of `wire.py` alone, and what answers them was worked out from the rules, case by case. The captures
 of `session_cases.py` are answered by the server of `sessions.py`, those of `row_samples.py` by its own, those of
 `transaction_samples.py` by that of `transactions.py`, and those of `row_captures.py` and `transaction_captures.py` have their answers
-beside them. The loads are made by `generator.py`, and answered by the server of `row_samples.py`.
+beside them.
 """
 import pathlib
 import sys
 import uuid
 
-import generator
 import row_captures
 import row_samples
 import session_cases
@@ -145,10 +144,7 @@ class Cases:
         (folder / "stdout").write_bytes(b"".join(self.answers))
 
 
-USAGE = (
-    "etptool replay CONFIG < CAPTURE > ANSWERS\netptool show < CAPTURE\netptool check < CAPTURE\n"
-    "etptool capture N > CAPTURE\netptool generate N\n"
-)
+USAGE = "etptool replay CONFIG < CAPTURE > ANSWERS\netptool show < CAPTURE\netptool check < CAPTURE\n"
 NUMBERS = {"usage": 1, "config refused": 2, "capture refused": 3, "read fault": 4, "write fault": 5, "refused": 9}
 
 
@@ -365,22 +361,6 @@ def add_rows(cases):
         cases.replay(f"{name}.cap", bytes_in, bytes_out, config=cases.file(f"{config[0]}.toml", config[1].encode()))
 
 
-def add_loads(cases):
-    """Loads that are captured, played, checked and replayed, and numbers that no load has."""
-    config = cases.file("load.toml", (HEAD + "".join(
-        f'[[channel]]\nuri = "{generator.uri(number)}"\nname = "c{number}"\nkind = "long"\n' for number in range(8))).encode())
-    for count in 24, 25, 200:
-        capture_in = generator.capture(count)
-        cases.add("no_frame.cap", f"capture {count}", wire.MAGIC, [(capture_in, "")])
-        cases.add("no_frame.cap", f"generate {count}", wire.MAGIC, [(generator.summary(count).encode(), "")])
-        cases.add(f"load_{count}.cap", "check", capture_in, [listed_by_wire("check", capture_in)])
-    cases.replay("load_200.cap", capture_in, wire.MAGIC + b"".join(generator.answers(200)), config=config)
-    for command in "capture", "generate":
-        for number in "", "0", "23", "024", "+24", "24x", "1000001", "4294967320", "24 24":
-            cases.add("no_frame.cap", f"{command} {number}".strip(), wire.MAGIC, [(b"", "usage")])
-        cases.add("no_frame.cap", f"{command} 24", wire.MAGIC, [(b"", "write fault")], write=1)
-
-
 def main():
     cases = Cases()
     add_beginnings(cases)
@@ -394,7 +374,6 @@ def main():
     for script in session_cases.SCRIPTS:
         cases.play(script)
     add_rows(cases)
-    add_loads(cases)
     cases.write(pathlib.Path(sys.argv[1]))
 
 

@@ -6,5 +6,3 @@ pub mod LegalLemmas
 pub mod TagRunLemmas
 pub mod Soundness
 pub mod Entering
-pub mod Loading
-pub mod Telling

@@ -1,6 +1,8 @@
 //! One frame on its session and the store.
 ghost use Rattle.std.specs.Prelude.{◌≡◌, ◌++◌, ◌∷◌, [], IfOk, IfSome, OnOk, List, ℕ, length};
 ghost use Rattle.std.specs.Int.{w32, to_be_bytes, cast_unsigned};
+ghost use Rattle.etp_capture.specs.Frames.{frame_bytes};
+ghost use Rattle.etp_capture.specs.Capture.{frames_bytes};
 ghost use Rattle.store_machine.specs.Answers.{answered, added};
 ghost use Rattle.store_machine.specs.Legal.{IsNext, MayAsk, own};
 ghost use Rattle.store_machine.specs.declared.journal.Entry.{Entry};
@@ -12,7 +14,7 @@ ghost use Rattle.tool_forms.specs.Sound.{FitsOpen, FitsTag};
 
 use crate::tag::{Ending, OpenSession, TagState};
 use chan_defs::Config;
-use etp_capture::{Frame, kinds};
+use etp_capture::{Frame, kinds, push_frame};
 use etp_values::{Blob, Boxed, Copied, NoMemory};
 use session_core::{End, Session, steps};
 use std::alloc::Global;
@@ -25,17 +27,17 @@ pub(crate) fn play_at(
     store: &mut Store,
     state: Option<TagState>,
     frame: &Frame,
-    answers: &mut Vec<Frame>,
+    into: &mut Vec<u8>,
 ) -> Result<TagState, NoMemory>
     requires same { store.old.config ≡ config.now }
     requires fresh { own (length store.old.journal) store.old.journal ≡ [] }
     requires tag { FitsTag store.old.journal state }
     ensures config { store.new.config ≡ store.old.config }
-    ensures effect { IfOk result (λ new. Meets (effect_at config.now store.old.journal frame.now state) new store.new.journal answers.old.items answers.new.items) }
+    ensures effect { IfOk result (λ new. Meets (effect_at config.now store.old.journal frame.now state) new store.new.journal into.old.items into.new.items) }
 {
     match state {
-        None => enter(alloc, config, store, frame, answers),
-        Some(TagState::Open(boxed)) => play_open(alloc, store, boxed.into_inner(), frame, answers),
+        None => enter(alloc, config, store, frame, into),
+        Some(TagState::Open(boxed)) => play_open(alloc, store, boxed.into_inner(), frame, into),
         Some(TagState::Ended) => Ok(TagState::Ended),
     }
 }
@@ -46,18 +48,18 @@ fn enter(
     config: &Config,
     store: &mut Store,
     frame: &Frame,
-    answers: &mut Vec<Frame>,
+    into: &mut Vec<u8>,
 ) -> Result<TagState, NoMemory>
     requires same { store.old.config ≡ config.now }
     requires fresh { own (length store.old.journal) store.old.journal ≡ [] }
     ensures config { store.new.config ≡ store.old.config }
-    ensures effect { IfOk result (λ state. Meets (effect_new config.now store.old.journal frame.now) state store.new.journal answers.old.items answers.new.items) }
+    ensures effect { IfOk result (λ state. Meets (effect_new config.now store.old.journal frame.now) state store.new.journal into.old.items into.new.items) }
 {
     // For the proof alone: a session that begins remembers no place.
     steps();
     let answer = ask(alloc, store, 0, 0, frame.moment, StoreCall::Enter)?;
     let Some(number) = place_in(answer.reply) else {
-        push_end(alloc, answers, frame, Ending::JournalFull)?;
+        push_end(alloc, into, frame, Ending::JournalFull)?;
         return Ok(TagState::Ended);
     };
     let session_config = config.copy(alloc)?;
@@ -67,7 +69,7 @@ fn enter(
         entries: 1,
         session,
     };
-    play_open(alloc, store, open_session, frame, answers)
+    play_open(alloc, store, open_session, frame, into)
 }
 
 /// The place at which the store let a session in.
@@ -86,19 +88,19 @@ fn play_open(
     store: &mut Store,
     open_session: OpenSession,
     frame: &Frame,
-    answers: &mut Vec<Frame>,
+    into: &mut Vec<u8>,
 ) -> Result<TagState, NoMemory>
     requires { FitsOpen store.old.journal open_session }
     ensures config { store.new.config ≡ store.old.config }
-    ensures effect { IfOk result (λ state. Meets (effect_open store.old.config store.old.journal open_session frame.now) state store.new.journal answers.old.items answers.new.items) }
+    ensures effect { IfOk result (λ state. Meets (effect_open store.old.config store.old.journal open_session frame.now) state store.new.journal into.old.items into.new.items) }
 {
     if frame.kind == kinds::END {
-        push_end(alloc, answers, frame, Ending::PeerEnd)?;
+        push_end(alloc, into, frame, Ending::PeerEnd)?;
         return Ok(TagState::Ended);
     }
     let mut open_session = open_session;
     make_turn(alloc, store, &mut open_session, frame)?;
-    settle(alloc, open_session, frame, answers)
+    settle(alloc, open_session, frame, into)
 }
 
 /// What a session sends after a turn, and its end where it has ended.
@@ -106,16 +108,16 @@ fn settle(
     alloc: Global,
     open_session: OpenSession,
     frame: &Frame,
-    answers: &mut Vec<Frame>,
+    into: &mut Vec<u8>,
 ) -> Result<TagState, NoMemory>
-    ensures { IfOk result (λ state. (j : List Entry) (marks : List ℕ) → Meets (effect_after frame.now (record { journal = j; session = open_session; marks = marks }) (end_of open_session.session.phase)) state j answers.old.items answers.new.items) }
+    ensures { IfOk result (λ state. (j : List Entry) (marks : List ℕ) → Meets (effect_after frame.now (record { journal = j; session = open_session; marks = marks }) (end_of open_session.session.phase)) state j into.old.items into.new.items) }
 {
     let mut open_session = open_session;
-    send_all(alloc, &mut open_session.session, frame, answers)?;
+    send_all(alloc, &mut open_session.session, frame, into)?;
     match open_session.session.ended() {
         None => Ok(TagState::Open(Boxed::new(alloc, open_session)?)),
         Some(end) => {
-            push_end(alloc, answers, frame, Ending::Session(end))?;
+            push_end(alloc, into, frame, Ending::Session(end))?;
             Ok(TagState::Ended)
         }
     }
@@ -202,46 +204,36 @@ fn send_all(
     alloc: Global,
     session: &mut Session,
     frame: &Frame,
-    answers: &mut Vec<Frame>,
+    into: &mut Vec<u8>,
 ) -> Result<(), NoMemory>
-    ensures answers { OnOk result (answers.new.items ≡ answers.old.items ++ messages frame.now session.old.out) }
+    ensures bytes { OnOk result (into.new.items ≡ into.old.items ++ frames_bytes (messages frame.now session.old.out)) }
     ensures state { OnOk result (session.new ≡ drained session.old) }
 {
     while let Some(message) = session.next_out(alloc)? {
-        push_answer(answers, kinds::OUT, frame, message)?;
+        push_answer(into, kinds::OUT, frame, message)?;
     }
     Ok(())
 }
 
 /// The frame that says that a session has ended.
-fn push_end(
-    alloc: Global,
-    answers: &mut Vec<Frame>,
-    frame: &Frame,
-    why: Ending,
-) -> Result<(), NoMemory>
-    ensures { OnOk result (answers.new.items ≡ answers.old.items ++ end_frame frame.now why ∷ []) }
+fn push_end(alloc: Global, into: &mut Vec<u8>, frame: &Frame, why: Ending) -> Result<(), NoMemory>
+    ensures { OnOk result (into.new.items ≡ into.old.items ++ frame_bytes (end_frame frame.now why)) }
 {
     let payload = ending_bytes(alloc, why)?;
-    push_answer(answers, kinds::ENDED, frame, payload)
+    push_answer(into, kinds::ENDED, frame, payload)
 }
 
 /// A frame of the same session and moment.
-fn push_answer(
-    answers: &mut Vec<Frame>,
-    kind: u8,
-    frame: &Frame,
-    bytes: Blob,
-) -> Result<(), NoMemory>
-    ensures { OnOk result (answers.new.items ≡ answers.old.items ++ answering kind frame.now bytes ∷ []) }
+fn push_answer(into: &mut Vec<u8>, kind: u8, frame: &Frame, bytes: Blob) -> Result<(), NoMemory>
+    ensures { OnOk result (into.new.items ≡ into.old.items ++ frame_bytes (answering kind frame.now bytes)) }
 {
-    answers.push(Frame {
+    let answer = Frame {
         kind,
         tag: frame.tag,
         moment: frame.moment,
         bytes,
-    })?;
-    Ok(())
+    };
+    push_frame(into, &answer)
 }
 
 fn ending_bytes(alloc: Global, why: Ending) -> Result<Blob, NoMemory>

@@ -1,4 +1,0 @@
-pub mod KeyedLemmas
-pub mod NumberingLemmas
-pub mod RefusalLemmas
-pub mod CopyLemmas
