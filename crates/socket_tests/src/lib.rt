@@ -1,7 +1,5 @@
-//! Tests of links, doors and dialers over sockets.
+//! Tests of links and doors over sockets.
 #![tactic(auto)]
 
-#[cfg(test)]
-mod dials;
 #[cfg(test)]
 mod sockets;

@@ -1,4 +1,3 @@
-//! The entries of a journal that have a key.
 ghost use Rattle.std.specs.Prelude.{◌≡◌, IfOk, length};
 
 use entry_index::*;

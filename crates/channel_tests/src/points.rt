@@ -1,4 +1,3 @@
-//! Points that are made, shared and copied.
 use channel_points::*;
 use etp_values::{Boxed, ChannelPoint, Copied, DataValue, List, NoMemory, Point, Text};
 use std::alloc::Global;

@@ -1,0 +1,5 @@
+//! Tests of the index of entries.
+#![tactic(auto)]
+
+#[cfg(test)]
+mod entries;

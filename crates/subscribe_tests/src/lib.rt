@@ -1,0 +1,5 @@
+//! Tests of subscriptions.
+#![tactic(auto)]
+
+#[cfg(test)]
+mod subscriptions;

@@ -1,0 +1,5 @@
+//! Tests of views and boards.
+#![tactic(auto)]
+
+#[cfg(test)]
+mod boards;
