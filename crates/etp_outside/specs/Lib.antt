@@ -14,7 +14,7 @@ pub mod Output
 pub mod Folder
 pub mod Line
 pub mod Porch
-pub mod Phone
+pub mod DialerState
 pub mod Memory
 pub mod MemLinks
 pub mod MemDoors

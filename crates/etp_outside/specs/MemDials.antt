@@ -7,33 +7,33 @@ use Rattle.etp_outside.specs.Calls.{after_call, fails_next, new_script}
 use Rattle.etp_outside.specs.Faults.{next_count}
 use Rattle.etp_outside.specs.Line.{Line}
 use Rattle.etp_outside.specs.MemLinks.{dialed_to}
-use Rattle.etp_outside.specs.Phone.{Phone}
+use Rattle.etp_outside.specs.DialerState.{DialerState}
 use Rattle.etp_outside.specs.Talk.{Talk}
 use Rattle.etp_outside.specs.declared.dialer.Dialed.{Dialed}
 use Rattle.etp_outside.specs.declared.dialer.Dialed.TheVariants.{Link, Failed, NoMemory}
 use Rattle.etp_outside.specs.declared.link.Address.{Address}
 
 -- the dialer before its first call
-abbrev pub first_phone : List Line → List ℕ → Phone
-first_phone lines fails = record { waiting = lines; back = []; room = length lines; ended = false; script = new_script fails }
+abbrev pub new_dialer : List Line → List ℕ → DialerState
+new_dialer lines fails = record { waiting = lines; back = []; room = length lines; ended = false; script = new_script fails }
 
 -- what the links that came back tell
 abbrev pub all_told : List Line → List (Option Talk)
 all_told ls = map (λ l. Some l.talk) ls
 
 -- a call that is not listed gives the next link as before its first call, with its address, and fails where none is left
-abbrev pub IsDialAnswer : Phone → Address → Dialed Line → Type 0
+abbrev pub IsDialAnswer : DialerState → Address → Dialed Line → Type 0
 IsDialAnswer d address (Link l) = (fails_next d.script ≡ false) × (option_map (dialed_to address) (slice_get d.waiting 0) ≡ Some l)
 IsDialAnswer d address Failed = (fails_next d.script ≡ true) ⊎ (d.waiting ≡ [])
 IsDialAnswer d address NoMemory = fails_next d.script ≡ false
 
-abbrev pub after_dial : Phone → Dialed Line → Phone
+abbrev pub after_dial : DialerState → Dialed Line → DialerState
 after_dial d (Link l) = record d { waiting = drop 1 d.waiting; script = after_call d.script false }
 after_dial d Failed = record d { script = after_call d.script true }
 after_dial d NoMemory = record d { script = after_call d.script false }
 
 -- a link comes back; where it had failed a fault is counted, and where its peer had ended it that is noted
-abbrev pub after_hang_up : Phone → Line → Phone
+abbrev pub after_hang_up : DialerState → Line → DialerState
 after_hang_up d link = record d {
   back = d.back ++ link ∷ [];
   ended = d.ended || link.ended;

@@ -2,7 +2,7 @@
 ghost use Rattle.std.specs.Prelude.{◌≡◌, ◌<◌, ◌≤◌, ◌||◌, Some, IfOk, IsSome, vec_capacity, take};
 ghost use Rattle.etp_outside.specs.Faults.{Rose};
 ghost use Rattle.etp_outside.specs.Dials.{HangsUp, IfDialed, IsDialed, address_of};
-ghost use Rattle.etp_outside.specs.MemDials.{IsDialAnswer, after_dial, after_hang_up, all_told, first_phone, kept_within};
+ghost use Rattle.etp_outside.specs.MemDials.{IsDialAnswer, after_dial, after_hang_up, all_told, new_dialer, kept_within};
 
 use crate::dialer::{Dialed, Dialer};
 use crate::link::{Address, Link};
@@ -29,9 +29,9 @@ pub struct MemDial {
 
 impl Model for MemDial {
     ghost use Rattle.std.specs.Prelude.{◌≡◌, ◌≤◌, take, vec_capacity};
-    ghost use Rattle.etp_outside.specs.Phone.{Phone};
+    ghost use Rattle.etp_outside.specs.DialerState.{DialerState};
 
-    ghost Value = { Phone };
+    ghost Value = { DialerState };
 
     ghost view = { λ d. record { waiting = d.waiting.items; back = d.all_back; room = d.room; ended = d.ended; script = d.script } };
 
@@ -42,7 +42,7 @@ impl MemDial {
     /// A dialer that gives these links, with the room to take them back. The calls of `dial` of the numbers in `fails` fail,
     /// the first call being number 1.
     pub fn new(alloc: Global, links: List<MemLink>, fails: List<u64>) -> Result<MemDial, NoMemory>
-        ensures { IfOk result (λ d. d ≡ first_phone links fails) }
+        ensures { IfOk result (λ d. d ≡ new_dialer links fails) }
     {
         let waiting = VecDeque::from(links.into_vec());
         let room = waiting.len();

@@ -3,7 +3,7 @@ use Rattle.std.proofs.Common.{◌≡◌, ◌<◌, ◌≤◌, ◌+◌, ◌*◌, �
 use Rattle.std.specs.Option.{option_map}
 use Rattle.std.proofs.Math.Nat.{mul-le-mul_left, one-le-pow}
 use Rattle.std.proofs.lemmas.Grind.{pow_more}
-use Rattle.std.proofs.lemmas.List.{append-nil, drop_more, length-drop, length-take-le}
+use Rattle.std.proofs.lemmas.List.{drop_more, length-drop, length-take-le}
 use Rattle.point_lines.specs.Numerals.{hex_value, byte_of, joined, bytes_in}
 
 -- a further digit fits 64 bits
@@ -52,30 +52,12 @@ pair_step text made now i byte whole within is_byte is_now so_far =
     ∙ ap (λ b. option_map (λ bs. made ++ bs) (joined b rest)) (sym is_byte)
     ∙ ap (λ l. option_map (λ bs. made ++ bs) (bytes_in l)) (sym (pair_at text i within)) ∙ so_far
 
--- a pair is none of digits
-pub pair_none : (text made : List ℕ) (i : ℕ) (whole : Option (List ℕ)) → 2 * i + 1 < length text → byte_of (hex_value (get_or text (2 * i) 0)) (hex_value (get_or text (2 * i + 1) 0)) ≡ None → option_map (λ bs. made ++ bs) (bytes_in (drop (2 * i) text)) ≡ whole → None ≡ whole
-pair_none text made i whole within is_none so_far =
-    let rest = bytes_in (drop (2 * (i + 1)) text) in
-    ap (λ b. option_map (λ bs. made ++ bs) (joined b rest)) (sym is_none)
-    ∙ ap (λ l. option_map (λ bs. made ++ bs) (bytes_in l)) (sym (pair_at text i within)) ∙ so_far
-
-end_even : (l made : List ℕ) → length l ≡ 0 → Some made ≡ option_map (λ bs. made ++ bs) (bytes_in l)
-end_even [] made h = ap Some (sym (append-nil made))
-end_even (b ∷ bs) made h = absurd (omega arith)
-
 end_odd : (l made : List ℕ) → length l ≡ 1 → None ≡ option_map (λ bs. made ++ bs) (bytes_in l)
 end_odd [] made h = absurd (omega arith)
 end_odd (b ∷ []) made h = refl
 end_odd (b ∷ c ∷ bs) made h = absurd (omega arith)
 
--- all pairs were read, and nothing is left
-pub pairs_even : (text made : List ℕ) (i : ℕ) (whole : Option (List ℕ)) → i ≡ length text / 2 → (length text % 2 ≡ 1 → ⊥) → option_map (λ bs. made ++ bs) (bytes_in (drop (2 * i) text)) ≡ whole → Some made ≡ whole
-pairs_even text made i whole is_i even so_far =
-    let left : length (drop (2 * i) text) ≡ length text - 2 * i = length-drop (2 * i) text in
-    let nothing : length text - 2 * i ≡ 0 = omega arith in
-    end_even (drop (2 * i) text) made (left ∙ nothing) ∙ so_far
-
--- or one digit is
+-- all pairs were read, and one digit is left
 pub pairs_odd : (text made : List ℕ) (i : ℕ) (whole : Option (List ℕ)) → i ≡ length text / 2 → length text % 2 ≡ 1 → option_map (λ bs. made ++ bs) (bytes_in (drop (2 * i) text)) ≡ whole → None ≡ whole
 pairs_odd text made i whole is_i odd so_far =
     let left : length (drop (2 * i) text) ≡ length text - 2 * i = length-drop (2 * i) text in

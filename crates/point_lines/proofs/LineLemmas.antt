@@ -3,8 +3,8 @@ use Rattle.std.proofs.Common.{◌≡◌, ◌==◌, ◌<◌, ◌≤◌, ◌+◌, 
 use Rattle.std.specs.Option.{option_map}
 use Rattle.std.specs.Io.KnownBytes.{Consumes, IsAtEnd}
 use Rattle.std.proofs.KnownBytes.{Consumes-trans, Consumes-nil}
-use Rattle.std.proofs.lemmas.Bool.{false≢true, ltb-true, ltb-false}
-use Rattle.std.proofs.lemmas.List.{append-nil, length-take-le, take_all, take_rest, drop-drop}
+use Rattle.std.proofs.lemmas.Bool.{ltb-true, ltb-false}
+use Rattle.std.proofs.lemmas.List.{append-nil, length-take-le, take_rest, drop-drop}
 use Rattle.etp_values.specs.Uri.{parted, put_before}
 use Rattle.point_lines.specs.Lines.{in_front, lines_in, Reading, MayFollow, HasGiven, HasGivenAll, MeetsLong, Goes, of_length}
 use Rattle.point_lines.specs.Marks.{IsPlace}
@@ -53,10 +53,6 @@ lines_of_whole [] h = refl
 lines_of_whole (b ∷ bs) h = last_step b bs (b == 10) (lines_of_whole bs) h
 
 -- ---- what was given
-
--- a reader that was made just now
-pub given_none : (a : Option (List ℕ)) → HasGiven a a (record { line = []; ahead = []; over = false }) []
-given_none a = record { taken = []; consumed = Consumes-nil a; lines = λ rest h. refl; end = λ h. absurd (false≢true h) }
 
 may_join : (over : Bool) (more rest : List ℕ) → MayFollow over more → MayFollow over rest → MayFollow over (more ++ rest)
 may_join false more rest h k = tt
@@ -198,6 +194,3 @@ rest_at buf start = take_rest buf start
 
 pub line_first : (buf : List ℕ) (i : ℕ) → slice_range buf 0 i ≡ take i buf
 line_first buf i = let e : i - 0 ≡ i = omega arith in ap (λ n. take n buf) e
-
-pub whole_first : (buf : List ℕ) → slice_range buf 0 (length buf) ≡ buf
-whole_first buf = line_first buf (length buf) ∙ take_all (length buf) buf (omega arith)

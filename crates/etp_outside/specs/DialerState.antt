@@ -5,7 +5,7 @@ use Rattle.etp_outside.specs.Line.{Line}
 
 -- the links that are to be given, those that came back, how many of these it keeps, whether the peer of one had ended it, and
 -- which calls of `dial` fail
-pub record Phone : Type 0 where
+pub record DialerState : Type 0 where
   pub waiting : List Line
   pub back : List Line
   pub room : ℕ
