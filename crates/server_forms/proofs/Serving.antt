@@ -14,6 +14,9 @@ use Rattle.etp_outside.specs.Told.{Told}
 use Rattle.etp_outside.specs.declared.status.Status.{Status}
 use Rattle.etp_outside.specs.declared.status.Status.TheVariants as outcome
 use Rattle.etp_outside.proofs.ToldLemmas.{told_self}
+use Rattle.gathered_text.specs.Writing.{Writes}
+use Rattle.gathered_text.specs.declared.writing.Wrote.{Wrote}
+use Rattle.gathered_text.specs.declared.writing.Wrote.TheVariants.{Whole, WriteFault, NoMemory}
 use Rattle.store_machine.specs.Legal.{Legal, door}
 use Rattle.store_machine.specs.declared.journal.Entry.{Entry}
 use Rattle.turn_book.specs.Rules.{Knows}
@@ -26,9 +29,6 @@ use Rattle.etp_serve.specs.declared.served.Served.TheVariants as why
 use Rattle.server_forms.specs.Report.{report}
 use Rattle.server_forms.specs.Top.{Answers, AtMost, Door, Fulfils, HasEntered, Output, ServesWith, Tries, Untouched, door_of, output_of, status_of}
 use Rattle.server_forms.specs.Words.{Command}
-use Rattle.server_forms.specs.Writing.{Writes}
-use Rattle.server_forms.specs.declared.report.Reported.{Reported}
-use Rattle.server_forms.specs.declared.report.Reported.TheVariants.{Whole, WriteFault, NoMemory}
 
 -- ---- links
 
@@ -63,22 +63,19 @@ most_same (Some m) given now same = omega (arith, same)
 
 -- ---- the status
 
-pub rose_later : (before mid now : ℕ) → before ≤ mid → Rose mid now → Rose before now
-rose_later before mid now kept rose = omega (arith, kept, rose)
-
-pub done_is : (end : Served) (reported : Reported) → status_of end reported ≡ outcome.Done → end ≡ why.Stopped
+pub done_is : (end : Served) (reported : Wrote) → status_of end reported ≡ outcome.Done → end ≡ why.Stopped
 done_is why.Stopped reported is = refl
 done_is why.ListenFault reported is = absurd (cc is)
 done_is why.NoMemory reported is = absurd (cc is)
 
-pub write_fault_is : (end : Served) (reported : Reported) → status_of end reported ≡ outcome.WriteFault → reported ≡ WriteFault
+pub write_fault_is : (end : Served) (reported : Wrote) → status_of end reported ≡ outcome.WriteFault → reported ≡ WriteFault
 write_fault_is why.Stopped Whole is = absurd (cc is)
 write_fault_is why.Stopped WriteFault is = refl
 write_fault_is why.Stopped NoMemory is = absurd (cc is)
 write_fault_is why.ListenFault reported is = absurd (cc is)
 write_fault_is why.NoMemory reported is = absurd (cc is)
 
-pub listen_fault_is : (end : Served) (reported : Reported) → status_of end reported ≡ outcome.ListenFault → end ≡ why.ListenFault
+pub listen_fault_is : (end : Served) (reported : Wrote) → status_of end reported ≡ outcome.ListenFault → end ≡ why.ListenFault
 listen_fault_is why.Stopped Whole is = absurd (cc is)
 listen_fault_is why.Stopped WriteFault is = absurd (cc is)
 listen_fault_is why.Stopped NoMemory is = absurd (cc is)
@@ -86,14 +83,14 @@ listen_fault_is why.ListenFault reported is = refl
 listen_fault_is why.NoMemory reported is = absurd (cc is)
 
 -- words that are in a form, and a file that was read, are at fault for nothing
-pub no_usage : (end : Served) (reported : Reported) → status_of end reported ≡ outcome.Usage → ⊥
+pub no_usage : (end : Served) (reported : Wrote) → status_of end reported ≡ outcome.Usage → ⊥
 no_usage why.Stopped Whole is = absurd (cc is)
 no_usage why.Stopped WriteFault is = absurd (cc is)
 no_usage why.Stopped NoMemory is = absurd (cc is)
 no_usage why.ListenFault reported is = absurd (cc is)
 no_usage why.NoMemory reported is = absurd (cc is)
 
-pub no_read_fault : (end : Served) (reported : Reported) → status_of end reported ≡ outcome.ReadFault → ⊥
+pub no_read_fault : (end : Served) (reported : Wrote) → status_of end reported ≡ outcome.ReadFault → ⊥
 no_read_fault why.Stopped Whole is = absurd (cc is)
 no_read_fault why.Stopped WriteFault is = absurd (cc is)
 no_read_fault why.Stopped NoMemory is = absurd (cc is)
@@ -110,14 +107,14 @@ pub untouched : (given now : ℕ) (b0 b : Option (List Back)) (h : Option (List 
 untouched given now b0 b h f n same is = record { given = same; backs = is; written = Keeps-refl h }
 
 -- with `Done` a session was let in for each link, or the journal is full
-entered_of : EachEntered → (end : Served) (reported : Reported) (status : Status) (test : List ℤ → Bool) (config : Config) (journal : List Entry) (given0 given : ℕ) (b0 b : Option (List Back))
+entered_of : EachEntered → (end : Served) (reported : Wrote) (status : Status) (test : List ℤ → Bool) (config : Config) (journal : List Entry) (given0 given : ℕ) (b0 b : Option (List Back))
     → status ≡ status_of end reported → ServedOver end test config 1 journal given0 given b0 b → status ≡ outcome.Done → HasEntered config journal given0 given
 entered_of entering end reported status test config journal given0 given b0 b status_is links is =
     let stopped : end ≡ why.Stopped = done_is end reported (sym status_is ∙ is) in
     entering test config 1 journal given0 given b0 b (subst (λ (e : Served). ServedOver e test config 1 journal given0 given b0 b) stopped links)
 
 -- links were served over the journal of the store in the end
-pub serves_with : ServedInTheEnd → EachEntered → (end : Served) (reported : Reported) (status : Status) (test : List ℤ → Bool) (config hubs stores : Config) (v0 v : Known) (given0 given : ℕ) (b0 b : Option (List Back)) (journal : List Entry) (h k : Option (List ℕ)) (f n : ℕ)
+pub serves_with : ServedInTheEnd → EachEntered → (end : Served) (reported : Wrote) (status : Status) (test : List ℤ → Bool) (config hubs stores : Config) (v0 v : Known) (given0 given : ℕ) (b0 b : Option (List Back)) (journal : List Entry) (h k : Option (List ℕ)) (f n : ℕ)
     → hubs ≡ config → stores ≡ hubs → v0 ≡ first_view (door ∷ []) config → Legal stores journal → Knows by_of enters_of journal v → ServesAll end test hubs v0 v given0 given b0 b
     → status ≡ status_of end reported → Writes reported (report journal) h k → (reported ≡ WriteFault → Rose f n) → ServesWith status config test (door_of given0 given b0 b) (output_of h k f n)
 serves_with closing entering end reported status test config hubs stores v0 v given0 given b0 b journal h k f n same kept view legal knows served status_is written cause = let links : ServedOver end test config 1 journal given0 given b0 b =
@@ -135,7 +132,7 @@ serves_with closing entering end reported status test config hubs stores v0 v gi
       cause = cause;
     }
 
-pub tries_not : (other status : Status) (config : Config) (test : List ℤ → Bool) (door : Door) (output : Output) → ((end : Served) (reported : Reported) → status_of end reported ≡ other → ⊥) → (outcome.NoMemory ≡ other → ⊥)
+pub tries_not : (other status : Status) (config : Config) (test : List ℤ → Bool) (door : Door) (output : Output) → ((end : Served) (reported : Wrote) → status_of end reported ≡ other → ⊥) → (outcome.NoMemory ≡ other → ⊥)
     → Tries status config test door output → status ≡ other → ⊥
 tries_not other status config test listener output not lacks (inl t) is = lacks (subst (λ (s : Status). s ≡ other) t.0 is)
 tries_not other status config test listener output not lacks (inr s) is = not s.end s.reported (subst (λ (x : Status). x ≡ other) s.status_is is)

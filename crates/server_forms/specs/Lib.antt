@@ -2,6 +2,5 @@ pub mod Words
 pub mod Commands
 pub mod Report
 pub mod Counts
-pub mod Writing
 pub mod Top
 pub mod Program

@@ -12,15 +12,15 @@ use Rattle.etp_serve.specs.Accepted.{IsReached}
 use Rattle.etp_serve.specs.Closing.{ServedOver, entered}
 use Rattle.etp_serve.specs.declared.served.Served.{Served}
 use Rattle.etp_serve.specs.declared.served.Served.TheVariants as why
+use Rattle.gathered_text.specs.Writing.{Writes}
+use Rattle.gathered_text.specs.declared.writing.Wrote.{Wrote}
+use Rattle.gathered_text.specs.declared.writing.Wrote.TheVariants.{Whole, WriteFault, NoMemory}
 use Rattle.store_machine.specs.Answers.{has_room_for}
 use Rattle.store_machine.specs.Legal.{Legal}
 use Rattle.store_machine.specs.declared.journal.Act.TheVariants.{Enter}
 use Rattle.store_machine.specs.declared.journal.Entry.{Entry}
 use Rattle.server_forms.specs.Report.{report}
 use Rattle.server_forms.specs.Words.{Command}
-use Rattle.server_forms.specs.Writing.{Writes}
-use Rattle.server_forms.specs.declared.report.Reported.{Reported}
-use Rattle.server_forms.specs.declared.report.Reported.TheVariants.{Whole, WriteFault, NoMemory}
 
 -- what a listener tells before a call and after it: how many links it gave, and which it took back
 pub record Door : Type 0 where
@@ -49,7 +49,7 @@ pub record Untouched (door : Door) (output : Output) : Type 0 where
   pub written : Keeps output.before output.after
 
 -- the status by why no further link was served; where as many were served as could be, what came of the report decides
-abbrev pub status_of : Served → Reported → Status
+abbrev pub status_of : Served → Wrote → Status
 status_of why.Stopped Whole = outcome.Done
 status_of why.Stopped WriteFault = outcome.WriteFault
 status_of why.Stopped NoMemory = outcome.NoMemory
@@ -65,7 +65,7 @@ HasEntered config journal given now = (now ≤ given + entered (drop 1 journal))
 -- of memory
 pub record ServesWith (status : Status) (config : Settings) (test : List ℤ → Bool) (door : Door) (output : Output) : Type 0 where
   pub end : Served
-  pub reported : Reported
+  pub reported : Wrote
   pub journal : List Entry
   pub legal : Legal config journal
   pub links : ServedOver end test config 1 journal door.given door.now door.backs door.taken

@@ -2,29 +2,16 @@
 ghost use Rattle.std.specs.Prelude.{◌≡◌, ◌≤◌, ◌<◌, ◌+◌, ◌-◌, ◌^◌, ◌++◌, ◌==◌, [], ℕ, List, if◌then◌else◌, length, min, replicate, slice_index, IfOk, OnOk};
 ghost use Rattle.std.specs.declared.option.Option.{Option};
 ghost use Rattle.etp_outside.specs.Faults.{Rose};
+ghost use Rattle.gathered_text.specs.Writing.{Going, GoesOn, Writes};
 ghost use Rattle.store_machine.specs.Laws.{is_enter};
 ghost use Rattle.server_forms.specs.Counts.{Counts};
 ghost use Rattle.server_forms.specs.Report.{entries_line, line_at, line_if, lines_from, report, session_line};
-ghost use Rattle.server_forms.specs.Writing.{Going, GoesOn, Writes};
 
-use etp_outside::{Sink, Written, write_all};
+use etp_outside::Sink;
 use etp_values::NoMemory;
+use gathered_text::{Wrote, finish, pass_on};
 use std::alloc::Global;
 use store_machine::{Act, Store};
-
-/// How many bytes are gathered before they are written.
-const GATHERED: usize = 65_536;
-
-/// What came of a report.
-#[derive(Clone, Copy, Debug, PartialEq, Eq)]
-pub enum Reported {
-    /// All of it was written.
-    Whole,
-    /// A front of it was written, and then the output failed.
-    WriteFault,
-    /// A front of it was written, and then memory was refused.
-    NoMemory,
-}
 
 /// Counts one more entry under a place.
 fn count_one(counts: &mut [u64], by: u64)
@@ -107,26 +94,6 @@ fn push_line(
     }
 }
 
-/// Writes what was gathered, once it is enough.
-fn pass_on<W: Sink>(text: &mut Vec<u8>, out: &mut W) -> Reported
-    ensures goes { (whole rest : List ℕ) (before : Option (List ℕ))
-        → Going whole text.old.items rest before (W.held out.old)
-        → GoesOn result whole text.new.items rest before (W.held out.new) }
-    ensures kept { W.faults out.old ≤ W.faults out.new }
-    ensures cause { result ≡ Reported.WriteFault → Rose (W.faults out.old) (W.faults out.new) }
-{
-    if text.len() < GATHERED {
-        return Reported::Whole;
-    }
-    match write_all(out, text.as_slice()) {
-        Written::Done => {
-            text.clear();
-            Reported::Whole
-        }
-        Written::Failed => Reported::WriteFault,
-    }
-}
-
 /// How many entries stand under a place.
 fn count_at(counts: &[u64], place: u64) -> u64
     requires { place < length counts.now }
@@ -143,20 +110,20 @@ fn write_line<W: Sink>(
     place: u64,
     text: &mut Vec<u8>,
     out: &mut W,
-) -> Reported
+) -> Wrote
     requires place { place < length store.now.journal }
     requires counts { Counts store.now.journal counts.now }
     ensures goes { (whole rest : List ℕ) (before : Option (List ℕ))
         → Going whole text.old.items (line_at store.now.journal place ++ rest) before (W.held out.old)
         → GoesOn result whole text.new.items rest before (W.held out.new) }
     ensures kept { W.faults out.old ≤ W.faults out.new }
-    ensures cause { result ≡ Reported.WriteFault → Rose (W.faults out.old) (W.faults out.new) }
+    ensures cause { result ≡ Wrote.WriteFault → Rose (W.faults out.old) (W.faults out.new) }
 {
     let entry = store.entry(place);
     let own = count_at(counts, place);
     match push_line(alloc, &entry.act, place, own, text) {
         Ok(()) => pass_on(text, out),
-        Err(_) => Reported::NoMemory,
+        Err(_) => Wrote::NoMemory,
     }
 }
 
@@ -167,35 +134,22 @@ fn write_lines<W: Sink>(
     counts: &[u64],
     text: &mut Vec<u8>,
     out: &mut W,
-) -> Reported
+) -> Wrote
     requires counts { Counts store.now.journal counts.now }
     ensures goes { (whole : List ℕ) (before : Option (List ℕ))
         → Going whole text.old.items (lines_from store.now.journal 0 store.now.journal) before (W.held out.old)
         → GoesOn result whole text.new.items [] before (W.held out.new) }
     ensures kept { W.faults out.old ≤ W.faults out.new }
-    ensures cause { result ≡ Reported.WriteFault → Rose (W.faults out.old) (W.faults out.new) }
+    ensures cause { result ≡ Wrote.WriteFault → Rose (W.faults out.old) (W.faults out.new) }
 {
     for place in 0..store.entries() {
         match write_line(alloc, store, counts, place, text, out) {
-            Reported::Whole => {}
-            Reported::WriteFault => return Reported::WriteFault,
-            Reported::NoMemory => return Reported::NoMemory,
+            Wrote::Whole => {}
+            Wrote::WriteFault => return Wrote::WriteFault,
+            Wrote::NoMemory => return Wrote::NoMemory,
         }
     }
-    Reported::Whole
-}
-
-/// Writes what is left.
-fn finish<W: Sink>(text: &[u8], out: &mut W) -> Reported
-    ensures written { (whole : List ℕ) (before : Option (List ℕ)) → Going whole text.now [] before (W.held out.old)
-        → Writes result whole before (W.held out.new) }
-    ensures kept { W.faults out.old ≤ W.faults out.new }
-    ensures cause { result ≡ Reported.WriteFault → Rose (W.faults out.old) (W.faults out.new) }
-{
-    match write_all(out, text) {
-        Written::Done => Reported::Whole,
-        Written::Failed => Reported::WriteFault,
-    }
+    Wrote::Whole
 }
 
 /// The first line.
@@ -208,30 +162,30 @@ fn head(alloc: Global, entries: u64) -> Result<Vec<u8>, NoMemory>
 }
 
 /// Writes the report of a store's journal, with how many entries stand under each place.
-fn write_counted<W: Sink>(alloc: Global, store: &Store, counts: &[u64], out: &mut W) -> Reported
+fn write_counted<W: Sink>(alloc: Global, store: &Store, counts: &[u64], out: &mut W) -> Wrote
     requires counts { Counts store.now.journal counts.now }
     ensures written { Writes result (report store.now.journal) (W.held out.old) (W.held out.new) }
     ensures kept { W.faults out.old ≤ W.faults out.new }
-    ensures cause { result ≡ Reported.WriteFault → Rose (W.faults out.old) (W.faults out.new) }
+    ensures cause { result ≡ Wrote.WriteFault → Rose (W.faults out.old) (W.faults out.new) }
 {
     let Ok(mut text) = head(alloc, store.entries()) else {
-        return Reported::NoMemory;
+        return Wrote::NoMemory;
     };
     match write_lines(alloc, store, counts, &mut text, out) {
-        Reported::Whole => finish(text.as_slice(), out),
-        Reported::WriteFault => Reported::WriteFault,
-        Reported::NoMemory => Reported::NoMemory,
+        Wrote::Whole => finish(text.as_slice(), out),
+        Wrote::WriteFault => Wrote::WriteFault,
+        Wrote::NoMemory => Wrote::NoMemory,
     }
 }
 
 /// Writes the report of a store's journal.
-pub(crate) fn write_report<W: Sink>(alloc: Global, store: &Store, out: &mut W) -> Reported
+pub(crate) fn write_report<W: Sink>(alloc: Global, store: &Store, out: &mut W) -> Wrote
     ensures written { Writes result (report store.now.journal) (W.held out.old) (W.held out.new) }
     ensures kept { W.faults out.old ≤ W.faults out.new }
-    ensures cause { result ≡ Reported.WriteFault → Rose (W.faults out.old) (W.faults out.new) }
+    ensures cause { result ≡ Wrote.WriteFault → Rose (W.faults out.old) (W.faults out.new) }
 {
     match counts(alloc, store) {
         Ok(counts) => write_counted(alloc, store, counts.as_slice(), out),
-        Err(_) => Reported::NoMemory,
+        Err(_) => Wrote::NoMemory,
     }
 }

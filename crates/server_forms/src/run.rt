@@ -12,13 +12,14 @@ ghost use Rattle.server_forms.specs.Top.{Answers, AtMost, Fulfils, IsOver, Tries
 ghost use Rattle.server_forms.specs.Words.{command_in};
 
 use crate::command::{Command, command_of};
-use crate::report::{Reported, write_report};
+use crate::report::write_report;
 use chan_defs::Config;
 use command_words::words_of;
 use config_file::read_config;
 use etp_outside::{Clock, Gate, Host, Listened, Listener, Sink, Status};
 use etp_serve::{Served, closing_laws, serve_all};
 use etp_values::{Copied, NoMemory};
+use gathered_text::Wrote;
 use std::alloc::Global;
 use std::sync::Wait;
 use std::thread::Threads;
@@ -174,7 +175,7 @@ fn serve_at<A: Listener, C: Clock, G: Gate, R: Threads + Wait + Sync>(
 }
 
 /// The status of the first cause: why no further link was served, and then what came of the report.
-fn status_of(served: Served, reported: Reported) -> Status
+fn status_of(served: Served, reported: Wrote) -> Status
     ensures { result ≡ status_of served reported }
 {
     match served {
@@ -185,12 +186,12 @@ fn status_of(served: Served, reported: Reported) -> Status
 }
 
 /// The status of a report.
-fn status_of_report(reported: Reported) -> Status
+fn status_of_report(reported: Wrote) -> Status
     ensures { result ≡ status_of why.Stopped reported }
 {
     match reported {
-        Reported::Whole => Status::Done,
-        Reported::WriteFault => Status::WriteFault,
-        Reported::NoMemory => Status::NoMemory,
+        Wrote::Whole => Status::Done,
+        Wrote::WriteFault => Status::WriteFault,
+        Wrote::NoMemory => Status::NoMemory,
     }
 }

@@ -1,8 +1,7 @@
 use Rattle.std.proofs.Common.{◌≡◌, ◌++◌, [], ℕ, List, ap, sym, ◌∙◌, subst, arith}
 use Rattle.server_forms.specs.Report.{entries_line, lines_from, report}
-use Rattle.server_forms.specs.Writing.{Going}
-use Rattle.server_forms.proofs.Serving.{rose_later}
-use Rattle.server_forms.proofs.Writings.{going_start, nothing_written}
+use Rattle.gathered_text.specs.Writing.{Going}
+use Rattle.gathered_text.proofs.GoingLemmas.{going_start, nothing_written, rose_later}
 use Rattle.server_forms.proofs.report.write_counted.Goals as goal
 
 pub returns-in_default-clause-written : goal.returns-in_default-clause-written

@@ -1,7 +1,7 @@
 use Rattle.std.proofs.Common.{List, ℕ, ◌≤◌, drop}
 use Rattle.std.specs.declared.option.Option.{Option}
 use Rattle.server_forms.specs.Report.{lines_from}
-use Rattle.server_forms.specs.Writing.{Going}
+use Rattle.gathered_text.specs.Writing.{Going}
 use Rattle.server_forms.proofs.report.write_lines.Given as goal
 
 abbrev pub invariant-loop-place : goal.invariant-loop-place

@@ -1,5 +1,5 @@
 use Rattle.server_forms.specs.Report.{report}
-use Rattle.server_forms.proofs.Writings.{nothing_written}
+use Rattle.gathered_text.proofs.GoingLemmas.{nothing_written}
 use Rattle.server_forms.proofs.report.write_report.Goals as goal
 
 pub returns-in-Err-clause-written : goal.returns-in-Err-clause-written

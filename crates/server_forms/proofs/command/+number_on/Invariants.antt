@@ -1,5 +1,0 @@
-use Rattle.std.proofs.Common.{length}
-use Rattle.server_forms.proofs.command.+number_on.Given as goal
-
-abbrev pub decreases-number_on : goal.decreases-number_on
-decreases-number_on l = length l.digits.now
