@@ -796,6 +796,20 @@ store 4 any long
 0 1 commit:touch object/w/Well/1 3
 0 1 commit
 0 1 look:object w Well 1
+journal
+store 20 any long
+0 1 put_spaces:a w -
+0 1 put:o 1 object/w/Well/1 object w Well 1 - - 0 0 - xml -;p 2 array/w/Well/1/p array 2,3 - int 1,2,3,4,5,6 0 -;q 3 array/w/Well/1/q array 3 - long 1,2,3 0 -;s 4 array/w/Well/1/s array 3 - string a,b,c 0 -;z 5 array/w/Well/1/b array 4 - bytes 1,2,3,4 0 -
+0 60 look:array w Well 1 p;array w Well 1 q;array w Well 1 s;array w Well 1 b
+0 40 commit:do 11 array/w/Well/1/p patch 0,0 1,2 int 7,8;do 12 array/w/Well/1/q patch 0 1 long 9;do 13 array/w/Well/1/p patch 1,1 1,2 int 5,5;do 14 array/w/Well/1/q patch 2 1 long 4;do 15 array/w/Well/1/p patch 0,2 2,1 int 3,3;do 16 array/w/Well/1/p patch 2,0 1,1 int 9;do 17 array/w/Well/1/p patch 0,0 1,1 long 1;do 18 array/w/Well/1/s patch 1 1 string zz;do 19 array/w/Well/1/s patch 0 2 string y,x;do 20 array/w/Well/1/b patch 1 2 bytes 8,9;do 21 array/w/Well/1/b patch 3 1 bytes 7;do 22 array/w/Well/1/p patch 0,0 1,1 int 6
+0 60 look:array w Well 1 p;array w Well 1 q;array w Well 1 s;array w Well 1 b
+0 40 commit:do 23 array/w/Well/1/p patch 0,0 1,1 int 1;do 24 object/w/Well/1 gone;do 25 array/w/Well/1/p patch 0,0 1,1 int 2;do 26 array/w/Well/1/q patch 0 1 long 2;do 27 object/w/Well/1 object w Well 1 - - 0 0 - xml -;do 28 array/w/Well/1/p array 2 - int 1,2 0 -;do 29 array/w/Well/1/p patch 0 1 int 3;do 30 array/w/Well/1/p patch 1 1 int 4;do 31 array/w/Well/1/p patch 0 2 int 5,6
+0 60 look:array w Well 1 p;array w Well 1 q;array w Well 1 s;array w Well 1 b
+0 60 look:shape w Well 1 p
+0 40 commit:do 32 array/w/Well/1/p array 2 - int 8,8 0 -;do 33 array/w/Well/1/p patch 0 1 int 3;do 34 array/w/Well/1/p array 3 - int 8,8 0 -;do 35 array/w/Well/1/p patch 1 1 int 4;do 36 array/w/Well/1/q array 1 - double 0 0 -;do 37 array/w/Well/1/p patch 0 1 int 5;do 38 array/w/Well/1/q patch 0 1 double 1;do 39 array/w/Well/1/q patch 0 1 double 2
+0 60 look:array w Well 1 p;array w Well 1 q;array w Well 1 s;array w Well 1 b
+0 50 put:n0 41 array/w/Well/1/p patch 0 1 int 7;n1 42 array/w/Well/1/p patch 2 1 int 7;n2 43 array/w/Well/1/p patch 1 1 int 9;n3 44 array/w/Well/1/q patch 0 1 double 3;n4 45 array/w/Well/1/p patch 0 1 double 7;n5 46 array/w/Well/1/q patch 0 1 double 4;n6 47 array/w/Well/1/p patch 0 2 int 1,2;n7 48 object/w/Well/1 gone;n8 49 array/w/Well/1/p patch 0 1 int 1
+0 60 look:array w Well 1 p;array w Well 1 q;array w Well 1 s;array w Well 1 b
 journal"""
 
 NAMES = ["a", "b", "c", "d", "aa", "B", "b1", "\u00e4"]
