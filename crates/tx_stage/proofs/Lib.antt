@@ -1,3 +1,4 @@
+pub mod AlteredLemmas
 pub mod LookLemmas
 pub mod OverlayLemmas
 pub mod PatchLemmas

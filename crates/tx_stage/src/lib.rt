@@ -9,6 +9,7 @@
 //! takes the memory for a whole plan first and then does it.
 #![tactic(auto)]
 
+mod altered;
 mod contents;
 mod counted;
 mod error;

@@ -1,6 +1,7 @@
 //! A transaction in the making.
 ghost use Rattle.std.specs.Prelude.{◌≡◌, ◌≢◌, ◌+◌, ◌≤◌, [], IfOk, IfErr, OnOk, OnErr, Some, None, MatchResult, false};
 
+use crate::altered::AlteredKeys;
 use crate::counted::op_bytes;
 use crate::error::StageError;
 use crate::key::Key;
@@ -25,6 +26,8 @@ pub struct Stage {
     ops: Vec<Op>,
     /// What the operations count together.
     bytes: u64,
+    /// The keys that the operations alter, to be found.
+    altered: AlteredKeys,
     touched: Vec<Touch>,
     /// The touched keys, to be found.
     noted: IndexSet<Key>,
@@ -38,7 +41,7 @@ impl Model for Stage {
 
     ghost view = { λ s. record { id = s.id; read_only = s.read_only; spaces = s.spaces; ops = s.ops.items; touched = s.touched.items } };
 
-    ghost invariant = { λ s. KeepsStage s.ops.items s.bytes s.touched.items s.noted.keys };
+    ghost invariant = { λ s. KeepsStage s.ops.items s.bytes s.altered s.touched.items s.noted.keys };
 }
 
 impl Stage {
@@ -59,6 +62,7 @@ impl Stage {
             spaces,
             ops: Vec::new(alloc),
             bytes: 0,
+            altered: AlteredKeys::new(alloc),
             touched: Vec::new(alloc),
             noted: IndexSet::new(alloc),
         }
@@ -131,13 +135,24 @@ impl Stage {
             Ok(bytes) => bytes,
             Err(error) => return Err(error),
         };
-        match self.ops.push(op) {
-            Ok(()) => {
-                self.bytes = bytes;
-                Ok(())
-            }
+        match self.push(op, bytes) {
+            Ok(()) => Ok(()),
             Err(_) => Err(StageError::NoMemory),
         }
+    }
+
+    /// Stages an operation that isn't refused.
+    fn push(&mut self, op: Op, bytes: u64) -> Result<(), NoMemory>
+        requires counted { bytes ≡ weigh op_bytes self.old.ops + op_bytes op }
+        requires limit { bytes ≤ MAX_STAGED_BYTES }
+        ensures ok { OnOk result (self.new ≡ staged self.old op) }
+        ensures err { OnErr result (self.new ≡ self.old) }
+    {
+        self.ops.reserve(1)?;
+        self.altered.add(self.alloc, &op)?;
+        let _ = self.ops.push(op);
+        self.bytes = bytes;
+        Ok(())
     }
 
     /// What the operations count with a further one, or why that is refused.
@@ -165,6 +180,9 @@ impl Stage {
     pub fn overlay(&self, key: &Key, base: Option<Value>) -> Result<Option<Value>, NoMemory>
         ensures { IfOk result (λ v. v ≡ overlay self.now.ops key.now base) }
     {
+        if !self.altered.has(key) {
+            return Ok(base);
+        }
         overlay(self.alloc, self.ops.as_slice(), key, base)
     }
 
@@ -172,6 +190,9 @@ impl Stage {
     pub fn there(&self, key: &Key, base: bool) -> bool
         ensures { result ≡ there self.now.ops key.now base }
     {
+        if !self.altered.has(key) {
+            return base;
+        }
         there(self.ops.as_slice(), key, base)
     }
 

@@ -17,4 +17,4 @@ invariant_of-self-2 c =
     let fresh : is_touched s.touched.items key ≡ false = ap (is_touched s.touched.items) c.in_ok-key.ensures ∙ ap (λ (x : Transaction). is_touched x.touched c.args.key.now) c.self.view_is ∙ c.requires in
     let put : c.insert.new.self.keys ≡ cond (list_any (same_key key) s.noted.keys) s.noted.keys (s.noted.keys ++ key ∷ []) = c.in_ok-insert.ensures.keys in
     let listed = keys-push key s.noted.keys c.insert.new.self.keys s.touched.items touch c.self.invariant.listed (c.in_ok-copy.ensures ∙ sym c.in_ok-key.ensures) fresh put in
-    subst (λ l. KeepsStage s.ops.items s.bytes l c.insert.new.self.keys) (sym pushed) (record { counted = c.self.invariant.counted; limit = c.self.invariant.limit; listed = listed })
+    subst (λ l. KeepsStage s.ops.items s.bytes s.altered l c.insert.new.self.keys) (sym pushed) (record { counted = c.self.invariant.counted; limit = c.self.invariant.limit; found = c.self.invariant.found; listed = listed })
