@@ -18,7 +18,7 @@ use request_scope::Answered;
 use session_rows::{ObjectPending, dataspace_reply, object_reply, transaction_reply};
 use std::alloc::Global;
 use store_machine::{Answer, Reply};
-use tx_stage::Key;
+use tx_stage::{Key, Stage};
 
 impl Session {
     /// The answer is joined with the request that awaits it; where none does, it says nothing.
@@ -76,7 +76,7 @@ impl Session {
     {
         let answered = object_reply(alloc, self.stage.take(), pending, reply)?;
         let Answered { stage, sendings } = answered;
-        self.stage = stage;
+        put_back(&mut self.stage, stage);
         let sayings = sayings_of(alloc, sendings)?;
         self.say(alloc, request, sayings)
     }
@@ -93,7 +93,7 @@ impl Session {
     {
         let answered = array_reply(alloc, self.limit, self.stage.take(), pending, reply)?;
         let Answered { stage, sendings } = answered;
-        self.stage = stage;
+        put_back(&mut self.stage, stage);
         let sayings = sayings_of(alloc, sendings)?;
         self.say(alloc, request, sayings)
     }
@@ -169,6 +169,13 @@ impl Session {
         let sayings = sayings_of(alloc, sendings)?;
         self.say(alloc, request, sayings)
     }
+}
+
+/// Puts the open transaction back from where it was taken.
+fn put_back(place: &mut Option<Stage>, stage: Option<Stage>)
+    ensures { place.new ≡ stage }
+{
+    *place = stage;
 }
 
 /// The reply in an answer.
