@@ -19,31 +19,45 @@ name = "c%d"
 kind = "long"
 """
 CHANNELS = "".join(CHANNEL % (number, number) for number in range(2))
-CONFIGS = {"two_channels": HEAD + CHANNELS, "lag_of_two": HEAD + "lag = 2\n" + CHANNELS}
+CONFIGS = {
+    "two_channels": HEAD + CHANNELS, "lag_of_two": HEAD + "lag = 2\n" + CHANNELS, "one_double": HEAD + (CHANNEL % (0, 0)).replace("long", "double"),
+}
 NONE = (0, None)
 PUT = {name: [] for name in (
     "createdContainedObjectUris", "deletedContainedObjectUris", "joinedContainedObjectUris", "unjoinedContainedObjectUris")}
 
 
 class Script:
-    """What the client of session 1 says, each message a moment after the one before, and what it hears."""
+    """What the client of a session says, each message a moment after the one before, and what it hears."""
 
-    def __init__(self):
-        self.client_id, self.server_id, self.moment = 0, -1, 0
-        self.said, self.heard = [], []
+    def __init__(self, other=None):
+        """The client of session 1, or one beside another client, whose session is the next."""
+        self.client_id, self.server_id = 0, -1
+        self.tag = 0 if other is None else other.tag + 1
+        self.clock, self.said, self.heard = ([0], [], []) if other is None else (other.clock, other.said, other.heard)
+
+    @property
+    def moment(self):
+        return self.clock[0]
+
+    def frame(self, kind, payload=b""):
+        return write_frame(kind, self.tag, self.moment, payload)
+
+    def tick(self):
+        self.clock[0] += 1
 
     def say(self, protocol, kind, value, flags=2, correlation=0):
         """Says a message, and answers its id."""
         self.client_id += 2
-        self.moment += 1
+        self.tick()
         header = dict(protocol=protocol, messageType=kind, correlationId=correlation, messageId=self.client_id, messageFlags=flags)
-        self.said.append(write_frame(1, 0, self.moment, write_message(header, BODIES[protocol, kind, "C"], value)))
+        self.said.append(self.frame(1, write_message(header, BODIES[protocol, kind, "C"], value)))
         return self.client_id
 
     def hear(self, protocol, kind, correlation, value, flags=2):
         self.server_id += 2
         header = dict(protocol=protocol, messageType=kind, correlationId=correlation, messageId=self.server_id, messageFlags=flags)
-        self.heard.append(write_frame(17, 0, self.moment, write_message(header, BODIES[protocol, kind, "S"], value)))
+        self.heard.append(self.frame(17, write_message(header, BODIES[protocol, kind, "S"], value)))
 
     def refuse(self, protocol, correlation, code, flags=2):
         self.hear(protocol, 1000, correlation, dict(error=(1, dict(message=TEXTS[code], code=code)), errors={}), flags)
@@ -56,21 +70,21 @@ class Script:
         self.hear(protocol, 1001, correlation, {}, 0)
 
     def poll(self):
-        self.moment += 1
-        self.said.append(write_frame(2, 0, self.moment))
+        self.tick()
+        self.said.append(self.frame(2))
 
-    def open(self, protocols, limit=None):
+    def open(self, protocols, limit=None, name="t"):
         version = dict(major=1, minor=2, revision=0, patch=0)
         supported = [dict(protocol=number, protocolVersion=version, role="store", protocolCapabilities={}) for number in protocols]
         capabilities = {} if limit is None else {"MaxWebSocketMessagePayloadSize": {"item": (3, limit)}}
         asked = self.say(0, 1, dict(
-            applicationName="t", applicationVersion="1", clientInstanceId=bytes(16), requestedProtocols=supported, supportedDataObjects=[],
+            applicationName=name, applicationVersion="1", clientInstanceId=bytes(16), requestedProtocols=supported, supportedDataObjects=[],
             supportedCompression=[], supportedFormats=["xml"], currentDateTime=0, earliestRetainedChangeTime=0,
             serverAuthorizationRequired=False, endpointCapabilities=capabilities))
         self.hear(0, 2, asked, dict(
             applicationName="wd", applicationVersion="1", serverInstanceId=INSTANCE.bytes, supportedProtocols=supported, supportedDataObjects=[],
             supportedCompression="", supportedFormats=["xml"], currentDateTime=self.moment, earliestRetainedChangeTime=0,
-            sessionId=uuid.uuid5(INSTANCE, "session:1").bytes,
+            sessionId=uuid.uuid5(INSTANCE, f"session:{self.tag + 1}").bytes,
             endpointCapabilities={"MaxWebSocketMessagePayloadSize": {"item": (3, 16_777_216)}}))
 
 
@@ -112,18 +126,18 @@ def interval(start, end):
     return dict(startIndex=dict(item=start), endIndex=dict(item=end), uom="", depthDatum="")
 
 
-def metadata(number, first, last):
+def metadata(number, first, last, kind=7):
     ends = [dict(item=NONE if end is None else (1, end)) for end in (first, last)]
     index = dict(
         indexKind=0, interval=dict(startIndex=ends[0], endIndex=ends[1], uom="us", depthDatum=""), direction=0, name="time", uom="us",
         depthDatum="", indexPropertyKindUri="", filterable=True)
     return dict(
-        uri=channel(number), id=number, indexes=[index], channelName=f"c{number}", dataKind=7, uom="", depthDatum="", channelClassUri="", status=0,
+        uri=channel(number), id=number, indexes=[index], channelName=f"c{number}", dataKind=kind, uom="", depthDatum="", channelClassUri="", status=0,
         source="", axisVectorLengths=[], attributeMetadata=[], customData={})
 
 
-def opened(number, first=None, last=None):
-    return dict(metadata=metadata(number, first, last), preferRealtime=True, dataChanges=True)
+def opened(number, first=None, last=None, kind=7):
+    return dict(metadata=metadata(number, first, last, kind), preferRealtime=True, dataChanges=True)
 
 
 def subscription(number, start, changes=True, count=None):
@@ -184,7 +198,7 @@ def chunks():
     script.hear(4, 4, asked, dict(dataObjects={}))
     script.say(0, 5, dict(reason=""), flags=0x10)
     script.acknowledge(0, script.client_id)
-    script.heard.append(write_frame(19, 0, script.moment, b"\x01"))
+    script.heard.append(script.frame(19, b"\x01"))
     return script
 
 
@@ -377,7 +391,65 @@ def lag():
     return script
 
 
-SCRIPTS = {"chunks": (chunks, "two_channels"), "puts": (puts, "two_channels"), "arrays": (arrays, "two_channels"), "channels": (channels, "two_channels"), "lag": (lag, "lag_of_two")}
+def far_behind(count):
+    """A subscriber that polls only once so many points were appended, one a message, where the lag is 65,536."""
+    rig = Script()
+    rig.open([21, 22], name="rig")
+    office = Script(rig)
+    office.open([21, 22], name="rig")
+    asked = rig.say(22, 1, dict(uris={"a": channel(0)}))
+    rig.hear(22, 2, asked, dict(channels={"a": opened(0)}))
+    asked = office.say(21, 3, dict(channels={"s": subscription(0, long_index(0))}))
+    office.hear(21, 12, asked, dict(success={"s": ""}))
+    for number in range(count):
+        rig.say(22, 4, dict(data=[item(0, [long_index(number)], (3, number))]))
+    for poll in range(258):
+        office.poll()
+        if count <= 65_536:
+            for number in range(256 * poll, min(256 * (poll + 1), count)):
+                office.hear(21, 4, 0, dict(data=[item(0, [long_index(number)], (3, number))]))
+        elif poll == 0:
+            office.hear(21, 8, 0, dict(reason=f"lagged {count}", channelIds={"0": 0}))
+    # the channel can be subscribed to again exactly where the subscription was stopped
+    asked = office.say(21, 3, dict(channels={"s": subscription(0, NONE)}))
+    if count <= 65_536:
+        office.refuse_keys(21, asked, {"s": 8})
+    else:
+        office.hear(21, 12, asked, dict(success={"s": ""}))
+    return office
+
+
+def pieces_far_behind(name, count):
+    """The capture of such a subscriber in pieces, each under the name that `tool_cases` has for it, and what is written."""
+    script = far_behind(count)
+    said = [*script.said]
+    pieces = [
+        (f"{name}.cap", [MAGIC, *said[:4]]), (f"points:5:{count}", said[4:4 + count]), (f"polls:{5 + count}:258", said[4 + count:-1]),
+        (f"{name}_2.cap", said[-1:]),
+    ]
+    return [(name, b"".join(frames)) for name, frames in pieces], MAGIC + b"".join(script.heard)
+
+
+def doubles():
+    """The bits of a double, of one that signals among others, come back as they were loaded."""
+    script = Script()
+    script.open([21, 22])
+    asked = script.say(22, 1, dict(uris={"a": channel(0)}))
+    script.hear(22, 2, asked, dict(channels={"a": opened(0, kind=9)}))
+    bits = [0x7FF0000000000001, 0xFFF8000000000000, 0x8000000000000000, 0x7FF0000000000000, 1]
+    points = [item(0, [long_index(number)], (5, each)) for number, each in enumerate(bits)]
+    script.say(22, 4, dict(data=points))
+    asked = script.say(21, 9, dict(requestUuid=bytes(16), channelRanges=[dict(channelIds=[0], interval=interval(long_index(0), long_index(9)), secondaryIntervals=[])]))
+    script.hear(21, 10, asked, dict(data=points))
+    return script
+
+
+SCRIPTS = {
+    "chunks": (chunks, "two_channels"), "puts": (puts, "two_channels"), "arrays": (arrays, "two_channels"), "channels": (channels, "two_channels"),
+    "lag": (lag, "lag_of_two"), "doubles": (doubles, "one_double"),
+}
+# how far behind a subscriber may be, and one more: its subscription is stopped
+FAR_BEHIND = {"as_far_as_it_may": 65_536, "too_far": 65_537}
 
 
 def cases():

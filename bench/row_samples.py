@@ -457,7 +457,7 @@ class Session:
         if capability[0] == 3 and capability[1] < MESSAGE_LIMIT:
             self.limit = max(capability[1], 65_536)
         return 0, 2, {
-            "applicationName": "wd", "applicationVersion": "1", "serverInstanceId": INSTANCE.bytes,
+            "applicationName": self.server.name, "applicationVersion": "1", "serverInstanceId": INSTANCE.bytes,
             "supportedProtocols": [
                 {"protocol": number, "protocolVersion": VERSION, "role": "store", "protocolCapabilities": {}} for number in accepted],
             "supportedDataObjects": [{"qualifiedType": name, "dataObjectCapabilities": {}} for name in self.server.types or []],
@@ -929,8 +929,8 @@ class Session:
 class Server:
     make_store, make_session = Store, Session
 
-    def __init__(self, channels, lag, journal, types):
-        self.store, self.lag, self.types = self.make_store(channels, journal), lag, types
+    def __init__(self, channels, lag, journal, types, name="wd"):
+        self.store, self.lag, self.types, self.name = self.make_store(channels, journal), lag, types, name
         self.tags, self.sent = {}, []
 
     def play(self, kind, tag, moment, data):

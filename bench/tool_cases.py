@@ -6,12 +6,13 @@
 Messages are written by the schema of `wire.py` alone, and what answers them was worked out from the rules, case by case. The captures
 of `session_cases.py` are answered by the server of `sessions.py`, those of `row_samples.py` by its own, those of
 `transaction_samples.py` by that of `transactions.py`, and those of `row_captures.py` and `transaction_captures.py` have their answers
-beside them.
+beside them. The loads are made by `generator.py`, and answered by the server of `row_samples.py`.
 """
 import pathlib
 import sys
 import uuid
 
+import generator
 import row_captures
 import row_samples
 import session_cases
@@ -136,6 +137,15 @@ class Cases:
         words = [str(piece) if isinstance(piece, int) else self.file(part, piece) for part, piece in zip(parts, pieces)]
         self.add_line("+".join(words), f"replay {script.config}", [script.answer()])
 
+    def replay_made(self, pieces, bytes_out, config):
+        """A replay of pieces; those whose name has a colon are made by the program, which tells a digest of the whole."""
+        for name, content in pieces:
+            if ":" not in name:
+                self.file(name, content)
+        self.add_line("+".join(name for name, _ in pieces), f"replay {config}", [(bytes_out, "")])
+        line, outcome = self.answers[-1].split(b"\n", 1)
+        self.answers[-1] = line + b"\n" + digested(b"".join(content for _, content in pieces)) + outcome
+
     def write(self, folder):
         (folder / "data").mkdir(exist_ok=True)
         for name, content in self.files.items():
@@ -144,11 +154,26 @@ class Cases:
         (folder / "stdout").write_bytes(b"".join(self.answers))
 
 
-USAGE = "etptool replay CONFIG < CAPTURE > ANSWERS\netptool show < CAPTURE\netptool check < CAPTURE\n"
+USAGE = (
+    "etptool replay CONFIG < CAPTURE > ANSWERS\netptool show < CAPTURE\netptool check < CAPTURE\n"
+    "etptool capture N > CAPTURE\netptool generate N\n"
+)
+# the number of bytes from which on an output is told as its digest
+LONG = 400_000
 NUMBERS = {"usage": 1, "config refused": 2, "capture refused": 3, "read fault": 4, "write fault": 5, "refused": 9}
 
 
+def digested(content):
+    """How long it is, and its FNV-1a of 64 bits."""
+    digest = 0xCBF29CE484222325
+    for byte in content:
+        digest = (digest ^ byte) * 0x100000001B3 % 2**64
+    return f"{len(content)} bytes of the digest {digest}\n".encode()
+
+
 def shown(bytes_out, status):
+    if len(bytes_out) >= LONG:
+        bytes_out = digested(bytes_out)
     number = next((number for start, number in NUMBERS.items() if status.startswith(start)), 0)
     told = (status + "\n" if status else "") + (USAGE if status == "usage" else "")
     return bytes_out + f"\n= {number}\n{told}".encode()
@@ -361,6 +386,33 @@ def add_rows(cases):
         cases.replay(f"{name}.cap", bytes_in, bytes_out, config=cases.file(f"{config[0]}.toml", config[1].encode()))
 
 
+def add_far_behind(cases):
+    """A subscriber that is as far behind as it may be, and one that is further."""
+    for name, count in row_captures.FAR_BEHIND.items():
+        pieces, bytes_out = row_captures.pieces_far_behind(name, count)
+        cases.replay_made(pieces, bytes_out, "two_channels.toml")
+
+
+def add_loads(cases):
+    """Loads that are captured, played, checked and replayed, and numbers that no load has."""
+    config = cases.file("load.toml", generator.config().encode())
+    for count in 24, 25, 200:
+        capture_in = generator.capture(count)
+        cases.add("no_frame.cap", f"capture {count}", wire.MAGIC, [(capture_in, "")])
+        cases.add("no_frame.cap", f"generate {count}", wire.MAGIC, [(generator.summary(count).encode(), "")])
+        cases.add(f"load_{count}.cap", "check", capture_in, [listed_by_wire("check", capture_in)])
+    cases.replay("load_200.cap", capture_in, wire.MAGIC + b"".join(generator.answers(200)), config=config)
+    for count in 1_000, 10_000, 10_000:
+        cases.add("no_frame.cap", f"generate {count}", wire.MAGIC, [(generator.summary(count).encode(), "")])
+    capture_in = generator.capture(10_000)
+    cases.add("no_frame.cap", "capture 10000", wire.MAGIC, [(capture_in, "")])
+    cases.replay_made([("load:10000", capture_in)], wire.MAGIC + b"".join(generator.answers(10_000)), config)
+    for command in "capture", "generate":
+        for number in "", "0", "23", "024", "+24", "24x", "1000001", "4294967320", "24 24":
+            cases.add("no_frame.cap", f"{command} {number}".strip(), wire.MAGIC, [(b"", "usage")])
+        cases.add("no_frame.cap", f"{command} 24", wire.MAGIC, [(b"", "write fault")], write=1)
+
+
 def main():
     cases = Cases()
     add_beginnings(cases)
@@ -374,6 +426,8 @@ def main():
     for script in session_cases.SCRIPTS:
         cases.play(script)
     add_rows(cases)
+    add_far_behind(cases)
+    add_loads(cases)
     cases.write(pathlib.Path(sys.argv[1]))
 
 

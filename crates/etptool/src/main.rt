@@ -1,5 +1,5 @@
-//! Captures by the command line: `etptool replay CONFIG`, `etptool show` and `etptool check`. What each does is said in
-//! `tool_forms`, where the work is.
+//! Captures and loads by the command line: `etptool replay CONFIG`, `etptool show`, `etptool check`, `etptool capture N` and
+//! `etptool generate N`. What each does is said in `tool_forms`, where the work is.
 #![tactic(auto)]
 
 use std::process::ExitCode;

@@ -2,3 +2,4 @@ pub mod Changes
 pub mod Counting
 pub mod Ending
 pub mod Tallies
+pub mod Sizes

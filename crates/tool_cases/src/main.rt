@@ -1,62 +1,40 @@
 //! Runs the tool on cases, and prints what it wrote and how it ended.
 //!
-//! A line of the input is a case, `CUT READ WRITE CAPTURE WORD..`: the words are those of the tool, CAPTURE is its input, and its
-//! output stands in memory. CAPTURE is the name of a file, or several parts with a `+` between them, of which a number is so many
-//! zeros. The input gives one byte at a time, and one of more than 65,536 bytes so many. The read of number READ fails and the
-//! write of number WRITE, where they are not 0. The tool is run on the capture and on each of its fronts that is up to CUT bytes
-//! shorter. The cases and what is expected of them were made by a program that shares nothing with this one
+//! A line of the input is a case, `CUT READ WRITE CAPTURE WORD..`: the words are those of the tool, CAPTURE is its input (`captures`),
+//! and its output stands in memory. The input gives one byte at a time, and one of more than 65,536 bytes so many. The read of number
+//! READ fails and the write of number WRITE, where they are not 0. The tool is run on the capture and on each of its fronts that is
+//! up to CUT bytes shorter. Of an input that was made for the case, and of an output of 400,000 bytes or more, the length and a
+//! digest are printed. The cases and what is expected of them were made by a program that shares nothing with this one
 //! (`bench/tool_cases.py`).
 #![tactic(auto)]
 
-ghost use Rattle.std.specs.Prelude.{◌<◌};
+mod captures;
+mod digest;
+mod runs;
 
-use etp_outside::{DirHost, MemSink, MemSource, Status, StdSink};
-use etp_values::{Blob, List, NoMemory};
-use std::alloc::Global;
-use std::fs;
+use crate::captures::read_capture;
+use crate::digest::digest;
+use crate::runs::{Faults, run_case};
+use etp_outside::StdSink;
 use std::io::{self, BufRead, BufReader, Write};
-use tool_forms::{run_tool, tell};
+use tool_forms::tell;
 
-/// The faults of a case: the numbers of the read and of the write that fail.
-#[derive(Clone, Copy, Debug, PartialEq, Eq)]
-struct Faults {
-    read: u64,
-    write: u64,
+/// The number of bytes from which on an output is printed as its digest.
+const LONG: usize = 400_000;
+
+/// Prints how long an input or an output is, and its digest.
+fn print_digest(rt: &HostRuntime, bytes: &[u8]) -> io::Result<()> {
+    println!(rt; "{} bytes of the digest {}", bytes.len(), digest(bytes))
 }
 
-/// A list of the number of a call that fails, and an empty one for 0.
-fn only(alloc: Global, number: u64) -> Result<List<u64>, NoMemory> {
-    let mut numbers = Vec::new(alloc);
-    if number > 0 {
-        numbers.push(number)?;
+fn print_output(rt: &HostRuntime, bytes: &[u8]) -> io::Result<()> {
+    if bytes.len() >= LONG {
+        return print_digest(rt, bytes);
     }
-    Ok(List::from_vec(numbers))
-}
-
-/// How many bytes an input of so many gives at a time.
-fn at_a_time(len: usize) -> usize
-    ensures { 0 < result }
-{
-    if len > 65_536 { 65_536 } else { 1 }
+    io::writer(rt).write_all(bytes)
 }
 
 /// Runs the tool on a capture, and prints how that ended.
-fn run_case(
-    rt: &HostRuntime,
-    words: &[String],
-    faults: Faults,
-    capture: &[u8],
-) -> Result<(Status, MemSink), NoMemory> {
-    let alloc = rt.alloc();
-    let bytes = Blob::copy(alloc, capture)?;
-    let most = at_a_time(capture.len());
-    let mut input = MemSource::in_pieces(bytes, only(alloc, faults.read)?, most);
-    let mut out = MemSink::new(Vec::new(alloc), only(alloc, faults.write)?);
-    let mut host = DirHost::new(rt);
-    let status = run_tool(alloc, words, &mut host, &mut input, &mut out);
-    Ok((status, out))
-}
-
 fn print_case(
     rt: &HostRuntime,
     words: &[String],
@@ -65,7 +43,7 @@ fn print_case(
 ) -> io::Result<()> {
     match run_case(rt, words, faults, capture) {
         Ok((status, out)) => {
-            io::writer(rt).write_all(out.as_bytes())?;
+            print_output(rt, out.as_bytes())?;
             let number = status.number();
             println!(rt; "\n= {number}")?;
             tell(rt.alloc(), status, &mut StdSink::new(io::writer(rt)));
@@ -75,25 +53,18 @@ fn print_case(
     }
 }
 
-/// The bytes of a part of a capture: so many zeros for a number, else those of a file.
-fn read_part(rt: &HostRuntime, part: &str) -> io::Result<Vec<u8>> {
-    match part.parse::<u32>() {
-        Ok(count) => Ok(vec![in rt.alloc(); 0u8; count as usize]?),
-        Err(_) => fs::read(rt, part),
-    }
-}
-
-fn read_capture(rt: &HostRuntime, parts: &str) -> io::Result<Vec<u8>> {
-    let mut capture = Vec::new(rt.alloc());
-    for part in parts.split('+') {
-        capture.extend_from_slice(read_part(rt, part)?.as_slice())?;
-    }
-    Ok(capture)
-}
-
 /// The number that a word spells, or 0.
 fn number_in(word: &String) -> u64 {
     word.as_str().parse::<u64>().unwrap_or(0)
+}
+
+/// The capture of these parts. Of one that was made for the case a digest is printed.
+fn capture_of(rt: &HostRuntime, parts: &str) -> io::Result<Vec<u8>> {
+    let capture = read_capture(rt, parts)?;
+    if parts.contains(':') {
+        print_digest(rt, capture.as_slice())?;
+    }
+    Ok(capture)
 }
 
 /// Runs the case of a line on its capture and on the fronts of it.
@@ -110,7 +81,7 @@ fn run_line(rt: &HostRuntime, line: &str) -> io::Result<()> {
         read: number_in(read),
         write: number_in(write),
     };
-    let capture = read_capture(rt, parts.as_str())?;
+    let capture = capture_of(rt, parts.as_str())?;
     let cut = number_in(cut).min(capture.len() as u64) as usize;
     for less in 0..=cut {
         print_case(

@@ -6,3 +6,5 @@ pub mod LegalLemmas
 pub mod TagRunLemmas
 pub mod Soundness
 pub mod Entering
+pub mod Loading
+pub mod Telling

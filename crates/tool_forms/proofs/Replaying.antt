@@ -1,10 +1,12 @@
 -- A replay plays the frames that it takes.
 use Rattle.std.proofs.Common.{◌≡◌, ℕ, Bool, true, false, List, [], ◌∷◌, ◌++◌, refl, ap, sym, ◌∙◌, subst, Option, None, Some, append_assoc, append-nil}
+use Rattle.etp_capture.specs.Capture.{frames_bytes}
+use Rattle.etp_capture.specs.Frames.{magic, frame_bytes}
 use Rattle.etp_capture.specs.declared.frame.Frame.{Frame}
 use Rattle.chan_defs.specs.declared.config.Config.{Config}
 use Rattle.capture_run.specs.Form.{Takes}
 use Rattle.capture_run.specs.Laws.{IsForward}
-use Rattle.tool_forms.specs.Play.{World, Played, first, next_played, happens, happens_to, play_from, play, world_after, bytes_after, is_refused}
+use Rattle.tool_forms.specs.Play.{World, Played, effect, first, next_played, happens, happens_to, play_from, play, world_after, is_refused}
 use Rattle.tool_forms.specs.Plays.{Plays}
 use Rattle.tool_forms.specs.Replay.{is_none, replay_plan, Leads}
 
@@ -18,13 +20,22 @@ next w fs f leads =
     let p : Played = play w.config fs in
     play_from-append (first w.config) fs (f ∷ []) ∙ ap (λ m. happens_to m p f) leads.accepted ∙ ap (λ (v : World). next_played p (is_refused v f) f) leads.world_is
 
+-- the bytes of frames and of those behind them
+bytes_both : (xs ys : List Frame) → frames_bytes (xs ++ ys) ≡ frames_bytes xs ++ frames_bytes ys
+bytes_both [] ys = refl
+bytes_both (x ∷ xs) ys = ap (λ l. frame_bytes x ++ l) (bytes_both xs ys) ∙ sym (append_assoc (frame_bytes x) (frames_bytes xs) (frames_bytes ys))
+
+-- what is written of a run is what was written before and what answers its last frame
+written_more : (p q : List Frame) → magic ++ frames_bytes (p ++ q) ≡ (magic ++ frames_bytes p) ++ frames_bytes q
+written_more p q = ap (λ l. magic ++ l) (bytes_both p q) ∙ sym (append_assoc magic (frames_bytes p) (frames_bytes q))
+
 -- what playing a frame leaves is what taking it leaves
-pub plays_takes : (refused : Bool) (old new : World) (f : Frame) (nothing answer before after : List ℕ) → Plays refused old f new nothing answer → nothing ≡ [] → after ≡ before ++ answer
+pub plays_takes : (refused : Bool) (old new : World) (f : Frame) (nothing answers : List Frame) (before after : List ℕ) → Plays refused old f new nothing answers → nothing ≡ [] → after ≡ before ++ frames_bytes answers
     → (fs : List Frame) → Leads fs old → Takes refused (replay_plan old.config) fs f (λ gs. Leads gs new) before after
-plays_takes true old new f nothing answer before after plays nil is fs leads =
+plays_takes true old new f nothing answers before after plays nil is fs leads =
     let played = next old fs f leads ∙ ap (λ b. next_played (play old.config fs) b f) plays.0 in
-    (ap (λ (p : Played). is_none p.refused) played, is ∙ ap (λ l. before ++ l) (plays.2 ∙ nil) ∙ append-nil before)
-plays_takes false old new f nothing answer before after plays nil is fs leads =
+    (ap (λ (p : Played). is_none p.refused) played, is ∙ ap (λ (l : List Frame). before ++ frames_bytes l) (plays.2 ∙ nil) ∙ append-nil before)
+plays_takes false old new f nothing answers before after plays nil is fs leads =
     let p : Played = play old.config fs in
     let played = next old fs f leads ∙ ap (λ b. next_played p b f) plays.0 in
     let world : (play old.config (fs ++ f ∷ [])).world ≡ new = ap (λ (q : Played). q.world) played ∙ ap (λ (w : World). world_after w f) leads.world_is ∙ sym plays.1 in
@@ -36,9 +47,9 @@ plays_takes false old new f nothing answer before after plays nil is fs leads =
         accepted = subst (λ (c : Config). (play c (fs ++ f ∷ [])).refused ≡ None) config accepted;
       },
       (
-        bytes_after old f,
-        is ∙ ap (λ l. before ++ l) (plays.2 ∙ ap (λ l. l ++ bytes_after old f) nil),
-        ap (λ (q : Played). q.bytes) played ∙ ap (λ (w : World). p.bytes ++ bytes_after w f) leads.world_is,
+        frames_bytes (effect old f).answers,
+        is ∙ ap (λ (l : List Frame). before ++ frames_bytes l) (plays.2 ∙ ap (λ (l : List Frame). l ++ (effect old f).answers) nil),
+        ap (λ (q : Played). magic ++ frames_bytes q.answers) played ∙ ap (λ (w : World). magic ++ frames_bytes (p.answers ++ (effect w f).answers)) leads.world_is ∙ written_more p.answers (effect old f).answers,
       ),
     )
 

@@ -6,7 +6,6 @@ use Rattle.std.specs.Ordering.{nat_cmp}
 use Rattle.std.specs.BTreeMap.{is_at}
 use Rattle.std.proofs.lemmas.Bool.{false≢true}
 use Rattle.std.proofs.lemmas.Bool.Decides.{nat_tests}
-use Rattle.etp_capture.specs.Capture.{frames_bytes}
 use Rattle.etp_capture.specs.declared.frame.Frame.{Frame}
 use Rattle.chan_defs.specs.declared.config.Config.{Config}
 use Rattle.store_machine.specs.Answers.{answered, added, has_room, wanted}
@@ -246,7 +245,7 @@ put_both tag x y old mid new first second = λ q. second q ∙ by_test (is_at (n
 not_ended : (o p : Option TagState) → o ≡ p → has_ended p ≡ false → has_ended o ≡ false
 not_ended o p same here = ap has_ended same ∙ here
 
-pub sound_played : Laws → (w : World) (f : Frame) (o : Option TagState) (j : List Entry) (state : TagState) (mid new : List (ℕ × TagState)) (before after : List ℕ) → IsSound w → own (length w.journal) w.journal ≡ []
+pub sound_played : Laws → (w : World) (f : Frame) (o : Option TagState) (j : List Entry) (state : TagState) (mid new : List (ℕ × TagState)) (before after : List Frame) → IsSound w → own (length w.journal) w.journal ≡ []
     → has_ended (state_of f.tag w.tags) ≡ false → o ≡ state_of f.tag w.tags → Meets (effect_at w.config w.journal f o) state j before after → IsPut f.tag Ended w.tags mid → IsPut f.tag state mid new
     → IsSound (record { config = w.config; journal = j; tags = new })
 sound_played laws w f o j state mid new before after sound fresh here same meets first second =
@@ -258,16 +257,16 @@ sound_played laws w f o j state mid new before after sound fresh here same meets
     let at_tag : TagFits n j e.tag = subst (λ (k : ℕ). TagFits k j e.tag) number (subst (λ (l : List Entry). TagFits (number_in w.journal o) l e.tag) (sym meets.journal_is) fits.tag) in
     sound_put laws w f.tag j state new sound grows (subst (λ (x : TagState). TagFits n j x) (sym meets.tag_is) at_tag) (put_both f.tag Ended state w.tags mid new first second)
 
-pub world_played : (w : World) (f : Frame) (o : Option TagState) (j : List Entry) (state : TagState) (mid new : List (ℕ × TagState)) (before after : List ℕ) → o ≡ state_of f.tag w.tags
+pub world_played : (w : World) (f : Frame) (o : Option TagState) (j : List Entry) (state : TagState) (mid new : List (ℕ × TagState)) (before after : List Frame) → o ≡ state_of f.tag w.tags
     → Meets (effect_at w.config w.journal f o) state j before after → mid ≡ with_tag f.tag Ended w.tags → new ≡ with_tag f.tag state mid
-    → (let x : World = record { config = w.config; journal = j; tags = new } in x ≡ world_after w f) × (after ≡ before ++ frames_bytes (effect w f).answers)
+    → (let x : World = record { config = w.config; journal = j; tags = new } in x ≡ world_after w f) × (after ≡ before ++ (effect w f).answers)
 world_played w f o j state mid new before after same meets first second =
     let at : effect_at w.config w.journal f o ≡ effect w f = ap (effect_at w.config w.journal f) same in
     let journal : j ≡ (effect w f).journal = meets.journal_is ∙ ap (λ (e : Effect). e.journal) at in
     let state_is : state ≡ (effect w f).tag = meets.tag_is ∙ ap (λ (e : Effect). e.tag) at in
     let tags : new ≡ with_tag f.tag (effect w f).tag w.tags = second ∙ ap (with_tag f.tag state) first ∙ put_twice f.tag Ended state w.tags ∙ ap (λ (x : TagState). with_tag f.tag x w.tags) state_is in
     let world : List Entry → List (ℕ × TagState) → World = λ h s. record { config = w.config; journal = h; tags = s } in
-    (ap (λ (h : List Entry). world h new) journal ∙ ap (λ (s : List (ℕ × TagState)). world (effect w f).journal s) tags, meets.bytes_are ∙ ap (λ (e : Effect). before ++ frames_bytes e.answers) at)
+    (ap (λ (h : List Entry). world h new) journal ∙ ap (λ (s : List (ℕ × TagState)). world (effect w f).journal s) tags, meets.answers_are ∙ ap (λ (e : Effect). before ++ e.answers) at)
 
 pub not_refused : (k : ℕ) (c : Bool) → (k ≡ 17 → ⊥) → (k ≡ 19 → ⊥) → c ≡ false → (k == 17 || k == 19 || c) ≡ false
 not_refused k c a b e = grind (arith, nat_tests)

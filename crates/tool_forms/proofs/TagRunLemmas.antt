@@ -1,5 +1,5 @@
 -- What a play is to one tag is a run.
-use Rattle.std.proofs.Common.{◌≡◌, ◌≢◌, ℕ, suc, ℤ, ◌+◌, ◌<◌, ◌≤◌, ◌==◌, ◌&&◌, ◌||◌, Bool, true, false, cond, List, [], ◌∷◌, ◌++◌, length, map, filter, fold, take, None, Some, if◌then◌else◌, refl, ap, sym, ◌∙◌, subst, arith, append_assoc, append-nil, length-append, eq-eqb, nat_eq, inl, inr, pos}
+use Rattle.std.proofs.Common.{◌≡◌, ◌≢◌, ℕ, suc, ℤ, ◌+◌, ◌<◌, ◌≤◌, ◌==◌, ◌&&◌, ◌||◌, Bool, true, false, cond, List, [], ◌∷◌, ◌++◌, length, map, filter, fold, take, None, Some, if◌then◌else◌, refl, ap, sym, ◌∙◌, subst, arith, append-nil, length-append, eq-eqb, nat_eq, inl, inr, pos}
 use Rattle.std.specs.Prelude.{IfSome, slice_get}
 use Rattle.std.specs.Map.{values_of}
 use Rattle.std.specs.declared.option.Option.{Option}
@@ -11,8 +11,6 @@ use Rattle.std.proofs.lemmas.Bool.{false≢true}
 use Rattle.std.proofs.lemmas.Bool.Decides.{nat_tests}
 use mathlib.Core.List.{IsPrefix, prefix-append}
 use Rattle.etp_values.proofs.Prefixes.{prefix_self, prefix_trans, prefix_length, prefix_get}
-use Rattle.etp_capture.specs.Frames.{magic}
-use Rattle.etp_capture.specs.Capture.{frames_bytes}
 use Rattle.etp_capture.specs.declared.frame.Frame.{Frame}
 use Rattle.chan_defs.specs.declared.config.Config.{Config}
 use Rattle.store_machine.specs.Answers.{answered, added, has_room, wanted}
@@ -39,7 +37,6 @@ use Rattle.tool_forms.specs.declared.tag.TagState.TheVariants.{Ended, Open}
 use Rattle.tool_forms.specs.declared.tag.OpenSession.{OpenSession}
 use Rattle.tool_forms.specs.declared.tag.Ending.{Ending}
 use Rattle.tool_forms.specs.declared.tag.Ending.TheVariants.{Session, PeerEnd, JournalFull}
-use Rattle.tool_forms.proofs.Entering.{bytes_both}
 use Rattle.tool_forms.proofs.Growth.{Grows, entry_within}
 use Rattle.tool_forms.proofs.LegalLemmas.{at_legal}
 use Rattle.tool_forms.proofs.OwnLemmas.{IsApart, IsBelow, OwnStays, entered-wrote, fall-higher, fall-turned, other_apart, own_apart, own_stays, values-placed, wrote-longer, wrote-more}
@@ -472,8 +469,7 @@ module _ (same : RunIsSame) (next : RunGoesOn) (one : CallsAddOne) (laws : Laws)
     sound : IsSound w.played.world
     legal : Legal c w.played.world.journal
     apart : IsApart tag w.run w.played.world.tags
-    bytes : w.played.bytes ≡ magic ++ frames_bytes w.answers
-    fits : FitsAll c tag w.played.world.journal w.answers w.run (state_of tag w.played.world.tags)
+    fits : FitsAll c tag w.played.world.journal w.played.answers w.run (state_of tag w.played.world.tags)
 
   -- the answers to a frame join those before it
   joined : (c : Config) (tag : ℕ) (h : List Entry) (answers more : List Frame) (r : Option TagRun) (o : Option TagState)
@@ -542,15 +538,14 @@ module _ (same : RunIsSame) (next : RunGoesOn) (one : CallsAddOne) (laws : Laws)
   world_stays tag w f r false is below apart grows = own_stays tag f.tag w.journal (effect w f).journal w.tags r (other_tags f.tag tag is) below grows apart
 
   next_fine : (c : Config) (tag : ℕ) (w : Followed) (b : Bool) (f : Frame) → is_refused w.played.world f ≡ b → Fine c tag w → Fine c tag (next_followed tag w b f)
-  next_fine c tag w true f is fine = record { config = fine.config; sound = fine.sound; legal = fine.legal; apart = fine.apart; bytes = fine.bytes; fits = fine.fits }
+  next_fine c tag w true f is fine = record { config = fine.config; sound = fine.sound; legal = fine.legal; apart = fine.apart; fits = fine.fits }
   next_fine c tag w false f is fine =
       let v : World = w.played.world in
       let e : Effect = effect v f in
-      let more : List Frame = e.answers in
       let fresh : own (length v.journal) v.journal ≡ [] = new_number c v.journal fine.legal in
       let here : has_ended (state_of f.tag v.tags) ≡ false = last_false (f.kind == 17) (f.kind == 19) (has_ended (state_of f.tag v.tags)) is in
       let effect_is = effect_fits laws v.config v.journal f (state_of f.tag v.tags) fresh here (fine.sound.fits f.tag) in
-      let below : IsBelow (length v.journal) w.run = run_below c v.journal (payloads_to 17 tag w.answers) (payloads_to 19 tag w.answers) w.run (state_of tag v.tags) fine.fits in
+      let below : IsBelow (length v.journal) w.run = run_below c v.journal (payloads_to 17 tag w.played.answers) (payloads_to 19 tag w.played.answers) w.run (state_of tag v.tags) fine.fits in
       let stays : OwnStays v.journal e.journal (cond (f.tag == tag) None w.run) = world_stays tag v f w.run (f.tag == tag) refl below fine.apart effect_is.grows in
       record {
         config = fine.config;
@@ -558,8 +553,7 @@ module _ (same : RunIsSame) (next : RunGoesOn) (one : CallsAddOne) (laws : Laws)
         legal = subst (λ (k : Config). Legal k e.journal) fine.config
             (at_legal laws may keep v.config v.journal f (state_of f.tag v.tags) fresh (fine.sound.fits f.tag) (subst (λ (k : Config). Legal k v.journal) (sym fine.config) fine.legal));
         apart = world_apart tag v f w.run (f.tag == tag) refl fine.sound below fine.apart effect_is.tag;
-        bytes = ap (λ l. l ++ frames_bytes more) fine.bytes ∙ append_assoc magic (frames_bytes w.answers) (frames_bytes more) ∙ ap (λ l. magic ++ l) (sym (bytes_both w.answers more));
-        fits = world_fits c tag v f w.answers w.run (f.tag == tag) refl fine.config fine.sound fresh stays fine.fits;
+        fits = world_fits c tag v f w.played.answers w.run (f.tag == tag) refl fine.config fine.sound fresh stays fine.fits;
       }
 
   follow_fine : (c : Config) (tag : ℕ) (w : Followed) (o : Option ℕ) (f : Frame) → Fine c tag w → Fine c tag (follow_to o tag w f)
@@ -584,13 +578,13 @@ module _ (same : RunIsSame) (next : RunGoesOn) (one : CallsAddOne) (laws : Laws)
   pub play_is_runs : PlayIsRuns
   play_is_runs c tag frames =
       let w : Followed = followed c tag frames in
-      let fine = all_fine c tag frames (first_followed c) (record { config = refl; sound = first_sound c; legal = (refl, tt); apart = tt; bytes = sym (append-nil magic); fits = (refl, refl) }) in
+      let fine = all_fine c tag frames (first_followed c) (record { config = refl; sound = first_sound c; legal = (refl, tt); apart = tt; fits = (refl, refl) }) in
       let played : w.played ≡ play c frames = all_played tag frames (first_followed c) in
-      let ms : List (List ℕ) = payloads_to 17 tag w.answers in
-      let es : List (List ℕ) = payloads_to 19 tag w.answers in
+      let ms : List (List ℕ) = payloads_to 17 tag w.played.answers in
+      let es : List (List ℕ) = payloads_to 19 tag w.played.answers in
       record {
         played = played;
         legal = subst (λ (p : Played). Legal c p.world.journal) played fine.legal;
-        bytes = sym (ap (λ (p : Played). p.bytes) played) ∙ fine.bytes;
-        sent = subst (λ (p : Played). IsSent c p.world.journal ms es w.run) played (sent_of c w.played.world.journal ms es w.run (state_of tag w.played.world.tags) fine.fits);
+        sent = subst (λ (p : Played). IsSent c p.world.journal (payloads_to 17 tag p.answers) (payloads_to 19 tag p.answers) w.run) played
+            (sent_of c w.played.world.journal ms es w.run (state_of tag w.played.world.tags) fine.fits);
       }

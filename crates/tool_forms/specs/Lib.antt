@@ -6,5 +6,7 @@ pub mod Plays
 pub mod Sound
 pub mod TagRuns
 pub mod Replay
+pub mod Summary
 pub mod Top
+pub mod Loads
 pub mod Program

@@ -3,8 +3,6 @@ use Rattle.std.specs.Prelude.{◌≡◌, ℕ, ◌+◌, Bool, true, false, List, 
 use Rattle.std.specs.Ordering.{nat_cmp}
 use Rattle.std.specs.Map.{lookup}
 use Rattle.std.specs.BTreeMap.{is_at, insert_entry}
-use Rattle.etp_capture.specs.Frames.{magic}
-use Rattle.etp_capture.specs.Capture.{frames_bytes}
 use Rattle.etp_capture.specs.Kinds.{kind_out, kind_ended}
 use Rattle.etp_capture.specs.declared.frame.Frame.{Frame}
 use Rattle.chan_defs.specs.declared.config.Config.{Config}
@@ -54,25 +52,22 @@ world_with w tag e = record { config = w.config; journal = e.journal; tags = wit
 abbrev pub world_after : World → Frame → World
 world_after w f = world_with w f.tag (effect w f)
 
--- the bytes of the frames that answer a frame
-abbrev pub bytes_after : World → Frame → List ℕ
-bytes_after w f = frames_bytes (effect w f).answers
-
--- a run so far: the offset behind the frames that were played, what was written, and the offset of the frame that was refused
+-- a run so far: the offset behind the frames that were played, the frames that answer them, and the offset of the frame that was
+-- refused
 pub record Played : Type 0 where
   pub world : World
   pub at : ℕ
-  pub bytes : List ℕ
+  pub answers : List Frame
   pub refused : Option ℕ
 
 -- a run over no frames
 abbrev pub first : Config → Played
-first c = record { world = first_world c; at = 8; bytes = magic; refused = None }
+first c = record { world = first_world c; at = 8; answers = []; refused = None }
 
 -- one more frame, refused or not
 abbrev pub next_played : Played → Bool → Frame → Played
-next_played p true f = record { world = p.world; at = p.at; bytes = p.bytes; refused = Some p.at }
-next_played p false f = record { world = world_after p.world f; at = p.at + (17 + length f.bytes); bytes = p.bytes ++ bytes_after p.world f; refused = None }
+next_played p true f = record { world = p.world; at = p.at; answers = p.answers; refused = Some p.at }
+next_played p false f = record { world = world_after p.world f; at = p.at + (17 + length f.bytes); answers = p.answers ++ (effect p.world f).answers; refused = None }
 
 -- behind a refused frame nothing happens
 abbrev pub happens_to : Option ℕ → Played → Frame → Played

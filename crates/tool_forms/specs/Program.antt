@@ -5,4 +5,4 @@ use Rattle.etp_outside.specs.declared.status.Status.{Status}
 
 -- the status line and what follows it: where the words are in no form, how the program is called
 abbrev pub told : Status → List ℕ
-told status = told_with (codes "\netptool replay CONFIG < CAPTURE > ANSWERS\netptool show < CAPTURE\netptool check < CAPTURE\n") status
+told status = told_with (codes "\netptool replay CONFIG < CAPTURE > ANSWERS\netptool show < CAPTURE\netptool check < CAPTURE\netptool capture N > CAPTURE\netptool generate N\n") status

@@ -1,5 +1,7 @@
 -- What a replay makes of frames.
-use Rattle.std.specs.Prelude.{◌≡◌, ℕ, Bool, true, false, List, [], Option, None, Some}
+use Rattle.std.specs.Prelude.{◌≡◌, ◌++◌, ℕ, Bool, true, false, List, [], Option, None, Some}
+use Rattle.etp_capture.specs.Capture.{frames_bytes}
+use Rattle.etp_capture.specs.Frames.{magic}
 use Rattle.etp_capture.specs.declared.frame.Frame.{Frame}
 use Rattle.chan_defs.specs.declared.config.Config.{Config}
 use Rattle.capture_run.specs.Form.{Plan}
@@ -9,11 +11,11 @@ abbrev pub is_none : Option ℕ → Bool
 is_none None = true
 is_none (Some offset) = false
 
--- the frames are played, and what they are answered by is written; at the end nothing follows
+-- the frames are played, and the frames that answer them are written; at the end nothing follows
 abbrev pub replay_plan : Config → Plan
 replay_plan config = record {
   accepts = λ fs. is_none (play config fs).refused;
-  written = λ fs. (play config fs).bytes;
+  written = λ fs. magic ++ frames_bytes (play config fs).answers;
   last = λ fs. [];
   refused = λ fs. 0;
 }

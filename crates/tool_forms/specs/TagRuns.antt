@@ -2,8 +2,6 @@
 use Rattle.std.specs.Prelude.{◌≡◌, ◌⊎◌, ℕ, ◌+◌, ◌≤◌, Bool, true, false, List, [], ◌∷◌, ◌++◌, ◌==◌, ◌&&◌, nat_eq, if◌then◌else◌, length, map, filter, fold, slice_get, Option, None, Some, IsSomeAnd}
 use Rattle.std.specs.Option.{option_map}
 use Rattle.std.specs.Map.{values_of}
-use Rattle.etp_capture.specs.Frames.{magic}
-use Rattle.etp_capture.specs.Capture.{frames_bytes}
 use Rattle.etp_capture.specs.Kinds.{kind_end, kind_out, kind_ended}
 use Rattle.etp_capture.specs.declared.frame.Frame.{Frame}
 use Rattle.chan_defs.specs.declared.config.Config.{Config}
@@ -15,7 +13,7 @@ use Rattle.session_core.specs.Run.{Course, run, Heeds, AllWithin}
 use Rattle.session_core.specs.Session.{bytes_of, end_of}
 use Rattle.session_core.specs.declared.state.End.{End}
 use Rattle.tool_forms.specs.Turns.{ending_bytes, session_end_bytes, event_of, turn, first_open, entered_journal, entered_place}
-use Rattle.tool_forms.specs.Play.{Played, first, next_played, is_refused, state_of, effect, play}
+use Rattle.tool_forms.specs.Play.{Played, first, next_played, is_refused, state_of, play}
 use Rattle.tool_forms.specs.declared.tag.TagState.{TagState}
 use Rattle.tool_forms.specs.declared.tag.TagState.TheVariants.{Ended, Open}
 use Rattle.tool_forms.specs.declared.tag.OpenSession.{OpenSession}
@@ -48,24 +46,22 @@ run_after c h f r None = run_entered c (entered_journal c h f) f (entered_place 
 run_after c h f r (Some (Open s)) = option_map (run_with c h s f) r
 run_after c h f r (Some Ended) = r
 
--- a play so far, with the frames that answer it, in which one tag is followed
+-- a play so far, in which one tag is followed
 pub record Followed : Type 0 where
   pub played : Played
-  pub answers : List Frame
   pub run : Option TagRun
 
 -- a play over no frames
 abbrev pub first_followed : Config → Followed
-first_followed c = record { played = first c; answers = []; run = None }
+first_followed c = record { played = first c; run = None }
 
 -- one more frame, refused or not
 abbrev pub next_followed : ℕ → Followed → Bool → Frame → Followed
-next_followed tag w true f = record { played = next_played w.played true f; answers = w.answers; run = w.run }
+next_followed tag w true f = record { played = next_played w.played true f; run = w.run }
 next_followed tag w false f =
     let world = w.played.world in
     record {
       played = next_played w.played false f;
-      answers = w.answers ++ (effect world f).answers;
       run = if f.tag == tag then run_after world.config world.journal f w.run (state_of tag world.tags) else w.run;
     }
 
@@ -128,13 +124,12 @@ abbrev pub IsSent : Config → List Entry → List (List ℕ) → List (List ℕ
 IsSent c h messages endings None = (messages ≡ []) × ((endings ≡ []) ⊎ (endings ≡ ending_bytes JournalFull ∷ []))
 IsSent c h messages endings (Some r) = IsRun c h messages r × IsEnd (end_of (run_of c h r).state.phase) endings
 
--- a play's journal is legal. Its bytes are those of the frames that answer it, and those among them that go to a tag are the
--- messages and the end of the run of the tag's session over the journal
+-- a play's journal is legal, and those of its answers that go to a tag are the messages and the end of the run of the tag's session
+-- over the journal
 pub record IsFollowed (c : Config) (tag : ℕ) (frames : List Frame) : Type 0 where
   pub played : (followed c tag frames).played ≡ play c frames
   pub legal : Legal c (play c frames).world.journal
-  pub bytes : (play c frames).bytes ≡ magic ++ frames_bytes (followed c tag frames).answers
-  pub sent : let w = followed c tag frames in IsSent c (play c frames).world.journal (payloads_to kind_out tag w.answers) (payloads_to kind_ended tag w.answers) w.run
+  pub sent : let p = play c frames in IsSent c p.world.journal (payloads_to kind_out tag p.answers) (payloads_to kind_ended tag p.answers) (followed c tag frames).run
 
 -- the same of every play and every tag
 abbrev pub PlayIsRuns : Type 0

@@ -1,7 +1,12 @@
 //! What the words of a command line ask for.
 ghost use Rattle.std.specs.Prelude.{◌≡◌, map};
-ghost use Rattle.tool_forms.specs.Words.{command_of};
+ghost use Rattle.tool_forms.specs.Words.{command_of, command_with};
 ghost use Rattle.tool_forms.specs.Commands.{as_option};
+
+use command_words::count_in;
+
+/// The least number of messages of a load.
+const LEAST: u32 = 24;
 
 /// What the tool is asked to do.
 #[derive(Clone, Copy, Debug, PartialEq, Eq)]
@@ -12,6 +17,10 @@ pub enum Command<'a> {
     Show,
     /// To check a capture.
     Check,
+    /// To write the capture of a load of so many messages.
+    Capture(u32),
+    /// To play a load of so many messages.
+    Generate(u32),
 }
 
 /// The command of these words, where they are in a form.
@@ -21,7 +30,29 @@ pub fn command_of<'a>(words: &[&'a str]) -> Option<Command<'a>>
     match words {
         [command] if *command == "show" => Some(Command::Show),
         [command] if *command == "check" => Some(Command::Check),
-        [command, name] if *command == "replay" => Some(Command::Replay(*name)),
+        [command, word] => command_with(*command, *word),
         _ => None,
     }
+}
+
+/// The command of two words, where they are in a form.
+fn command_with<'a>(command: &'a str, word: &'a str) -> Option<Command<'a>>
+    ensures { as_option result ≡ command_with command.now word.now }
+{
+    if command == "replay" {
+        return Some(Command::Replay(word));
+    }
+    if command == "capture" {
+        return match count_in(word, LEAST) {
+            Some(size) => Some(Command::Capture(size)),
+            None => None,
+        };
+    }
+    if command == "generate" {
+        return match count_in(word, LEAST) {
+            Some(size) => Some(Command::Generate(size)),
+            None => None,
+        };
+    }
+    None
 }

@@ -1,10 +1,12 @@
-//! The forms of the tool: captures that are replayed, shown and checked.
+//! The forms of the tool: captures that are replayed, shown and checked, and loads that are made and played.
 //!
 //! - `replay CONFIG` reads a server's configuration from the file CONFIG and a capture from its input: each tag of the capture is
 //!   a session over one store, and what the sessions answer is written to the output as a capture.
 //! - `show` writes a line for each frame of the capture in its input.
 //! - `check` writes a line for each of its messages that is refused, and then how many frames, messages and refused messages
 //!   there were.
+//! - `capture N` writes the capture of a load of N messages, 24 to 1,000,000, and `generate N` plays it and writes how many messages,
+//!   sessions, entries and answers that comes to.
 //!
 //! [`run_tool`] does that over any host, source and sink; what it promises is in `specs/Top`. [`run_program`] does it over the
 //! system, and is all that a `main` calls.
@@ -16,6 +18,7 @@
 
 mod command;
 mod laws;
+mod load;
 mod player;
 mod program;
 mod replay;

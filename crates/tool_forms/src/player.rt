@@ -1,5 +1,5 @@
 //! Plays frames: the sessions of a capture over one store.
-ghost use Rattle.std.specs.Prelude.{◌≡◌, IfOk, OnOk};
+ghost use Rattle.std.specs.Prelude.{◌≡◌, IfOk, OnOk, length};
 ghost use Rattle.tool_forms.specs.Play.{first_world, state_of, has_ended};
 ghost use Rattle.tool_forms.specs.Plays.{Plays};
 ghost use Rattle.tool_forms.specs.Sound.{IsSound};
@@ -49,16 +49,23 @@ impl Player {
         })
     }
 
+    /// How many entries the journal has.
+    pub(crate) fn entries(&self) -> u64
+        ensures { result ≡ length self.now.journal }
+    {
+        self.store.entries()
+    }
+
     /// Plays a frame, and appends the frames that answer it. Answers whether the frame is refused. After `NoMemory` nothing
     /// is said of what the player holds and what was appended.
     pub fn play(
         &mut self,
         alloc: Global,
         frame: &Frame,
-        into: &mut Vec<u8>,
+        answers: &mut Vec<Frame>,
     ) -> Result<bool, NoMemory>
         requires { IsSound self.old }
-        ensures played { IfOk result (λ refused. Plays refused self.old frame.now self.new into.old.items into.new.items) }
+        ensures played { IfOk result (λ refused. Plays refused self.old frame.now self.new answers.old.items answers.new.items) }
         ensures sound { OnOk result (IsSound self.new) }
     {
         if frame.kind == kinds::OUT
@@ -73,7 +80,7 @@ impl Player {
         steps();
         let _entries = self.store.entries();
         let state = self.tags.insert(frame.tag, TagState::Ended)?;
-        let state = play_at(alloc, &self.config, &mut self.store, state, frame, into)?;
+        let state = play_at(alloc, &self.config, &mut self.store, state, frame, answers)?;
         self.tags.insert(frame.tag, state)?;
         Ok(false)
     }

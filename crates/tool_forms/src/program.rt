@@ -12,7 +12,7 @@ use std::rt::{Env, Files};
 
 /// What follows the line of `Usage`.
 const USAGE: &[u8] =
-    b"\netptool replay CONFIG < CAPTURE > ANSWERS\netptool show < CAPTURE\netptool check < CAPTURE\n";
+    b"\netptool replay CONFIG < CAPTURE > ANSWERS\netptool show < CAPTURE\netptool check < CAPTURE\netptool capture N > CAPTURE\netptool generate N\n";
 
 /// How much of the input is read at a time.
 const READ_AHEAD: usize = 65_536;

@@ -1,5 +1,7 @@
 //! The form that replays a capture: it plays each frame, and writes the frames that answer it as a capture.
-ghost use Rattle.std.specs.Prelude.{◌≡◌, IfOk};
+ghost use Rattle.std.specs.Prelude.{◌≡◌, ◌++◌, IfOk, OnOk, OnErr};
+ghost use Rattle.std.specs.Io.{StartsWith};
+ghost use Rattle.etp_capture.specs.Capture.{frames_bytes};
 ghost use Rattle.tool_forms.specs.Play.{first_world};
 ghost use Rattle.tool_forms.specs.Replay.{replay_plan, Leads};
 ghost use Rattle.tool_forms.specs.Sound.{IsSound};
@@ -7,15 +9,14 @@ ghost use Rattle.tool_forms.specs.Sound.{IsSound};
 use crate::player::Player;
 use capture_run::Form;
 use chan_defs::Config;
-use etp_capture::{Frame, push_magic};
+use etp_capture::{Frame, push_frame, push_magic};
 use etp_values::NoMemory;
 use std::alloc::Global;
 
-/// A replay: the sessions of the capture over one store, and room for what answers a frame.
+/// A replay: the sessions of the capture over one store.
 #[derive(Drop)]
 pub struct Replay {
     player: Player,
-    answer: Vec<u8>,
 }
 
 impl Replay {
@@ -26,7 +27,6 @@ impl Replay {
     {
         Ok(Replay {
             player: Player::new(alloc, config)?,
-            answer: Vec::new(alloc),
         })
     }
 }
@@ -49,13 +49,40 @@ impl Form for Replay {
         frame: &Frame,
         into: &mut Vec<u8>,
     ) -> Result<bool, NoMemory> {
-        self.answer.clear();
-        let refused = self.player.play(alloc, frame, &mut self.answer)?;
-        into.extend_from_slice(self.answer.as_slice())?;
+        let mut answers: Vec<Frame> = Vec::new(alloc);
+        let refused = self.player.play(alloc, frame, &mut answers)?;
+        push_all(into, answers.as_slice())?;
         Ok(refused)
     }
 
     fn close(&self, _alloc: Global, _offset: u64, _into: &mut Vec<u8>) -> Result<u32, NoMemory> {
         Ok(0)
     }
+}
+
+/// Appends the bytes of frames, or nothing where memory is refused.
+fn push_all(into: &mut Vec<u8>, frames: &[Frame]) -> Result<(), NoMemory>
+    ensures ok { OnOk result (into.new.items ≡ into.old.items ++ frames_bytes frames.now) }
+    ensures err { OnErr result (into.new.items ≡ into.old.items) }
+{
+    let start = into.len();
+    match push_frames(into, frames) {
+        Ok(()) => Ok(()),
+        Err(error) => {
+            into.truncate(start);
+            Err(error)
+        }
+    }
+}
+
+/// Appends the bytes of frames. Where memory is refused, some of them may have been appended.
+#[tactic(auto, using(std::proofs::Transfers::starts_with_trans))]
+fn push_frames(into: &mut Vec<u8>, frames: &[Frame]) -> Result<(), NoMemory>
+    ensures ok { OnOk result (into.new.items ≡ into.old.items ++ frames_bytes frames.now) }
+    ensures err { OnErr result (StartsWith into.new.items into.old.items) }
+{
+    for frame in frames {
+        push_frame(into, frame)?;
+    }
+    Ok(())
 }

@@ -8,6 +8,7 @@ ghost use Rattle.capture_run.specs.Running.{between};
 ghost use Rattle.tool_forms.specs.Top.{Answers, Fulfils, ReplaysWith};
 
 use crate::command::{Command, command_of};
+use crate::load::{capture, generate};
 use crate::replay::Replay;
 use capture_listing::{Check, Show};
 use capture_run::run_form;
@@ -21,7 +22,9 @@ use std::alloc::Global;
 /// - `replay CONFIG`: the configuration of that name is read, and then the capture that the input is; what answers it goes to
 ///   the output;
 /// - `show`: a line for each frame of the input goes to the output;
-/// - `check`: a line for each message of the input that is refused goes to the output, and at the end one with the counts.
+/// - `check`: a line for each message of the input that is refused goes to the output, and at the end one with the counts;
+/// - `capture N`: the capture of a load of N messages goes to the output;
+/// - `generate N`: that load is played, and how many messages, sessions, entries and answers there were goes to the output.
 pub fn run_tool<H: Host, R: Source, W: Sink>(
     alloc: Global,
     words: &[String],
@@ -63,6 +66,8 @@ fn run<H: Host, R: Source, W: Sink>(
         Command::Replay(name) => replay_with(alloc, name, host, input, out),
         Command::Show => run_form(alloc, Show, input, out),
         Command::Check => run_form(alloc, Check::new(), input, out),
+        Command::Capture(size) => capture(alloc, size, out),
+        Command::Generate(size) => generate(alloc, size, out),
     }
 }
 

@@ -1,8 +1,6 @@
 //! One frame on its session and the store.
 ghost use Rattle.std.specs.Prelude.{◌≡◌, ◌++◌, ◌∷◌, [], IfOk, IfSome, OnOk, List, ℕ, length};
 ghost use Rattle.std.specs.Int.{w32, to_be_bytes, cast_unsigned};
-ghost use Rattle.etp_capture.specs.Frames.{frame_bytes};
-ghost use Rattle.etp_capture.specs.Capture.{frames_bytes};
 ghost use Rattle.store_machine.specs.Answers.{answered, added};
 ghost use Rattle.store_machine.specs.Legal.{IsNext, MayAsk, own};
 ghost use Rattle.store_machine.specs.declared.journal.Entry.{Entry};
@@ -14,7 +12,7 @@ ghost use Rattle.tool_forms.specs.Sound.{FitsOpen, FitsTag};
 
 use crate::tag::{Ending, OpenSession, TagState};
 use chan_defs::Config;
-use etp_capture::{Frame, kinds, push_frame};
+use etp_capture::{Frame, kinds};
 use etp_values::{Blob, Boxed, Copied, NoMemory};
 use session_core::{End, Session, steps};
 use std::alloc::Global;
@@ -27,17 +25,17 @@ pub(crate) fn play_at(
     store: &mut Store,
     state: Option<TagState>,
     frame: &Frame,
-    into: &mut Vec<u8>,
+    answers: &mut Vec<Frame>,
 ) -> Result<TagState, NoMemory>
     requires same { store.old.config ≡ config.now }
     requires fresh { own (length store.old.journal) store.old.journal ≡ [] }
     requires tag { FitsTag store.old.journal state }
     ensures config { store.new.config ≡ store.old.config }
-    ensures effect { IfOk result (λ new. Meets (effect_at config.now store.old.journal frame.now state) new store.new.journal into.old.items into.new.items) }
+    ensures effect { IfOk result (λ new. Meets (effect_at config.now store.old.journal frame.now state) new store.new.journal answers.old.items answers.new.items) }
 {
     match state {
-        None => enter(alloc, config, store, frame, into),
-        Some(TagState::Open(boxed)) => play_open(alloc, store, boxed.into_inner(), frame, into),
+        None => enter(alloc, config, store, frame, answers),
+        Some(TagState::Open(boxed)) => play_open(alloc, store, boxed.into_inner(), frame, answers),
         Some(TagState::Ended) => Ok(TagState::Ended),
     }
 }
@@ -48,18 +46,18 @@ fn enter(
     config: &Config,
     store: &mut Store,
     frame: &Frame,
-    into: &mut Vec<u8>,
+    answers: &mut Vec<Frame>,
 ) -> Result<TagState, NoMemory>
     requires same { store.old.config ≡ config.now }
     requires fresh { own (length store.old.journal) store.old.journal ≡ [] }
     ensures config { store.new.config ≡ store.old.config }
-    ensures effect { IfOk result (λ state. Meets (effect_new config.now store.old.journal frame.now) state store.new.journal into.old.items into.new.items) }
+    ensures effect { IfOk result (λ state. Meets (effect_new config.now store.old.journal frame.now) state store.new.journal answers.old.items answers.new.items) }
 {
     // For the proof alone: a session that begins remembers no place.
     steps();
     let answer = ask(alloc, store, 0, 0, frame.moment, StoreCall::Enter)?;
     let Some(number) = place_in(answer.reply) else {
-        push_end(alloc, into, frame, Ending::JournalFull)?;
+        push_end(alloc, answers, frame, Ending::JournalFull)?;
         return Ok(TagState::Ended);
     };
     let session_config = config.copy(alloc)?;
@@ -69,7 +67,7 @@ fn enter(
         entries: 1,
         session,
     };
-    play_open(alloc, store, open_session, frame, into)
+    play_open(alloc, store, open_session, frame, answers)
 }
 
 /// The place at which the store let a session in.
@@ -88,19 +86,19 @@ fn play_open(
     store: &mut Store,
     open_session: OpenSession,
     frame: &Frame,
-    into: &mut Vec<u8>,
+    answers: &mut Vec<Frame>,
 ) -> Result<TagState, NoMemory>
     requires { FitsOpen store.old.journal open_session }
     ensures config { store.new.config ≡ store.old.config }
-    ensures effect { IfOk result (λ state. Meets (effect_open store.old.config store.old.journal open_session frame.now) state store.new.journal into.old.items into.new.items) }
+    ensures effect { IfOk result (λ state. Meets (effect_open store.old.config store.old.journal open_session frame.now) state store.new.journal answers.old.items answers.new.items) }
 {
     if frame.kind == kinds::END {
-        push_end(alloc, into, frame, Ending::PeerEnd)?;
+        push_end(alloc, answers, frame, Ending::PeerEnd)?;
         return Ok(TagState::Ended);
     }
     let mut open_session = open_session;
     make_turn(alloc, store, &mut open_session, frame)?;
-    settle(alloc, open_session, frame, into)
+    settle(alloc, open_session, frame, answers)
 }
 
 /// What a session sends after a turn, and its end where it has ended.
@@ -108,16 +106,16 @@ fn settle(
     alloc: Global,
     open_session: OpenSession,
     frame: &Frame,
-    into: &mut Vec<u8>,
+    answers: &mut Vec<Frame>,
 ) -> Result<TagState, NoMemory>
-    ensures { IfOk result (λ state. (j : List Entry) (marks : List ℕ) → Meets (effect_after frame.now (record { journal = j; session = open_session; marks = marks }) (end_of open_session.session.phase)) state j into.old.items into.new.items) }
+    ensures { IfOk result (λ state. (j : List Entry) (marks : List ℕ) → Meets (effect_after frame.now (record { journal = j; session = open_session; marks = marks }) (end_of open_session.session.phase)) state j answers.old.items answers.new.items) }
 {
     let mut open_session = open_session;
-    send_all(alloc, &mut open_session.session, frame, into)?;
+    send_all(alloc, &mut open_session.session, frame, answers)?;
     match open_session.session.ended() {
         None => Ok(TagState::Open(Boxed::new(alloc, open_session)?)),
         Some(end) => {
-            push_end(alloc, into, frame, Ending::Session(end))?;
+            push_end(alloc, answers, frame, Ending::Session(end))?;
             Ok(TagState::Ended)
         }
     }
@@ -204,36 +202,46 @@ fn send_all(
     alloc: Global,
     session: &mut Session,
     frame: &Frame,
-    into: &mut Vec<u8>,
+    answers: &mut Vec<Frame>,
 ) -> Result<(), NoMemory>
-    ensures bytes { OnOk result (into.new.items ≡ into.old.items ++ frames_bytes (messages frame.now session.old.out)) }
+    ensures answers { OnOk result (answers.new.items ≡ answers.old.items ++ messages frame.now session.old.out) }
     ensures state { OnOk result (session.new ≡ drained session.old) }
 {
     while let Some(message) = session.next_out(alloc)? {
-        push_answer(into, kinds::OUT, frame, message)?;
+        push_answer(answers, kinds::OUT, frame, message)?;
     }
     Ok(())
 }
 
 /// The frame that says that a session has ended.
-fn push_end(alloc: Global, into: &mut Vec<u8>, frame: &Frame, why: Ending) -> Result<(), NoMemory>
-    ensures { OnOk result (into.new.items ≡ into.old.items ++ frame_bytes (end_frame frame.now why)) }
+fn push_end(
+    alloc: Global,
+    answers: &mut Vec<Frame>,
+    frame: &Frame,
+    why: Ending,
+) -> Result<(), NoMemory>
+    ensures { OnOk result (answers.new.items ≡ answers.old.items ++ end_frame frame.now why ∷ []) }
 {
     let payload = ending_bytes(alloc, why)?;
-    push_answer(into, kinds::ENDED, frame, payload)
+    push_answer(answers, kinds::ENDED, frame, payload)
 }
 
 /// A frame of the same session and moment.
-fn push_answer(into: &mut Vec<u8>, kind: u8, frame: &Frame, bytes: Blob) -> Result<(), NoMemory>
-    ensures { OnOk result (into.new.items ≡ into.old.items ++ frame_bytes (answering kind frame.now bytes)) }
+fn push_answer(
+    answers: &mut Vec<Frame>,
+    kind: u8,
+    frame: &Frame,
+    bytes: Blob,
+) -> Result<(), NoMemory>
+    ensures { OnOk result (answers.new.items ≡ answers.old.items ++ answering kind frame.now bytes ∷ []) }
 {
-    let answer = Frame {
+    answers.push(Frame {
         kind,
         tag: frame.tag,
         moment: frame.moment,
         bytes,
-    };
-    push_frame(into, &answer)
+    })?;
+    Ok(())
 }
 
 fn ending_bytes(alloc: Global, why: Ending) -> Result<Blob, NoMemory>

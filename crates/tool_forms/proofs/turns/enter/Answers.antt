@@ -32,7 +32,7 @@ returns-clause-effect c =
     let place = place_is store.config c.args.config.now store.journal c.in_ok-answer.answer c.place_in.result (Some c.in-Some.number) c.requires.same c.in_ok-answer.ensures.answer c.place_in.ensures c.in-Some.is in
     let new = c.in_ok-session.ensures ∙ ap (λ (k : Config). first_state k c.in-Some.number (pos 1)) c.in_ok-session_config.ensures in
     meets_new store.config c.args.config.now c.ask.new.store.config store.journal c.ask.new.store.journal c.args.frame.now c.in-Some.number c.in_ok-session.session c.play_open.result
-    c.play_open.new.store.journal c.args.into.now.items c.play_open.new.into.items c.requires.same c.ask.ensures.config grown new place c.play_open.ensures.effect
+    c.play_open.new.store.journal c.args.answers.now.items c.play_open.new.answers.items c.requires.same c.ask.ensures.config grown new place c.play_open.ensures.effect
 
 pub returns-in_default : goal.returns-in_default
 returns-in_default c =
@@ -42,5 +42,5 @@ returns-in_default c =
     let place = place_is store.config c.args.config.now store.journal c.in_ok-answer.answer c.place_in.result None c.requires.same c.in_ok-answer.ensures.answer c.place_in.ensures c.in_default.is in
     record {
       config = c.ask.ensures.config;
-      effect = meets_full store.config c.args.config.now store.journal c.ask.new.store.journal c.args.frame.now c.args.into.now.items c.push_end.new.into.items c.requires.same grown place c.in_ok-push_end.ensures;
+      effect = meets_full store.config c.args.config.now store.journal c.ask.new.store.journal c.args.frame.now c.args.answers.now.items c.push_end.new.answers.items c.requires.same grown place c.in_ok-push_end.ensures;
     }

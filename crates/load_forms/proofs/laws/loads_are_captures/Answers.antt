@@ -1,0 +1,5 @@
+use Rattle.load_forms.proofs.Sizes.{load_is_capture}
+use Rattle.load_forms.proofs.laws.loads_are_captures.Goals as goal
+
+pub returns : goal.returns
+returns c = load_is_capture
