@@ -51,7 +51,7 @@ impl Form for Replay {
     ) -> Result<bool, NoMemory> {
         let mut answers: Vec<Frame> = Vec::new(alloc);
         let refused = self.player.play(alloc, frame, &mut answers)?;
-        push_all(into, answers.as_slice())?;
+        push_all(into, answers)?;
         Ok(refused)
     }
 
@@ -60,12 +60,24 @@ impl Form for Replay {
     }
 }
 
+/// How much room frames take.
+fn room_of(frames: &[Frame]) -> usize {
+    let mut room = 0usize;
+    for frame in frames {
+        room = room
+            .saturating_add(17)
+            .saturating_add(frame.bytes.as_bytes().len());
+    }
+    room
+}
+
 /// Appends the bytes of frames, or nothing where memory is refused.
-fn push_all(into: &mut Vec<u8>, frames: &[Frame]) -> Result<(), NoMemory>
-    ensures ok { OnOk result (into.new.items ≡ into.old.items ++ frames_bytes frames.now) }
+fn push_all(into: &mut Vec<u8>, frames: Vec<Frame>) -> Result<(), NoMemory>
+    ensures ok { OnOk result (into.new.items ≡ into.old.items ++ frames_bytes frames.items) }
     ensures err { OnErr result (into.new.items ≡ into.old.items) }
 {
     let start = into.len();
+    into.reserve(room_of(frames.as_slice()))?;
     match push_frames(into, frames) {
         Ok(()) => Ok(()),
         Err(error) => {
@@ -75,14 +87,14 @@ fn push_all(into: &mut Vec<u8>, frames: &[Frame]) -> Result<(), NoMemory>
     }
 }
 
-/// Appends the bytes of frames. Where memory is refused, some of them may have been appended.
+/// Appends the bytes of frames, and lets go of each behind its own. Where memory is refused, some of them may have been appended.
 #[tactic(auto, using(std::proofs::Transfers::starts_with_trans))]
-fn push_frames(into: &mut Vec<u8>, frames: &[Frame]) -> Result<(), NoMemory>
-    ensures ok { OnOk result (into.new.items ≡ into.old.items ++ frames_bytes frames.now) }
+fn push_frames(into: &mut Vec<u8>, frames: Vec<Frame>) -> Result<(), NoMemory>
+    ensures ok { OnOk result (into.new.items ≡ into.old.items ++ frames_bytes frames.items) }
     ensures err { OnErr result (StartsWith into.new.items into.old.items) }
 {
     for frame in frames {
-        push_frame(into, frame)?;
+        push_frame(into, &frame)?;
     }
     Ok(())
 }

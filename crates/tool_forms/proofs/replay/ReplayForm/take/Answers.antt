@@ -1,6 +1,3 @@
-use Rattle.std.proofs.Common.{◌++◌, ◌∙◌, ap, List}
-use Rattle.etp_capture.specs.Capture.{frames_bytes}
-use Rattle.etp_capture.specs.declared.frame.Frame.{Frame}
 use Rattle.tool_forms.proofs.Replaying.{plays_takes}
 use Rattle.tool_forms.proofs.replay.ReplayForm.take.Goals as goal
 
@@ -8,4 +5,4 @@ pub returns-clause-taken : goal.returns-clause-taken
 returns-clause-taken c fs leads place =
     plays_takes c.in_ok-refused.refused c.args.self.now.player c.play.new.self c.args.frame.now c.new-answers.result.items c.play.new.answers.items c.args.into.now.items c.push_all.new.into.items
     c.in_ok-refused.ensures.played c.new-answers.ensures.items
-    (c.in_ok-push_all.ensures.ok ∙ ap (λ (l : List Frame). c.args.into.now.items ++ frames_bytes l) c.as_slice.ensures.value) fs leads
+    c.in_ok-push_all.ensures.ok fs leads
