@@ -1,0 +1,275 @@
+//! What ends an ask.
+ghost use Rattle.std.specs.Prelude.{◌≡◌, option_map, IfOk};
+ghost use Rattle.client_core.specs.Answers.{answer, at_key, channel_in, core_moment, core_session, dataspace_granted, done, grants_object, grants_space, grants_subscription, is_granted, kind_place, load_channel, meta_of, moment_in, object_in, opened_in, session_in, store_granted, store_object, subscribe_channel, subscribe_granted};
+ghost use Rattle.client_core.specs.declared.got.Got.TheVariants as got;
+
+use crate::got::Got;
+use crate::messages::KEY;
+use crate::state::Due;
+use etp_frame::Message;
+use etp_values::{Blob, Id16, Named, NoMemory};
+use msg_channel::{
+    ChannelDataKind, ChannelDataLoadMessage, ChannelMetadataRecord, ChannelSubscribeMessage,
+};
+use msg_core::{CoreMessage, DataspaceMessage};
+use msg_store::{GetDataObjectsResponse, StoreMessage};
+
+/// The place of a kind of data in the schema's order.
+fn kind_place(kind: ChannelDataKind) -> u32
+    ensures { result ≡ kind_place kind }
+{
+    match kind {
+        ChannelDataKind::DateTime => 0,
+        ChannelDataKind::ElapsedTime => 1,
+        ChannelDataKind::MeasuredDepth => 2,
+        ChannelDataKind::PassIndexedDepth => 3,
+        ChannelDataKind::TrueVerticalDepth => 4,
+        ChannelDataKind::TypeBoolean => 5,
+        ChannelDataKind::TypeInt => 6,
+        ChannelDataKind::TypeLong => 7,
+        ChannelDataKind::TypeFloat => 8,
+        ChannelDataKind::TypeDouble => 9,
+        ChannelDataKind::TypeString => 10,
+        ChannelDataKind::TypeBytes => 11,
+    }
+}
+
+/// What a channel is, as the ask of this id is told.
+fn meta_of(id: i64, record: &ChannelMetadataRecord) -> Got
+    ensures { result ≡ meta_of id record.now }
+{
+    Got::Meta {
+        id,
+        channel: record.id,
+        kind: kind_place(record.data_kind),
+    }
+}
+
+/// That the ask of this id is done, where its key is granted.
+fn done(id: i64, granted: bool) -> Option<Got>
+    ensures { result ≡ done id granted }
+{
+    if granted { Some(Got::Done(id)) } else { None }
+}
+
+/// Whether an ask's key is granted.
+fn is_granted<T>(values: &Named<T>) -> bool
+    ensures { result ≡ is_granted values.now }
+{
+    values.get(KEY).is_some()
+}
+
+// ---- the session and its moments
+
+fn core_session(message: &CoreMessage) -> Option<Id16>
+    ensures { result ≡ core_session message.now }
+{
+    match message {
+        CoreMessage::OpenSession(reply) => Some(reply.session_id),
+        _ => None,
+    }
+}
+
+fn session_in(message: &Message) -> Option<Id16>
+    ensures { result ≡ session_in message.now }
+{
+    match message {
+        Message::Core(message) => core_session(message),
+        _ => None,
+    }
+}
+
+fn opened(message: &Message) -> Option<Got>
+    ensures { result ≡ option_map got.Opened (session_in message.now) }
+{
+    match session_in(message) {
+        Some(session) => Some(Got::Opened(session)),
+        None => None,
+    }
+}
+
+fn core_moment(message: &CoreMessage) -> Option<i64>
+    ensures { result ≡ core_moment message.now }
+{
+    match message {
+        CoreMessage::Pong(pong) => Some(pong.current_date_time),
+        _ => None,
+    }
+}
+
+fn moment_in(message: &Message) -> Option<i64>
+    ensures { result ≡ moment_in message.now }
+{
+    match message {
+        Message::Core(message) => core_moment(message),
+        _ => None,
+    }
+}
+
+fn pong(message: &Message) -> Option<Got>
+    ensures { result ≡ option_map got.Pong (moment_in message.now) }
+{
+    match moment_in(message) {
+        Some(moment) => Some(Got::Pong(moment)),
+        None => None,
+    }
+}
+
+// ---- what is granted
+
+fn dataspace_granted(message: &DataspaceMessage) -> bool
+    ensures { result ≡ dataspace_granted message.now }
+{
+    match message {
+        DataspaceMessage::PutDataspacesResponse(reply) => is_granted(&reply.success),
+        _ => false,
+    }
+}
+
+fn grants_space(message: &Message) -> bool
+    ensures { result ≡ grants_space message.now }
+{
+    match message {
+        Message::Dataspace(message) => dataspace_granted(message),
+        _ => false,
+    }
+}
+
+fn store_granted(message: &StoreMessage) -> bool
+    ensures { result ≡ store_granted message.now }
+{
+    match message {
+        StoreMessage::PutDataObjectsResponse(reply) => is_granted(&reply.success),
+        _ => false,
+    }
+}
+
+fn grants_object(message: &Message) -> bool
+    ensures { result ≡ grants_object message.now }
+{
+    match message {
+        Message::Store(message) => store_granted(message),
+        _ => false,
+    }
+}
+
+fn subscribe_granted(message: &ChannelSubscribeMessage) -> bool
+    ensures { result ≡ subscribe_granted message.now }
+{
+    match message {
+        ChannelSubscribeMessage::SubscribeChannelsResponse(reply) => is_granted(&reply.success),
+        _ => false,
+    }
+}
+
+fn grants_subscription(message: &Message) -> bool
+    ensures { result ≡ grants_subscription message.now }
+{
+    match message {
+        Message::ChannelSubscribe(message) => subscribe_granted(message),
+        _ => false,
+    }
+}
+
+// ---- an object
+
+fn data_of(reply: &GetDataObjectsResponse) -> Result<Option<Blob>, NoMemory>
+    ensures { IfOk result (λ b. b ≡ option_map (λ o. o.payload) (at_key reply.now.data_objects)) }
+{
+    match reply.data_objects.get(KEY) {
+        Some(object) => Ok(Some(object.payload.share()?)),
+        None => Ok(None),
+    }
+}
+
+fn store_object(message: &StoreMessage) -> Result<Option<Blob>, NoMemory>
+    ensures { IfOk result (λ b. b ≡ store_object message.now) }
+{
+    match message {
+        StoreMessage::GetDataObjectsResponse(reply) => data_of(reply),
+        _ => Ok(None),
+    }
+}
+
+fn object_in(message: &Message) -> Result<Option<Blob>, NoMemory>
+    ensures { IfOk result (λ b. b ≡ object_in message.now) }
+{
+    match message {
+        Message::Store(message) => store_object(message),
+        _ => Ok(None),
+    }
+}
+
+fn object(id: i64, message: &Message) -> Result<Option<Got>, NoMemory>
+    ensures { IfOk result (λ g. g ≡ option_map (got.Object id) (object_in message.now)) }
+{
+    match object_in(message)? {
+        Some(payload) => Ok(Some(Got::Object(id, payload))),
+        None => Ok(None),
+    }
+}
+
+// ---- what a channel is
+
+fn subscribe_meta(id: i64, message: &ChannelSubscribeMessage) -> Option<Got>
+    ensures { result ≡ option_map (meta_of id) (subscribe_channel message.now) }
+{
+    match message {
+        ChannelSubscribeMessage::GetChannelMetadataResponse(reply) => {
+            match reply.metadata.get(KEY) {
+                Some(record) => Some(meta_of(id, record)),
+                None => None,
+            }
+        }
+        _ => None,
+    }
+}
+
+fn meta(id: i64, message: &Message) -> Option<Got>
+    ensures { result ≡ option_map (meta_of id) (channel_in message.now) }
+{
+    match message {
+        Message::ChannelSubscribe(message) => subscribe_meta(id, message),
+        _ => None,
+    }
+}
+
+fn load_meta(id: i64, message: &ChannelDataLoadMessage) -> Option<Got>
+    ensures { result ≡ option_map (meta_of id) (load_channel message.now) }
+{
+    match message {
+        ChannelDataLoadMessage::OpenChannelsResponse(reply) => match reply.channels.get(KEY) {
+            Some(info) => Some(meta_of(id, &info.metadata)),
+            None => None,
+        },
+        _ => None,
+    }
+}
+
+fn opening(id: i64, message: &Message) -> Option<Got>
+    ensures { result ≡ option_map (meta_of id) (opened_in message.now) }
+{
+    match message {
+        Message::ChannelDataLoad(message) => load_meta(id, message),
+        _ => None,
+    }
+}
+
+// ---- answers
+
+/// The answer that a message is to the ask of this id, if it ends what the ask waits for.
+pub(crate) fn answer(id: i64, due: Due, message: &Message) -> Result<Option<Got>, NoMemory>
+    ensures { IfOk result (λ g. g ≡ answer id due message.now) }
+{
+    match due {
+        Due::Session => Ok(opened(message)),
+        Due::SpacePut => Ok(done(id, grants_space(message))),
+        Due::ObjectPut => Ok(done(id, grants_object(message))),
+        Due::Object => object(id, message),
+        Due::Opening => Ok(opening(id, message)),
+        Due::Metadata => Ok(meta(id, message)),
+        Due::Load => Ok(None),
+        Due::Subscription(_) => Ok(done(id, grants_subscription(message))),
+        Due::Pong => Ok(pong(message)),
+    }
+}

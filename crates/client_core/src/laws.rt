@@ -1,0 +1,7 @@
+//! What holds of a client whatever it asks and takes, for proofs alone.
+ghost use Rattle.client_core.specs.Laws.{CopiesAreFolds};
+
+/// A channel's copy is what the changes leave that were handed out since its subscription was last accepted.
+pub fn copies_are_folds()
+    ensures { CopiesAreFolds }
+{}
