@@ -35,15 +35,15 @@ def framed(data):
     return b"\x82" + length + bytes(4) + data
 
 
-def frame_at(held, at):
-    """The opcode of a server's frame, and where its bytes begin and end; none where not all of it is there."""
-    if len(held) < at + 2:
+def frame_at(held):
+    """The opcode of a server's first frame, and where its bytes begin and end; none where not all of it is there."""
+    if len(held) < 2:
         return None
-    size, start = held[at + 1], at + 2
+    size, start = held[1], 2
     if size >= 126:
         start += 2 if size == 126 else 8
-        size = int.from_bytes(held[at + 2:start], "big")
-    return (held[at] & 0x0F, start, start + size) if len(held) >= start + size else None
+        size = int.from_bytes(held[2:start], "big")
+    return (held[0] & 0x0F, start, start + size) if len(held) >= start + size else None
 
 
 class Peer:
@@ -78,16 +78,15 @@ class Peer:
 
     def messages(self):
         """The messages that come, each a frame of its own."""
-        at = 0
         while True:
-            found = frame_at(self.held, at)
+            found = frame_at(self.held)
             if found:
-                opcode, start, at = found
+                opcode, start, end = found
                 assert opcode == 2, opcode
-                yield bytes(self.held[start:at])
+                message = bytes(self.held[start:end])
+                del self.held[:end]
+                yield message
             else:
-                del self.held[:at]
-                at = 0
                 self.read()
 
     def ask(self, protocol, kind, value):
