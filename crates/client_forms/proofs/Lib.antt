@@ -1,0 +1,10 @@
+pub mod Courses
+pub mod SendLemmas
+pub mod Works
+pub mod Chains
+pub mod Refits
+pub mod Breaking
+pub mod Growth
+pub mod Planning
+pub mod Hearing
+pub mod Doings
