@@ -1,6 +1,5 @@
 pub mod Arrays
 pub mod Codes
-pub mod Going
 pub mod Operations
 pub mod Refusals
 pub mod Region

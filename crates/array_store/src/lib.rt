@@ -12,7 +12,6 @@
 mod element;
 mod elements;
 mod error;
-mod going;
 mod key;
 mod op;
 mod patch;

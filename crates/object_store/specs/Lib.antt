@@ -1,4 +1,3 @@
 pub mod Changes
-pub mod Going
 pub mod Keys
 pub mod Tables

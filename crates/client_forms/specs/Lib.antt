@@ -1,9 +1,0 @@
-pub mod Loading
-pub mod Ctl
-pub mod Work
-pub mod Plans
-pub mod Sending
-pub mod Jobs
-pub mod Shown
-pub mod Top
-pub mod Program
