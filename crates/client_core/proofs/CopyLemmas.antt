@@ -55,10 +55,6 @@ stopped_keeps c ids (f ∷ fs) = by (int_eq f.id c) refl (stopped_keeps c ids fs
 
 -- ---- changes
 
--- what one change makes of a copy
-with_change : ℤ → ChangeMsg → Option (List Point) → Option (List Point)
-with_change c x t = option_map (λ ps. fold after ps (change_of c x)) t
-
 followed_id : (x : ChangeMsg) (f : Channel) → (followed x f).id ≡ f.id
 followed_id x f = by (int_eq f.id x.channel)
   where

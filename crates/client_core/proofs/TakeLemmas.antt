@@ -30,7 +30,3 @@ read_so bytes h m s open_so is = ap (λ b. by_phase b bytes s) open_so ∙ ap (�
 pub frame_refused : (bytes : List ℕ) (e : FrameError) (s : Heard) → is_ended s.phase ≡ false → read_of Server bytes ≡ Err e → hears s bytes ≡ fails (error.Frame e) s
 unfolding hears
 frame_refused bytes e s open_so is = ap (λ b. by_phase b bytes s) open_so ∙ ap (λ r. on_bytes r s) is
-
-pub ended_so : (bytes : List ℕ) (s : Heard) → is_ended s.phase ≡ true → hears s bytes ≡ fails error.State s
-unfolding hears
-ended_so bytes s over = ap (λ b. by_phase b bytes s) over

@@ -35,13 +35,13 @@ fn kind_place(kind: ChannelDataKind) -> u32
 }
 
 /// What a channel is, as the ask of this id is told.
-fn meta_of(id: i64, record: &ChannelMetadataRecord) -> Got
-    ensures { result ≡ meta_of id record.now }
+fn meta_of(id: i64, metadata: &ChannelMetadataRecord) -> Got
+    ensures { result ≡ meta_of id metadata.now }
 {
     Got::Meta {
         id,
-        channel: record.id,
-        kind: kind_place(record.data_kind),
+        channel: metadata.id,
+        kind: kind_place(metadata.data_kind),
     }
 }
 
