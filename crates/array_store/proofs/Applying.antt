@@ -1,20 +1,14 @@
--- Operations done one after the other, and what is left to do meanwhile.
-use Rattle.std.proofs.Common.{Bool, true, false, cond, ◌≡◌, Option, Some, None, Result, Ok, Err, refl, sym, ap, ◌∙◌, List, fold}
+-- A put, as an operation on each key.
+use Rattle.std.proofs.Common.{Bool, true, false, cond, ◌≡◌, Option, Some, None, Result, Ok, Err, refl, sym, ap, ◌∙◌}
 use Rattle.std.specs.Prelude.{OnOk, OnErr, IsOk}
 use Rattle.std.proofs.lemmas.Bool.{false≢true}
 use Rattle.array_store.specs.declared.error.ArrayError.{ArrayError}
 use Rattle.array_store.specs.declared.key.ArrayKey.{ArrayKey}
-use Rattle.array_store.specs.declared.op.ArrayOp.{ArrayOp}
-use Rattle.array_store.specs.declared.op.ArrayOp.TheVariants.{SetArray}
 use Rattle.array_store.specs.declared.record.ArrayRecord.{ArrayRecord}
-use Rattle.array_store.specs.Refusals.{record_refusal, Refuses}
+use Rattle.array_store.specs.Refusals.{Refuses}
 use Rattle.array_store.specs.Table.{Arrays, Sets, array_in, array_among, same_key, put_array}
-use Rattle.array_store.specs.Operations.{array_after, put_unless}
+use Rattle.array_store.specs.Operations.{put_unless}
 use Rattle.array_store.proofs.Keys.{same_key-is}
-
--- what is left to do leads from here where the whole leads from the start
-pub record Continues (rest all : List ArrayOp) (now start : Arrays) : Type 0 where
-  pub arrays : (key : ArrayKey) → fold (array_after key) (array_in now key) rest ≡ fold (array_after key) (array_in start key) all
 
 -- a put at each key, by whether the record was refused
 put_at : (old : Arrays) (key q : ArrayKey) (r : ArrayRecord) (b : Bool) → same_key q key ≡ b

@@ -1,5 +1,5 @@
 -- The test by which the table finds a key is `same_key`, and what a look-up finds after a change.
-use Rattle.std.specs.Prelude.{List, true, cond, ◌≡◌, refl, Option, Some}
+use Rattle.std.specs.Prelude.{List, true, cond, ◌≡◌, refl, Some}
 use Rattle.std.specs.Cmp.{IsEquivalence, and_equiv, on_equiv}
 use Rattle.std.specs.Cmp.Lexicographic.{nat_list_eq_equiv}
 use Rattle.std.specs.Str.{bytes_eq}

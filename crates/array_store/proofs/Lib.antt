@@ -1,5 +1,6 @@
 pub mod Applying
 pub mod Counts
+pub mod Gathered
 pub mod Keys
 pub mod Rows
 pub mod Regions

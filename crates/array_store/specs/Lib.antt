@@ -1,5 +1,6 @@
 pub mod Arrays
 pub mod Codes
+pub mod Going
 pub mod Operations
 pub mod Refusals
 pub mod Region

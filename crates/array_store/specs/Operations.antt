@@ -22,3 +22,7 @@ array_after key before (DropArraysIn path) = if is_in_space path key then None e
 -- each key has what these operations left, one after the other
 pub record Applies (ops : List ArrayOp) (old new : Arrays) : Type 0 where
   pub arrays : (key : ArrayKey) → array_in new key ≡ fold (array_after key) (array_in old key) ops
+
+-- what is left to do leads from here where the whole leads from the start
+pub record Continues (rest all : List ArrayOp) (now start : Arrays) : Type 0 where
+  pub arrays : (key : ArrayKey) → fold (array_after key) (array_in now key) rest ≡ fold (array_after key) (array_in start key) all

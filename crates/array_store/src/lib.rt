@@ -12,6 +12,7 @@
 mod element;
 mod elements;
 mod error;
+mod going;
 mod key;
 mod op;
 mod patch;

@@ -3,30 +3,35 @@ ghost use Rattle.std.specs.Prelude.{◌≡◌, ◌<◌, ◌+◌, ◌≤◌, ◌�
 ghost use Rattle.std.specs.Option.{option_copied};
 
 use crate::error::ArrayError;
+use crate::going::GoingArrays;
 use crate::key::ArrayKey;
 use crate::op::ArrayOp;
 use crate::patch::slice_record;
 use crate::record::ArrayRecord;
 use crate::refusals::record_refusal;
-use crate::table::{drop_object, drop_space, patch_array, put_array, set_written};
+use crate::table::{drop_going, drop_object, drop_space, patch_array, put_array, set_written};
 use etp_values::{AnyArray, List, NoMemory, StoreUri, Text};
 use indexmap::IndexMap;
 use std::alloc::Global;
 use std::marker::Model;
 
-/// Arrays by their keys. A contract sees them in the order of the table, and as `spare` how many more fit without memory.
+/// Arrays by their keys. A contract sees them in the order of the table, and as `spare` how many more fit, and how many operations
+/// can be done, without memory.
 #[derive(Drop)]
 pub struct ArrayStore {
     arrays: IndexMap<ArrayKey, ArrayRecord>,
+    /// What a list of operations removes, while it is done.
+    going: GoingArrays,
 }
 
 impl Model for ArrayStore {
+    ghost use Rattle.std.specs.Prelude.{min};
     ghost use Rattle.indexmap.specs.IndexMap.{spare};
     ghost use Rattle.array_store.specs.Table.{Arrays, AllSound};
 
     ghost Value = { Arrays };
 
-    ghost view = { λ s. record { arrays = s.arrays.entries; spare = spare s.arrays } };
+    ghost view = { λ s. record { arrays = s.arrays.entries; spare = min (spare s.arrays) s.going.room } };
 
     ghost invariant = { λ s. AllSound s.arrays.entries };
 }
@@ -36,7 +41,7 @@ impl ArrayStore {
     ghost use Rattle.array_store.specs.Arrays.{slice_of, is_bytes};
     ghost use Rattle.array_store.specs.Refusals.{record_refusal, region_refusal, patch_refusal, Refuses};
     ghost use Rattle.array_store.specs.Table.{array_in, put_array, patch_array, rewritten, Sets, Drops, is_of_object, is_in_space, how_many};
-    ghost use Rattle.array_store.specs.Operations.{Applies};
+    ghost use Rattle.array_store.specs.Operations.{Applies, Continues};
 
     /// A store without arrays.
     pub fn new(alloc: Global) -> ArrayStore
@@ -44,6 +49,7 @@ impl ArrayStore {
     {
         ArrayStore {
             arrays: IndexMap::new(alloc),
+            going: GoingArrays::new(alloc),
         }
     }
 
@@ -140,7 +146,7 @@ impl ArrayStore {
         ensures keeps { self.old.spare ≤ self.new.spare }
     {
         self.arrays.reserve(more as usize)?;
-        Ok(())
+        self.going.reserve(more)
     }
 
     /// Removes the arrays of an object, and counts them.
@@ -180,8 +186,8 @@ impl ArrayStore {
         }
     }
 
-    /// Does these operations in order. It takes no memory.
-    pub fn apply(&mut self, ops: List<ArrayOp>)
+    /// Does these operations one after the other.
+    fn apply_each(&mut self, ops: List<ArrayOp>)
         requires { length ops ≤ self.old.spare }
         ensures each { Applies ops self.old self.new }
         ensures room { self.old.spare ≤ self.new.spare + length ops }
@@ -189,5 +195,28 @@ impl ArrayStore {
         for op in ops.into_vec() {
             self.apply_one(op);
         }
+    }
+
+    /// Takes out all that these operations remove, in one pass, and answers what is left to do.
+    fn take_out(&mut self, ops: List<ArrayOp>) -> List<ArrayOp>
+        requires { length ops ≤ self.old.spare }
+        ensures each { Continues result ops self.new self.old }
+        ensures enough { length result ≤ self.new.spare }
+        ensures used { self.old.spare + length result ≤ self.new.spare + length ops }
+    {
+        let left = self.going.gather(ops);
+        drop_going(&mut self.arrays, &self.going);
+        self.going.clear();
+        left
+    }
+
+    /// Does these operations in order: however many remove something, the table is gone through once. It takes no memory.
+    pub fn apply(&mut self, ops: List<ArrayOp>)
+        requires { length ops ≤ self.old.spare }
+        ensures each { Applies ops self.old self.new }
+        ensures room { self.old.spare ≤ self.new.spare + length ops }
+    {
+        let left = self.take_out(ops);
+        self.apply_each(left);
     }
 }

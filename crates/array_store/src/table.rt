@@ -5,9 +5,11 @@ ghost use Rattle.indexmap.specs.IndexMap.{spare};
 ghost use Rattle.array_store.specs.Table as table;
 ghost use Rattle.array_store.specs.Table.{array_among, is_of_object, is_in_space, AllSound, DropsAmong, SetsAmong};
 ghost use Rattle.array_store.specs.Arrays.{is_bytes};
+ghost use Rattle.array_store.specs.Going.{goes};
 ghost use Rattle.array_store.specs.Refusals.{record_refusal, patch_refusal, Refuses};
 
 use crate::error::ArrayError;
+use crate::going::GoingArrays;
 use crate::key::ArrayKey;
 use crate::patch::patch_record;
 use crate::record::ArrayRecord;
@@ -120,4 +122,28 @@ pub(crate) fn drop_space(arrays: &mut IndexMap<ArrayKey, ArrayRecord>, path: &Te
         { *path != key.uri.space },
     );
     (held - arrays.len()) as u64
+}
+
+/// Keeps the arrays that don't go.
+fn retain_staying(arrays: &mut IndexMap<ArrayKey, ArrayRecord>, going: &GoingArrays)
+    ensures each { DropsAmong arrays.old.entries arrays.new.entries (goes going.now) }
+    ensures room { spare arrays.old ≤ spare arrays.new }
+{
+    arrays.retain(
+        |key: &ArrayKey, array: &mut ArrayRecord| -> bool
+            ensures { (result ≡ not (goes going.entry.now key.now))
+                × (array.new ≡ array.old) }
+        { !going.has(key) },
+    );
+}
+
+/// Takes out the arrays that go, in one pass, and in none where nothing goes.
+pub(crate) fn drop_going(arrays: &mut IndexMap<ArrayKey, ArrayRecord>, going: &GoingArrays)
+    ensures each { DropsAmong arrays.old.entries arrays.new.entries (goes going.now) }
+    ensures room { spare arrays.old ≤ spare arrays.new }
+{
+    if going.is_empty() {
+        return;
+    }
+    retain_staying(arrays, going);
 }

@@ -1,5 +1,5 @@
 -- What operations leave at each key.
-use Rattle.std.specs.Prelude.{ℕ, ℤ, List, ◌≡◌, if◌then◌else◌, fold, Option, Some, None}
+use Rattle.std.specs.Prelude.{ℕ, List, ◌≡◌, if◌then◌else◌, fold, Option, Some, None}
 use Rattle.std.specs.Map.{lookup}
 use Rattle.std.specs.Str.{bytes_eq}
 use Rattle.etp_values.specs.declared.uri.StoreUri.{StoreUri}
@@ -67,3 +67,8 @@ DropsObjectsIn path old new = (q : StoreUri)
 pub record Applies (ops : List ObjectOp) (old new : Tables) : Type 0 where
   pub spaces : (path : List ℕ) → space_in new path ≡ fold (space_after path) (space_in old path) ops
   pub objects : (uri : StoreUri) → object_in new uri ≡ fold (object_after uri) (object_in old uri) ops
+
+-- what is left to do leads from here where the whole leads from the start
+pub record Continues (rest all : List ObjectOp) (now start : Tables) : Type 0 where
+  pub spaces : (path : List ℕ) → fold (space_after path) (space_in now path) rest ≡ fold (space_after path) (space_in start path) all
+  pub objects : (uri : StoreUri) → fold (object_after uri) (object_in now uri) rest ≡ fold (object_after uri) (object_in start uri) all

@@ -1,3 +1,4 @@
 pub mod Changes
+pub mod Going
 pub mod Keys
 pub mod Tables

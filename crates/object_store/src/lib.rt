@@ -8,6 +8,7 @@
 //! the table wants the key to itself. A contract sees such a pair as the record.
 #![tactic(auto)]
 
+mod going;
 mod keyed;
 mod op;
 mod records;

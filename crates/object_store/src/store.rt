@@ -2,9 +2,12 @@
 ghost use Rattle.std.specs.Prelude.{◌≡◌, ◌<◌, ◌+◌, ◌≤◌, ◌∷◌, [], OnOk, IfOk, IfSome, length};
 ghost use Rattle.std.specs.Option.{option_copied};
 
+use crate::going::GoingSpaces;
 use crate::op::ObjectOp;
 use crate::records::{ObjectRecord, SpaceRecord};
-use crate::tables::{drop_object, drop_objects_in, drop_space, object_at, put_object, put_space};
+use crate::tables::{
+    drop_going, drop_object, drop_objects_in, drop_space, object_at, put_object, put_space,
+};
 use etp_values::{List, Named, NoMemory, StoreUri, Text};
 use indexmap::IndexMap;
 use std::alloc::Global;
@@ -16,6 +19,8 @@ use std::marker::Model;
 pub struct ObjectStore {
     spaces: IndexMap<Text, SpaceRecord>,
     objects: IndexMap<StoreUri, ObjectRecord>,
+    /// The dataspaces that a list of operations drops, while it is done.
+    going: GoingSpaces,
 }
 
 impl Model for ObjectStore {
@@ -27,14 +32,14 @@ impl Model for ObjectStore {
 
     ghost use Rattle.object_store.specs.Keys.{StandAtKeys};
 
-    ghost view = { λ s. record { spaces = s.spaces.entries; objects = s.objects.entries; spare = min (spare s.spaces) (spare s.objects) } };
+    ghost view = { λ s. record { spaces = s.spaces.entries; objects = s.objects.entries; spare = min (min (spare s.spaces) (spare s.objects)) s.going.room } };
 
     ghost invariant = { λ s. StandAtKeys s.spaces.entries s.objects.entries };
 }
 
 impl ObjectStore {
     ghost use Rattle.object_store.specs.Tables.{space_in, object_in, ListsSpaces, SameTables, IsFirst};
-    ghost use Rattle.object_store.specs.Changes.{Applies};
+    ghost use Rattle.object_store.specs.Changes.{Applies, Continues};
 
     /// A store with the default dataspace alone, made at the moment 0.
     pub fn new(alloc: Global) -> Result<ObjectStore, NoMemory>
@@ -51,6 +56,7 @@ impl ObjectStore {
         Ok(ObjectStore {
             spaces,
             objects: IndexMap::new(alloc),
+            going: GoingSpaces::new(alloc),
         })
     }
 
@@ -88,7 +94,7 @@ impl ObjectStore {
         let count = ops.len();
         self.spaces.reserve(count)?;
         self.objects.reserve(count)?;
-        Ok(())
+        self.going.reserve(count)
     }
 
     /// Does one operation.
@@ -114,8 +120,8 @@ impl ObjectStore {
         }
     }
 
-    /// Does these operations in order. It takes no memory.
-    pub fn apply(&mut self, ops: List<ObjectOp>)
+    /// Does these operations one after the other.
+    fn apply_each(&mut self, ops: List<ObjectOp>)
         requires { length ops ≤ self.old.spare }
         ensures each { Applies ops self.old self.new }
         ensures room { self.old.spare ≤ self.new.spare + length ops }
@@ -123,5 +129,28 @@ impl ObjectStore {
         for op in ops.into_vec() {
             self.apply_one(op);
         }
+    }
+
+    /// Takes out all dataspaces that these operations drop, in one pass, and answers what is left to do.
+    fn take_out(&mut self, ops: List<ObjectOp>) -> List<ObjectOp>
+        requires { length ops ≤ self.old.spare }
+        ensures each { Continues result ops self.new self.old }
+        ensures enough { length result ≤ self.new.spare }
+        ensures used { self.old.spare + length result ≤ self.new.spare + length ops }
+    {
+        let left = self.going.gather(ops);
+        drop_going(&mut self.spaces, &mut self.objects, &self.going);
+        self.going.clear();
+        left
+    }
+
+    /// Does these operations in order: however many drop a dataspace, the tables are gone through once. It takes no memory.
+    pub fn apply(&mut self, ops: List<ObjectOp>)
+        requires { length ops ≤ self.old.spare }
+        ensures each { Applies ops self.old self.new }
+        ensures room { self.old.spare ≤ self.new.spare + length ops }
+    {
+        let left = self.take_out(ops);
+        self.apply_each(left);
     }
 }

@@ -6,7 +6,9 @@ ghost use Rattle.std.specs.Str.{bytes_eq};
 ghost use Rattle.indexmap.specs.IndexMap.{spare};
 ghost use Rattle.etp_values.specs.SameUri.{same_uri};
 ghost use Rattle.object_store.specs.Changes.{space_made, object_made, PutsSpace, DropsSpace, PutsObject, DropsObject, DropsObjectsIn};
+ghost use Rattle.object_store.specs.Going.{goes, LosesSpaces, LosesObjects};
 
+use crate::going::GoingSpaces;
 use crate::records::{ObjectRecord, SpaceRecord};
 use etp_values::{StoreUri, Text};
 use indexmap::IndexMap;
@@ -101,4 +103,46 @@ pub(crate) fn drop_objects_in(objects: &mut IndexMap<StoreUri, ObjectRecord>, pa
             ensures { (result ≡ not (bytes_eq uri.now.space path.entry.now)) × (object.new ≡ object.old) }
         { uri.space != *path },
     );
+}
+
+/// Keeps the dataspaces that don't go.
+fn retain_spaces(spaces: &mut IndexMap<Text, SpaceRecord>, going: &GoingSpaces)
+    ensures each { LosesSpaces going.now spaces.old.entries spaces.new.entries }
+    ensures room { spare spaces.old ≤ spare spaces.new }
+{
+    spaces.retain(
+        |path: &Text, space: &mut SpaceRecord| -> bool
+            ensures { (result ≡ not (goes going.entry.now path.now)) × (space.new ≡ space.old) }
+        { !going.has(path) },
+    );
+}
+
+/// Keeps the objects whose dataspace doesn't go.
+fn retain_objects(objects: &mut IndexMap<StoreUri, ObjectRecord>, going: &GoingSpaces)
+    ensures each { LosesObjects going.now objects.old.entries objects.new.entries }
+    ensures room { spare objects.old ≤ spare objects.new }
+{
+    objects.retain(
+        |uri: &StoreUri, object: &mut ObjectRecord| -> bool
+            ensures { (result ≡ not (goes going.entry.now uri.now.space)) × (object.new ≡ object.old) }
+        { !going.has(&uri.space) },
+    );
+}
+
+/// Takes out the dataspaces that go, and all objects in them: in one pass over each table, and in none where nothing goes.
+pub(crate) fn drop_going(
+    spaces: &mut IndexMap<Text, SpaceRecord>,
+    objects: &mut IndexMap<StoreUri, ObjectRecord>,
+    going: &GoingSpaces,
+)
+    ensures spaces { LosesSpaces going.now spaces.old.entries spaces.new.entries }
+    ensures objects { LosesObjects going.now objects.old.entries objects.new.entries }
+    ensures spaces_room { spare spaces.old ≤ spare spaces.new }
+    ensures objects_room { spare objects.old ≤ spare objects.new }
+{
+    if going.is_empty() {
+        return;
+    }
+    retain_spaces(spaces, going);
+    retain_objects(objects, going);
 }

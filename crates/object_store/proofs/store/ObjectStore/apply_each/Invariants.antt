@@ -1,7 +1,7 @@
 use Rattle.std.proofs.Common.{◌≤◌, ◌+◌, length}
 use Rattle.std.specs.Vec.Iter.{into_iter_items}
-use Rattle.object_store.proofs.Applying.{Continues}
-use Rattle.object_store.proofs.store.ObjectStore.apply.Given as goal
+use Rattle.object_store.specs.Changes.{Continues}
+use Rattle.object_store.proofs.store.ObjectStore.apply_each.Given as goal
 
 abbrev pub invariant-loop-op : goal.invariant-loop-op
 invariant-loop-op l = record {

@@ -1,0 +1,9 @@
+use Rattle.std.proofs.Common.{rules}
+use Rattle.object_store.proofs.Gathered.{object-gone, object-left}
+use Rattle.object_store.proofs.going.GoingSpaces.turn_object.Goals as goal
+
+pub returns-then-has-clause-each : goal.returns-then-has-clause-each
+returns-then-has-clause-each c = object-gone c.args.self.now c.args.object c.args.queue.now.items (search rules)
+
+pub returns-clause-each : goal.returns-clause-each
+returns-clause-each c = object-left c.args.self.now c.args.object c.args.queue.now.items c.push_front_reserved.new.self.items (search rules) c.push_front_reserved.ensures.items
