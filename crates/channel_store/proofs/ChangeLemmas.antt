@@ -20,7 +20,7 @@ differs_below place x h = grind (arith, nat_tests)
 differs_after : (place x y : ℕ) → nat_lt x place ≡ false → x < y → (y == place) ≡ false
 differs_after place x y h k = grind (arith, nat_tests)
 
-none_later : (place : ℕ) (x : ChannelChange) (xs : List ChannelChange) → nat_lt x.place place ≡ false → AllByRecursion (λ y. x.place < y.place) xs → find (λ y. y.place == place) xs ≡ None
+pub none_later : (place : ℕ) (x : ChannelChange) (xs : List ChannelChange) → nat_lt x.place place ≡ false → AllByRecursion (λ y. x.place < y.place) xs → find (λ y. y.place == place) xs ≡ None
 none_later place x [] h all = refl
 none_later place x (y ∷ ys) h all = ap (λ b. cond b (Some y) (find (λ z. z.place == place) ys)) (differs_after place x.place y.place h all.0) ∙ none_later place x ys h all.1
 

@@ -6,6 +6,7 @@ pub mod Ended
 pub mod FrontLemmas
 pub mod GivenLemmas
 pub mod Looks
+pub mod MarkLemmas
 pub mod Numbered
 pub mod PointLemmas
 pub mod RowLemmas

@@ -2,6 +2,7 @@ pub mod Channels
 pub mod Copies
 pub mod Drafts
 pub mod Laws
+pub mod Marks
 pub mod Points
 pub mod Refusals
 pub mod Rows

@@ -3,6 +3,7 @@ ghost use Rattle.std.specs.Prelude.{◌≡◌, ◌≤◌, ◌==◌, find, length
 ghost use Rattle.std.specs.List.Sorted.{IsPartitionPoint};
 ghost use Rattle.std.specs.Option.{option_copied};
 ghost use Rattle.channel_store.specs.Channels.{PlacesRise};
+ghost use Rattle.channel_store.specs.Marks.{marked};
 ghost use Rattle.channel_store.specs.Told.{stands_before};
 
 use crate::change::ChannelChange;
@@ -64,4 +65,22 @@ pub fn next_place(changes: &Rows<ChannelChange>, place: u64) -> Option<u64>
         return None;
     };
     Some(change.place)
+}
+
+/// Sets the marks of the places from `from` on at which there is a change. The first mark is that of the place `first`.
+pub fn mark_changes(changes: &Rows<ChannelChange>, from: u64, first: u64, marks: &mut [bool])
+    requires { PlacesRise changes.now.items }
+    ensures { marks.new ≡ marked from first changes.now.items marks.old }
+{
+    let start = count_before(changes, from.max(first));
+    for number in start..changes.len() {
+        let Some(change) = changes.get(number) else {
+            return;
+        };
+        let mark = (change.place - first) as usize;
+        if mark >= marks.len() {
+            return;
+        }
+        marks[mark] = true;
+    }
 }

@@ -4,6 +4,7 @@ ghost use Rattle.std.specs.Option.{option_copied};
 ghost use Rattle.etp_values.specs.Gives.{Gives};
 ghost use Rattle.channel_store.specs.Channels.{fresh};
 ghost use Rattle.channel_store.specs.Refusals.{Refuses, append_refusal, cut_refusal, points_at, replace_refusal, truncate_refusal, verdict};
+ghost use Rattle.channel_store.specs.Marks.{marked};
 ghost use Rattle.channel_store.specs.Points.{Rises, first_of, index_from_end, last_of};
 ghost use Rattle.channel_store.specs.Store.{Changes, IsNewPlace, appended, changes_at, id_of, range_of, replaced, tail_of, truncated};
 ghost use Rattle.channel_store.specs.Told.{ending, sized};
@@ -308,5 +309,16 @@ impl ChannelStore {
             return None;
         };
         track.change_at(place)
+    }
+
+    /// Sets the marks of the places of the journal from `from` on at which a channel is changed. The first mark is that of the
+    /// place `first`.
+    pub fn mark_changes(&self, channel: i64, from: u64, first: u64, marks: &mut [bool])
+        ensures { marks.new ≡ marked from first (changes_at self.now channel) marks.old }
+    {
+        let Some(track) = track_at(self.tracks.as_slice(), channel) else {
+            return;
+        };
+        track.mark_changes(from, first, marks);
     }
 }

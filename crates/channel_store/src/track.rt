@@ -2,6 +2,7 @@
 ghost use Rattle.std.specs.Prelude.{◌≡◌, ◌==◌, [], IfOk, OnOk, Some, find, is_some, nat_le, option_map};
 ghost use Rattle.std.specs.Option.{option_copied};
 ghost use Rattle.channel_store.specs.Channels.{fresh, IsKept};
+ghost use Rattle.channel_store.specs.Marks.{marked};
 ghost use Rattle.channel_store.specs.Points.{Rises, first_of, index_from_end, inside, last_of, past};
 ghost use Rattle.channel_store.specs.Told.{size_of, told_by};
 ghost use Rattle.channel_store.specs.Rows.{Becomes, IsDue, added, begun, cleared, done, plain, what_by};
@@ -9,7 +10,7 @@ ghost use Rattle.channel_store.specs.Rows.{Becomes, IsDue, added, begun, cleared
 use crate::change::ChannelChange;
 use crate::draft::{Draft, Way};
 use crate::error::ChannelError;
-use crate::places::{change_at, next_place};
+use crate::places::{change_at, mark_changes, next_place};
 use crate::points::{
     PointSize, apply, copy_inside, copy_past, first_index, index_from_end, last_index, size_inside,
     size_past,
@@ -130,6 +131,14 @@ impl Track {
             (find (λ x. nat_le place x.place) self.now.shown.changes) }
     {
         next_place(&self.changes, place)
+    }
+
+    /// Sets the marks of the places of the journal from `from` on at which the channel is changed. The first mark is that of the
+    /// place `first`.
+    pub fn mark_changes(&self, from: u64, first: u64, marks: &mut [bool])
+        ensures { marks.new ≡ marked from first self.now.shown.changes marks.old }
+    {
+        mark_changes(&self.changes, from, first, marks);
     }
 
     /// Whether something is about to happen.

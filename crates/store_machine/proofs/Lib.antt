@@ -7,6 +7,7 @@ pub mod Due
 pub mod DueAt
 pub mod Following
 pub mod Judging
+pub mod LagLemmas
 pub mod Lawful
 pub mod Loading
 pub mod Marked

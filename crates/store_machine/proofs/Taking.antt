@@ -1,4 +1,4 @@
--- The changes that are taken entry by entry, and how many entries have any.
+-- The changes that are taken entry by entry.
 use Rattle.std.specs.Prelude.{ℕ, suc, ◌≡◌, ◌+◌, ◌-◌, ◌≤◌, ◌<◌, ◌&&◌, ◌||◌, nat_le, nat_lt, Bool, true, false, cond, List, [], ◌∷◌, ◌++◌, if◌then◌else◌, length, filter, refl}
 use Rattle.std.proofs.Common.{ap, sym, ◌∙◌, subst, append_assoc, append-nil, arith}
 use Rattle.std.proofs.lemmas.Bool.Decides.{nat_tests}
@@ -20,37 +20,6 @@ dues_step cs fs from mark within = let e : mark - from ≡ suc (mark - (from + 1
 
 pub dues_end : (cs : List Channel) (fs : List Followed) (from mark : ℕ) → mark ≤ from → dues_at cs fs from (mark - from) ≡ []
 dues_end cs fs from mark past = let e : mark - from ≡ 0 = omega (arith, past) in ap (dues_at cs fs from) e
-
--- ---- the lag
-
-lag-one : (b : Bool) (d : List ChannelChange) (ds : List (List ChannelChange)) → is_some_due d ≡ b → lag (d ∷ ds) ≡ (if b then suc (lag ds) else lag ds)
-lag-one true d ds h = ap (λ t. length (cond t (d ∷ filter is_some_due ds) (filter is_some_due ds))) h
-lag-one false d ds h = ap (λ t. length (cond t (d ∷ filter is_some_due ds) (filter is_some_due ds))) h
-
-one-on : (count a b whole : ℕ) → a ≡ suc b → count + a ≡ whole → (count + 1) + b ≡ whole
-one-on count a b whole e h = omega (arith, e, h)
-
-same-on : (count a b whole : ℕ) → a ≡ b → count + a ≡ whole → count + b ≡ whole
-same-on count a b whole e h = omega (arith, e, h)
-
-none-on : (count a whole : ℕ) → a ≡ 0 → count + a ≡ whole → count ≡ whole
-none-on count a whole e h = omega (arith, e, h)
-
--- one entry further, whether it has a due change or not
-pub lag_due : (cs : List Channel) (fs : List Followed) (from mark count whole : ℕ) → from < mark → true ≡ is_some_due (due_at cs fs from)
-    → count + lag (dues_at cs fs from (mark - from)) ≡ whole → (count + 1) + lag (dues_at cs fs (from + 1) (mark - (from + 1))) ≡ whole
-lag_due cs fs from mark count whole within due h =
-    one-on count (lag (dues_at cs fs from (mark - from))) (lag (dues_at cs fs (from + 1) (mark - (from + 1)))) whole
-    (ap lag (dues_step cs fs from mark within) ∙ lag-one true (due_at cs fs from) (dues_at cs fs (from + 1) (mark - (from + 1))) (sym due)) h
-
-pub lag_none : (cs : List Channel) (fs : List Followed) (from mark count whole : ℕ) → from < mark → false ≡ is_some_due (due_at cs fs from)
-    → count + lag (dues_at cs fs from (mark - from)) ≡ whole → count + lag (dues_at cs fs (from + 1) (mark - (from + 1))) ≡ whole
-lag_none cs fs from mark count whole within due h =
-    same-on count (lag (dues_at cs fs from (mark - from))) (lag (dues_at cs fs (from + 1) (mark - (from + 1)))) whole
-    (ap lag (dues_step cs fs from mark within) ∙ lag-one false (due_at cs fs from) (dues_at cs fs (from + 1) (mark - (from + 1))) (sym due)) h
-
-pub lag_end : (cs : List Channel) (fs : List Followed) (from mark count whole : ℕ) → mark ≤ from → count + lag (dues_at cs fs from (mark - from)) ≡ whole → count ≡ whole
-lag_end cs fs from mark count whole past h = none-on count (lag (dues_at cs fs from (mark - from))) whole (ap lag (dues_end cs fs from mark past)) h
 
 -- ---- what fits
 

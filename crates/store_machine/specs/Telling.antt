@@ -8,6 +8,7 @@ use Rattle.channel_points.specs.Splits.{RisesBy}
 use Rattle.channel_store.specs.declared.change.ChannelChange.{ChannelChange}
 use Rattle.channel_store.specs.declared.subscription.Sub.{Sub}
 use Rattle.channel_store.specs.Channels.{Channel}
+use Rattle.channel_store.specs.Marks.{marked}
 use Rattle.channel_store.specs.Store.{changes_at}
 use Rattle.channel_store.specs.Told.{change_bytes}
 use Rattle.store_machine.specs.declared.news.Followed.{Followed}
@@ -64,6 +65,18 @@ due_at cs (f ∷ fs) place = option_to_list (due_here cs f place) ++ due_at cs f
 abbrev pub dues_at : List Channel → List Followed → ℕ → ℕ → List (List ChannelChange)
 dues_at cs fs place zero = []
 dues_at cs fs place (suc count) = due_at cs fs place ∷ dues_at cs fs (place + 1) count
+
+-- ---- marks of entries
+
+-- the marks that were set, and those of the entries with due changes, channel by channel; the first is that of the entry at `place`
+abbrev pub marked_by : List Channel → List Followed → ℕ → List Bool → List Bool
+marked_by cs [] place marks = marks
+marked_by cs (f ∷ fs) place marks = marked_by cs fs place (marked f.from place (changes_at cs f.channel) marks)
+
+-- how many marks are set
+abbrev pub set_marks : List Bool → ℕ
+set_marks [] = 0
+set_marks (b ∷ bs) = if b then suc (set_marks bs) else set_marks bs
 
 -- ---- what is taken
 

@@ -1,11 +1,13 @@
 //! The changes that subscriptions are to be told of.
-ghost use Rattle.std.specs.Prelude.{ℕ, ◌≡◌, ◌≤◌, ◌++◌, ◌-◌, ◌+◌, [], IfOk, List as Items, OnOk, length, min, slice_get};
+ghost use Rattle.std.specs.Prelude.{ℕ, ◌≡◌, ◌≤◌, ◌++◌, ◌-◌, ◌+◌, [], IfOk, List as Items, OnOk, false, length, min, replicate, slice_get};
 ghost use Rattle.std.specs.Option.{option_copied};
 ghost use Rattle.etp_values.specs.Weight.{capped, weigh};
 ghost use Rattle.channel_store.specs.declared.change.ChannelChange.{ChannelChange as AChange};
+ghost use Rattle.channel_store.specs.Marks.{marked};
+ghost use Rattle.channel_store.specs.Store.{changes_at};
 ghost use Rattle.channel_store.specs.Told.{change_bytes};
-ghost use Rattle.store_machine.specs.News.{fits_behind, is_some_due, joined, lag, news_by, taken as taken_of};
-ghost use Rattle.store_machine.specs.Telling.{Takes, below, due_at, due_here, dues_at, followed_by, followed_with, same_from};
+ghost use Rattle.store_machine.specs.News.{fits_behind, joined, lag, news_by, taken as taken_of};
+ghost use Rattle.store_machine.specs.Telling.{Takes, below, due_at, due_here, dues_at, followed_by, followed_with, marked_by, same_from, set_marks};
 
 use crate::call::Reply;
 use channel_store::{ChannelChange, ChannelStore, Sub, change_bytes};
@@ -99,34 +101,76 @@ fn due_here<'a>(
     channels.change_at(each.channel, place)
 }
 
-/// Whether the entry at a place has a change to be told of.
-fn is_due(channels: &ChannelStore, followed: &[Followed], place: u64) -> bool
-    ensures { result ≡ is_some_due (due_at channels.now followed.now place) }
+/// Sets the marks of the entries by which a channel that is followed is changed. The first mark is that of the entry at `place`.
+fn mark_due(channels: &ChannelStore, each: &Followed, place: u64, marks: &mut [bool])
+    ensures { marks.new
+        ≡ marked each.now.from place (changes_at channels.now each.now.channel) marks.old }
 {
-    for each in followed {
-        if due_here(channels, each, place).is_some() {
-            return true;
-        }
-    }
-    false
+    channels.mark_changes(each.channel, each.from, place, marks);
 }
 
-/// How many entries from `place` on, below `mark`, have changes to be told of.
-fn lag_from(channels: &ChannelStore, followed: &[Followed], place: u64, mark: u64) -> u64
-    requires { place ≤ mark }
-    ensures { result ≡ lag (dues_at channels.now followed.now place (mark - place)) }
+/// Sets the marks of the entries with changes to be told of. The first mark is that of the entry at `place`.
+fn mark_all(channels: &ChannelStore, followed: &[Followed], place: u64, marks: &mut [bool])
+    ensures { marks.new ≡ marked_by channels.now followed.now place marks.old }
 {
-    let mut lag = 0;
-    let mut from = place;
-    while from < mark {
-        if is_due(channels, followed, from) {
-            lag += 1;
-            from += 1;
-        } else {
-            from += 1;
+    for each in followed {
+        mark_due(channels, each, place, marks);
+    }
+}
+
+/// How many marks are set.
+fn count_set(marks: &[bool]) -> u64
+    ensures { result ≡ set_marks marks.now }
+{
+    let mut count = 0;
+    for mark in marks {
+        if *mark {
+            count += 1;
         }
     }
-    lag
+    count
+}
+
+/// How many marks are set with those of the entries with changes to be told of. The first mark is that of the entry at `place`.
+fn count_marked(
+    channels: &ChannelStore,
+    followed: &[Followed],
+    place: u64,
+    marks: &mut [bool],
+) -> u64
+    ensures { result ≡ set_marks (marked_by channels.now followed.now place marks.old) }
+{
+    mark_all(channels, followed, place, marks);
+    count_set(marks)
+}
+
+/// So many marks, none of which is set.
+fn no_marks(alloc: Global, count: u64) -> Result<Vec<bool>, NoMemory>
+    ensures { IfOk result (λ m. m.items ≡ replicate count false) }
+{
+    let mut marks: Vec<bool> = Vec::new(alloc);
+    marks.resize(count as usize, false)?;
+    Ok(marks)
+}
+
+/// How many entries from `place` on, below `mark`, have changes to be told of. Each change is visited once, and no entry is searched for.
+#[tactic(auto, using(crate::proofs::LagLemmas::lag_marked, crate::proofs::LagLemmas::lag_nobody, crate::proofs::LagLemmas::lag_nothing))]
+fn lag_from(
+    alloc: Global,
+    channels: &ChannelStore,
+    followed: &[Followed],
+    place: u64,
+    mark: u64,
+) -> Result<u64, NoMemory>
+    requires { place ≤ mark }
+    ensures { IfOk result (λ n.
+        n ≡ lag (dues_at channels.now followed.now place (mark - place))) }
+{
+    if followed.is_empty() || place == mark {
+        return Ok(0);
+    }
+    let mut marks = no_marks(alloc, mark - place)?;
+    Ok(count_marked(channels, followed, place, marks.as_mut_slice()))
 }
 
 /// The changes by the entry at a place that are to be told of, in the order of their channels.
@@ -255,7 +299,7 @@ pub(crate) fn news(
 {
     let followed = followed_by(alloc, subs)?;
     let from = cursor.min(mark);
-    let lag = lag_from(channels, followed.as_slice(), from, mark);
+    let lag = lag_from(alloc, channels, followed.as_slice(), from, mark)?;
     let mut taken = Taken {
         changes: Vec::new(alloc),
         bytes: 0,
