@@ -1,5 +1,7 @@
 -- Shelves that are fed one by one.
-use Rattle.std.proofs.Common.{refl, ℕ, zero, suc, ◌≡◌, ◌<◌, ◌≤◌, ◌+◌, List, [], ◌∷◌, length, get_or, slice_set, ap, arith, subst}
+use Rattle.std.proofs.Common.{refl, ℕ, zero, suc, ◌≡◌, ◌<◌, ◌≤◌, ◌+◌, List, [], ◌∷◌, ◌++◌, append-nil, drop, length, get_or, map, slice_set, take, ap, arith, subst, ◌∙◌}
+use Rattle.std.proofs.lemmas.List.{drop_all, take_all}
+use Rattle.std.proofs.lemmas.List.Edits.{map_over_more}
 use Rattle.channel_store.specs.declared.copy.ChangeMsg.{ChangeMsg}
 use Rattle.watch_views.specs.Boards.{Reading, Keeps, IsFed, AllFed, AllKept, AreFed}
 
@@ -56,3 +58,15 @@ module _ {B : Type 0} (r : Reading B) where
   fed_all (suc n) c [] (y ∷ ys) within front = absurd front
   fed_all (suc n) c (x ∷ xs) [] within front = absurd front
   fed_all (suc n) c (x ∷ xs) (y ∷ ys) within front = (front.0, fed_all n c xs ys (omega arith) front.1)
+
+-- ---- the same done to each of a list
+
+-- to the first `n`, and not to the others
+abbrev pub first_mapped : {A : Type 0} → ℕ → List A → (A → A) → List A
+first_mapped n xs f = map f (take n xs) ++ drop n xs
+
+pub mapped_more : {A : Type 0} (f : A → A) (xs now : List A) (n : ℕ) (x new : A) → n < length xs → now ≡ first_mapped n xs f → x ≡ get_or now n x → new ≡ f x → slice_set now n new ≡ first_mapped (n + 1) xs f
+mapped_more f xs now n x new within so_far at is = ap (λ y. slice_set now n y) is ∙ map_over_more f xs now n x within so_far at
+
+pub mapped_all : {A : Type 0} (f : A → A) (xs now : List A) (n : ℕ) → length xs ≤ n → now ≡ first_mapped n xs f → now ≡ map f xs
+mapped_all f xs now n end so_far = so_far ∙ (λ j. map f (take_all n xs end j) ++ drop_all n xs end j) ∙ append-nil (map f xs)

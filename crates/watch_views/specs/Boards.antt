@@ -1,5 +1,5 @@
 -- What changes do to the shelves of a board. It speaks of any shelves: how one is read is handed in.
-use Rattle.std.specs.Prelude.{◌≡◌, ℕ, zero, suc, ℤ, List, [], ◌∷◌, Result, Ok, Err, if◌then◌else◌}
+use Rattle.std.specs.Prelude.{◌≡◌, ℕ, zero, suc, ℤ, List, [], ◌∷◌, map, Result, Ok, Err, if◌then◌else◌}
 use Rattle.std.specs.Ordering.{int_eq}
 use Rattle.std.specs.List.{flat_map}
 use Rattle.channel_store.specs.declared.change.What.{What}
@@ -15,6 +15,10 @@ pub record Reading (B : Type 0) : Type 0 where
 
 abbrev pub reading : {B : Type 0} → (B → ℤ) → (B → Held) → (B → Held → What → Held) → (B → Held → List ℕ) → Reading B
 reading channel held step shown = record { channel = channel; held = held; step = step; shown = shown }
+
+-- shelves that are changed so, each
+abbrev pub each : {B : Type 0} → List B → (B → B) → List B
+each xs f = map f xs
 
 module _ {B : Type 0} (r : Reading B) where
   -- the second is the first, but keeps this

@@ -1,8 +1,8 @@
 //! Boards.
-ghost use Rattle.std.specs.Prelude.{◌≡◌, ◌++◌, ◌∷◌, [], filter, length, not, OnErr, OnOk};
+ghost use Rattle.std.specs.Prelude.{◌≡◌, ◌++◌, ◌∷◌, [], filter, length, map, not, IfOk, OnErr, OnOk};
 ghost use Rattle.std.specs.Ordering.{int_eq};
 ghost use Rattle.avro_bin.specs.Plain.{Writes};
-ghost use Rattle.watch_views.specs.Boards.{Feeds, FeedsOne, lines_at, lines_of, reading};
+ghost use Rattle.watch_views.specs.Boards.{Feeds, FeedsOne, each, lines_at, lines_of, reading};
 
 use crate::lines::settle;
 use crate::view::View;
@@ -68,6 +68,15 @@ fn remove_all(shelves: &mut Vec<Shelf>, channel: i64) -> u64
     (before - shelves.len()) as u64
 }
 
+/// Has all shelves watch this channel.
+fn watch_all(shelves: &mut Vec<Shelf>, channel: i64)
+    ensures { shelves.new.items ≡ each shelves.old.items (λ s. record s { channel = channel }) }
+{
+    for i in 0..shelves.len() {
+        shelves[i].channel = channel;
+    }
+}
+
 /// Views on shelves, in the order in which they were added.
 #[derive(Drop)]
 pub struct Board {
@@ -84,6 +93,17 @@ impl Board {
         }
     }
 
+    /// A board of these views, each of this channel. Where memory is refused, the views are dropped.
+    pub fn of(alloc: Global, channel: i64, views: Vec<Box<dyn View>>) -> Result<Board, NoMemory>
+        ensures { IfOk result (λ b. b.shelves.items ≡ map (λ v. record { channel = channel; view = v }) views.items) }
+    {
+        let mut shelves = Vec::new(alloc);
+        for view in views {
+            shelves.push(Shelf { channel, view })?;
+        }
+        Ok(Board { shelves })
+    }
+
     /// Adds a view of a channel. Where memory is refused, the view is dropped and the board is as before.
     pub fn add(&mut self, channel: i64, view: Box<dyn View>) -> Result<(), NoMemory>
         ensures ok { OnOk result (self.new.shelves.items ≡ self.old.shelves.items ++ (record { channel = channel; view = view }) ∷ []) }
@@ -91,6 +111,13 @@ impl Board {
     {
         self.shelves.push(Shelf { channel, view })?;
         Ok(())
+    }
+
+    /// Has all views watch this channel.
+    pub fn watch(&mut self, channel: i64)
+        ensures { self.new.shelves.items ≡ each self.old.shelves.items (λ s. record s { channel = channel }) }
+    {
+        watch_all(&mut self.shelves, channel);
     }
 
     /// Each view of the change's channel takes the change in. Where memory is refused to one of them, those that were added before it have
