@@ -4,13 +4,15 @@ use crate::answers::{
     GOES_HALFWAY, Part, SAYS_GARBAGE,
 };
 use crate::client::{Call, Seen, visit};
-use crate::network::{Machine, SampleNet};
+use crate::network::SampleNet;
 use crate::printing::{heard_text, print_request, seen_text, value_in};
 use crate::server::{Heard, serve};
 use etp_values::Blob;
 use outside_net::TcpDial;
 use std::alloc::{AllocError, Global};
-use std::net::{TcpListener, TcpStream};
+use std::net::{Net, TcpListener, TcpStream};
+use std::random::RandomSource;
+use std::thread::Threads;
 use std::time::Duration;
 use std::{io, thread};
 
@@ -28,14 +30,22 @@ const PATIENCE: u64 = 10;
 const NO_NAME: &str = "aaaaaaaaaaaaaaaaaaaaaaaaaaaaaaaaaaaaaaaaaaaaaaaaaaaaaaaaaaaaaaaa";
 
 /// Has a server play a part to a client of its port.
-fn meet<R: Machine>(
+fn meet<R>(
     rt: &R,
     net: &SampleNet<R>,
     listener: &TcpListener,
     host: &str,
     part: &Part,
     patient: bool,
-) -> io::Result<(Heard, Seen)> {
+) -> io::Result<(Heard, Seen)>
+where
+    R: AllocGlobal
+        + Print
+        + Threads
+        + Sync
+        + RandomSource
+        + Net<Listener = TcpListener, Stream = TcpStream>,
+{
     let alloc = rt.alloc();
     let port = listener.local_addr()?.port();
     let message = hello(alloc)?;
@@ -52,33 +62,62 @@ fn hello(alloc: Global) -> Result<Blob, AllocError> {
 }
 
 /// Prints what a client and a server saw of each other.
-fn print_case<R: Machine>(
+fn print_case<R>(
     rt: &R,
     net: &SampleNet<R>,
     name: &str,
     part: &Part,
     patient: bool,
-) -> io::Result<()> {
+) -> io::Result<()>
+where
+    R: AllocGlobal
+        + Print
+        + Threads
+        + Sync
+        + RandomSource
+        + Net<Listener = TcpListener, Stream = TcpStream>,
+{
     let listener = TcpListener::bind(rt, ANY_PORT)?;
     let (heard, seen) = meet(rt, net, &listener, HOST, part, patient)?;
     print_both(rt, name, &heard, &seen)
 }
 
-fn print_both<R: Machine>(rt: &R, name: &str, heard: &Heard, seen: &Seen) -> io::Result<()> {
+fn print_both<R: AllocGlobal + Print>(
+    rt: &R,
+    name: &str,
+    heard: &Heard,
+    seen: &Seen,
+) -> io::Result<()> {
     let seen = seen_text(rt.alloc(), seen)?;
     let heard = heard_text(rt.alloc(), heard)?;
     println!(rt; "{name}: {seen}; the server {heard}")
 }
 
 /// Servers that take the client: what it asks, and who says goodbye first.
-pub(crate) fn print_taken<R: Machine>(rt: &R, net: &SampleNet<R>) -> io::Result<()> {
+pub(crate) fn print_taken<R>(rt: &R, net: &SampleNet<R>) -> io::Result<()>
+where
+    R: AllocGlobal
+        + Print
+        + Threads
+        + Sync
+        + RandomSource
+        + Net<Listener = TcpListener, Stream = TcpStream>,
+{
     print_asked(rt, net)?;
     print_case(rt, net, "the server says goodbye", &ENDS_FIRST, true)?;
     print_case(rt, net, "the client says goodbye", &ENDS_LAST, false)
 }
 
 /// Prints what a client asks.
-fn print_asked<R: Machine>(rt: &R, net: &SampleNet<R>) -> io::Result<()> {
+fn print_asked<R>(rt: &R, net: &SampleNet<R>) -> io::Result<()>
+where
+    R: AllocGlobal
+        + Print
+        + Threads
+        + Sync
+        + RandomSource
+        + Net<Listener = TcpListener, Stream = TcpStream>,
+{
     let listener = TcpListener::bind(rt, ANY_PORT)?;
     let port = listener.local_addr()?.port();
     let (heard, _seen) = meet(rt, net, &listener, HOST, &ENDS_FIRST, true)?;
@@ -86,7 +125,15 @@ fn print_asked<R: Machine>(rt: &R, net: &SampleNet<R>) -> io::Result<()> {
 }
 
 /// Servers that answer otherwise.
-pub(crate) fn print_refused<R: Machine>(rt: &R, net: &SampleNet<R>) -> io::Result<()> {
+pub(crate) fn print_refused<R>(rt: &R, net: &SampleNet<R>) -> io::Result<()>
+where
+    R: AllocGlobal
+        + Print
+        + Threads
+        + Sync
+        + RandomSource
+        + Net<Listener = TcpListener, Stream = TcpStream>,
+{
     print_case(rt, net, "another subprotocol", &CHOOSES_CHAT, true)?;
     print_case(rt, net, "no subprotocol", &CHOOSES_NOTHING, true)?;
     print_case(
@@ -102,13 +149,10 @@ pub(crate) fn print_refused<R: Machine>(rt: &R, net: &SampleNet<R>) -> io::Resul
 }
 
 /// Dials where nobody answers, over the system's own network.
-fn print_dialed<R: Machine>(
-    rt: &R,
-    name: &str,
-    host: &str,
-    port: u16,
-    patience: u64,
-) -> io::Result<()> {
+fn print_dialed<R>(rt: &R, name: &str, host: &str, port: u16, patience: u64) -> io::Result<()>
+where
+    R: AllocGlobal + Print + Sync + RandomSource + Net<Listener = TcpListener, Stream = TcpStream>,
+{
     let message = hello(rt.alloc())?;
     let mut dial = TcpDial::with_patience(rt, Duration::from_secs(patience));
     let seen = visit(rt.alloc(), &mut dial, host, port, &message, true);
@@ -117,7 +161,10 @@ fn print_dialed<R: Machine>(
 }
 
 /// A server that says nothing, a port at which nobody listens, and a host that has no address.
-pub(crate) fn print_unanswered<R: Machine>(rt: &R) -> io::Result<()> {
+pub(crate) fn print_unanswered<R>(rt: &R) -> io::Result<()>
+where
+    R: AllocGlobal + Print + Sync + RandomSource + Net<Listener = TcpListener, Stream = TcpStream>,
+{
     let listener = TcpListener::bind(rt, ANY_PORT)?;
     let address = listener.local_addr()?;
     print_dialed(rt, "a silent server", HOST, address.port(), SILENCE)?;
@@ -134,7 +181,15 @@ pub(crate) fn print_unanswered<R: Machine>(rt: &R) -> io::Result<()> {
 }
 
 /// A server at an IPv6 address: the request has it in brackets. The line is the same where the machine has no such address.
-pub(crate) fn print_bracketed<R: Machine>(rt: &R, net: &SampleNet<R>) -> io::Result<()> {
+pub(crate) fn print_bracketed<R>(rt: &R, net: &SampleNet<R>) -> io::Result<()>
+where
+    R: AllocGlobal
+        + Print
+        + Threads
+        + Sync
+        + RandomSource
+        + Net<Listener = TcpListener, Stream = TcpStream>,
+{
     let well = match TcpListener::bind(rt, "[::1]:0") {
         Ok(listener) => is_bracketed(rt, net, &listener)?,
         Err(_) => true,
@@ -142,11 +197,15 @@ pub(crate) fn print_bracketed<R: Machine>(rt: &R, net: &SampleNet<R>) -> io::Res
     println!(rt; "an IPv6 address in brackets, where there is one: {well}")
 }
 
-fn is_bracketed<R: Machine>(
-    rt: &R,
-    net: &SampleNet<R>,
-    listener: &TcpListener,
-) -> io::Result<bool> {
+fn is_bracketed<R>(rt: &R, net: &SampleNet<R>, listener: &TcpListener) -> io::Result<bool>
+where
+    R: AllocGlobal
+        + Print
+        + Threads
+        + Sync
+        + RandomSource
+        + Net<Listener = TcpListener, Stream = TcpStream>,
+{
     let (heard, seen) = meet(rt, net, listener, "[::1]", &ENDS_FIRST, true)?;
     Ok(seen.call == Call::Linked && names_bracketed(heard.request.as_slice()))
 }

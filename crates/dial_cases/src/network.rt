@@ -1,27 +1,8 @@
-//! The machine, and its network with random bytes that are known.
+//! The system's network, with random bytes that are known.
 use std::io;
 use std::net::{Net, SocketAddr, TcpListener, TcpStream};
 use std::random::RandomSource;
-use std::thread::Threads;
 use std::time::Duration;
-
-/// What the cases need of the machine.
-pub(crate) trait Machine: AllocGlobal
-    + Print
-    + Threads
-    + Sync
-    + RandomSource
-    + Net<Listener = TcpListener, Stream = TcpStream> {}
-
-impl<R> Machine for R
-where
-    R: AllocGlobal
-        + Print
-        + Threads
-        + Sync
-        + RandomSource
-        + Net<Listener = TcpListener, Stream = TcpStream>,
-{}
 
 /// The standard's sample: a key is made of all of it, and a mask of its first four bytes.
 const NONCE: &[u8] = b"the sample nonce";

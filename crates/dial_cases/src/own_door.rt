@@ -1,11 +1,12 @@
 //! Our own listener as the server.
 use crate::client::{Call, Seen, ends, next_message, visit};
-use crate::network::Machine;
 use etp_outside::{Dialer, Link, Listened, Listener, Next, Sent};
 use etp_values::Blob;
 use outside_net::{TcpDial, TcpDoor};
 use std::alloc::{AllocError, Global};
 use std::net::{Net, TcpListener, TcpStream};
+use std::random::RandomSource;
+use std::thread::Threads;
 use std::{io, thread};
 
 /// How many bytes the message has: more than a link keeps before it writes.
@@ -64,7 +65,15 @@ fn message(alloc: Global) -> Result<Blob, AllocError> {
 }
 
 /// Dials our own door, and prints what either saw.
-pub(crate) fn print_own_door<R: Machine>(rt: &R) -> io::Result<()> {
+pub(crate) fn print_own_door<R>(rt: &R) -> io::Result<()>
+where
+    R: AllocGlobal
+        + Print
+        + Threads
+        + Sync
+        + RandomSource
+        + Net<Listener = TcpListener, Stream = TcpStream>,
+{
     let message = message(rt.alloc())?;
     let mut door = TcpDoor::new(rt);
     match door.listen("127.0.0.1:0") {
@@ -73,7 +82,15 @@ pub(crate) fn print_own_door<R: Machine>(rt: &R) -> io::Result<()> {
     }
 }
 
-fn print_meeting<R: Machine>(rt: &R, door: &mut TcpDoor<R>, message: &Blob) -> io::Result<()> {
+fn print_meeting<R>(rt: &R, door: &mut TcpDoor<R>, message: &Blob) -> io::Result<()>
+where
+    R: AllocGlobal
+        + Print
+        + Threads
+        + Sync
+        + RandomSource
+        + Net<Listener = TcpListener, Stream = TcpStream>,
+{
     let alloc = rt.alloc();
     let port = door.port().unwrap_or(0);
     let mut dial = TcpDial::new(rt);
