@@ -1,6 +1,6 @@
 -- The tags fit the journal after each frame.
 use Rattle.std.proofs.Common.{◌≡◌, ◌≢◌, ℕ, ℤ, ◌+◌, ◌<◌, ◌≤◌, Bool, true, false, cond, List, [], ◌∷◌, ◌++◌, length, map, refl, ap, sym, ◌∙◌, subst, arith, append-nil, length-append, None, Some, if◌then◌else◌, eqb, ◌==◌, ◌||◌, nat_eq, pos}
-use Rattle.std.specs.Prelude.{IsSomeAnd, IfSome}
+use Rattle.std.specs.Prelude.{IsSomeAnd, IfSome, is_some}
 use Rattle.std.specs.declared.option.Option.{Option}
 use Rattle.std.specs.Ordering.{nat_cmp}
 use Rattle.std.specs.BTreeMap.{is_at}
@@ -51,6 +51,13 @@ TagFits n h (Open s) = (s.number ≡ n) × FitsOpen h s
 pub record EffectFits (n : ℕ) (h : List Entry) (e : Effect) : Type 0 where
   pub grows : Grows n h e.journal
   pub tag : TagFits n e.journal e.tag
+
+-- where no session is open yet, nothing is to be known
+pub sound_first : (config : Config) (h : List Entry) (tags : List (ℕ × TagState)) → tags ≡ [] → IsSound (record { config = config; journal = h; tags = tags })
+sound_first config h tags none = subst (λ (t : List (ℕ × TagState)). IsSound (record { config = config; journal = h; tags = t })) (sym none) begun
+  where
+    begun : IsSound (record { config = config; journal = h; tags = [] })
+    begun = record { fits = λ tag. tt; apart = λ tag other s t is are same. absurd (false≢true (ap is_some is)) }
 
 -- what is kept of a session by its turn
 record TurnFits (n : ℕ) (h : List Entry) (t : Turn) : Type 0 where
