@@ -101,6 +101,21 @@ fn views_follow_the_changes_of_their_channel(rt: HostRuntime) -> Result<(), Fail
     )
 }
 
+#[test]
+fn a_board_of_views_watches_one_channel(rt: HostRuntime) -> Result<(), Fail> {
+    let a = rt.alloc();
+    let mut views: Vec<Box<dyn View>> = Vec::new(a);
+    views.push(Box::new(a, Latest::new())?)?;
+    views.push(Box::new(a, Counts::new())?)?;
+    let mut board = Board::of(a, 7, views)?;
+    board.feed(a, &append(a, 7, &[1])?)?;
+    shows(&rt, a, &board, b"latest 1 10\ncounts 1 1 0 0\n")?;
+    board.watch(8);
+    board.feed(a, &append(a, 7, &[2])?)?;
+    board.feed(a, &append(a, 8, &[3])?)?;
+    shows(&rt, a, &board, b"latest 3 30\ncounts 2 2 0 0\n")
+}
+
 /// A view that counts how often a value of it is dropped.
 struct Dropped {
     count: Arc<AtomicU64>,

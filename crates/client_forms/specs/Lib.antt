@@ -1,0 +1,12 @@
+pub mod Loading
+pub mod Ctl
+pub mod Work
+pub mod Plans
+pub mod Sending
+pub mod Jobs
+pub mod Filling
+pub mod Shown
+pub mod Watches
+pub mod Top
+pub mod Runs
+pub mod Program

@@ -1,0 +1,24 @@
+//! The client's commands over a link: `put` and `get` of an object, `load` of points into a channel, and `watch` of its changes.
+//!
+//! What a command sends, writes and answers is `ctl` of `specs/Ctl`: a fold over the items that its link took, by the moments that its
+//! clock told. [`talk`] has the pieces of work that commands are made of, each a step of that fold, and each command is a [`Command`](command::Command).
+//!
+//! [`run_client`] does what words ask for over any host, dialer, input, output and clock. [`run_program`] does it over the system, and is
+//! all that a `main` calls.
+#![tactic(auto)]
+
+mod action;
+mod batch;
+mod command;
+mod getting;
+mod hear;
+mod loading;
+mod program;
+mod putting;
+mod run;
+mod stop;
+mod talk;
+mod watching;
+
+pub use program::{run_program, tell};
+pub use run::run_client;

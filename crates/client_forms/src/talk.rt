@@ -1,0 +1,160 @@
+//! What every command does over its link: it asks, sends what the client has to send, writes, and closes the session.
+ghost use Rattle.std.specs.Prelude.{◌≡◌, ◌≤◌, List, Err};
+ghost use Rattle.etp_outside.specs.Faults.{Rose};
+ghost use Rattle.etp_outside.specs.declared.status.Status.TheVariants.{Done};
+ghost use Rattle.client_forms.specs.Ctl.{Stage, asks, closes, unclosed, writes};
+ghost use Rattle.client_forms.specs.Sending.{SendCause, SendsAll, closed_by, refused_by, sent_by, short_by, unclosed_by, unsent_by};
+ghost use Rattle.client_forms.specs.Work.{Input, MayClose, Output, Stops, Works, line, output, outside, place};
+
+use crate::stop::{Cause, Stop};
+use client_core::{Ask, Client, ClientError};
+use etp_outside::{Clock, Link, Sent, Sink, Status, Written, write_all};
+use std::alloc::Global;
+
+/// Sends all that the client has to send.
+pub(crate) fn send_all<L: Link>(
+    alloc: Global,
+    client: &mut Client,
+    link: &mut L,
+) -> Result<(), Cause>
+    ensures sent { SendsAll result client.old client.new (L.talk link.old) (L.talk link.new) }
+    ensures kept { L.faults link.old ≤ L.faults link.new }
+    ensures cause { SendCause result (L.faults link.old) (L.faults link.new) }
+    ensures ended { L.ended link.new ≡ L.ended link.old }
+{
+    while let Some(message) = client.next_out() {
+        match link.send(alloc, &message) {
+            Sent::Done => {}
+            Sent::Failed => return Err(Cause::Link),
+            Sent::NoMemory => return Err(Cause::Memory),
+        }
+    }
+    Ok(())
+}
+
+/// Asks at a moment of the clock's, and sends what that takes.
+pub(crate) fn ask<L: Link, C: Clock>(
+    alloc: Global,
+    ask: Ask,
+    client: &mut Client,
+    link: &mut L,
+    clock: &mut C,
+) -> Result<(), Stop>
+    ensures { (stage : Stage) (o : Output) (i : Input) → Works result (asks ask) (place client.old stage) (place client.new stage)
+        (outside (line (L.talk link.old) (L.faults link.old) (L.ended link.old)) (C.told clock.old) o i)
+        (outside (line (L.talk link.new) (L.faults link.new) (L.ended link.new)) (C.told clock.new) o i) }
+{
+    let moment = clock.now();
+    match client.ask(alloc, ask, moment) {
+        Ok(_) => sent_by(send_all(alloc, client, link)),
+        Err(error) => Err(refused_by(error)),
+    }
+}
+
+/// What became of an ask that the client did.
+fn sent_by(sent: Result<(), Cause>) -> Result<(), Stop>
+    ensures { result ≡ sent_by sent }
+{
+    match sent {
+        Ok(()) => Ok(()),
+        Err(cause) => Err(Stop::Cut(cause)),
+    }
+}
+
+/// Why a command stops whose ask the client refuses.
+fn refused_by(error: ClientError) -> Stop
+    ensures { result ≡ refused_by error }
+{
+    match error {
+        ClientError::NoMemory => Stop::Cut(Cause::Memory),
+        _ => Stop::Over(Status::Limit),
+    }
+}
+
+/// Closes the session of a command that ends with this status. Where the command was done and the link fails then, that is why it
+/// stops; an earlier cause stands.
+pub(crate) fn close<L: Link, C: Clock>(
+    alloc: Global,
+    status: Status,
+    client: &mut Client,
+    link: &mut L,
+    clock: &mut C,
+) -> Stop
+    ensures { (stage : Stage) (o : Output) (i : Input) → MayClose status → Stops result (closes status) (place client.old stage)
+        (outside (line (L.talk link.old) (L.faults link.old) (L.ended link.old)) (C.told clock.old) o i)
+        (outside (line (L.talk link.new) (L.faults link.new) (L.ended link.new)) (C.told clock.new) o i) }
+{
+    let moment = clock.now();
+    match client.ask(alloc, Ask::Close, moment) {
+        Ok(_) => closed_by(status, send_all(alloc, client, link)),
+        Err(error) => unclosed_by(status, error),
+    }
+}
+
+/// How a command ends with a status, by what came of its last message.
+fn closed_by(status: Status, sent: Result<(), Cause>) -> Stop
+    ensures { result ≡ closed_by status sent }
+{
+    match sent {
+        Ok(()) => Stop::Over(status),
+        Err(cause) => unsent_by(status, cause),
+    }
+}
+
+/// The same where it was not sent.
+fn unsent_by(status: Status, cause: Cause) -> Stop
+    ensures { result ≡ unsent_by status cause }
+{
+    match status {
+        Status::Done => Stop::Cut(cause),
+        _ => short_by(status, cause),
+    }
+}
+
+/// The same of a command that has another status.
+fn short_by(status: Status, cause: Cause) -> Stop
+    ensures { result ≡ short_by status cause }
+{
+    match cause {
+        Cause::Memory => Stop::Cut(Cause::Memory),
+        _ => Stop::Short(status),
+    }
+}
+
+/// How a command ends with a status whose client could not close the session.
+fn unclosed_by(status: Status, error: ClientError) -> Stop
+    ensures { result ≡ unclosed_by status error }
+{
+    match error {
+        ClientError::NoMemory => Stop::Cut(Cause::Memory),
+        _ => Stop::Over(unclosed(status)),
+    }
+}
+
+fn unclosed(status: Status) -> Status
+    ensures { result ≡ unclosed status }
+{
+    match status {
+        Status::Done => Status::Limit,
+        _ => status,
+    }
+}
+
+/// Writes what a command has to show once it is done, and closes its session.
+pub(crate) fn report<L: Link, C: Clock, W: Sink>(
+    alloc: Global,
+    bytes: &[u8],
+    client: &mut Client,
+    link: &mut L,
+    clock: &mut C,
+    out: &mut W,
+) -> Stop
+    ensures { (stage : Stage) (i : Input) → Stops result (λ c. closes Done (writes bytes.now c)) (place client.old stage)
+        (outside (line (L.talk link.old) (L.faults link.old) (L.ended link.old)) (C.told clock.old) (output (W.held out.old) (W.faults out.old)) i)
+        (outside (line (L.talk link.new) (L.faults link.new) (L.ended link.new)) (C.told clock.new) (output (W.held out.new) (W.faults out.new)) i) }
+{
+    match write_all(out, bytes) {
+        Written::Done => close(alloc, Status::Done, client, link, clock),
+        Written::Failed => Stop::Cut(Cause::Output),
+    }
+}

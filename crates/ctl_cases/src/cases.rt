@@ -1,0 +1,94 @@
+//! What a line of the input says of a run.
+use etp_outside::{Item, MemDial, MemFile, MemHost, MemLink, MemSource};
+use etp_values::{Blob, List, NoMemory, Text};
+use std::alloc::Global;
+
+/// The name of the file that a host has.
+const FILE_NAME: &str = "file";
+
+/// What a run is handed.
+#[derive(Drop)]
+pub(crate) struct Case {
+    pub(crate) words: Vec<String>,
+    pub(crate) host: MemHost,
+    pub(crate) dialer: MemDial,
+    pub(crate) input: MemSource,
+}
+
+/// The bytes of a word in hexadecimal, or none for `-`.
+fn content_of(alloc: Global, word: &str) -> Result<Blob, NoMemory> {
+    if word == "-" {
+        return Blob::from_vec(Vec::new(alloc));
+    }
+    match hex::decode(alloc, word) {
+        Ok(bytes) => Blob::from_vec(bytes),
+        Err(_) => Err(NoMemory),
+    }
+}
+
+fn words_of(alloc: Global, text: &str) -> Result<Vec<String>, NoMemory> {
+    let mut words = Vec::new(alloc);
+    for word in text.split_whitespace() {
+        words.push(String::from_str(alloc, word)?)?;
+    }
+    Ok(words)
+}
+
+/// A host with one file of this content, or without one for `-`.
+fn host_of(alloc: Global, word: &str) -> Result<MemHost, NoMemory> {
+    let mut files = Vec::new(alloc);
+    if word != "-" {
+        files.push(MemFile {
+            name: Text::copy(alloc, FILE_NAME)?,
+            content: content_of(alloc, word)?,
+            fails: List::new(alloc),
+        })?;
+    }
+    Ok(MemHost::new(List::from_vec(files), List::new(alloc)))
+}
+
+fn item_of(alloc: Global, word: &str) -> Result<Item, NoMemory> {
+    if word == "-" {
+        return Ok(Item::Idle);
+    }
+    Ok(Item::Message(content_of(alloc, word)?))
+}
+
+fn items_of(alloc: Global, words: &[&str]) -> Result<List<Item>, NoMemory> {
+    let mut items = Vec::new(alloc);
+    for word in words {
+        items.push(item_of(alloc, word)?)?;
+    }
+    Ok(List::from_vec(items))
+}
+
+/// A list of one number, which a word spells.
+fn only(alloc: Global, word: &str) -> Result<List<u64>, NoMemory> {
+    let mut numbers = Vec::new(alloc);
+    numbers.push(word.parse::<u64>().unwrap_or(0))?;
+    Ok(List::from_vec(numbers))
+}
+
+/// A dialer of the link of these words, the first of which is the number of its call that fails; without words of none.
+fn dialer_of(alloc: Global, text: &str) -> Result<MemDial, NoMemory> {
+    let words: Vec<&str> = text.split_whitespace().collect(alloc)?;
+    let mut links = Vec::new(alloc);
+    if let [fails, items @ ..] = words.as_slice() {
+        links.push(MemLink::new(alloc, items_of(alloc, items)?, only(alloc, fails)?))?;
+    }
+    MemDial::new(alloc, List::from_vec(links), List::new(alloc))
+}
+
+/// The run of a line, if it is one.
+pub(crate) fn case_of(alloc: Global, line: &str) -> Result<Option<Case>, NoMemory> {
+    let fields: Vec<&str> = line.split('|').collect(alloc)?;
+    let [words, file, input, link] = fields.as_slice() else {
+        return Ok(None);
+    };
+    Ok(Some(Case {
+        words: words_of(alloc, words)?,
+        host: host_of(alloc, file.trim())?,
+        dialer: dialer_of(alloc, link)?,
+        input: MemSource::new(content_of(alloc, input.trim())?, List::new(alloc)),
+    }))
+}
