@@ -1,0 +1,6 @@
+pub mod Beginnings
+pub mod Copies
+pub mod Hearing
+pub mod News
+pub mod Notices
+pub mod Stops

@@ -1,0 +1,9 @@
+//! Laws of a client beside the session of a server, for proofs alone.
+#![tactic(auto)]
+
+mod laws;
+
+pub use laws::{
+    handed_copies_are_points, news_are_handed_on, notices_are_changes, replies_accept,
+    stops_are_told,
+};

@@ -1,0 +1,4 @@
+pub mod MergeLemmas
+pub mod PartsLemmas
+pub mod RefusedLemmas
+pub mod TakenLemmas
