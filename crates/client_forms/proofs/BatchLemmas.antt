@@ -36,11 +36,6 @@ capped_within n = grind (arith, nat_tests)
 room_for : (n m : ℕ) → m ≡ n + 1 → nat_lt n 1000 ≡ nat_le m 1000
 room_for n m is = grind (arith, nat_tests, is)
 
--- none are held
-pub none_held : (held : List Point) (n : ℕ) → n ≡ length held → (n == 0) ≡ is_none held
-none_held [] n is = grind (arith, nat_tests, is)
-none_held (p ∷ ps) n is = grind (arith, nat_tests, is)
-
 -- there is room for one more
 pub room_held : (held : List Point) (p : Point) (n sum : ℕ) → n ≡ length held → sum ≡ capped (weigh point_bytes (held ++ p ∷ [])) → (nat_lt n 1000 && nat_le sum 8388608) ≡ fits (held ++ p ∷ [])
 room_held held p n sum is total =

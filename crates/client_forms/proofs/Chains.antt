@@ -137,10 +137,6 @@ goes_stops (stop.Short st) f g p q x y z h k = (goes_cuts f g st p q x y z h k.0
 goes_stops (stop.Cut e) f g p q x y z h k = (goes_breaks f g p q x y z h k.0, cause_later e x y z h.did.kept k.1)
 goes_stops stop.Left f g p q x y z h k = absurd k
 
-pub goes_works : (r : Result (Unit {0}) Stop) (f g : Course → Course) (p q s : Place) (x y z : Outside) → Goes f p q x y → Works r g q s y z → Works r (λ c. g (f c)) p s x z
-goes_works (Ok u) f g p q s x y z h k = goes_goes f g p q s x y z h k
-goes_works (Err e) f g p q s x y z h k = goes_stops e f g p q x y z h k
-
 -- ---- a step behind one that ended the command
 
 fronts_later : (c r s : Course) (ms : List (List ℕ)) (bs : List ℕ) → Fronts c ms bs r → Grows r s → Fronts c ms bs s

@@ -196,11 +196,6 @@ more_acts (Err (stop.Cut e)) owes1 owes2 stands1 stands2 read1 read2 f p s t a x
     leads_stops (stop.Cut e) f h.rest p (place t h.stage) x z w (done_leads owes1 stands1 read1 f p s t a x y z h k) (rest_breaks h.rest (place t h.stage) z w quiet plan.0, plan.1)
 more_acts (Err stop.Left) owes1 owes2 stands1 stands2 read1 read2 f p s t a x y z w h k quiet plan = absurd plan
 
-pub waits_is : (a : Action) → is_wait a ≡ true → a ≡ action.Wait
-waits_is action.Wait e = refl
-waits_is (action.Ask b) e = cc
-waits_is (action.Report b) e = cc
-
 -- an input that was read, and nothing else
 pub read_quietly : (l : Line) (told : Option (List ℤ)) (o : Output) (i j : Input) → i.faults ≤ j.faults → Did [] [] [] (outside l told o i) (outside l told o j)
 read_quietly l told o i j less = record {

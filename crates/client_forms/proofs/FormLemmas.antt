@@ -87,20 +87,6 @@ module _ (st : Status) (u : Parts) (a : Asked) (shown : ℤ → List ChangeMsg �
       let told = told_is w.input.left tells in
       inr (record { payload = []; payload_is = tt; read = bytes_of w.input.left; read_is = bytes_are w.input.left; runs = runs (bytes_of w.input.left) told; all_read = load_reads_all st uri z.input.left (end (bytes_of w.input.left) told) }))
 
--- a file that was not read
-not_begun_by : (st : Status) (u : StoreUri) (name : List ℕ) (files : List ℕ → Option (List ℕ)) → IsUnread st (files name) → NotBegun st (Put u name) files
-not_begun_by status.Limit u name files h = h
-not_begun_by status.ReadFault u name files h = tt
-not_begun_by status.NoMemory u name files h = tt
-not_begun_by st u name files h = absurd h
-
-pub not_put : (st : Status) (u : Parts) (a : Asked) (shown : ℤ → List ChangeMsg → List ℕ) (files : List ℕ → Option (List ℕ)) (w : World) (uri : StoreUri) (file : _) → a ≡ asked.Put uri file → IsUnread st (files file.now) → Fulfils st (form_with u a) shown files w w
-not_put st u a shown files w uri file is h =
-    subst (λ v. Fulfils st (form_with u v) shown files w w) (sym is) (λ tells. inl (not_begun_by st uri file.now files h, untouched w))
-
-pub unread_form : (st : Status) (file : Option (List ℕ)) → IsUnread st file → st ≢ status.Usage
-unread_form st file h is = subst (λ v. IsUnread v file) is h
-
 -- ---- where commands begin
 
 pub put_begins : (u v : StoreUri) (p q : List ℕ) (b : Bool) → (v ≡ u) × (q ≡ p) × (b ≡ false) → IsPut v q b (Putting u p) Opening

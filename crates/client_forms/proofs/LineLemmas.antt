@@ -75,18 +75,6 @@ stops_later stop.Left f before mid now less h = absurd h
 
 -- ---- the point of the line
 
-input_undone : (n : ℕ) → status.Input n ≢ status.Done
-input_undone n e = cc
-
-pub no_point : (e : Stop) (n : ℕ) (bytes : List ℕ) (left : Option (List ℕ)) (r : Reader) (f : Course → Course) (x y : ℕ) → IsAtLine bytes left r f → n ≡ r.count + 1 → GivesPoint (Err e) r.kind n r.lines.line → StopsRead e f x y
-no_point (stop.Over st) n bytes left r f x y h is given =
-    let now : st ≡ status.Input (r.count + 1) = given.1 ∙ ap status.Input is in
-    subst (λ (s : Status). StopsRead (stop.Over s) f x y) (sym now)
-    (input_undone (r.count + 1), λ c. h.same c ∙ refused_line r.batch.channel r.kind (r.count + 1) h.held r.lines.line h.later c h.short given.0)
-no_point (stop.Short st) n bytes left r f x y h is given = absurd given
-no_point (stop.Cut e) n bytes left r f x y h is given = subst (λ k. StopsRead (stop.Cut k) f x y) (sym given) tt
-no_point stop.Left n bytes left r f x y h is given = absurd given
-
 -- the reader with so many lines read, and this message
 abbrev pub reader_with : Reader → ℕ → Batch → Reader
 reader_with r count b = record r { count = count; batch = b }

@@ -93,7 +93,3 @@ stops_refit stop.Left f h p q x y same k = absurd k
 pub works_refit : (w : Result (Unit {0}) Stop) (f h : Course → Course) (p q r : Place) (x y : Outside) → Refit f h p q → Works w h q r x y → Works w f p r x y
 works_refit (Ok u) f h p q r x y same k = goes_refit f h p q r x y same k
 works_refit (Err e) f h p q r x y same k = stops_refit e f h p q x y same k
-
--- no step at this place
-pub goes_idle : (f : Course → Course) (p : Place) (x : Outside) → ((c : Course) → f (set_at p c) ≡ set_at p c) → Goes f p p x x
-goes_idle f p x same = goes_refit f (λ c. c) p p p x x same (goes_nothing p x)

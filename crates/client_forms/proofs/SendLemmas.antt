@@ -15,16 +15,9 @@ use Rattle.client_forms.specs.Work.{Says}
 pub quiet : (x : Option Talk) → Told x x (Says [])
 quiet x = told_self x (Says []) (λ t. record { coming = refl; taken = refl; sent = sym (append-nil t.sent); to = refl })
 
-pub sending_none : (s : State) (x : Option Talk) → Sending s s x x
-sending_none s x = record { front = []; whole = refl; same = refl; said = quiet x }
-
 first_is : (ms : List (List ℕ)) (m : List ℕ) → first_of ms ≡ Some m → ms ≡ m ∷ rest_of ms
 first_is [] m h = cc
 first_is (b ∷ bs) m h = cc
-
-none_is : (ms : List (List ℕ)) → first_of ms ≡ None → ms ≡ []
-none_is [] h = refl
-none_is (b ∷ bs) h = cc
 
 -- a front, and one more
 said_more : (front : List (List ℕ)) (m : List ℕ) (x y z : Talk) → Says front x y → SaysOne m y z → Says (front ++ m ∷ []) x z
@@ -44,22 +37,3 @@ sending_more s t u m x y z h first is_u said =
       same = h.same;
       said = told_trans x y z (Says h.front) (SaysOne m) (Says (h.front ++ m ∷ [])) (λ a b c p q. said_more h.front m a b c p q) h.said said;
     })
-
--- nothing is left
-pub sending_done : (s t u : State) (x y : Option Talk) → Sending s t x y → first_of t.out ≡ None → u ≡ record t { out = rest_of t.out } → (u ≡ drained s) × Told x y (Says s.out)
-sending_done s t u x y h last is_u =
-    let nothing : t.out ≡ [] = none_is t.out last in
-    let all : h.front ≡ s.out = sym (append-nil h.front) ∙ ap (λ l. h.front ++ l) (sym nothing) ∙ h.whole in
-    (is_u ∙ ap (λ l. record t { out = rest_of l }) nothing ∙ h.same, subst (λ l. Told x y (Says l)) all h.said)
-
-same_said : (front : List (List ℕ)) (x y z : Talk) → Says front x y → z ≡ y → Says front x z
-same_said front x y z p e = subst (λ t. Says front x t) (sym e) p
-
--- the link took no more
-pub sending_cut : (s t : State) (x y z : Option Talk) → Sending s t x y → Told y z (λ a b. b ≡ a) → SendsFront s.out x z
-sending_cut s t x y z h kept = record {
-  front = h.front;
-  rest = t.out;
-  whole = h.whole;
-  said = told_trans x y z (Says h.front) (λ a b. b ≡ a) (Says h.front) (λ a b c p q. same_said h.front a b c p q) h.said kept;
-}
