@@ -17,6 +17,7 @@ fn item_of(alloc: Global, channel: i64, point: Point) -> Result<DataItem, NoMemo
 {
     let Point { index, value } = point;
     let mut indexes = Vec::new(alloc);
+    indexes.reserve_exact(1)?;
     indexes.push(IndexValue::Long(index))?;
     Ok(DataItem {
         channel_id: channel,
@@ -35,6 +36,7 @@ pub(crate) fn items_of(
     ensures { IfOk result (λ l. l ≡ items_of channel points) }
 {
     let mut items = Vec::new(alloc);
+    items.reserve(points.len())?;
     for point in points.into_vec() {
         let item = item_of(alloc, channel, point)?;
         items.push(item)?;
@@ -50,6 +52,7 @@ pub(crate) fn channel_items(
     ensures { IfOk result (λ l. l ≡ channel_items points) }
 {
     let mut items = Vec::new(alloc);
+    items.reserve(points.len())?;
     for one in points.into_vec() {
         let ChannelPoint { channel, point } = one;
         let item = item_of(alloc, channel, point)?;
@@ -139,6 +142,7 @@ pub(crate) fn loaded(
     ensures { IfOk result (λ d. d ≡ loaded opens.now None items) }
 {
     let mut points = Vec::new(alloc);
+    points.reserve(items.len())?;
     let mut before = None;
     for item in items.into_vec() {
         match item_point(opens, before, item) {

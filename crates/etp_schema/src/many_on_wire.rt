@@ -77,12 +77,25 @@ fn read_block<T: OnWire>(from: &mut Reader<'_>, count: i64, items: &mut Vec<T>) 
     Ok(())
 }
 
+/// Room for the items of a block. Those of the first one get no more than they take: a list of one item is the usual one. Each later block
+/// at least doubles the room that there is, so that a list of many blocks is not moved at each of them.
+fn make_room<T>(items: &mut Vec<T>, room: usize) -> Result<(), NoMemory>
+    ensures { items.new.items ≡ items.old.items }
+{
+    if items.is_empty() {
+        items.reserve_exact(room)?;
+        return Ok(());
+    }
+    items.reserve(room)?;
+    Ok(())
+}
+
 /// So many items, behind those that are there.
 fn read_items<T: OnWire>(from: &mut Reader<'_>, count: u64, items: &mut Vec<T>) -> Result<(), Fault>
     ensures { ReadsOn (items_at (push_at T.form.at) count (items.old.items, from.old.left) from.old.rest.now) (items.new.items, from.new.left) from.new result }
 {
     let room = count.min(ROOM) as usize;
-    items.reserve(room.min(from.rest().len()))?;
+    make_room(items, room.min(from.rest().len()))?;
     for _ in 0..count {
         let item = T::read(from)?;
         items.push(item)?;
