@@ -220,6 +220,11 @@ impl Points {
         Ok(())
     }
 
+    /// Whether a copy shares them.
+    pub fn is_sealed(&self) -> bool {
+        !matches!(&self.form, Form::Own(_))
+    }
+
     /// The same points, kept so that a copy shares them.
     pub fn sealed(self, alloc: Global) -> Result<Points, NoMemory>
         ensures { IfOk result (λ r. r ≡ self) }

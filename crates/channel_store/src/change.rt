@@ -72,6 +72,15 @@ impl What {
         }
     }
 
+    /// Whether a copy shares its points.
+    pub(crate) fn is_sealed(&self) -> bool {
+        match self {
+            What::Append(points) => points.is_sealed(),
+            What::Replace { points, .. } => points.get().is_sealed(),
+            What::Truncate { .. } => true,
+        }
+    }
+
     /// The same change, kept so that a copy shares its points.
     pub(crate) fn sealed(self, alloc: Global) -> Result<What, NoMemory>
         ensures { IfOk result (λ w. w ≡ self) }

@@ -183,11 +183,22 @@ impl Track {
         draft.add(alloc, &mut self.points, channel, point)
     }
 
+    /// Whether a copy of what is about to happen shares its points, or nothing is about to happen.
+    fn is_sealed(&self) -> bool {
+        match &self.draft {
+            Some(draft) => draft.what.is_sealed(),
+            None => true,
+        }
+    }
+
     /// What is about to happen is kept so that a copy of it shares its points. After an error nothing is about to happen.
     pub fn seal(&mut self, alloc: Global) -> Result<(), NoMemory>
         ensures ok { OnOk result (self.new ≡ self.old) }
         ensures kept { self.new.shown ≡ self.old.shown }
     {
+        if self.is_sealed() {
+            return Ok(());
+        }
         let Some(draft) = self.draft.take() else {
             return Ok(());
         };

@@ -276,7 +276,7 @@ fn dataspace_of(alloc: Global, space: SpaceRecord) -> Result<Dataspace, NoMemory
         created,
         custom,
     } = space;
-    let uri = dataspace_uri(alloc, &path)?;
+    let (uri, path) = dataspace_uri(alloc, path)?;
     Ok(Dataspace {
         uri,
         path,
@@ -286,15 +286,17 @@ fn dataspace_of(alloc: Global, space: SpaceRecord) -> Result<Dataspace, NoMemory
     })
 }
 
-/// The canonical text of a dataspace's URI.
-fn dataspace_uri(alloc: Global, path: &Text) -> Result<Text, NoMemory>
-    ensures { IfOk result (λ text. text ≡ space_text path.now) }
+/// The canonical text of a dataspace's URI, and its path.
+fn dataspace_uri(alloc: Global, path: Text) -> Result<(Text, Text), NoMemory>
+    ensures { IfOk result (λ texts. texts ≡ (space_text path, path)) }
 {
     let uri = StoreUri {
-        space: path.copy(alloc)?,
+        space: path,
         object: None,
     };
-    uri.write(alloc)
+    let text = uri.write(alloc)?;
+    let StoreUri { space, .. } = uri;
+    Ok((text, space))
 }
 
 /// The response that lists these dataspaces.
@@ -302,6 +304,7 @@ fn listed(alloc: Global, records: List<SpaceRecord>) -> Result<DataspaceMessage,
     ensures { IfOk result (λ message. message ≡ listed records) }
 {
     let mut dataspaces = Vec::new(alloc);
+    dataspaces.reserve(records.len())?;
     for space in records.into_vec() {
         let dataspace = dataspace_of(alloc, space)?;
         dataspaces.push(dataspace)?;
