@@ -4,9 +4,9 @@
     python3 row_load.py config > row_load.toml
     python3 row_load.py objects > FILE              1,000 objects of 60 KB are put one by one, and then got one by one
     python3 row_load.py arrays > FILE               an array of 4,194,304 doubles is made, patched and then read by slices of 65,536
-    python3 row_load.py points SIZE SUBSCRIBERS > FILE
-                                                    a million points of eight channels are loaded, SIZE a message, while so many
-                                                    other sessions are told of them, polled once in a while
+    python3 row_load.py points SIZE SUBSCRIBERS [CHANNELS] > FILE
+                                                    a million points of eight channels, or of so many, are loaded, SIZE a message,
+                                                    while so many other sessions are told of them, polled once in a while
     python3 row_load.py commits COUNT SIZE ENTRIES > FILE
                                                     behind ENTRIES loads of a point, each an entry, COUNT transactions put the same SIZE
                                                     objects each, and are committed
@@ -87,19 +87,19 @@ def arrays(size=4_194_304, part=65_536):
         client.message(9, 3, dict(dataSubarrays={"k": dict(uid=uid, starts=[start], counts=[part])}))
 
 
-def points(size, subscribers):
+def points(size, subscribers, channels=CHANNELS):
     rig = Client()
     rig.open()
-    rig.message(22, 1, dict(uris={f"c{number}": channel(number) for number in range(CHANNELS)}))
+    rig.message(22, 1, dict(uris={f"c{number}": channel(number) for number in range(channels)}))
     offices = [Client(tag) for tag in range(1, subscribers + 1)]
     for office in offices:
         office.open()
         asked = dict(startIndex=dict(item=(1, 0)), dataChanges=True, requestLatestIndexCount=(0, None))
-        office.message(21, 3, dict(channels={f"c{number}": dict(channelId=number, **asked) for number in range(CHANNELS)}))
+        office.message(21, 3, dict(channels={f"c{number}": dict(channelId=number, **asked) for number in range(channels)}))
     every = 1 if size > 1 else 16
     for count, start in enumerate(range(0, POINTS, size)):
         items = [
-            dict(channelId=index % CHANNELS, indexes=[dict(item=(1, index))], value=dict(item=(3, index)), valueAttributes=[])
+            dict(channelId=index % channels, indexes=[dict(item=(1, index))], value=dict(item=(3, index)), valueAttributes=[])
             for index in range(start, start + size)]
         rig.message(22, 4, dict(data=items))
         if count % every == 0:
@@ -152,7 +152,7 @@ def main():
             arrays()
         case "points":
             sys.stdout.buffer.write(wire.MAGIC)
-            points(int(sys.argv[2]), int(sys.argv[3]))
+            points(*map(int, sys.argv[2:5]))
         case "commits":
             sys.stdout.buffer.write(wire.MAGIC)
             commits(*map(int, sys.argv[2:5]))
