@@ -1,15 +1,17 @@
 -- Operations gathered from their end: what goes, and what is left to be done once that is gone.
-use Rattle.std.proofs.Common.{ℕ, ◌-◌, ◌<◌, Bool, true, false, cond, ◌||◌, List, [], ◌∷◌, ◌++◌, length, ◌≡◌, Option, None, Result, Ok, Err, refl, sym, ap, ◌∙◌, fold, arith, append_assoc, length-append}
+use Rattle.std.proofs.Common.{ℕ, ℤ, ◌-◌, ◌<◌, Bool, true, false, cond, ◌||◌, List, [], ◌∷◌, ◌++◌, length, ◌≡◌, Option, None, Result, Ok, Err, refl, sym, ap, ◌∙◌, fold, arith, append_assoc, length-append}
 use Rattle.std.specs.Prelude.{OnOk, IsOk}
+use Rattle.std.specs.Option.{option_map}
 use Rattle.std.proofs.lemmas.Bool.{false≢true, true≢false}
 use Rattle.std.proofs.lemmas.List.Sums.{fold-append}
+use Rattle.etp_values.specs.declared.data.AnyArray.{AnyArray}
 use Rattle.array_store.specs.declared.error.ArrayError.{ArrayError}
 use Rattle.array_store.specs.declared.key.ArrayKey.{ArrayKey}
 use Rattle.array_store.specs.declared.op.ArrayOp.{ArrayOp}
-use Rattle.array_store.specs.declared.op.ArrayOp.TheVariants.{SetArray}
+use Rattle.array_store.specs.declared.op.ArrayOp.TheVariants.{SetArray, PatchArray}
 use Rattle.array_store.specs.declared.record.ArrayRecord.{ArrayRecord}
 use Rattle.array_store.specs.Refusals.{record_refusal}
-use Rattle.array_store.specs.Table.{same_key}
+use Rattle.array_store.specs.Table.{same_key, patched_in_place}
 use Rattle.array_store.specs.Operations.{array_after, put_unless}
 use Rattle.array_store.specs.Going.{Going, goes, Turns, Gathering}
 use Rattle.array_store.proofs.Keys.{same_key-is}
@@ -57,6 +59,34 @@ set-left g key r items after stays pushed = record {
   put = SetArray key r ∷ [];
   items = pushed;
   turns = λ q was. set_left (same_key q key) (goes g q) (record_refusal r) r was (goes_alike g q key false stays);
+}
+
+-- the same of a patch
+patch_gone : (here out : Bool) (patch : ArrayRecord → ArrayRecord) (was : Option ArrayRecord) → (here ≡ true → out ≡ true)
+    → cond out None was ≡ cond out None (cond here (option_map patch was) was)
+patch_gone true true patch was gone = refl
+patch_gone true false patch was gone = absurd (false≢true (gone refl))
+patch_gone false out patch was gone = refl
+
+patch_left : (here out : Bool) (patch : ArrayRecord → ArrayRecord) (was : Option ArrayRecord)
+    → cond here (option_map patch (cond out None was)) (cond out None was) ≡ cond out None (cond here (option_map patch was) was)
+patch_left true true patch was = refl
+patch_left true false patch was = refl
+patch_left false out patch was = refl
+
+pub patch-gone : (g : Going) (key : ArrayKey) (at : ℤ) (ss cs : List ℤ) (values : AnyArray) (items : List ArrayOp) → goes g key ≡ true → Turns g g (PatchArray key at ss cs values) items items
+patch-gone g key at ss cs values items gone = record {
+  put = [];
+  items = refl;
+  turns = λ q was. patch_gone (same_key q key) (goes g q) (patched_in_place at ss cs values) was (goes_alike g q key true gone);
+}
+
+pub patch-left : (g : Going) (key : ArrayKey) (at : ℤ) (ss cs : List ℤ) (values : AnyArray) (items after : List ArrayOp) → after ≡ PatchArray key at ss cs values ∷ items
+    → Turns g g (PatchArray key at ss cs values) items after
+patch-left g key at ss cs values items after pushed = record {
+  put = PatchArray key at ss cs values ∷ [];
+  items = pushed;
+  turns = λ q was. patch_left (same_key q key) (goes g q) (patched_in_place at ss cs values) was;
 }
 
 -- ---- the operation at the end of a list of two parts, where the second has one

@@ -1,5 +1,5 @@
 -- The elements of arrays of every kind.
-use Rattle.std.specs.Prelude.{ℕ, ◌*◌, ◌==◌, Bool, List, length}
+use Rattle.std.specs.Prelude.{ℕ, ◌*◌, ◌==◌, nat_lt, Bool, List, length}
 use Rattle.etp_values.specs.Weight.{weigh, bytes_weight}
 use Rattle.etp_values.specs.declared.data.AnyArray.{AnyArray}
 use Rattle.etp_values.specs.declared.data.AnyArray.TheVariants.{ArrayOfBoolean, ArrayOfInt, ArrayOfLong, ArrayOfFloat, ArrayOfDouble, ArrayOfString, Bytes}
@@ -42,6 +42,10 @@ is_same_kind a b = kind a == kind b
 -- an array has bytes
 abbrev pub is_bytes : AnyArray → Bool
 is_bytes a = kind a == 6
+
+-- an array has numbers or booleans, which count the same whatever their values are
+abbrev pub has_numbers : AnyArray → Bool
+has_numbers a = nat_lt (kind a) 5
 
 -- the elements of a region, in an array of these dimensions
 abbrev pub slice_of : List ℕ → List ℕ → List ℕ → AnyArray → AnyArray

@@ -1,12 +1,13 @@
 -- What operations leave at each key.
 use Rattle.std.specs.Prelude.{◌≡◌, List, Option, Some, None, if◌then◌else◌, fold}
+use Rattle.std.specs.Option.{option_map}
 use Rattle.array_store.specs.declared.error.ArrayError.{ArrayError}
 use Rattle.array_store.specs.declared.key.ArrayKey.{ArrayKey}
 use Rattle.array_store.specs.declared.op.ArrayOp.{ArrayOp}
-use Rattle.array_store.specs.declared.op.ArrayOp.TheVariants.{SetArray, DropArraysOf, DropArraysIn}
+use Rattle.array_store.specs.declared.op.ArrayOp.TheVariants.{SetArray, PatchArray, DropArraysOf, DropArraysIn}
 use Rattle.array_store.specs.declared.record.ArrayRecord.{ArrayRecord}
 use Rattle.array_store.specs.Refusals.{record_refusal}
-use Rattle.array_store.specs.Table.{Arrays, array_in, same_key, put_array, is_of_object, is_in_space}
+use Rattle.array_store.specs.Table.{Arrays, array_in, same_key, put_array, patched_in_place, is_of_object, is_in_space}
 
 -- the array that a put leaves of a record, where that is refused for this or for nothing
 abbrev pub put_unless : Option ArrayError → Option ArrayRecord → ArrayRecord → Option ArrayRecord
@@ -16,6 +17,7 @@ put_unless (Some e) before r = before
 -- what an operation leaves of the array of a key
 abbrev pub array_after : ArrayKey → Option ArrayRecord → ArrayOp → Option ArrayRecord
 array_after key before (SetArray k r) = if same_key key k then put_unless (record_refusal r) before r else before
+array_after key before (PatchArray k at ss cs vs) = if same_key key k then option_map (patched_in_place at ss cs vs) before else before
 array_after key before (DropArraysOf u) = if is_of_object u key then None else before
 array_after key before (DropArraysIn path) = if is_in_space path key then None else before
 

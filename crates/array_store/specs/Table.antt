@@ -1,15 +1,17 @@
 -- What a contract sees of an `ArrayStore`, and what its calls leave at each key.
 use Rattle.std.specs.Prelude.{ℕ, ◌≡◌, ℤ, Bool, ◌&&◌, List, Option, Some, None, if◌then◌else◌, filter, length}
 use Rattle.std.specs.Map.{lookup}
+use Rattle.std.specs.Option.{option_map}
 use Rattle.std.specs.Str.{bytes_eq}
 use Rattle.etp_values.specs.declared.data.AnyArray.{AnyArray}
 use Rattle.etp_values.specs.declared.uri.StoreUri.{StoreUri}
+use Rattle.array_store.specs.declared.error.ArrayError.{ArrayError}
 use Rattle.etp_values.specs.SameUri.{same_uri}
 use Rattle.array_store.specs.declared.key.ArrayKey.{ArrayKey}
 use Rattle.array_store.specs.declared.record.ArrayRecord.{ArrayRecord}
 use Rattle.array_store.specs.Shape.{sizes}
-use Rattle.array_store.specs.Arrays.{patch_of}
-use Rattle.array_store.specs.Refusals.{record_refusal}
+use Rattle.array_store.specs.Arrays.{is_bytes, patch_of}
+use Rattle.array_store.specs.Refusals.{record_refusal, write_refusal}
 
 -- the arrays by their keys, and how many more fit without memory
 pub record Arrays : Type 0 where
@@ -41,6 +43,19 @@ patch_array r ss cs values = record r { values = patch_of (sizes r.dims) (sizes 
 abbrev pub rewritten : ArrayRecord → ℤ → ArrayRecord
 rewritten r at = record r { written = at }
 
+-- the second record, or the first where that is refused
+abbrev pub unless_refused : Option ArrayError → ArrayRecord → ArrayRecord → ArrayRecord
+unless_refused None old new = new
+unless_refused (Some e) old new = old
+
+-- an array with values in a region, written at this moment; where they do not fit, as it was
+abbrev pub patched_at : ℤ → List ℤ → List ℤ → AnyArray → ArrayRecord → ArrayRecord
+patched_at at ss cs vs r = unless_refused (write_refusal r ss cs vs) r (rewritten (patch_array r ss cs vs) at)
+
+-- the same without memory: an array of bytes stays as it was
+abbrev pub patched_in_place : ℤ → List ℤ → List ℤ → AnyArray → ArrayRecord → ArrayRecord
+patched_in_place at ss cs vs r = if is_bytes r.values then r else patched_at at ss cs vs r
+
 -- one key has this array, and the others have what they had
 abbrev pub SetsAmong : List (ArrayKey × ArrayRecord) → List (ArrayKey × ArrayRecord) → ArrayKey → ArrayRecord → Type 0
 SetsAmong old new key r = (q : ArrayKey) → array_among new q ≡ (if same_key q key then Some r else array_among old q)
@@ -48,6 +63,11 @@ SetsAmong old new key r = (q : ArrayKey) → array_among new q ≡ (if same_key 
 -- the same of a store
 abbrev pub Sets : Arrays → Arrays → ArrayKey → ArrayRecord → Type 0
 Sets old new key r = SetsAmong old.arrays new.arrays key r
+
+-- one key's array, where there is one, is patched in place, and the others are what they were
+abbrev pub PatchesAmong : List (ArrayKey × ArrayRecord) → List (ArrayKey × ArrayRecord) → ArrayKey → ℤ → List ℤ → List ℤ → AnyArray → Type 0
+PatchesAmong old new key at ss cs vs = (q : ArrayKey)
+    → array_among new q ≡ (if same_key q key then option_map (patched_in_place at ss cs vs) (array_among old q) else array_among old q)
 
 -- an array of an object, and one of a dataspace
 abbrev pub is_of_object : StoreUri → ArrayKey → Bool

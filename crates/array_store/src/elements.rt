@@ -1,7 +1,7 @@
 //! How many elements an array has, and what they count.
 ghost use Rattle.std.specs.Prelude.{◌≡◌, ◌^◌, nat_lt, length};
 ghost use Rattle.etp_values.specs.Weight.{capped, weigh, bytes_weight};
-ghost use Rattle.array_store.specs.Arrays.{elements, size_of, kind, is_same_kind};
+ghost use Rattle.array_store.specs.Arrays.{elements, size_of, kind, is_bytes, is_same_kind, has_numbers};
 ghost use Rattle.array_store.specs.Refusals.{weight_refusal};
 
 use crate::error::ArrayError;
@@ -73,6 +73,20 @@ pub(crate) fn is_same_kind(left: &AnyArray, right: &AnyArray) -> bool
     ensures { result ≡ is_same_kind left.now right.now }
 {
     array_kind(left) == array_kind(right)
+}
+
+/// Whether an array has bytes.
+pub fn has_bytes(values: &AnyArray) -> bool
+    ensures { result ≡ is_bytes values.now }
+{
+    array_kind(values) == 6
+}
+
+/// Whether an array has numbers or booleans, so neither texts nor bytes. What such an array counts is changed by no patch.
+pub fn has_numbers(values: &AnyArray) -> bool
+    ensures { result ≡ has_numbers values.now }
+{
+    array_kind(values) < 5
 }
 
 /// The place of an array's kind among the kinds: 0 for booleans, then ints, longs, floats, doubles, texts, and 6 for bytes.

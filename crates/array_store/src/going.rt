@@ -10,7 +10,7 @@ ghost use Rattle.array_store.specs.declared.op.ArrayOp.{ArrayOp as AnOp};
 use crate::key::ArrayKey;
 use crate::op::ArrayOp;
 use crate::record::ArrayRecord;
-use etp_values::{List, NoMemory, StoreUri, Text};
+use etp_values::{AnyArray, List, NoMemory, StoreUri, Text};
 use indexmap::IndexSet;
 use std::alloc::Global;
 use std::collections::VecDeque;
@@ -106,7 +106,34 @@ impl GoingArrays {
         queue.push_front_reserved(ArrayOp::SetArray(key, array));
     }
 
-    /// Notes a removal, or puts a set before what is left to do.
+    /// Puts a patch before what is left to do, where its array doesn't go.
+    fn turn_patch(
+        &self,
+        queue: &mut VecDeque<ArrayOp>,
+        key: ArrayKey,
+        at: i64,
+        starts: List<i64>,
+        counts: List<i64>,
+        values: AnyArray,
+    )
+        requires { deque_len queue.old < deque_capacity queue.old }
+        ensures each { Turns self.now self.now (op.PatchArray key at starts counts values) queue.old.items queue.new.items }
+        ensures len { deque_len queue.new ≤ deque_len queue.old + 1 }
+        ensures least { deque_len queue.old ≤ deque_len queue.new }
+    {
+        if self.has(&key) {
+            return;
+        }
+        queue.push_front_reserved(ArrayOp::PatchArray {
+            key,
+            at,
+            starts,
+            counts,
+            values,
+        });
+    }
+
+    /// Notes a removal, or puts a change before what is left to do.
     fn turn_op(&mut self, queue: &mut VecDeque<ArrayOp>, op: ArrayOp)
         requires room { 0 < self.old.room }
         requires place { deque_len queue.old < deque_capacity queue.old }
@@ -117,6 +144,13 @@ impl GoingArrays {
     {
         match op {
             ArrayOp::SetArray(key, array) => self.turn_set(queue, key, array),
+            ArrayOp::PatchArray {
+                key,
+                at,
+                starts,
+                counts,
+                values,
+            } => self.turn_patch(queue, key, at, starts, counts, values),
             ArrayOp::DropArraysOf(uri) => self.add_object(uri),
             ArrayOp::DropArraysIn(path) => self.add_space(path),
         }
@@ -139,7 +173,7 @@ impl GoingArrays {
     }
 
     /// Gathers all that operations remove, and answers what is left to do once that is gone: from the end to the start, what is
-    /// set before its object or its dataspace is removed is left out. It takes no memory.
+    /// set or patched before its object or its dataspace is removed is left out. It takes no memory.
     pub(crate) fn gather(&mut self, ops: List<ArrayOp>) -> List<ArrayOp>
         requires { length ops ≤ self.old.room }
         ensures each { Gathers self.new result ops }

@@ -24,12 +24,12 @@ mod store;
 mod table;
 mod window;
 
-pub use elements::{MAX_BYTES, array_bytes, array_kind, element_count};
+pub use elements::{MAX_BYTES, array_bytes, array_kind, element_count, has_bytes, has_numbers};
 pub use error::ArrayError;
 pub use key::ArrayKey;
 pub use op::ArrayOp;
 pub use patch::{read_slice, write_patch};
 pub use record::ArrayRecord;
-pub use refusals::record_refusal;
+pub use refusals::{numbers_refusal, record_refusal};
 pub use shape::{MAX_ELEMENTS, MAX_RANK, dims};
 pub use store::ArrayStore;

@@ -3,8 +3,9 @@ ghost use Rattle.std.specs.Prelude.{◌≡◌, Err, None, IfOk, OnOk, OnErr, tru
 ghost use Rattle.array_store.specs.Shape.{sizes};
 ghost use Rattle.array_store.specs.Arrays.{slice_of, is_bytes};
 ghost use Rattle.array_store.specs.Refusals.{record_refusal, region_refusal, patch_refusal, slice_refusal, write_refusal, Refuses};
-ghost use Rattle.array_store.specs.Table.{patch_array};
+ghost use Rattle.array_store.specs.Table.{patch_array, patched_in_place};
 
+use crate::elements::has_bytes;
 use crate::error::ArrayError;
 use crate::record::ArrayRecord;
 use crate::refusals::{record_refusal, region_refusal, values_refusal};
@@ -49,6 +50,26 @@ pub fn write_patch(
         return Err(error);
     }
     patch_record(alloc, array, starts.as_slice(), counts.as_slice(), values)
+}
+
+/// Moves values into a region of a record that has no bytes, and notes the moment. Where they don't fit, it stays as it was.
+pub(crate) fn write_in_place(
+    alloc: Global,
+    array: &mut ArrayRecord,
+    at: i64,
+    starts: &List<i64>,
+    counts: &List<i64>,
+    values: AnyArray,
+)
+    ensures value { array.new ≡ patched_in_place at starts.now counts.now values array.old }
+    ensures sound { record_refusal array.old ≡ None → record_refusal array.new ≡ None }
+{
+    if has_bytes(&array.values) {
+        return;
+    }
+    if write_patch(alloc, array, starts, counts, values).is_ok() {
+        array.written = at;
+    }
 }
 
 /// The elements of a region.

@@ -1,13 +1,14 @@
 //! Why arrays, regions and values are refused.
-ghost use Rattle.std.specs.Prelude.{◌≡◌};
-ghost use Rattle.array_store.specs.Refusals.{record_refusal, region_refusal, values_refusal};
+ghost use Rattle.std.specs.Prelude.{◌≡◌, true};
+ghost use Rattle.array_store.specs.Arrays.{has_numbers};
+ghost use Rattle.array_store.specs.Refusals.{record_refusal, region_refusal, values_refusal, write_refusal};
 
 use crate::elements::{element_count, is_same_kind, weight_refusal};
 use crate::error::ArrayError;
 use crate::record::ArrayRecord;
 use crate::region::is_region;
 use crate::shape::{dims, volume};
-use etp_values::AnyArray;
+use etp_values::{AnyArray, List};
 
 /// Why a record is no array, and a store refuses to put it.
 pub fn record_refusal(array: &ArrayRecord) -> Option<ArrayError>
@@ -47,4 +48,24 @@ pub(crate) fn values_refusal(
         return Some(ArrayError::Count);
     }
     None
+}
+
+/// Why a patch of numbers or booleans is refused, told without doing it.
+pub fn numbers_refusal(
+    array: &ArrayRecord,
+    starts: &List<i64>,
+    counts: &List<i64>,
+    values: &AnyArray,
+) -> Option<ArrayError>
+    requires { has_numbers array.now.values ≡ true }
+    ensures { result ≡ write_refusal array.now starts.now counts.now values.now }
+{
+    if let Some(error) = record_refusal(array) {
+        return Some(error);
+    }
+    let counts = counts.as_slice();
+    if let Some(error) = region_refusal(array.dims.as_slice(), starts.as_slice(), counts) {
+        return Some(error);
+    }
+    values_refusal(&array.values, counts, values)
 }

@@ -9,7 +9,9 @@ use crate::op::ArrayOp;
 use crate::patch::slice_record;
 use crate::record::ArrayRecord;
 use crate::refusals::record_refusal;
-use crate::table::{drop_going, drop_object, drop_space, patch_array, put_array, set_written};
+use crate::table::{
+    drop_going, drop_object, drop_space, patch_array, patch_at, put_array, set_written,
+};
 use etp_values::{AnyArray, List, NoMemory, StoreUri, Text};
 use indexmap::IndexMap;
 use std::alloc::Global;
@@ -40,7 +42,7 @@ impl ArrayStore {
     ghost use Rattle.array_store.specs.Shape.{sizes};
     ghost use Rattle.array_store.specs.Arrays.{slice_of, is_bytes};
     ghost use Rattle.array_store.specs.Refusals.{record_refusal, region_refusal, patch_refusal, Refuses};
-    ghost use Rattle.array_store.specs.Table.{array_in, put_array, patch_array, rewritten, Sets, Drops, is_of_object, is_in_space, how_many};
+    ghost use Rattle.array_store.specs.Table.{array_in, put_array, patch_array, rewritten, Sets, PatchesAmong, Drops, is_of_object, is_in_space, how_many};
     ghost use Rattle.array_store.specs.Operations.{Applies, Continues};
 
     /// A store without arrays.
@@ -167,6 +169,21 @@ impl ArrayStore {
         drop_space(&mut self.arrays, path)
     }
 
+    /// Moves values into a region of the array of a key, where there is one.
+    fn patch_held(
+        &mut self,
+        key: ArrayKey,
+        at: i64,
+        starts: List<i64>,
+        counts: List<i64>,
+        values: AnyArray,
+    )
+        ensures each { PatchesAmong self.old.arrays self.new.arrays key at starts counts values }
+        ensures room { self.new.spare ≡ self.old.spare }
+    {
+        patch_at(&mut self.arrays, &key, at, &starts, &counts, values);
+    }
+
     /// Does one operation.
     fn apply_one(&mut self, op: ArrayOp)
         requires { 0 < self.old.spare }
@@ -177,6 +194,13 @@ impl ArrayStore {
             ArrayOp::SetArray(key, array) => {
                 let _ = self.put(key, array);
             }
+            ArrayOp::PatchArray {
+                key,
+                at,
+                starts,
+                counts,
+                values,
+            } => self.patch_held(key, at, starts, counts, values),
             ArrayOp::DropArraysOf(uri) => {
                 self.drop_object(&uri);
             }

@@ -3,7 +3,7 @@ ghost use Rattle.std.specs.Prelude.{◌≡◌, ◌<◌, ◌+◌, ◌≤◌, Err,
 ghost use Rattle.std.specs.Option.{option_copied};
 ghost use Rattle.indexmap.specs.IndexMap.{spare};
 ghost use Rattle.array_store.specs.Table as table;
-ghost use Rattle.array_store.specs.Table.{array_among, is_of_object, is_in_space, AllSound, DropsAmong, SetsAmong};
+ghost use Rattle.array_store.specs.Table.{array_among, is_of_object, is_in_space, AllSound, DropsAmong, PatchesAmong, SetsAmong};
 ghost use Rattle.array_store.specs.Arrays.{is_bytes};
 ghost use Rattle.array_store.specs.Going.{goes};
 ghost use Rattle.array_store.specs.Refusals.{record_refusal, patch_refusal, Refuses};
@@ -11,9 +11,9 @@ ghost use Rattle.array_store.specs.Refusals.{record_refusal, patch_refusal, Refu
 use crate::error::ArrayError;
 use crate::going::GoingArrays;
 use crate::key::ArrayKey;
-use crate::patch::patch_record;
+use crate::patch::{patch_record, write_in_place};
 use crate::record::ArrayRecord;
-use etp_values::{AnyArray, StoreUri, Text};
+use etp_values::{AnyArray, List, StoreUri, Text};
 use indexmap::IndexMap;
 use std::alloc::Global;
 
@@ -76,6 +76,26 @@ pub(crate) fn patch_array(
         unreachable!();
     };
     patch_record(alloc, array, starts, counts, values)
+}
+
+/// Moves values into a region of the array of a key, where there is one. It takes no memory.
+pub(crate) fn patch_at(
+    arrays: &mut IndexMap<ArrayKey, ArrayRecord>,
+    key: &ArrayKey,
+    at: i64,
+    starts: &List<i64>,
+    counts: &List<i64>,
+    values: AnyArray,
+)
+    ensures each { PatchesAmong arrays.old.entries arrays.new.entries key.now at starts.now counts.now values }
+    ensures sound { AllSound arrays.old.entries → AllSound arrays.new.entries }
+    ensures room { spare arrays.new ≡ spare arrays.old }
+{
+    let alloc = *arrays.allocator();
+    let Some(array) = arrays.get_mut(key) else {
+        return;
+    };
+    write_in_place(alloc, array, at, starts, counts, values);
 }
 
 /// Notes when the array of a key was last written.

@@ -1,5 +1,5 @@
 -- A patch in the operation that sets the array: what the plan then leaves at each key.
-use Rattle.std.proofs.Common.{ℕ, zero, suc, ℤ, Bool, true, false, cond, ◌&&◌, ◌||◌, ◌<◌, List, [], ◌∷◌, ◌≡◌, Option, Some, None, refl, sym, ap, ◌∙◌, subst, fold, length, get_or, take, drop, set, arith, Vec, Result, Ok, Err}
+use Rattle.std.proofs.Common.{ℕ, zero, suc, ℤ, Bool, true, false, cond, ◌&&◌, ◌||◌, ◌<◌, List, [], ◌∷◌, ◌++◌, ◌≡◌, Option, Some, None, refl, sym, ap, ◌∙◌, subst, fold, length, get_or, take, drop, set, arith, Vec, Result, Ok, Err}
 use Rattle.std.specs.Prelude.{is_some, is_none, IsSome, IfOk, OnOk}
 use Rattle.std.specs.List.{list_any}
 use Rattle.std.specs.Option.{option_map}
@@ -11,28 +11,30 @@ use native.Mathlib.Nat.{ℕ_set}
 use mathlib.Core.HLevel.{is_prop→PathP}
 use Rattle.etp_values.specs.declared.code.ErrorCode.{ErrorCode}
 use Rattle.etp_values.specs.declared.data.AnyArray.{AnyArray}
+use Rattle.etp_values.specs.declared.data.AnyArray.TheVariants.{ArrayOfBoolean, ArrayOfInt, ArrayOfLong, ArrayOfFloat, ArrayOfDouble, ArrayOfString, Bytes}
 use Rattle.etp_values.specs.declared.memory.NoMemory.{NoMemory}
 use Rattle.array_store.specs.declared.error.ArrayError.{ArrayError}
 use Rattle.array_store.specs.declared.key.ArrayKey.{ArrayKey}
 use Rattle.array_store.specs.declared.op.ArrayOp.{ArrayOp}
-use Rattle.array_store.specs.declared.op.ArrayOp.TheVariants.{SetArray, DropArraysOf, DropArraysIn}
+use Rattle.array_store.specs.declared.op.ArrayOp.TheVariants.{SetArray, PatchArray, DropArraysOf, DropArraysIn}
 use Rattle.array_store.specs.declared.record.ArrayRecord.{ArrayRecord}
 use Rattle.array_store.specs.Codes.{code_of}
 use Rattle.array_store.specs.Operations.{array_after, put_unless}
 use Rattle.array_store.specs.Refusals.{record_refusal}
-use Rattle.array_store.specs.Table.{array_in, patch_array, rewritten, same_key}
+use Rattle.array_store.specs.Arrays.{has_numbers, is_bytes}
+use Rattle.array_store.specs.Table.{array_in, is_of_object, is_in_space, patch_array, patched_at, patched_in_place, rewritten, same_key, unless_refused}
 use Rattle.array_store.proofs.Keys.{same_key-is}
 use Rattle.tx_stage.specs.declared.contents.Contents.{Contents}
 use Rattle.tx_stage.specs.declared.key.Key.TheVariants.{Space, Object, Array}
 use Rattle.tx_stage.specs.declared.op.OpWhat.TheVariants.{Patch}
 use Rattle.tx_stage.specs.declared.plan.Plan.{Plan}
 use Rattle.tx_stage.specs.declared.value.Value.TheVariants as value
-use Rattle.tx_stage.specs.Ops.{patched_at, patched_value, unless_refused}
-use Rattle.tx_stage.specs.Patching.{SetsLater, SetsOver, concerns, is_sound, patched_op, set_refusal, sets}
+use Rattle.tx_stage.specs.Ops.{patched_value}
+use Rattle.tx_stage.specs.Patching.{IsUntouched, SetsLater, SetsOver, array_set, concerns, is_sound, patched_op, set_refusal, sets}
 use Rattle.tx_stage.specs.State.{state_now, Advances}
 use Rattle.tx_stage.specs.Overlay.{misfit}
 use Rattle.tx_stage.specs.Standing.{array_given}
-use Rattle.tx_stage.proofs.PlanLemmas.{accepted-patch, leaves-refused, objects-same, patch-misfit, refused-some, spaces-same, undated, undated-after, undated-some}
+use Rattle.tx_stage.proofs.PlanLemmas.{accepted-patch, arrays-next, leaves-refused, objects-same, patch-misfit, refused-some, spaces-same, undated}
 
 -- ---- tests
 
@@ -75,14 +77,15 @@ sets-over key before (o ∷ ops) (suc place) is stands = sets-over key (array_af
 -- ---- operations that do not concern a key
 
 idle-op : (key : ArrayKey) (o : ArrayOp) (before : Option ArrayRecord) → concerns key o ≡ false → array_after key before o ≡ before
-idle-op key (SetArray k r) before h = put (same_key key k) (record_refusal r) (neither _ _ h).0
+idle-op key (SetArray k r) before h = put (same_key key k) (record_refusal r) (neither (same_key key k && is_none (record_refusal r)) false h).0
   where
     put : (b : Bool) (e : Option ArrayError) → (b && is_none e) ≡ false → cond b (put_unless e before r) before ≡ before
     put true None h = absurd (false≢true (sym h))
     put true (Some e) h = refl
     put false e h = refl
-idle-op key (DropArraysOf u) before h = ap (λ b. cond b None before) h
-idle-op key (DropArraysIn p) before h = ap (λ b. cond b None before) h
+idle-op key (PatchArray k at ss cs vs) before h = ap (λ b. cond b (option_map (patched_in_place at ss cs vs) before) before) h
+idle-op key (DropArraysOf u) before h = ap (λ b. cond b None before) (neither (is_of_object u key) false h).0
+idle-op key (DropArraysIn p) before h = ap (λ b. cond b None before) (neither (is_in_space p key) false h).0
 
 idle : (key : ArrayKey) (ops : List ArrayOp) (before : Option ArrayRecord) → list_any (concerns key) ops ≡ false → fold (array_after key) before ops ≡ before
 idle key [] before h = refl
@@ -117,6 +120,7 @@ stands-here key (SetArray k r) (Some b) ops some set later =
       sound = sound;
       after_is = idle key ops (array_after key (Some b) (SetArray k r)) later ∙ (λ j. cond (h.0 j) (put_unless (sound j) (Some b) r) (Some b));
     }
+stands-here key (PatchArray k at ss cs vs) before ops some set later = absurd (false≢true set)
 stands-here key (DropArraysOf u) before ops some set later = absurd (false≢true set)
 stands-here key (DropArraysIn p) before ops some set later = absurd (false≢true set)
 
@@ -145,6 +149,7 @@ patched-here key (SetArray k r) (Some b) ops new at ss cs vs some is later made 
     ∙ (λ j. cond (h.0 j) (put_unless (holds j) (Some b) patched) (Some b))
     ∙ ap (λ (x : ArrayRecord). Some x) (accepted-patch None r (record r { created = b.created }) at ss cs vs refl refl fits)
     ∙ sym (ap (option_map (patched_at at ss cs vs)) stood)
+patched-here key (PatchArray k when starts counts values) before ops new at ss cs vs some is later made fits sound = absurd (false≢true is)
 patched-here key (DropArraysOf u) before ops new at ss cs vs some is later made fits sound = absurd (false≢true is)
 patched-here key (DropArraysIn p) before ops new at ss cs vs some is later made fits sound = absurd (false≢true is)
 
@@ -167,6 +172,7 @@ other-here key q (SetArray k r) new y at ss cs vs apart is made =
     ap (array_after q y) made
     ∙ (λ j. cond (off j) (put_unless (record_refusal patched) y patched) y)
     ∙ sym (λ j. cond (off j) (put_unless (record_refusal r) y r) y)
+other-here key q (PatchArray k when starts counts values) new y at ss cs vs apart is made = absurd (false≢true is)
 other-here key q (DropArraysOf u) new y at ss cs vs apart is made = absurd (false≢true is)
 other-here key q (DropArraysIn p) new y at ss cs vs apart is made = absurd (false≢true is)
 
@@ -208,6 +214,7 @@ patches-there t p q k place o new at ss cs vs is read made fits sound same items
 -- a patch that does not
 pub unpatched : (o : ArrayOp) (e : ArrayError) (at : ℤ) (ss cs : List ℤ) (vs : AnyArray) → set_refusal ss cs vs o ≡ Some e → patched_op at ss cs vs o ≡ o
 unpatched (SetArray k r) e at ss cs vs h = ap (λ f. SetArray k (unless_refused f r (rewritten (patch_array r ss cs vs) at))) h
+unpatched (PatchArray k when starts counts values) e at ss cs vs h = refl
 unpatched (DropArraysOf u) e at ss cs vs h = refl
 unpatched (DropArraysIn p) e at ss cs vs h = refl
 
@@ -268,8 +275,61 @@ kept (Ok code) p place o new at ss cs vs read made coded = λ some.
     let why = refused-some (set_refusal ss cs vs o) (sym (ap (λ (c : Option ErrorCode). is_some c) coded) ∙ some) in
     refused-same p place o new why.0 at ss cs vs read made why.1
 
--- ---- what stands before an operation
+-- ---- the array as it was given, where an operation sets it and no later one concerns it
 
-pub given-stands : (key : ArrayKey) (x : Option ArrayRecord) (ops : List ArrayOp) → is_some (fold (array_given key) x ops) ≡ is_some (fold (array_after key) x ops)
-given-stands key x ops =
-    sym (undated-some (fold (array_given key) x ops)) ∙ ap (λ (o : Option ArrayRecord). is_some o) (undated-after key ops x x refl) ∙ undated-some (fold (array_after key) x ops)
+idle-given-op : (key : ArrayKey) (o : ArrayOp) (before : Option ArrayRecord) → concerns key o ≡ false → array_given key before o ≡ before
+idle-given-op key (SetArray k r) before h = ap (λ b. cond b (Some r) before) (neither (same_key key k && is_none (record_refusal r)) false h).0
+idle-given-op key (PatchArray k at ss cs vs) before h = ap (λ b. cond b (option_map (patched_in_place at ss cs vs) before) before) h
+idle-given-op key (DropArraysOf u) before h = ap (λ b. cond b None before) (neither (is_of_object u key) false h).0
+idle-given-op key (DropArraysIn p) before h = ap (λ b. cond b None before) (neither (is_in_space p key) false h).0
+
+idle-given : (key : ArrayKey) (ops : List ArrayOp) (before : Option ArrayRecord) → list_any (concerns key) ops ≡ false → fold (array_given key) before ops ≡ before
+idle-given key [] before h = refl
+idle-given key (o ∷ ops) before h =
+    let n = neither (concerns key o) (list_any (concerns key) ops) h in
+    ap (λ x. fold (array_given key) x ops) (idle-given-op key o before n.0) ∙ idle-given key ops before n.1
+
+given-here : (key : ArrayKey) (o : ArrayOp) (before : Option ArrayRecord) → sets key o ≡ true → array_given key before o ≡ array_set o
+given-here key (SetArray k r) before h = ap (λ b. cond b (Some r) before) h
+given-here key (PatchArray k at ss cs vs) before h = absurd (false≢true h)
+given-here key (DropArraysOf u) before h = absurd (false≢true h)
+given-here key (DropArraysIn p) before h = absurd (false≢true h)
+
+pub given-set : (key : ArrayKey) (before : Option ArrayRecord) (ops : List ArrayOp) (place : ℕ) (o : ArrayOp) → SetsLater key ops place → o ≡ get_or ops place o → array_set o ≡ fold (array_given key) before ops
+given-set key before [] place o is read = absurd is
+given-set key before (p ∷ ops) zero o is read =
+    ap array_set read ∙ sym (given-here key p before is.0) ∙ sym (idle-given key ops (array_given key before p) is.1)
+given-set key before (p ∷ ops) (suc place) o is read = given-set key (array_given key before p) ops place o is read
+
+-- ---- a patch of an array of the tables, in place
+
+plain : (a : AnyArray) → has_numbers a ≡ true → is_bytes a ≡ false
+plain (ArrayOfBoolean l) h = refl
+plain (ArrayOfInt l) h = refl
+plain (ArrayOfLong l) h = refl
+plain (ArrayOfFloat l) h = refl
+plain (ArrayOfDouble l) h = refl
+plain (ArrayOfString l) h = absurd (false≢true h)
+plain (Bytes b) h = absurd (false≢true h)
+
+pub untouched : (t : Contents) (p : Plan) (k : ArrayKey) (r : ArrayRecord) → IsUntouched k (array_in t.arrays k) p.arrays.items r → fold (array_after k) (array_in t.arrays k) p.arrays.items ≡ Some r
+untouched t p k r is = idle k p.arrays.items (array_in t.arrays k) is.1 ∙ is.0
+
+in-place-put : (same : Bool) (before : Option ArrayRecord) (r : ArrayRecord) (at : ℤ) (ss cs : List ℤ) (vs : AnyArray) → is_bytes r.values ≡ false → (same ≡ true → before ≡ Some r)
+    → option_map value.Array (cond same (option_map (patched_in_place at ss cs vs) before) before)
+    ≡ cond (same || false) (option_map (patched_value at ss cs vs) (option_map value.Array before)) (option_map value.Array before)
+in-place-put false before r at ss cs vs numbers found = refl
+in-place-put true before r at ss cs vs numbers found =
+    let h : before ≡ Some r = found refl in
+    ap (λ o. option_map value.Array (option_map (patched_in_place at ss cs vs) o)) h
+    ∙ ap (λ b. Some (value.Array (cond b r (patched_at at ss cs vs r)))) numbers
+    ∙ sym (ap (λ o. option_map (patched_value at ss cs vs) (option_map value.Array o)) h)
+
+pub patches-stored : (t : Contents) (p q : Plan) (k : ArrayKey) (r : ArrayRecord) (at : ℤ) (ss cs : List ℤ) (vs : AnyArray) → IsUntouched k (array_in t.arrays k) p.arrays.items r
+    → q.objects.items ≡ p.objects.items → q.arrays.items ≡ p.arrays.items ++ PatchArray k at ss cs vs ∷ [] → Advances t p q (Array k) (Patch ss cs vs) at
+patches-stored t p q k r at ss cs vs is same items (Space x) = spaces-same t p q x same
+patches-stored t p q k r at ss cs vs is same items (Object x) = objects-same t p q x same
+patches-stored t p q k r at ss cs vs is same items (Array x) =
+    arrays-next t p q x _ items
+    ∙ in-place-put (same_key x k) (fold (array_after x) (array_in t.arrays x) p.arrays.items) r at ss cs vs (plain r.values is.2)
+    (λ h. ap (λ y. fold (array_after y) (array_in t.arrays y) p.arrays.items) (same_key-is x k h) ∙ untouched t p k r is)

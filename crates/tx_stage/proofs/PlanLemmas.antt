@@ -23,7 +23,8 @@ use Rattle.array_store.specs.Codes.{code_of}
 use Rattle.array_store.specs.Operations.{array_after, put_unless}
 use Rattle.array_store.specs.Refusals.{record_refusal, write_refusal}
 use Rattle.array_store.specs.Table as table
-use Rattle.array_store.specs.Table.{array_in, is_of_object, is_in_space, patch_array, rewritten}
+use Rattle.array_store.specs.Arrays.{is_bytes}
+use Rattle.array_store.specs.Table.{array_in, is_of_object, is_in_space, patch_array, patched_at, patched_in_place, rewritten, unless_refused}
 use Rattle.array_store.proofs.Keys.{same_key-is}
 use Rattle.object_store.specs.declared.op.ObjectOp.{ObjectOp}
 use Rattle.object_store.specs.declared.op.ObjectOp.TheVariants as op
@@ -40,7 +41,7 @@ use Rattle.tx_stage.specs.declared.op.OpWhat.TheVariants.{SetObject, SetArray, P
 use Rattle.tx_stage.specs.declared.plan.Plan.{Plan}
 use Rattle.tx_stage.specs.declared.value.Value.{Value}
 use Rattle.tx_stage.specs.declared.value.Value.TheVariants as value
-use Rattle.tx_stage.specs.Ops.{suits, made_at, patched_at, patched_value, unless_refused}
+use Rattle.tx_stage.specs.Ops.{suits, made_at, patched_value}
 use Rattle.tx_stage.specs.Overlay.{misfit, needed, op_refusal}
 use Rattle.tx_stage.specs.Standing.{array_given}
 use Rattle.tx_stage.specs.State.{state_now, Advances, PutsSpace, DropsSpace, PlansUnless}
@@ -59,7 +60,7 @@ objects-next t p q x o added =
     ap (λ os. option_map value.Object (fold (object_after x) (object_in t.objects x) os)) added
     ∙ ap (option_map value.Object) (fold_push (object_after x) (object_in t.objects x) p.objects.items o)
 
-arrays-next : (t : Contents) (p q : Plan) (x : ArrayKey) (o : ArrayOp) → q.arrays.items ≡ p.arrays.items ++ o ∷ []
+pub arrays-next : (t : Contents) (p q : Plan) (x : ArrayKey) (o : ArrayOp) → q.arrays.items ≡ p.arrays.items ++ o ∷ []
     → state_now t q (Array x) ≡ option_map value.Array (array_after x (fold (array_after x) (array_in t.arrays x) p.arrays.items) o)
 arrays-next t p q x o added =
     ap (λ os. option_map value.Array (fold (array_after x) (array_in t.arrays x) os)) added
@@ -178,8 +179,26 @@ undated-gone : (b : Bool) (x y : Option ArrayRecord) → undated x ≡ undated y
 undated-gone true x y same = refl
 undated-gone false x y same = same
 
+-- a patch in place does not look at when the array was made
+patch-dated : (bytes : Bool) (e : Option ArrayError) (b whole : ArrayRecord) (made : ℤ)
+    → cond bytes (record b { created = made }) (unless_refused e (record b { created = made }) (record whole { created = made })) ≡ record (cond bytes b (unless_refused e b whole)) { created = made }
+patch-dated true e b whole made = refl
+patch-dated false None b whole made = refl
+patch-dated false (Some e) b whole made = refl
+
+undated-patch : (same : Bool) (at : ℤ) (ss cs : List ℤ) (vs : AnyArray) (x y : Option ArrayRecord) → undated x ≡ undated y
+    → undated (cond same (option_map (patched_in_place at ss cs vs) x) x) ≡ undated (cond same (option_map (patched_in_place at ss cs vs) y) y)
+undated-patch false at ss cs vs x y alike = alike
+undated-patch true at ss cs vs None None alike = refl
+undated-patch true at ss cs vs None (Some b) alike = absurd cc
+undated-patch true at ss cs vs (Some s) None alike = absurd cc
+undated-patch true at ss cs vs (Some s) (Some b) alike =
+    ap (λ (r : ArrayRecord). undated (Some (patched_in_place at ss cs vs r))) (dated s b alike)
+    ∙ ap (λ (r : ArrayRecord). undated (Some r)) (patch-dated (is_bytes b.values) (write_refusal b ss cs vs) b (rewritten (patch_array b ss cs vs) at) s.created)
+
 undated-next : (key : ArrayKey) (o : ArrayOp) (x y : Option ArrayRecord) → undated x ≡ undated y → undated (array_given key x o) ≡ undated (array_after key y o)
 undated-next key (set.SetArray k r) x y same = undated-put (record_refusal r) (table.same_key key k) r x y same
+undated-next key (set.PatchArray k at ss cs vs) x y same = undated-patch (table.same_key key k) at ss cs vs x y same
 undated-next key (set.DropArraysOf u) x y same = undated-gone (is_of_object u key) x y same
 undated-next key (set.DropArraysIn p) x y same = undated-gone (is_in_space p key) x y same
 
@@ -193,12 +212,19 @@ pub undated-some : (x : Option ArrayRecord) → is_some (undated x) ≡ is_some 
 undated-some None = refl
 undated-some (Some r) = refl
 
-pub stands-alike : (x y : Option ArrayRecord) → undated x ≡ undated y → is_some x ≡ is_some (option_map value.Array y)
+stands-alike : (x y : Option ArrayRecord) → undated x ≡ undated y → is_some x ≡ is_some (option_map value.Array y)
 stands-alike x y same = sym (undated-some x) ∙ ap is_some same ∙ undated-some y ∙ mapped y
   where
     mapped : (y : Option ArrayRecord) → is_some y ≡ is_some (option_map value.Array y)
     mapped None = refl
     mapped (Some r) = refl
+
+none-of : {A : Type 0} (o : Option A) → is_some o ≡ false → o ≡ None
+none-of None h = refl
+none-of (Some a) h = absurd (false≢true (sym h))
+
+pub gone-alike : (x y : Option ArrayRecord) → undated x ≡ undated y → is_some (option_map value.Array y) ≡ false → x ≡ None
+gone-alike x y same h = none-of x (stands-alike x y same ∙ h)
 
 pub none-alike : (y : Option ArrayRecord) → undated None ≡ undated y → y ≡ None
 none-alike None same = refl

@@ -9,9 +9,9 @@ use Rattle.array_store.specs.declared.error.ArrayError.{ArrayError}
 use Rattle.array_store.specs.declared.error.ArrayError.TheVariants as error
 use Rattle.array_store.specs.declared.record.ArrayRecord.{ArrayRecord}
 use Rattle.array_store.specs.Codes.{code_of}
+use Rattle.array_store.specs.Table.{unless_refused}
 use Rattle.tx_stage.specs.declared.look.Looked.{Looked}
 use Rattle.tx_stage.specs.Looks.{elements_seen, memory_or_refused}
-use Rattle.tx_stage.specs.Ops.{unless_refused}
 use Rattle.tx_stage.specs.Values.{memory_or_code}
 
 -- how a refusal is seen

@@ -3,10 +3,8 @@ use Rattle.std.specs.Prelude.{ℤ, Bool, true, false, ◌&&◌, ◌||◌, List, 
 use Rattle.std.specs.Option.{option_map}
 use Rattle.etp_values.specs.declared.data.AnyArray.{AnyArray}
 use Rattle.etp_values.specs.SameUri.{same_uri}
-use Rattle.array_store.specs.declared.error.ArrayError.{ArrayError}
-use Rattle.array_store.specs.declared.record.ArrayRecord.{ArrayRecord}
-use Rattle.array_store.specs.Refusals.{record_refusal, write_refusal}
-use Rattle.array_store.specs.Table.{patch_array, rewritten}
+use Rattle.array_store.specs.Refusals.{record_refusal}
+use Rattle.array_store.specs.Table.{patched_at}
 use Rattle.tx_stage.specs.declared.key.Key.{Key}
 use Rattle.tx_stage.specs.declared.key.Key.TheVariants.{Space, Object, Array}
 use Rattle.tx_stage.specs.declared.op.Op.{Op}
@@ -55,15 +53,6 @@ made_at at None = at
 made_at at (Some (value.Space r)) = r.created
 made_at at (Some (value.Object r)) = r.created
 made_at at (Some (value.Array r)) = r.created
-
--- the second record, or the first where that is refused
-abbrev pub unless_refused : Option ArrayError → ArrayRecord → ArrayRecord → ArrayRecord
-unless_refused None old new = new
-unless_refused (Some e) old new = old
-
--- an array with values in a region, written at this moment; where they do not fit, as it was
-abbrev pub patched_at : ℤ → List ℤ → List ℤ → AnyArray → ArrayRecord → ArrayRecord
-patched_at at ss cs vs r = unless_refused (write_refusal r ss cs vs) r (rewritten (patch_array r ss cs vs) at)
 
 abbrev pub patched_value : ℤ → List ℤ → List ℤ → AnyArray → Value → Value
 patched_value at ss cs vs (value.Space r) = value.Space r

@@ -6,7 +6,7 @@ ghost use Rattle.object_store.specs.Tables.{ListsSpaces};
 ghost use Rattle.tx_stage.specs.Looks.{given, key_of, looks, seen_of};
 ghost use Rattle.tx_stage.specs.Overlay.{misfit, needed, op_refusal};
 ghost use Rattle.tx_stage.specs.Keys.{owner};
-ghost use Rattle.tx_stage.specs.Patching.{SetsOver};
+ghost use Rattle.tx_stage.specs.Patching.{IsUntouched, SetsOver};
 ghost use Rattle.tx_stage.specs.Standing.{array_given};
 ghost use Rattle.tx_stage.specs.State.{state_in, state_now, first, Advances, PlansUnless};
 ghost use Rattle.tx_stage.specs.declared.key.Key.{Key as AKey};
@@ -20,12 +20,12 @@ use crate::look::{
     see_shape, see_space,
 };
 use crate::op::{Op, OpWhat};
-use crate::patching::{before, patch_set, place_of_set};
+use crate::patching::{before, is_concerned, patch_set, place_of_set};
 use crate::plan::Plan;
-use crate::standing::{array_after, object_after, space_after};
+use crate::standing::{array_after, array_made, object_after, space_after};
 use crate::value::patch_array;
-use array_store::{ArrayKey, ArrayRecord, ArrayStore};
-use etp_values::{AnyArray, Copied, ErrorCode, List, NoMemory, StoreUri, Text};
+use array_store::{ArrayKey, ArrayRecord, ArrayStore, has_numbers, numbers_refusal};
+use etp_values::{AnyArray, ErrorCode, List, NoMemory, StoreUri, Text};
 use object_store::{ObjectRecord, ObjectStore, SpaceRecord};
 use std::alloc::Global;
 
@@ -97,12 +97,53 @@ impl Contents {
         )
     }
 
-    /// The array of a key as a plan has it, so not yet with the moment when it was made.
-    fn planned_array<'a>(&'a self, plan: &'a Plan, key: &ArrayKey) -> Option<&'a ArrayRecord>
-        ensures { option_copied result
-            ≡ fold (array_given key.now) (array_in self.now.arrays key.now) plan.now.arrays.items }
+    /// Whether the array of a key will.
+    fn has_array(&self, plan: &Plan, key: &ArrayKey) -> bool
+        ensures { result ≡ is_some (state_now self.now plan.now (keyed.Array key.now)) }
     {
-        array_after(self.arrays.get(key), plan.arrays.as_slice(), key)
+        array_after(
+            plan.arrays.as_slice(),
+            key,
+            self.arrays.get(key).is_some(),
+        )
+    }
+
+    /// A copy of the array of a key as a plan has it, so not yet with the moment when it was made.
+    fn planned_copy(
+        &self,
+        alloc: Global,
+        plan: &Plan,
+        key: &ArrayKey,
+    ) -> Result<Option<ArrayRecord>, NoMemory>
+        ensures { IfOk result (λ o.
+            o ≡ fold (array_given key.now) (array_in self.now.arrays key.now) plan.now.arrays.items) }
+    {
+        if !self.has_array(plan, key) {
+            return Ok(None);
+        }
+        array_made(
+            alloc,
+            self.arrays.get(key),
+            plan.arrays.as_slice(),
+            key,
+        )
+    }
+
+    /// The array of a key in the tables, where it has numbers and no operation of a plan concerns it.
+    fn untouched_numbers<'a>(&'a self, plan: &Plan, key: &ArrayKey) -> Option<&'a ArrayRecord>
+        ensures { IfSome (option_copied result)
+            (λ r. IsUntouched key.now (array_in self.now.arrays key.now) plan.now.arrays.items r) }
+    {
+        if is_concerned(plan.arrays.as_slice(), key) {
+            return None;
+        }
+        let Some(array) = self.arrays.get(key) else {
+            return None;
+        };
+        if !has_numbers(&array.values) {
+            return None;
+        }
+        Some(array)
     }
 
     /// Whether what an operation needs will stand once a plan is done.
@@ -124,7 +165,7 @@ impl Contents {
         match key {
             Key::Space(path) => self.has_space(plan, path),
             Key::Object(uri) => self.has_object(plan, uri),
-            Key::Array(array) => self.planned_array(plan, array).is_some(),
+            Key::Array(array) => self.has_array(plan, array),
         }
     }
 
@@ -249,13 +290,15 @@ impl Contents {
         let Some(place) = place_of_set(ops, key) else {
             return None;
         };
-        if array_after(self.arrays.get(key), before(ops, place), key).is_none() {
+        let stood = self.arrays.get(key).is_some();
+        if !array_after(before(ops, place), key, stood) {
             return None;
         }
         Some(place)
     }
 
-    /// Plans a patch, where there is an array that it fits. An array that the plan has a copy of is patched there.
+    /// Plans a patch, where there is an array that it fits. An array that the plan has a copy of is patched there, and one of
+    /// numbers that no operation of the plan concerns will be patched in place.
     fn add_patch(
         &self,
         alloc: Global,
@@ -277,8 +320,61 @@ impl Contents {
             Some(place) => {
                 self.patch_planned(alloc, plan, place, key, at, starts, counts, values)
             }
+            None => self.patch_unset(alloc, plan, key, at, starts, counts, values),
+        }
+    }
+
+    /// Plans a patch of an array that the plan has no copy of to patch.
+    fn patch_unset(
+        &self,
+        alloc: Global,
+        plan: &mut Plan,
+        key: &ArrayKey,
+        at: i64,
+        starts: &List<i64>,
+        counts: &List<i64>,
+        values: &AnyArray,
+    ) -> Result<Option<ErrorCode>, NoMemory>
+        ensures code { IfOk result (λ r.
+            r ≡ misfit (done.Patch starts.now counts.now values.now)
+            (state_now self.now plan.old (keyed.Array key.now))) }
+        ensures plan { OnOk result (Advances self.now plan.old plan.new (keyed.Array key.now)
+            (done.Patch starts.now counts.now values.now) at) }
+        ensures same { IfOk result (λ r. IsSome r → plan.new ≡ plan.old) }
+    {
+        match self.untouched_numbers(plan, key) {
+            Some(array) => {
+                self.patch_stored(alloc, plan, array, key, at, starts, counts, values)
+            }
             None => self.patch_copy(alloc, plan, key, at, starts, counts, values),
         }
+    }
+
+    /// Plans a patch of an array of the tables, to be done in place. Nothing of the array is copied.
+    fn patch_stored(
+        &self,
+        alloc: Global,
+        plan: &mut Plan,
+        array: &ArrayRecord,
+        key: &ArrayKey,
+        at: i64,
+        starts: &List<i64>,
+        counts: &List<i64>,
+        values: &AnyArray,
+    ) -> Result<Option<ErrorCode>, NoMemory>
+        requires { IsUntouched key.now (array_in self.now.arrays key.now) plan.old.arrays.items array.now }
+        ensures code { IfOk result (λ r.
+            r ≡ misfit (done.Patch starts.now counts.now values.now)
+            (state_now self.now plan.old (keyed.Array key.now))) }
+        ensures plan { OnOk result (Advances self.now plan.old plan.new (keyed.Array key.now)
+            (done.Patch starts.now counts.now values.now) at) }
+        ensures same { IfOk result (λ r. IsSome r → plan.new ≡ plan.old) }
+    {
+        if let Some(error) = numbers_refusal(array, starts, counts, values) {
+            return Ok(Some(error.code()));
+        }
+        plan.push_patch(alloc, key, at, starts, counts, values)?;
+        Ok(None)
     }
 
     /// Plans a patch of the array that the operation at a place sets. It is written there: what stands before it keeps the moment
@@ -323,10 +419,10 @@ impl Contents {
             (done.Patch starts.now counts.now values.now) at) }
         ensures same { IfOk result (λ r. IsSome r → plan.new ≡ plan.old) }
     {
-        let Some(array) = self.planned_array(plan, key) else {
+        let planned = self.planned_copy(alloc, plan, key)?;
+        let Some(array) = planned else {
             return Ok(None);
         };
-        let array = array.copy(alloc)?;
         let (array, refusal) = patch_array(alloc, array, at, starts, counts, values)?;
         if refusal.is_some() {
             return Ok(refusal);

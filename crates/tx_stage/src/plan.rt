@@ -9,7 +9,7 @@ ghost use Rattle.tx_stage.specs.declared.op.OpWhat.TheVariants as done;
 
 use crate::op::OpWhat;
 use array_store::{ArrayKey, ArrayOp, ArrayRecord};
-use etp_values::{Copied, DataValue, Named, NoMemory, StoreUri, Text};
+use etp_values::{AnyArray, Copied, DataValue, List, Named, NoMemory, StoreUri, Text};
 use object_store::{KeyedObject, KeyedSpace, ObjectOp, ObjectRecord, SpaceRecord};
 use std::alloc::Global;
 
@@ -144,6 +144,34 @@ impl Plan {
     {
         let key = key.copy(alloc)?;
         self.arrays.push(ArrayOp::SetArray(key, array))?;
+        Ok(())
+    }
+
+    /// Adds a patch that is to be done in place.
+    pub(crate) fn push_patch(
+        &mut self,
+        alloc: Global,
+        key: &ArrayKey,
+        at: i64,
+        starts: &List<i64>,
+        counts: &List<i64>,
+        values: &AnyArray,
+    ) -> Result<(), NoMemory>
+        ensures arrays { OnOk result (self.new.arrays.items
+            ≡ self.old.arrays.items ++ set.PatchArray key.now at starts.now counts.now values.now ∷ []) }
+        ensures objects { self.new.objects ≡ self.old.objects }
+    {
+        let key = key.copy(alloc)?;
+        let starts = starts.copy(alloc)?;
+        let counts = counts.copy(alloc)?;
+        let values = values.copy(alloc)?;
+        self.arrays.push(ArrayOp::PatchArray {
+            key,
+            at,
+            starts,
+            counts,
+            values,
+        })?;
         Ok(())
     }
 }

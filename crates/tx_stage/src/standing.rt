@@ -1,11 +1,15 @@
 //! What stands while operations are done one after the other.
-ghost use Rattle.std.specs.Prelude.{◌≡◌, fold};
-ghost use Rattle.std.specs.Option.{option_copied};
-ghost use Rattle.tx_stage.specs.Standing.{space_stands, object_stands, array_given};
+ghost use Rattle.std.specs.Prelude.{◌≡◌, IfOk, fold};
+ghost use Rattle.std.specs.Option.{option_copied, option_map};
+ghost use Rattle.array_store.specs.Table.{patched_in_place};
+ghost use Rattle.tx_stage.specs.Standing.{space_stands, object_stands, array_stands, array_given};
 
-use array_store::{ArrayKey, ArrayOp, ArrayRecord, record_refusal};
-use etp_values::{StoreUri, Text};
+use crate::patching::{copy_of_set, place_of_set, sets, takes_away};
+use crate::value::patch_array;
+use array_store::{ArrayKey, ArrayOp, ArrayRecord, has_bytes, record_refusal};
+use etp_values::{AnyArray, Copied, List, NoMemory, StoreUri, Text};
 use object_store::ObjectOp;
+use std::alloc::Global;
 
 /// Whether the dataspace of a path stands after an operation.
 fn space_stands(op: &ObjectOp, path: &Text, before: bool) -> bool
@@ -53,47 +57,128 @@ pub(crate) fn object_after(ops: &[ObjectOp], uri: &StoreUri, before: bool) -> bo
     stands
 }
 
-/// The array of a key that an operation leaves as it was given.
-fn array_given<'a>(
-    before: Option<&'a ArrayRecord>,
-    op: &'a ArrayOp,
+/// Whether the array of a key stands after an operation.
+fn array_stands(op: &ArrayOp, key: &ArrayKey, before: bool) -> bool
+    ensures { result ≡ array_stands key.now before op.now }
+{
+    sets(op, key) || (!takes_away(op, key) && before)
+}
+
+/// Whether the array of a key stands after operations.
+pub(crate) fn array_after(ops: &[ArrayOp], key: &ArrayKey, before: bool) -> bool
+    ensures { result ≡ fold (array_stands key.now) before ops.now }
+{
+    let mut stands = before;
+    for op in ops {
+        stands = array_stands(op, key, stands);
+    }
+    stands
+}
+
+/// An array as a patch in place leaves it.
+fn patch_given(
+    alloc: Global,
+    before: Option<ArrayRecord>,
+    at: i64,
+    starts: &List<i64>,
+    counts: &List<i64>,
+    values: &AnyArray,
+) -> Result<Option<ArrayRecord>, NoMemory>
+    ensures { IfOk result (λ o.
+        o ≡ option_map (patched_in_place at starts.now counts.now values.now) before) }
+{
+    let Some(array) = before else {
+        return Ok(None);
+    };
+    if has_bytes(&array.values) {
+        return Ok(Some(array));
+    }
+    let (array, _) = patch_array(alloc, array, at, starts, counts, values)?;
+    Ok(Some(array))
+}
+
+/// The array of a key that an operation leaves as it was given, made of the one before.
+fn array_given(
+    alloc: Global,
+    before: Option<ArrayRecord>,
+    op: &ArrayOp,
     key: &ArrayKey,
-) -> Option<&'a ArrayRecord>
-    ensures { option_copied result ≡ array_given key.now (option_copied before.entry) op.now }
+) -> Result<Option<ArrayRecord>, NoMemory>
+    ensures { IfOk result (λ o. o ≡ array_given key.now before op.now) }
 {
     match op {
         ArrayOp::SetArray(other, array) => {
             if *key == *other && record_refusal(array).is_none() {
-                return Some(array);
+                return Ok(Some(array.copy(alloc)?));
             }
-            before
+            Ok(before)
+        }
+        ArrayOp::PatchArray {
+            key: other,
+            at,
+            starts,
+            counts,
+            values,
+        } => {
+            if *key == *other {
+                return patch_given(alloc, before, *at, starts, counts, values);
+            }
+            Ok(before)
         }
         ArrayOp::DropArraysOf(uri) => {
             if uri.same(&key.uri) {
-                return None;
+                return Ok(None);
             }
-            before
+            Ok(before)
         }
         ArrayOp::DropArraysIn(path) => {
             if *path == key.uri.space {
-                return None;
+                return Ok(None);
             }
-            before
+            Ok(before)
         }
     }
 }
 
-/// The array of a key that operations leave as it was given.
-pub(crate) fn array_after<'a>(
-    before: Option<&'a ArrayRecord>,
-    ops: &'a [ArrayOp],
-    key: &ArrayKey,
-) -> Option<&'a ArrayRecord>
-    ensures { option_copied result ≡ fold (array_given key.now) (option_copied before.entry) ops.now }
+/// A copy of an array that is lent.
+fn copy_of_lent(alloc: Global, array: Option<&ArrayRecord>) -> Result<Option<ArrayRecord>, NoMemory>
+    ensures { IfOk result (λ o. o ≡ option_copied array.entry) }
 {
-    let mut found = before;
-    for op in ops {
-        found = array_given(found, op, key);
+    match array {
+        Some(array) => Ok(Some(array.copy(alloc)?)),
+        None => Ok(None),
     }
-    found
+}
+
+/// The array of a key that operations leave as it was given, made one operation after the other.
+fn array_through(
+    alloc: Global,
+    before: Option<&ArrayRecord>,
+    ops: &[ArrayOp],
+    key: &ArrayKey,
+) -> Result<Option<ArrayRecord>, NoMemory>
+    ensures { IfOk result (λ o. o ≡ fold (array_given key.now) (option_copied before.entry) ops.now) }
+{
+    let mut made = copy_of_lent(alloc, before)?;
+    for op in ops {
+        let next = array_given(alloc, made, op, key)?;
+        made = next;
+    }
+    Ok(made)
+}
+
+/// The array of a key that operations leave as it was given. It is copied once where an operation sets it and no later one
+/// patches it.
+pub(crate) fn array_made(
+    alloc: Global,
+    before: Option<&ArrayRecord>,
+    ops: &[ArrayOp],
+    key: &ArrayKey,
+) -> Result<Option<ArrayRecord>, NoMemory>
+    ensures { IfOk result (λ o. o ≡ fold (array_given key.now) (option_copied before.entry) ops.now) }
+{
+    match place_of_set(ops, key) {
+        Some(place) => copy_of_set(alloc, &ops[place]),
+        None => array_through(alloc, before, ops, key),
+    }
 }

@@ -3,7 +3,8 @@ ghost use Rattle.std.specs.Prelude.{◌≡◌, IfOk, OnOk, None};
 ghost use Rattle.std.specs.Option.{option_copied, option_map};
 ghost use Rattle.array_store.specs.Codes.{code_of};
 ghost use Rattle.array_store.specs.Refusals.{record_refusal, write_refusal};
-ghost use Rattle.tx_stage.specs.Ops.{made_at, patched_at, patched_value, op_left};
+ghost use Rattle.array_store.specs.Table.{patched_at};
+ghost use Rattle.tx_stage.specs.Ops.{made_at, patched_value, op_left};
 ghost use Rattle.tx_stage.specs.Values.{as_space, as_object, as_array, memory_or_code};
 
 use crate::op::{Op, OpWhat};

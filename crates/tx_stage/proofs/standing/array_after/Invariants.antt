@@ -1,7 +1,6 @@
 use Rattle.std.proofs.Common.{◌≡◌, drop, fold}
-use Rattle.std.specs.Option.{option_copied}
-use Rattle.tx_stage.specs.Standing.{array_given}
+use Rattle.tx_stage.specs.Standing.{array_stands}
 use Rattle.tx_stage.proofs.standing.array_after.Given as goal
 
 abbrev pub invariant-loop-op : goal.invariant-loop-op
-invariant-loop-op l = fold (array_given l.key) (option_copied l.found) (drop l.op-index l.ops) ≡ fold (array_given l.key) (option_copied l.fn.before) l.ops
+invariant-loop-op l = fold (array_stands l.key) l.stands (drop l.op-index l.ops) ≡ fold (array_stands l.key) l.fn.before l.ops
