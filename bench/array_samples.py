@@ -14,7 +14,8 @@
     copied SPACE PATH STARTS COUNTS KIND ELEMENTS      a copy of the record with a patch, which the store does not have
     written SPACE PATH AT                      notes when it was last written
     drop_object SPACE, drop_space SPACE        how many arrays went
-    apply OPERATION;OPERATION..                does operations in order: `set` with the words of a put, `drop_object` or `drop_space`
+    apply OPERATION;OPERATION..                does operations in order: `set` with the words of a put, `patch` with those of a
+                                               patch and its moment, `drop_object` or `drop_space`
 
 A list is written with commas, and `-` is that of none. Floats and doubles are given by their bits; a text may be written as
 PIECE*COUNT.
@@ -176,8 +177,14 @@ class Store:
     def apply(self, line):
         operations = [operation.split(" ") for operation in line.split(";")]
         for call, *words in operations:
-            getattr(self, "put" if call == "set" else call)(*words)
+            getattr(self, {"set": "put", "patch": "patch_in_place"}.get(call, call))(*words)
         return "%d done" % len(operations)
+
+    def patch_in_place(self, space, path, starts, counts, kind, items, at):
+        """A patch among operations: it leaves an array of bytes, and one that it does not fit, as it is."""
+        array = self.arrays.get((space, path))
+        if array and array["kind"] != "bytes" and self.patch(space, path, starts, counts, kind, items) == "done":
+            array["written"] = int(at)
 
     def written(self, space, path, at):
         if (space, path) not in self.arrays:
@@ -301,6 +308,19 @@ apply set t a 2 int 6,5 10;set s c 1 int 1 11;drop_object t;drop_object s;set s 
 get t a
 get t b
 get s c
+apply set u a 2,2 int 1,2,3,4 1;patch u a 0,1 2,1 int 5,6 2;patch u a 1,0 1,1 int 7 3
+get u a
+apply patch u a 0,0 1,1 long 8 4;patch u a 0,0 1,2 int 8 5;patch u a 2,0 1,1 int 8 6;patch u b 0 1 int 8 7
+get u a
+get u b
+apply set u b 2 bytes 1,2 8;patch u b 0 1 bytes 3 9
+get u b
+apply patch u a 0,0 1,1 int 9 10;drop_object u;set u a 2 string a,b 11;patch u a 1 1 string ccc 12
+get u a
+apply patch u a 0 1 string a*33554425 13
+get u a
+apply patch u a 0 1 string d 14;drop_space u;patch u a 0 1 string e 15
+get u a
 """
 
 

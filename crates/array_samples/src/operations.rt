@@ -1,6 +1,6 @@
 //! Lists of operations, with semicolons between them.
 use crate::calls::{key_of, record_of};
-use crate::elements::elements;
+use crate::elements::{elements, numbers};
 use array_store::{ArrayOp, ArrayStore};
 use etp_values::{List, NoMemory};
 use std::alloc::Global;
@@ -15,6 +15,30 @@ pub(crate) fn words_of<'a>(alloc: Global, line: &'a str) -> Result<Vec<&'a str>,
     Ok(words)
 }
 
+/// A patch in place, at this moment.
+fn patch_of(
+    alloc: Global,
+    space: &str,
+    path: &str,
+    starts: &str,
+    counts: &str,
+    kind: &str,
+    values: &str,
+    at: &str,
+) -> Result<ArrayOp, NoMemory> {
+    let starts = numbers(alloc, starts)?;
+    let counts = numbers(alloc, counts)?;
+    let values = elements(alloc, kind, values)?;
+    let key = key_of(alloc, space, path)?;
+    Ok(ArrayOp::PatchArray {
+        key,
+        at: at.parse::<i64>().unwrap_or(0),
+        starts,
+        counts,
+        values,
+    })
+}
+
 /// The operation of these words, if they are of one.
 fn op_of(alloc: Global, words: &[&str]) -> Result<Option<ArrayOp>, NoMemory> {
     match words {
@@ -22,6 +46,10 @@ fn op_of(alloc: Global, words: &[&str]) -> Result<Option<ArrayOp>, NoMemory> {
             let values = elements(alloc, kind, values)?;
             let record = record_of(alloc, dims, values, at)?;
             Ok(Some(ArrayOp::SetArray(key_of(alloc, space, path)?, record)))
+        }
+        ["patch", space, path, starts, counts, kind, values, at] => {
+            let op = patch_of(alloc, space, path, starts, counts, kind, values, at)?;
+            Ok(Some(op))
         }
         ["drop_object", space] => Ok(Some(ArrayOp::DropArraysOf(key_of(alloc, space, "")?.uri))),
         ["drop_space", space] => {
