@@ -110,15 +110,16 @@ impl<S: Read + Write + OpenStream + Drop, K: MaskKeys + Drop> WsLink<S, K> {
         self.faults = self.faults.saturating_add(1);
     }
 
-    /// Waits until there may be something to read, and says whether a bell ended that.
-    fn hears_bell(&mut self) -> bool
+    /// Waits until there may be something to read, and says what ended that.
+    fn woken(&mut self) -> Woken
         ensures faults { self.new.faults ≡ self.old.faults }
         ensures ended { self.new.ended ≡ self.old.ended }
     {
+        self.pace.begin();
         if self.unread {
-            return false;
+            return Woken::Socket;
         }
-        self.post.wait(self.pace.rest, self.pace.wait) == Woken::Bell
+        self.post.wait(self.pace.rest, self.pace.wait)
     }
 
     /// A turn that a bell ended.
@@ -132,16 +133,23 @@ impl<S: Read + Write + OpenStream + Drop, K: MaskKeys + Drop> WsLink<S, K> {
         self.silent(rested)
     }
 
-    /// A turn in which no frame came.
+    /// A turn in which the socket had no whole frame.
+    fn drained(&mut self) -> Recv
+        ensures kept { self.old.faults ≤ self.new.faults }
+        ensures cause { result ≡ Recv.Failed → Rose self.old.faults self.new.faults }
+        ensures ended { self.new.ended ≡ (self.old.ended || is_end result) }
+    {
+        self.unread = false;
+        self.silent(READ_WAIT)
+    }
+
+    /// A turn in which nothing came while the link waited. The socket is not read: a read of an empty one would block for longer
+    /// than [`READ_WAIT`] says, by the system's own ticks.
     fn waited(&mut self) -> Recv
         ensures kept { self.old.faults ≤ self.new.faults }
         ensures cause { result ≡ Recv.Failed → Rose self.old.faults self.new.faults }
         ensures ended { self.new.ended ≡ (self.old.ended || is_end result) }
     {
-        if self.unread {
-            self.unread = false;
-            return self.silent(READ_WAIT);
-        }
         let waited = self.pace.wait;
         self.pace.quiet();
         self.silent(waited)
@@ -223,7 +231,7 @@ impl<S: Read + Write + OpenStream + Drop, K: MaskKeys + Drop> WsLink<S, K> {
                 self.unread = true;
                 Recv::Idle
             }
-            Arrival::Nothing => self.waited(),
+            Arrival::Nothing => self.drained(),
             Arrival::End => {
                 // The answer to a goodbye.
                 let _ = self.socket.flush();
@@ -308,10 +316,10 @@ impl<S: Read + Write + OpenStream + Drop + Send, K: MaskKeys + Drop + Send> Link
             return Recv::Failed;
         }
         self.ring();
-        let recv = if self.hears_bell() {
-            self.belled()
-        } else {
-            self.read()
+        let recv = match self.woken() {
+            Woken::Socket => self.read(),
+            Woken::Bell => self.belled(),
+            Woken::Time => self.waited(),
         };
         self.post.look();
         recv
