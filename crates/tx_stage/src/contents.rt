@@ -101,11 +101,7 @@ impl Contents {
     fn has_array(&self, plan: &Plan, key: &ArrayKey) -> bool
         ensures { result ≡ is_some (state_now self.now plan.now (keyed.Array key.now)) }
     {
-        array_after(
-            plan.arrays.as_slice(),
-            key,
-            self.arrays.get(key).is_some(),
-        )
+        array_after(plan.arrays.as_slice(), key, self.arrays.get(key).is_some())
     }
 
     /// A copy of the array of a key as a plan has it, so not yet with the moment when it was made.
@@ -121,12 +117,7 @@ impl Contents {
         if !self.has_array(plan, key) {
             return Ok(None);
         }
-        array_made(
-            alloc,
-            self.arrays.get(key),
-            plan.arrays.as_slice(),
-            key,
-        )
+        array_made(alloc, self.arrays.get(key), plan.arrays.as_slice(), key)
     }
 
     /// The array of a key in the tables, where it has numbers and no operation of a plan concerns it.
