@@ -1,6 +1,6 @@
 use Rattle.std.proofs.Common.{◌≡◌, false, fold, refl, sym, subst, ◌∙◌}
 use Rattle.std.specs.Prelude.{is_some, IfOk}
-use Rattle.std.specs.Option.{option_map}
+use Rattle.std.specs.Option.{option_copied, option_map}
 use Rattle.array_store.specs.Operations.{array_after}
 use Rattle.array_store.specs.Table.{array_in}
 use Rattle.tx_stage.specs.declared.value.Value.TheVariants as value
@@ -19,5 +19,7 @@ returns-then-not-has_array c =
 pub returns : goal.returns
 returns c =
     let key = c.args.key.now in
-    let given = λ j. fold (array_given key) (c.get.ensures j) (c.as_slice.ensures.value j) in
+    let ops = c.args.plan.now.arrays.items in
+    let found = array_in c.args.self.now.arrays key in
+    let given : fold (array_given key) (option_copied c.get.result) c.as_slice.result.now ≡ fold (array_given key) found ops = (λ j. fold (array_given key) (c.get.ensures j) (c.as_slice.ensures.value j)) in
     subst (λ m. IfOk c.array_made.result (λ o. o ≡ m)) given c.array_made.ensures
