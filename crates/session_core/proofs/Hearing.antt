@@ -1,27 +1,16 @@
 -- What is heard of the parts of messages.
 use Rattle.std.specs.Prelude.{ℕ, ℤ, pos, Bool, true, false, List, [], ◌∷◌, ◌++◌, ◌≡◌, ◌+◌, fold, map, nat_le, if◌then◌else◌, refl}
-use Rattle.std.specs.List.{flat_map, list_any, AllByRecursion}
+use Rattle.std.specs.List.{list_any, AllByRecursion}
 use Rattle.std.specs.Ordering.{int_eq}
 use Rattle.std.proofs.Common.{ap, sym, subst, ◌∙◌, append-nil, append_assoc}
 use mathlib.Core.List.{IsPrefix}
-use Rattle.etp_frame.specs.Chunking.{as_sent, chunk_messages, with_chunks}
 use Rattle.etp_frame.specs.Grouping.{Amount, goes_in, groups, groups_from}
 use Rattle.etp_frame.specs.Header.{final_part, has_flag}
-use Rattle.etp_frame.specs.Splitting.{parts, core_parts, dataspace_parts, store_parts, data_array_parts, channel_subscribe_parts, channel_data_load_parts}
+use Rattle.etp_frame.specs.Splitting.{parts, channel_subscribe_parts}
 use Rattle.etp_frame.specs.declared.message.Message.{Message}
 use Rattle.etp_frame.specs.declared.message.Message.TheVariants as message
-use Rattle.msg_channel.specs.declared.channel_data_load_messages.ChannelDataLoadMessage.{ChannelDataLoadMessage}
-use Rattle.msg_channel.specs.declared.channel_data_load_messages.ChannelDataLoadMessage.TheVariants as load
 use Rattle.msg_channel.specs.declared.channel_subscribe_messages.ChannelSubscribeMessage.{ChannelSubscribeMessage}
 use Rattle.msg_channel.specs.declared.channel_subscribe_messages.ChannelSubscribeMessage.TheVariants as subscribe
-use Rattle.msg_core.specs.declared.core_messages.CoreMessage.{CoreMessage}
-use Rattle.msg_core.specs.declared.core_messages.CoreMessage.TheVariants as core
-use Rattle.msg_core.specs.declared.dataspace_messages.DataspaceMessage.{DataspaceMessage}
-use Rattle.msg_core.specs.declared.dataspace_messages.DataspaceMessage.TheVariants as space
-use Rattle.msg_store.specs.declared.data_array_messages.DataArrayMessage.{DataArrayMessage}
-use Rattle.msg_store.specs.declared.data_array_messages.DataArrayMessage.TheVariants as array
-use Rattle.msg_store.specs.declared.store_messages.StoreMessage.{StoreMessage}
-use Rattle.msg_store.specs.declared.store_messages.StoreMessage.TheVariants as object
 use Rattle.session_core.specs.declared.state.Addressee.{Addressee}
 use Rattle.session_core.specs.declared.state.Addressee.TheVariants as to
 use Rattle.session_core.specs.declared.state.Part.{Part}
@@ -29,6 +18,7 @@ use Rattle.session_core.specs.declared.state.Request.{Request}
 use Rattle.session_core.specs.declared.state.Saying.{Saying}
 use Rattle.session_core.specs.Sending.{blobs_after, ended, flags_to, is_spent, max_id, numbered, outgoing, parts_of, replies_in}
 use Rattle.session_core.specs.Streams.{Heard, gathers, hear, hear_message, hear_notice, hear_stops, stops_for}
+use Rattle.session_core.proofs.MessageParts.{all_append, all_map, array_each, core_each, load_each, object_each, space_each}
 
 -- ---- messages that tell changes, and those that stop
 
@@ -56,61 +46,6 @@ SameKind m x = (tells x ≡ tells m) × (stops x ≡ stops m)
 
 -- ---- parts are of the kind of their message
 
-pub all_map : {A : Type 0} (P : Message → Type 0) (f : A → Message) → ((g : A) → P (f g)) → (gs : List A) → AllByRecursion P (map f gs)
-all_map P f h [] = tt
-all_map P f h (g ∷ gs) = (h g, all_map P f h gs)
-
-pub all_append : {A : Type 0} (P : A → Type 0) (xs ys : List A) → AllByRecursion P xs → AllByRecursion P ys → AllByRecursion P (xs ++ ys)
-all_append P [] ys a b = b
-all_append P (x ∷ xs) ys a b = (a.0, all_append P xs ys a.1 b)
-
-all_flat : {A : Type 0} (P : Message → Type 0) (f : A → List Message) → ((g : A) → AllByRecursion P (f g)) → (gs : List A) → AllByRecursion P (flat_map f gs)
-all_flat P f h [] = tt
-all_flat P f h (g ∷ gs) = all_append P (f g) (flat_map f gs) (h g) (all_flat P f h gs)
-
-core_kind : (m : Message) → SameKind m (message.Core (core.Pong (record { current_date_time = pos 0 }))) → (limit : ℕ) (x : CoreMessage) → AllByRecursion (SameKind m) (core_parts limit x)
-core_kind m e limit (core.RequestSession x) = (e, tt)
-core_kind m e limit (core.OpenSession x) = (e, tt)
-core_kind m e limit (core.CloseSession x) = (e, tt)
-core_kind m e limit (core.Ping x) = (e, tt)
-core_kind m e limit (core.Pong x) = (e, tt)
-core_kind m e limit (core.ProtocolException x) = all_map (SameKind m) _ (λ g. e) _
-core_kind m e limit (core.Acknowledge x) = (e, tt)
-
-dataspace_kind : (m : Message) → SameKind m (message.Core (core.Pong (record { current_date_time = pos 0 }))) → (limit : ℕ) (x : DataspaceMessage) → AllByRecursion (SameKind m) (dataspace_parts limit x)
-dataspace_kind m e limit (space.GetDataspaces x) = (e, tt)
-dataspace_kind m e limit (space.GetDataspacesResponse x) = all_map (SameKind m) _ (λ g. e) _
-dataspace_kind m e limit (space.PutDataspaces x) = (e, tt)
-dataspace_kind m e limit (space.DeleteDataspaces x) = (e, tt)
-dataspace_kind m e limit (space.DeleteDataspacesResponse x) = all_map (SameKind m) _ (λ g. e) _
-dataspace_kind m e limit (space.PutDataspacesResponse x) = all_map (SameKind m) _ (λ g. e) _
-
-chunks_kind : (m : Message) → SameKind m (message.Core (core.Pong (record { current_date_time = pos 0 }))) → (xs : _) → AllByRecursion (SameKind m) (chunk_messages xs)
-chunks_kind m e xs = all_flat (SameKind m) _ (λ x. all_map (SameKind m) (λ c. message.Store (object.Chunk c)) (λ c. e) _) xs
-
-store_kind : (m : Message) → SameKind m (message.Core (core.Pong (record { current_date_time = pos 0 }))) → (limit number k : ℕ) (x : StoreMessage) → AllByRecursion (SameKind m) (store_parts limit number k x)
-store_kind m e limit number k (object.GetDataObjects x) = (e, tt)
-store_kind m e limit number k (object.PutDataObjects x) = (e, chunks_kind m e (as_sent limit number k x.data_objects))
-store_kind m e limit number k (object.DeleteDataObjects x) = (e, tt)
-store_kind m e limit number k (object.GetDataObjectsResponse x) = all_flat (SameKind m) (with_chunks (λ g. message.Store (object.GetDataObjectsResponse (record x { data_objects = g })))) (λ g. (e, chunks_kind m e g)) _
-store_kind m e limit number k (object.Chunk x) = (e, tt)
-store_kind m e limit number k (object.PutDataObjectsResponse x) = all_map (SameKind m) _ (λ g. e) _
-store_kind m e limit number k (object.DeleteDataObjectsResponse x) = all_map (SameKind m) _ (λ g. e) _
-
-array_kind : (m : Message) → SameKind m (message.Core (core.Pong (record { current_date_time = pos 0 }))) → (limit : ℕ) (x : DataArrayMessage) → AllByRecursion (SameKind m) (data_array_parts limit x)
-array_kind m e limit (array.GetDataArraysResponse x) = all_map (SameKind m) _ (λ g. e) _
-array_kind m e limit (array.GetDataArrays x) = (e, tt)
-array_kind m e limit (array.GetDataSubarrays x) = (e, tt)
-array_kind m e limit (array.PutDataArrays x) = (e, tt)
-array_kind m e limit (array.PutDataSubarrays x) = (e, tt)
-array_kind m e limit (array.GetDataArrayMetadata x) = (e, tt)
-array_kind m e limit (array.GetDataArrayMetadataResponse x) = all_map (SameKind m) _ (λ g. e) _
-array_kind m e limit (array.GetDataSubarraysResponse x) = all_map (SameKind m) _ (λ g. e) _
-array_kind m e limit (array.PutUninitializedDataArrays x) = (e, tt)
-array_kind m e limit (array.PutDataArraysResponse x) = all_map (SameKind m) _ (λ g. e) _
-array_kind m e limit (array.PutDataSubarraysResponse x) = all_map (SameKind m) _ (λ g. e) _
-array_kind m e limit (array.PutUninitializedDataArraysResponse x) = all_map (SameKind m) _ (λ g. e) _
-
 subscribe_kind : (limit : ℕ) (x : ChannelSubscribeMessage) → AllByRecursion (SameKind (message.ChannelSubscribe x)) (channel_subscribe_parts limit x)
 subscribe_kind limit (subscribe.GetChannelMetadata x) = ((refl, refl), tt)
 subscribe_kind limit (subscribe.GetChannelMetadataResponse x) = all_map _ _ (λ g. (refl, refl)) _
@@ -124,25 +59,14 @@ subscribe_kind limit (subscribe.GetRangesResponse x) = all_map _ _ (λ g. (refl,
 subscribe_kind limit (subscribe.SubscribeChannelsResponse x) = all_map _ _ (λ g. (refl, refl)) _
 subscribe_kind limit (subscribe.ChannelsTruncated x) = all_map _ _ (λ g. (refl, refl)) _
 
-load_kind : (m : Message) → SameKind m (message.Core (core.Pong (record { current_date_time = pos 0 }))) → (limit : ℕ) (x : ChannelDataLoadMessage) → AllByRecursion (SameKind m) (channel_data_load_parts limit x)
-load_kind m e limit (load.OpenChannels x) = (e, tt)
-load_kind m e limit (load.OpenChannelsResponse x) = all_map (SameKind m) _ (λ g. e) _
-load_kind m e limit (load.CloseChannels x) = (e, tt)
-load_kind m e limit (load.LoadChannelData x) = (e, tt)
-load_kind m e limit (load.ReplaceRange x) = (e, tt)
-load_kind m e limit (load.ChannelsClosed x) = all_map (SameKind m) _ (λ g. e) _
-load_kind m e limit (load.ReplaceRangeResponse x) = (e, tt)
-load_kind m e limit (load.TruncateChannels x) = (e, tt)
-load_kind m e limit (load.TruncateChannelsResponse x) = all_map (SameKind m) _ (λ g. e) _
-
 parts_kind : (limit number k : ℕ) (m : Message) → AllByRecursion (SameKind m) (parts limit number k m)
-parts_kind limit number k (message.Core x) = core_kind (message.Core x) (refl, refl) limit x
+parts_kind limit number k (message.Core x) = core_each (SameKind (message.Core x)) (λ y. (refl, refl)) limit x
 parts_kind limit number k (message.Transaction x) = ((refl, refl), tt)
-parts_kind limit number k (message.Dataspace x) = dataspace_kind (message.Dataspace x) (refl, refl) limit x
-parts_kind limit number k (message.Store x) = store_kind (message.Store x) (refl, refl) limit number k x
-parts_kind limit number k (message.DataArray x) = array_kind (message.DataArray x) (refl, refl) limit x
+parts_kind limit number k (message.Dataspace x) = space_each (SameKind (message.Dataspace x)) (λ y. (refl, refl)) limit x
+parts_kind limit number k (message.Store x) = object_each (SameKind (message.Store x)) (λ y. (refl, refl)) limit number k x
+parts_kind limit number k (message.DataArray x) = array_each (SameKind (message.DataArray x)) (λ y. (refl, refl)) limit x
 parts_kind limit number k (message.ChannelSubscribe x) = subscribe_kind limit x
-parts_kind limit number k (message.ChannelDataLoad x) = load_kind (message.ChannelDataLoad x) (refl, refl) limit x
+parts_kind limit number k (message.ChannelDataLoad x) = load_each (SameKind (message.ChannelDataLoad x)) (λ y. (refl, refl)) limit x
 
 -- a property of kinds that holds of all that is said holds of its parts
 module _ (P : Bool → Bool → Type 0) where

@@ -18,6 +18,7 @@ mod Requesting
 mod Committed
 mod Reached
 mod Witness
+mod MessageParts
 mod Hearing
 mod Telling
 mod Owing
@@ -27,5 +28,10 @@ mod Stopping
 mod Moving
 mod Newsing
 mod Walking
+mod Arrivals
 mod Subscribing
 mod Streaming
+mod Speaking
+mod Deciding
+mod Replying
+mod Granting

@@ -156,7 +156,7 @@ hushed_said r xs s t quiet q = record {
 abbrev pub says_with : Request → List Saying → Subbed → State → State
 says_with r xs v m = said r xs (record m { subs = v })
 
-abbrev parts_in : State → List Saying → List Part
+abbrev pub parts_in : State → List Saying → List Part
 parts_in m xs = parts_of m.limit m.number m.blobs xs
 
 heard_said : (r : Request) (xs : List Saying) (v : Subbed) (s m : State) (sent : List Outgoing) (c : ℤ) → s.out ≡ [] → Hushed s m
@@ -167,7 +167,7 @@ heard_said r xs v s m sent c none q =
     ∙ ap (λ k. fold (hear c) k (numbered r m.next_id (parts_in m xs))) (q.unheard c (heard c sent) ∙ ap (fold (hear c) (heard c sent)) none)
 
 -- unless the ids are spent, all is said
-unspent : (b : Bool) (p : Phase) → is_spent_phase (spent_phase b p) ≡ false → b ≡ false
+pub unspent : (b : Bool) (p : Phase) → is_spent_phase (spent_phase b p) ≡ false → b ≡ false
 unspent true p e = absurd (false≢true (sym e))
 unspent false p e = refl
 

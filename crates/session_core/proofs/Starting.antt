@@ -38,7 +38,7 @@ use Rattle.subscribe_core.specs.Calls.{AreApart}
 use Rattle.subscribe_core.specs.Streams.{of_channel}
 use Rattle.subscribe_core.specs.Subscriptions.{Subbed, cursor_after, has_sub}
 use Rattle.subscribe_core.specs.Views.{sub_of}
-use Rattle.session_core.proofs.Hearing.{all_append}
+use Rattle.session_core.proofs.MessageParts.{all_append}
 use Rattle.session_core.proofs.Owing.{begins_at, told_up_to}
 use Rattle.subscribe_core.proofs.SubLemmas.{absent-has, apart-push, found-push}
 use Rattle.session_core.proofs.Standing.{IsChannel, absent-push, begun_is, has-absent, same_channel}
@@ -73,7 +73,7 @@ abbrev pub first_change : ℤ → List Point → List ChannelChange
 first_change channel [] = []
 first_change channel (p ∷ ps) = record { place = 0; channel = channel; at = pos 0; what = Append (p ∷ ps) } ∷ []
 
-first_told : (channel : ℤ) (ps : List Point) → first_notices channel ps ≡ map told_as (first_change channel ps)
+pub first_told : (channel : ℤ) (ps : List Point) → first_notices channel ps ≡ map told_as (first_change channel ps)
 first_told channel [] = refl
 first_told channel (p ∷ ps) = refl
 
@@ -87,18 +87,18 @@ first_of c channel [] false e = refl
 first_of c channel (p ∷ ps) true e = let x : ChannelChange = record { place = 0; channel = channel; at = pos 0; what = Append (p ∷ ps) } in ap (λ b. map (λ (x : ChannelChange). x.what) (cond b (x ∷ []) [])) e
 first_of c channel (p ∷ ps) false e = let x : ChannelChange = record { place = 0; channel = channel; at = pos 0; what = Append (p ∷ ps) } in ap (λ b. map (λ (x : ChannelChange). x.what) (cond b (x ∷ []) [])) e
 
-either_false : (a b : Bool) → (a || b) ≡ false → (a ≡ false) × (b ≡ false)
+pub either_false : (a b : Bool) → (a || b) ≡ false → (a ≡ false) × (b ≡ false)
 either_false true b h = absurd (false≢true (sym h))
 either_false false b h = (refl, h)
 
-any_push : (c z : ℤ) (xs : List ℤ) → list_any (int_eq c) (xs ++ z ∷ []) ≡ false → (list_any (int_eq c) xs ≡ false) × (int_eq c z ≡ false)
+pub any_push : (c z : ℤ) (xs : List ℤ) → list_any (int_eq c) (xs ++ z ∷ []) ≡ false → (list_any (int_eq c) xs ≡ false) × (int_eq c z ≡ false)
 any_push c z [] h = (refl, (either_false (int_eq c z) false h).0)
 any_push c z (x ∷ xs) h =
     let both = either_false (int_eq c x) (list_any (int_eq c) (xs ++ z ∷ [])) h in
     let rest = any_push c z xs both.1 in
     ((λ i. both.0 i || rest.0 i), rest.1)
 
-other_way : (a b : ℤ) → int_eq a b ≡ false → int_eq b a ≡ false
+pub other_way : (a b : ℤ) → int_eq a b ≡ false → int_eq b a ≡ false
 other_way a b h = grind (arith, ints)
 
 module _ (config : Config) (h : List Entry) (p : ℕ) (t : ℤ → List What) (first : Subbed) where

@@ -1,5 +1,5 @@
 -- The streams along a run.
-use Rattle.std.specs.Prelude.{ℕ, ℤ, Bool, true, false, List, [], ◌∷◌, ◌++◌, ◌≡◌, ◌≤◌, Option, Some, None, Result, Ok, Err, max, take, drop, length, nat_le, nat_lt, if◌then◌else◌, refl}
+use Rattle.std.specs.Prelude.{ℕ, ℤ, Bool, true, false, List, [], ◌∷◌, ◌++◌, ◌≡◌, ◌≤◌, Option, Some, None, max, take, drop, length, nat_lt, if◌then◌else◌, refl}
 use Rattle.std.proofs.Common.{ap, sym, ◌∙◌, subst, arith, append-nil}
 use Rattle.std.proofs.lemmas.Bool.{false≢true}
 use Rattle.std.proofs.lemmas.Bool.Decides.{nat_tests}
@@ -8,12 +8,6 @@ use mathlib.Core.List.{IsPrefix}
 use Rattle.chan_defs.specs.declared.config.Config.{Config}
 use Rattle.channel_rows.specs.Subscriptions.{news_call, news_from}
 use Rattle.channel_store.specs.declared.subscription.Sub.{Sub}
-use Rattle.etp_frame.specs.declared.error.FrameError.{FrameError}
-use Rattle.etp_frame.specs.declared.error.FrameError.TheVariants as frame
-use Rattle.etp_frame.specs.declared.header.Header.{Header}
-use Rattle.etp_frame.specs.declared.message.Message.{Message}
-use Rattle.etp_frame.specs.Reading.{read_of}
-use Rattle.etp_schema.specs.declared.body.Side.TheVariants.{Client}
 use Rattle.store_machine.specs.Answers.{answered}
 use Rattle.store_machine.specs.Laws.{NewsAreTheDue, NewsOfEach, NewsStayWithin}
 use Rattle.store_machine.specs.News.{stream}
@@ -29,9 +23,8 @@ use Rattle.session_core.specs.declared.state.Live.{Live}
 use Rattle.session_core.specs.declared.state.Outgoing.{Outgoing}
 use Rattle.session_core.specs.declared.state.Phase.{Phase}
 use Rattle.session_core.specs.declared.state.Phase.TheVariants as phase
-use Rattle.session_core.specs.declared.state.Request.{Request}
 use Rattle.session_core.specs.State.{State}
-use Rattle.session_core.specs.Arriving.{Event, Receives, Polls, arrived, arrived_as, arrived_by, error_event, follows, max_message_len, request_of, unless_stale}
+use Rattle.session_core.specs.Arriving.{Event, Receives, Polls, arrived}
 use Rattle.session_core.specs.Machine.{by_phase, given, on_poll, taken}
 use Rattle.session_core.specs.Run.{Course, Heeds, HeedsFrom, IsHeeded, answered_at, asked, drained, first_course, happens, happens_unless, hears, moment_of, run, run_from, takes}
 use Rattle.session_core.specs.Streams.{HasIds, HasSpent, HasStopped, HasTold, Stopped, IsStopCause, IsStopped, Rises, RunIsStreamed, RunIsToldAtIdle, heard, is_spent_course, is_spent_phase, owed, owed_by, owed_to}
@@ -40,30 +33,16 @@ use Rattle.session_core.proofs.RunLemmas.{run_snoc}
 use Rattle.session_core.proofs.Starting.{IsKnown, Keeps}
 use Rattle.session_core.proofs.Subscribing.{polling_leads, subscribing_leads}
 use Rattle.session_core.proofs.Walking.{IsReceived, Leads, phase_leads, quiet_leads}
+use Rattle.session_core.proofs.Arrivals.{IsArrival, arrival_of}
 
 -- ---- a message is no poll
 
-received_unless : (b : Bool) (r : Request) (a : Arrived) → IsReceived a → IsReceived (unless_stale b r a)
-received_unless true r a is = is
-received_unless false r a is = tt
-
-received_error : (last_id : ℤ) (e : FrameError) → IsReceived (error_event last_id e)
-received_error last_id (frame.Header why) = tt
-received_error last_id (frame.Extension h) = received_unless (follows last_id h.id) (request_of h) _ tt
-received_error last_id (frame.Compressed h) = received_unless (follows last_id h.id) (request_of h) _ tt
-received_error last_id (frame.UnknownProtocol h) = received_unless (follows last_id h.id) (request_of h) _ tt
-received_error last_id (frame.UnknownKind h) = received_unless (follows last_id h.id) (request_of h) _ tt
-received_error last_id (frame.Body h why) = received_unless (follows last_id h.id) (request_of h) _ tt
-received_error last_id (frame.Rest h at) = received_unless (follows last_id h.id) (request_of h) _ tt
-received_error last_id frame.NoMemory = tt
-
-received_as : (last_id moment : ℤ) (r : Result (Header × Message) FrameError) → IsReceived (arrived_as last_id moment r)
-received_as last_id moment (Ok x) = received_unless (follows last_id x.0.id) (request_of x.0) _ tt
-received_as last_id moment (Err e) = received_error last_id e
-
-received_by : (b : Bool) (last_id moment : ℤ) (bytes : List ℕ) → IsReceived (arrived_by b last_id moment bytes)
-received_by true last_id moment bytes = received_as last_id moment (read_of Client bytes)
-received_by false last_id moment bytes = tt
+received_of : (bytes : List ℕ) (moment : ℤ) (a : Arrived) → IsArrival (Receives bytes moment) a → IsReceived a
+received_of bytes moment (arrives.Unreadable c) is = tt
+received_of bytes moment (arrives.Stale r) is = tt
+received_of bytes moment (arrives.Refused r c) is = tt
+received_of bytes moment (arrives.Fresh h at m) is = tt
+received_of bytes moment (arrives.Polled front) is = is
 
 rises_top : (low : ℕ) (ps : List ℕ) (high : ℕ) → Rises low ps high → low ≤ high
 rises_top low [] high r = r
@@ -84,7 +63,7 @@ module _ (config : Config) (n : ℕ) (h : List Entry) (small : HasIds config) (s
       let e : Event = Receives bytes moment in
       phase_leads config h last r.sent r.state flowing (Causes r e) (CausesAt r e)
       (subscribing_leads config h last r.sent r.state flowing (Causes r e) (CausesAt r e) tt)
-      r.state.phase (arrived r.state.last_id e) (received_by (nat_le (length bytes) max_message_len) r.state.last_id moment bytes)
+      r.state.phase (arrived r.state.last_id e) (received_of bytes moment (arrived r.state.last_id e) (arrival_of r.state.last_id e))
   event_leads r last flowing (Polls front) = by r.state.phase
     where
       e : Event
@@ -234,6 +213,16 @@ module _ (config : Config) (n : ℕ) (h : List Entry) (small : HasIds config) (s
 
   kept_run : (places : List ℕ) (es : List Event) → Rises 0 places (length h) → Kept (run config n h places es)
   kept_run places es rises = kept_from (first_course config n places) es (kept_first places rises)
+
+  -- a session that has ids left had them before, and stands between two events with nothing left to send or to tell
+  pub alive_before : (places : List ℕ) (es : List Event) (e : Event) → is_spent_course (run config n h places (es ++ e ∷ [])) ≡ false → is_spent_course (run config n h places es) ≡ false
+  alive_before places es e live =
+      let r : Course = run config n h places es in
+      is_live (is_spent_course r) (λ spent. false≢true (sym live ∙ ap is_spent_course (run_snoc config n h (first_course config n places) es e) ∙ spent_stays r.short r e spent))
+
+  pub stands : (places : List ℕ) (es : List Event) → Rises 0 places (length h) → is_spent_course (run config n h places es) ≡ false
+      → ((run config n h places es).state.out ≡ []) × ((run config n h places es).state.subs.pending ≡ [])
+  stands places es rises live = let f = (kept_run places es rises).flows live in (f.out, f.keeps.pending)
 
   -- ---- the laws, of any course
 

@@ -61,7 +61,8 @@ use Rattle.session_core.specs.Machine.{Taken, asks, given, on_poll, on_subscript
 use Rattle.session_core.specs.Replies.{saying_of, sayings_of}
 use Rattle.session_core.specs.Sending.{blobs_after, ended, parts_of}
 use Rattle.session_core.specs.Streams.{Heard, HasIds, hear_stops}
-use Rattle.session_core.proofs.Hearing.{IsQuiet, all_append, hear_parts, kinds_one, notice_stops, notice_tells, parts_quiet, stops, tells}
+use Rattle.session_core.proofs.Hearing.{IsQuiet, hear_parts, kinds_one, notice_stops, notice_tells, parts_quiet, stops, tells}
+use Rattle.session_core.proofs.MessageParts.{all_append}
 use Rattle.session_core.proofs.Moving.{After, AreQuiet, Flow, Flowing, Hushed, all_weaker, grown_after, hushed_said, keeps_on, stopped_after}
 use Rattle.session_core.proofs.Newsing.{come, news_heard, news_keep, news_of, notes_said, told_on}
 use Rattle.subscribe_core.proofs.SubLemmas.{apart-others}
@@ -154,7 +155,7 @@ all_others P d (y ∷ ys) all = by (int_eq y.channel d) (all_others P d ys all.1
     by true rest = rest
     by false rest = (all.0, rest)
 
-sayings_append : (xs ys : List (Sending ChannelSubscribeMessage)) → sayings_of message.ChannelSubscribe (xs ++ ys) ≡ sayings_of message.ChannelSubscribe xs ++ sayings_of message.ChannelSubscribe ys
+pub sayings_append : (xs ys : List (Sending ChannelSubscribeMessage)) → sayings_of message.ChannelSubscribe (xs ++ ys) ≡ sayings_of message.ChannelSubscribe xs ++ sayings_of message.ChannelSubscribe ys
 sayings_append [] ys = refl
 sayings_append (x ∷ xs) ys = ap (λ l. saying_of message.ChannelSubscribe x ∷ l) (sayings_append xs ys)
 
@@ -164,7 +165,7 @@ told_notes (x ∷ xs) = ap (λ l. note x ∷ l) (told_notes xs)
 
 -- ---- what the store answers
 
-started_answer : (config : Config) (h : List Entry) (items : List (List ℕ × StartAsk)) → answered config h (call.Subscribe items) ≡ record { mark = length h; reply = answer.Started (started (channels_of config h) whole_room items) }
+pub started_answer : (config : Config) (h : List Entry) (items : List (List ℕ × StartAsk)) → answered config h (call.Subscribe items) ≡ record { mark = length h; reply = answer.Started (started (channels_of config h) whole_room items) }
 unfolding answered starts_after
 started_answer config h items = refl
 

@@ -28,7 +28,8 @@ use Rattle.session_core.specs.declared.state.Part.{Part}
 use Rattle.session_core.specs.declared.state.Saying.{Saying}
 use Rattle.session_core.specs.Sending.{blobs_after, parts_of}
 use Rattle.session_core.specs.Streams.{Heard, gathers, hear_message, point_in, points_in}
-use Rattle.session_core.proofs.Hearing.{gathered, hear_parts, hear_whole, notice_parts, all_map, all_append}
+use Rattle.session_core.proofs.Hearing.{gathered, hear_parts, hear_whole, notice_parts}
+use Rattle.session_core.proofs.MessageParts.{all_map, all_append}
 
 -- ---- the changes of a channel
 

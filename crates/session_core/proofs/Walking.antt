@@ -91,11 +91,11 @@ loads_quiet : (s : State) (r : Request) (x : Loaded) (m : State) → Hushed s m 
 loads_quiet s r x m q =
     hushed_said r (sayings_of message.ChannelDataLoad x.sendings) s (record m { opens = x.opens }) (quiet_sayings message.ChannelDataLoad (λ y. (refl, refl)) x.sendings) (record { config = q.config; subs = q.subs; unheard = q.unheard })
 
-away_objects : (stage : Option Transaction) (r : Request) (c : StoreCall) (p : ObjectPending) → IsAway (objects_kept stage r c p)
+pub away_objects : (stage : Option Transaction) (r : Request) (c : StoreCall) (p : ObjectPending) → IsAway (objects_kept stage r c p)
 away_objects None r c p = tt
 away_objects (Some x) r c p = tt
 
-away_arrays : (stage : Option Transaction) (r : Request) (c : StoreCall) (p : ArrayPending) → IsAway (arrays_kept stage r c p)
+pub away_arrays : (stage : Option Transaction) (r : Request) (c : StoreCall) (p : ArrayPending) → IsAway (arrays_kept stage r c p)
 away_arrays None r c p = tt
 away_arrays (Some x) r c p = tt
 

@@ -10,4 +10,5 @@ pub mod Fitting
 pub mod Staged
 pub mod Serial
 pub mod Streams
+pub mod Granting
 pub mod Committing

@@ -5,6 +5,7 @@ ghost use Rattle.session_core.specs.Fitting.{AnswersFit};
 ghost use Rattle.session_core.specs.Committing.{SerialIsMet};
 ghost use Rattle.session_core.specs.Serial.{CommittedIsSerial, RunIsSerial};
 ghost use Rattle.session_core.specs.Staged.{CallsWithin, LooksAddNothing, UncommittedIsUnseen};
+ghost use Rattle.session_core.specs.Granting.{SubscriptionsAreReplied};
 ghost use Rattle.session_core.specs.Streams.{RunIsStreamed, RunIsToldAtIdle};
 
 use store_machine::{conflict_laws, news_laws, state_laws};
@@ -70,6 +71,15 @@ pub fn serial()
 pub fn run_streams()
     ensures streams { RunIsStreamed }
     ensures idle { RunIsToldAtIdle }
+{
+    news_laws();
+}
+
+/// Where a session makes a subscription, the event is a request that names the channel under a key, and the reply to that
+/// request grants the key; it is sent before anything is told of the channel. No other message grants a key. What else an event
+/// sends is the changes that subscriptions are told, or that they end, or speaks of none.
+pub fn subscriptions_are_replied()
+    ensures { SubscriptionsAreReplied }
 {
     news_laws();
 }
