@@ -28,8 +28,8 @@ fn patch_of(
 ) -> Result<ArrayOp, NoMemory> {
     let starts = numbers(alloc, starts)?;
     let counts = numbers(alloc, counts)?;
-    let values = elements(alloc, kind, values)?;
     let key = key_of(alloc, space, path)?;
+    let values = elements(alloc, kind, values)?;
     Ok(ArrayOp::PatchArray {
         key,
         at: at.parse::<i64>().unwrap_or(0),
