@@ -31,6 +31,7 @@ mod Walking
 mod Arrivals
 mod Subscribing
 mod Streaming
+mod Fronts
 mod Speaking
 mod Deciding
 mod Replying

@@ -4,7 +4,6 @@ use Rattle.std.proofs.Common.{ap, sym, ◌∙◌, subst, arith, append-nil}
 use Rattle.std.proofs.lemmas.Bool.{false≢true}
 use Rattle.std.proofs.lemmas.Bool.Decides.{nat_tests}
 use Rattle.std.proofs.lemmas.Option.{none-some}
-use mathlib.Core.List.{IsPrefix}
 use Rattle.chan_defs.specs.declared.config.Config.{Config}
 use Rattle.channel_rows.specs.Subscriptions.{news_call, news_from}
 use Rattle.channel_store.specs.declared.subscription.Sub.{Sub}
@@ -27,7 +26,7 @@ use Rattle.session_core.specs.State.{State}
 use Rattle.session_core.specs.Arriving.{Event, Receives, Polls, arrived}
 use Rattle.session_core.specs.Machine.{by_phase, given, on_poll, taken}
 use Rattle.session_core.specs.Run.{Course, Heeds, HeedsFrom, IsHeeded, answered_at, asked, drained, first_course, happens, happens_unless, hears, moment_of, run, run_from, takes}
-use Rattle.session_core.specs.Streams.{HasIds, HasSpent, HasStopped, HasTold, Stopped, IsStopCause, IsStopped, Rises, RunIsStreamed, RunIsToldAtIdle, heard, is_spent_course, is_spent_phase, owed, owed_by, owed_to}
+use Rattle.session_core.specs.Streams.{HasIds, HasSpent, HasStopped, HasTold, IsCut, IsStopCause, IsStopped, Rises, RunIsStreamed, RunIsToldAtIdle, heard, is_spent_course, is_spent_phase, owed, owed_to}
 use Rattle.session_core.proofs.Moving.{After, Flow, Flowing, hushed_after, hushed_self, known_of, owed_is, stopped_same}
 use Rattle.session_core.proofs.RunLemmas.{run_snoc}
 use Rattle.session_core.proofs.Starting.{IsKnown, Keeps}
@@ -134,11 +133,11 @@ module _ (config : Config) (n : ℕ) (h : List Entry) (small : HasIds config) (s
 
   -- ---- what holds of every course
 
-  record Kept (r : Course) : Type 0 where
-    last : ℕ
-    rises : Rises last r.places (length h)
-    seen : last ≤ r.reach
-    flows : is_spent_course r ≡ false → Flowing config h last r.sent r.state
+  pub record Kept (r : Course) : Type 0 where
+    pub last : ℕ
+    pub rises : Rises last r.places (length h)
+    pub seen : last ≤ r.reach
+    pub flows : is_spent_course r ≡ false → Flowing config h last r.sent r.state
 
   flowing_after : (r t : Course) (e : Event) (x : Stepped r t e) → is_spent_course t ≡ false → Flowing config h x.last t.sent t.state
   flowing_after r t e x live =
@@ -188,7 +187,7 @@ module _ (config : Config) (n : ℕ) (h : List Entry) (small : HasIds config) (s
       let x : Stepped r (after_event r e) e = step r k.last (k.flows alive) k.rises k.seen e in
       record { last = x.last; rises = x.rises; seen = x.seen; flows = λ live. flowing_after r (after_event r e) e x live }
 
-  kept_step : (short : Bool) (r : Course) (e : Event) → Kept r → Kept (happens_unless config n h short r e)
+  pub kept_step : (short : Bool) (r : Course) (e : Event) → Kept r → Kept (happens_unless config n h short r e)
   unfolding after_event
   kept_step true r e k = k
   kept_step false r e k = kept_event r e k (is_spent_course r) refl
@@ -197,7 +196,7 @@ module _ (config : Config) (n : ℕ) (h : List Entry) (small : HasIds config) (s
   kept_from r [] k = k
   kept_from r (e ∷ es) k = kept_from (happens config n h r e) es (kept_step r.short r e k)
 
-  kept_first : (places : List ℕ) → Rises 0 places (length h) → Kept (first_course config n places)
+  pub kept_first : (places : List ℕ) → Rises 0 places (length h) → Kept (first_course config n places)
   kept_first places rises = record {
     last = 0;
     rises = rises;
@@ -226,7 +225,7 @@ module _ (config : Config) (n : ℕ) (h : List Entry) (small : HasIds config) (s
 
   -- ---- the laws, of any course
 
-  course_streams : (r : Course) → Kept r → is_spent_course r ≡ false → (c : ℤ) → ((heard c r.sent).told ≡ owed h r.state.subs c) × ((heard c r.sent).part ≡ [])
+  pub course_streams : (r : Course) → Kept r → is_spent_course r ≡ false → (c : ℤ) → ((heard c r.sent).told ≡ owed h r.state.subs c) × ((heard c r.sent).part ≡ [])
   course_streams r k live c =
       let f = k.flows live in
       ((f.flows c).told ∙ owed_is config h k.last r.state.subs c f.keeps f.top, (f.flows c).part)
@@ -240,26 +239,21 @@ module _ (config : Config) (n : ℕ) (h : List Entry) (small : HasIds config) (s
       subst (λ (v : Subbed). IsStopped (Causes r e) (sub_of c r.state.subs.subs) (sub_of c v.subs) (heard c r.sent).told (heard c r.sent).stops (heard c t.sent).stops) (sym (ap (λ (y : State). y.subs) x.is))
       (subst (λ (l : List Outgoing). IsStopped (Causes r e) (sub_of c r.state.subs.subs) (sub_of c x.state.subs.subs) (heard c r.sent).told (heard c r.sent).stops (heard c l).stops) (sym x.sent) (x.after.stops alive c))
 
-  course_stops : (short : Bool) (r : Course) (e : Event) → Kept r → is_spent_course (happens_unless config n h short r e) ≡ false → StopsLaw r (happens_unless config n h short r e) e
+  pub course_stops : (short : Bool) (r : Course) (e : Event) → Kept r → is_spent_course (happens_unless config n h short r e) ≡ false → StopsLaw r (happens_unless config n h short r e) e
   course_stops true r e k live c = stopped_same (Causes r e) (sub_of c r.state.subs.subs) (sub_of c r.state.subs.subs) (heard c r.sent).told (heard c r.sent).stops (heard c r.sent).stops refl refl
   course_stops false r e k live c =
       let alive : is_spent_course r ≡ false = is_live (is_spent_course r) (λ spent. false≢true (sym live ∙ ended_stays r e spent)) in
       stepped_stops r (asked config n h (moment_of e) r (takes r.state e).state (takes r.state e).call) e (step r k.last (k.flows alive) k.rises k.seen e) live c
 
-  -- what spent ids leave of an event: a beginning of what was owed, and of the stops
-  abbrev IsCut : Course → Event → Subbed → List Outgoing → Type 0
-  IsCut r e v sent =
-      (c : ℤ) → IsPrefix (heard c sent).told (owed_by h r.state.subs v (sub_of c v.subs) c)
-      × ((all : List Stopped) × IsStopped (Causes r e) (sub_of c r.state.subs.subs) (sub_of c v.subs) (heard c r.sent).told (heard c r.sent).stops all × IsPrefix (heard c sent).stops all)
-
-  stepped_cut : (r t : Course) (e : Event) → Stepped r t e → is_spent_course t ≡ true → IsCut r e t.state.subs t.sent
+  -- what spent ids leave of an event
+  stepped_cut : (r t : Course) (e : Event) → Stepped r t e → is_spent_course t ≡ true → IsCut config h r e t.state.subs t.sent
   stepped_cut r t e x spent =
       let ended : is_spent_phase x.state.phase ≡ true = ap (λ (y : State). is_spent_phase y.phase) (sym x.is) ∙ spent in
-      subst (λ (v : Subbed). IsCut r e v t.sent) (sym (ap (λ (y : State). y.subs) x.is))
-      (subst (λ (l : List Outgoing). IsCut r e x.state.subs l) (sym x.sent) (λ c. (x.after.fronts ended c, x.after.cuts ended c)))
+      subst (λ (v : Subbed). IsCut config h r e v t.sent) (sym (ap (λ (y : State). y.subs) x.is))
+      (subst (λ (l : List Outgoing). IsCut config h r e x.state.subs l) (sym x.sent) (λ c. (x.after.fronts ended c, x.after.cuts ended c)))
 
-  course_cut : (short : Bool) (r : Course) (e : Event) → Kept r → is_spent_course r ≡ false → is_spent_course (happens_unless config n h short r e) ≡ true
-      → IsCut r e (happens_unless config n h short r e).state.subs (happens_unless config n h short r e).sent
+  pub course_cut : (short : Bool) (r : Course) (e : Event) → Kept r → is_spent_course r ≡ false → is_spent_course (happens_unless config n h short r e) ≡ true
+      → IsCut config h r e (happens_unless config n h short r e).state.subs (happens_unless config n h short r e).sent
   course_cut true r e k alive spent = absurd (false≢true (sym alive ∙ spent))
   course_cut false r e k alive spent =
       stepped_cut r (asked config n h (moment_of e) r (takes r.state e).state (takes r.state e).call) e (step r k.last (k.flows alive) k.rises k.seen e) spent
@@ -267,10 +261,10 @@ module _ (config : Config) (n : ℕ) (h : List Entry) (small : HasIds config) (s
   -- ---- the event that spends the ids
 
   -- nothing changes any more
-  record IsSame (r t : Course) : Type 0 where
-    sent : t.sent ≡ r.sent
-    subs : t.state.subs ≡ r.state.subs
-    out : t.state.out ≡ []
+  pub record IsSame (r t : Course) : Type 0 where
+    pub sent : t.sent ≡ r.sent
+    pub subs : t.state.subs ≡ r.state.subs
+    pub out : t.state.out ≡ []
 
   spent_one : (short : Bool) (r : Course) (e : Event) → is_spent_course r ≡ true → r.state.out ≡ [] → IsSame r (happens_unless config n h short r e)
   unfolding takes
@@ -281,7 +275,7 @@ module _ (config : Config) (n : ℕ) (h : List Entry) (small : HasIds config) (s
       by (phase.Live l) f = absurd (false≢true (sym (ap is_spent_phase f) ∙ spent))
       by (phase.Ended x) f = record { sent = ap (λ (l : List Outgoing). r.sent ++ l) none ∙ append-nil r.sent; subs = refl; out = refl }
 
-  spent_same : (r : Course) (es : List Event) → is_spent_course r ≡ true → r.state.out ≡ [] → IsSame r (run_from config n h r es)
+  pub spent_same : (r : Course) (es : List Event) → is_spent_course r ≡ true → r.state.out ≡ [] → IsSame r (run_from config n h r es)
   spent_same r [] spent none = record { sent = refl; subs = refl; out = none }
   spent_same r (e ∷ es) spent none =
       let one : IsSame r (happens config n h r e) = spent_one r.short r e spent none in
@@ -296,7 +290,7 @@ module _ (config : Config) (n : ℕ) (h : List Entry) (small : HasIds config) (s
   asked_out at r t None = refl
   asked_out at r t (Some call) = answered_out at r t call r.places
 
-  event_out : (short : Bool) (r : Course) (e : Event) → r.state.out ≡ [] → (happens_unless config n h short r e).state.out ≡ []
+  pub event_out : (short : Bool) (r : Course) (e : Event) → r.state.out ≡ [] → (happens_unless config n h short r e).state.out ≡ []
   event_out true r e none = none
   event_out false r e none = asked_out (moment_of e) r (takes r.state e).state (takes r.state e).call
 
@@ -307,7 +301,7 @@ module _ (config : Config) (n : ℕ) (h : List Entry) (small : HasIds config) (s
     later : List Event
     split : es ≡ before ++ e ∷ later
     alive : is_spent_course (run_from config n h r before) ≡ false
-    cut : IsCut (run_from config n h r before) e (run_from config n h r es).state.subs (run_from config n h r es).sent
+    cut : IsCut config h (run_from config n h r before) e (run_from config n h r es).state.subs (run_from config n h r es).sent
 
   spent_at : (r : Course) (es : List Event) → Kept r → is_spent_course r ≡ false → is_spent_course (run_from config n h r es) ≡ true → SpentAt r es
   spent_at r [] k alive spent = absurd (false≢true (sym alive ∙ spent))
@@ -323,8 +317,8 @@ module _ (config : Config) (n : ℕ) (h : List Entry) (small : HasIds config) (s
             split = refl;
             alive = alive;
             cut =
-                subst (λ (v : Subbed). IsCut r e v (run_from config n h r (e ∷ es)).sent) (sym same.subs)
-                (subst (λ (l : List Outgoing). IsCut r e (happens config n h r e).state.subs l) (sym same.sent) (course_cut r.short r e k alive f));
+                subst (λ (v : Subbed). IsCut config h r e v (run_from config n h r (e ∷ es)).sent) (sym same.subs)
+                (subst (λ (l : List Outgoing). IsCut config h r e (happens config n h r e).state.subs l) (sym same.sent) (course_cut r.short r e k alive f));
           }
       by false f rest =
           let x : SpentAt (happens config n h r e) es = rest f in

@@ -187,18 +187,22 @@ abbrev pub owed_by : List Entry → Subbed → Subbed → Option Sub → ℤ →
 owed_by h before after None channel = owed h before channel
 owed_by h before after (Some s) channel = stream_to h after.cursor s
 
--- where a run has spent its ids, one of its events did: what was told to its last part is a beginning of what was owed by that
--- event, and no subscription is stopped but as that event stops them
+-- messages that end within what an event sends say no more than the event does, which led from this course to these subscriptions:
+-- what is told to its last part is a beginning of what was owed by the event, and no subscription is stopped but as it stops them
+abbrev pub IsCut : Config → List Entry → Course → Event → Subbed → List Outgoing → Type 0
+IsCut config h r e after sent = (channel : ℤ)
+    → IsPrefix (heard channel sent).told (owed_by h r.state.subs after (sub_of channel after.subs) channel)
+    × ((all : List Stopped)
+    × IsStopped (IsStopCause config h r.state.subs r.places e) (sub_of channel r.state.subs.subs) (sub_of channel after.subs) (heard channel r.sent).told (heard channel r.sent).stops all
+    × IsPrefix (heard channel sent).stops all)
+
+-- where a run has spent its ids, one of its events did, and what was sent ends within what that event sends
 abbrev pub HasSpent : Config → ℕ → List Entry → List ℕ → List Event → Type 0
 HasSpent config n h places es =
     let t = run config n h places es in
     is_spent_course t ≡ true
     → (before : List Event) × (e : Event) × (later : List Event) × (es ≡ before ++ e ∷ later) × (is_spent_course (run config n h places before) ≡ false)
-    × ((channel : ℤ) → let r = run config n h places before in
-    IsPrefix (heard channel t.sent).told (owed_by h r.state.subs t.state.subs (sub_of channel t.state.subs.subs) channel)
-    × ((all : List Stopped)
-    × IsStopped (IsStopCause config h r.state.subs r.places e) (sub_of channel r.state.subs.subs) (sub_of channel t.state.subs.subs) (heard channel r.sent).told (heard channel r.sent).stops all
-    × IsPrefix (heard channel t.sent).stops all))
+    × IsCut config h (run config n h places before) e t.state.subs t.sent
 
 -- in the run of these events: what was told is so before each of them and after all, each of them stops subscriptions so, and
 -- where they spent the ids, it is so
@@ -221,3 +225,24 @@ IsToldAtIdle config n h places es = (before later : List Event) (front : ℕ) �
 abbrev pub RunIsToldAtIdle : Type 0
 RunIsToldAtIdle = (config : Config) (n : ℕ) (h : List Entry) (places : List ℕ) (es : List Event) → HasIds config → Rises 0 places (length h) → Heeds config n h places es
     → IsToldAtIdle config n h places es
+
+-- a front of what the run of these events sends, as a link that fails leaves it, ends within what one of them sends, before which
+-- the ids were not spent
+pub record EndsWithin (config : Config) (n : ℕ) (h : List Entry) (places : List ℕ) (es : List Event) (front : List Outgoing) : Type 0 where
+  pub before : List Event
+  pub e : Event
+  pub later : List Event
+  pub split : es ≡ before ++ e ∷ later
+  pub alive : is_spent_course (run config n h places before) ≡ false
+  pub low : IsPrefix (run config n h places before).sent front
+  pub high : IsPrefix front (run config n h places (before ++ e ∷ [])).sent
+  pub cut : IsCut config h (run config n h places before) e (run config n h places (before ++ e ∷ [])).state.subs front
+
+-- without events nothing is sent
+abbrev pub HasFront : Config → ℕ → List Entry → List ℕ → List Event → List Outgoing → Type 0
+HasFront config n h places [] front = front ≡ []
+HasFront config n h places (e ∷ es) front = EndsWithin config n h places (e ∷ es) front
+
+abbrev pub FrontIsStreamed : Type 0
+FrontIsStreamed = (config : Config) (n : ℕ) (h : List Entry) (places : List ℕ) (es : List Event) (front : List Outgoing) → HasIds config → Rises 0 places (length h)
+    → IsPrefix front (run config n h places es).sent → HasFront config n h places es front

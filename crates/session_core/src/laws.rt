@@ -6,7 +6,7 @@ ghost use Rattle.session_core.specs.Committing.{SerialIsMet};
 ghost use Rattle.session_core.specs.Serial.{CommittedIsSerial, RunIsSerial};
 ghost use Rattle.session_core.specs.Staged.{CallsWithin, LooksAddNothing, UncommittedIsUnseen};
 ghost use Rattle.session_core.specs.Granting.{SubscriptionsAreReplied};
-ghost use Rattle.session_core.specs.Streams.{RunIsStreamed, RunIsToldAtIdle};
+ghost use Rattle.session_core.specs.Streams.{FrontIsStreamed, RunIsStreamed, RunIsToldAtIdle};
 
 use store_machine::{conflict_laws, news_laws, state_laws};
 use tx_stage::look_laws;
@@ -66,11 +66,13 @@ pub fn serial()
 /// A subscription is told a segment of the one history: the channel's points from its start on as they were when the store
 /// accepted it, and then each later change up to the session's cursor, clipped to its start and kind, whatever others did in
 /// between. It is stopped once, with its cause and at what was told up to then, and nothing of it follows its stop. Where an
-/// event spends the session's message ids, what was sent to its last part is a beginning of that; where a poll asks nothing, the
-/// cursor is the front that it told of.
+/// event spends the session's message ids, what was sent to its last part is a beginning of that, and so it is in each front of
+/// what is sent, where the messages are cut off after any number of them; where a poll asks nothing, the cursor is the front
+/// that it told of.
 pub fn run_streams()
     ensures streams { RunIsStreamed }
     ensures idle { RunIsToldAtIdle }
+    ensures fronts { FrontIsStreamed }
 {
     news_laws();
 }
