@@ -1,14 +1,25 @@
 //! The client by the command line: `etpctl put URL URI FILE`, `etpctl get URL URI`, `etpctl load URL URI` and `etpctl watch URL URI COUNT`.
 //! What each does is said in `client_forms`, where the work is. A channel that is watched is shown by its last point, its last ten
 //! points, and counts.
+//!
+//! Where standard error is a terminal, [`Progress`] tells there how many points `load` has read and how many changes `watch` has seen, about
+//! once a second. It counts in the input that the run is handed ([`CountedSource`]) and in a view more that has no lines ([`CountedChanges`]), so
+//! that neither what is written nor how the run ends depends on it.
 #![tactic(auto)]
 
-use client_forms::run_program;
-use etp_outside::Status;
+mod counted_changes;
+mod counted_source;
+mod progress;
+mod run;
+
+use client_forms::tell;
+use counted_changes::CountedChanges;
+use etp_outside::{Status, StdSink};
 use etp_values::NoMemory;
-use program_status::finish;
+use progress::{Counted, Progress};
+use run::run_words;
 use std::alloc::Global;
-use std::io::Write;
+use std::io::{IsTerminal, Write};
 use std::process::ExitCode;
 use watch_views::{Counts, Latest, View, Window};
 
@@ -18,13 +29,23 @@ const WINDOW_LEN: u64 = 10;
 fn main(rt: HostRuntime) -> ExitCode {
     let alloc = rt.alloc();
     let Ok((latest, window, counts)) = parts(alloc) else {
-        return no_memory(alloc, rt.stderr());
+        return finish(alloc, Status::NoMemory, rt.stderr());
     };
     let mut views: Vec<Box<dyn View>> = Vec::new(alloc);
     if views.push(latest).is_err() || views.push(window).is_err() || views.push(counts).is_err() {
-        return no_memory(alloc, rt.stderr());
+        return finish(alloc, Status::NoMemory, rt.stderr());
     }
-    run_program(&rt, views, rt.stderr())
+    let is_shown = rt.stderr().is_terminal();
+    if is_shown {
+        let changes = Progress::new(Counted::Changes, is_shown, rt, StdSink::new(rt.stderr()));
+        // Without memory for it the run goes on, and nothing is told.
+        if let Ok(view) = Box::new(alloc, CountedChanges::new(changes)) {
+            let _ = views.push(view);
+        }
+    }
+    let points = Progress::new(Counted::Points, is_shown, rt, StdSink::new(rt.stderr()));
+    let status = run_words(&rt, views, points);
+    finish(alloc, status, rt.stderr())
 }
 
 /// What shows a channel.
@@ -37,7 +58,8 @@ fn parts(alloc: Global) -> Result<Parts, NoMemory> {
     Ok((latest, window, counts))
 }
 
-/// There was no memory for what shows a channel.
-fn no_memory<E: Write + Drop>(alloc: Global, errors: E) -> ExitCode {
-    finish(alloc, Status::NoMemory, b"", errors)
+/// Tells `errors` how the client has ended, and gives its exit status.
+fn finish<E: Write + Drop>(alloc: Global, status: Status, errors: E) -> ExitCode {
+    tell(alloc, status, &mut StdSink::new(errors));
+    ExitCode::from(status.number())
 }

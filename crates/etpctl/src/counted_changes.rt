@@ -1,0 +1,51 @@
+//! The changes of a channel, counted.
+ghost use Rattle.std.specs.Prelude.{◌≡◌, ◌++◌, ◌+◌, [], ℕ, OnErr, OnOk};
+ghost use Rattle.etp_values.specs.Weight.{capped};
+ghost use Rattle.watch_views.specs.Held.{of_numbers};
+
+use crate::progress::Progress;
+use channel_store::ChangeMsg;
+use etp_outside::Sink;
+use etp_values::NoMemory;
+use std::alloc::Global;
+use std::time;
+use watch_views::View;
+
+/// A view that has no lines, and tells how many changes there were as they come.
+#[derive(Drop)]
+pub(crate) struct CountedChanges<T: time::Clock, W: Sink> {
+    progress: Progress<T, W>,
+}
+
+impl<T: time::Clock, W: Sink> CountedChanges<T, W> {
+    pub(crate) fn new(progress: Progress<T, W>) -> CountedChanges<T, W>
+        ensures { result.progress ≡ progress }
+    {
+        CountedChanges { progress }
+    }
+
+    /// One more, which may be told.
+    fn see(&mut self)
+        ensures { self.new.progress.count ≡ capped (self.old.progress.count + 1) }
+    {
+        self.progress.add(1);
+        self.progress.tell();
+    }
+}
+
+impl<T: time::Clock + Drop, W: Sink + Drop> View for CountedChanges<T, W> {
+    ghost held = { λ v. of_numbers [] };
+
+    ghost step = { λ v h w. h };
+
+    ghost shown = { λ v h. [] };
+
+    fn change(&mut self, _alloc: Global, _change: &ChangeMsg) -> Result<(), NoMemory> {
+        self.see();
+        Ok(())
+    }
+
+    fn lines(&self, _alloc: Global, _into: &mut Vec<u8>) -> Result<(), NoMemory> {
+        Ok(())
+    }
+}
