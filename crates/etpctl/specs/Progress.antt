@@ -4,11 +4,11 @@ use Rattle.std.specs.Fmt.{decimal}
 use Rattle.std.specs.Io.KnownBytes.{Appends}
 use Rattle.etp_values.specs.Weight.{capped}
 use Rattle.etp_outside.specs.Faults.{Rose}
+use Rattle.etp_outside.specs.Whole.{AppendsFront}
 use Rattle.etp_outside.specs.declared.source.ReadOutcome.{ReadOutcome}
 use Rattle.etp_outside.specs.declared.source.ReadOutcome.TheVariants.{Got, End, Failed as ReadFailed}
 use Rattle.etp_outside.specs.declared.whole.Written.{Written}
 use Rattle.etp_outside.specs.declared.whole.Written.TheVariants.{Done, Failed as WriteFailed}
-use Rattle.program_status.specs.Told.{IsTold}
 use Rattle.etpctl.specs.declared.progress.Counted.{Counted}
 use Rattle.etpctl.specs.declared.progress.Counted.TheVariants.{Points, Changes}
 
@@ -21,10 +21,10 @@ counted_text Changes = codes " changes seen\n"
 abbrev pub progress_line : Counted → ℕ → List ℕ
 progress_line what count = codes "etpctl: " ++ decimal count ++ counted_text what
 
--- what writing a text leaves of an output: it stands there whole, or a front of it does, and the output has failed
+-- what writing a text leaves of an output: all of it stands there, or a front of it that is not all, and the output has failed
 abbrev pub IsWritten : Written → List ℕ → Option (List ℕ) → Option (List ℕ) → ℕ → ℕ → Type 0
 IsWritten Done text held kept before after = Appends held kept text × (before ≤ after)
-IsWritten WriteFailed text held kept before after = IsTold text held kept × Rose before after
+IsWritten WriteFailed text held kept before after = AppendsFront held kept text × Rose before after
 
 -- what telling leaves of an output, where somebody looks on or not, and the line was told in this second or not: where it is told, it is written once
 abbrev pub Tells : Bool → Bool → List ℕ → Option (List ℕ) → Option (List ℕ) → ℕ → ℕ → Type 0

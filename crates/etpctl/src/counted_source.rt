@@ -1,5 +1,5 @@
 //! An input whose points are counted.
-ghost use Rattle.std.specs.Prelude.{◌≡◌, ◌≤◌, ◌==◌, count_by, length};
+ghost use Rattle.std.specs.Prelude.{◌≡◌, ◌<◌, ◌≤◌, length};
 ghost use Rattle.etp_outside.specs.Faults.{Rose};
 ghost use Rattle.etp_outside.specs.Source.{IsCount, Reads};
 ghost use Rattle.etpctl.specs.Progress.{count_with, line_feeds};
@@ -30,6 +30,7 @@ impl<S: Source, T: time::Clock, W: Sink> Source for CountedSource<S, T, W> {
     ghost faults = { λ s. S.faults s.source };
 
     fn read(&mut self, buf: &mut [u8]) -> ReadOutcome
+        requires { 0 < length buf.old }
         ensures count { IsCount result (length buf.new) }
         ensures bytes { Reads result buf.new (S.left self.old.source) (S.left self.new.source) }
         ensures kept { S.faults self.old.source ≤ S.faults self.new.source }

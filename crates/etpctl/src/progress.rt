@@ -1,5 +1,5 @@
 //! What is told while a command goes on for long.
-ghost use Rattle.std.specs.Prelude.{◌≡◌, ◌+◌, ◌++◌, ◌==◌, ℕ, List};
+ghost use Rattle.std.specs.Prelude.{◌≡◌, ◌+◌, ◌++◌, ◌==◌, ℕ, List, true};
 ghost use Rattle.std.specs.declared.option.Option.{Option};
 ghost use Rattle.etp_values.specs.Weight.{capped};
 ghost use Rattle.etpctl.specs.Progress.{IsWritten, Tells, counted_text, progress_line};
