@@ -1,6 +1,7 @@
 //! The changes of a channel, counted.
-ghost use Rattle.std.specs.Prelude.{◌≡◌, ◌++◌, ◌+◌, [], ℕ, OnErr, OnOk};
+ghost use Rattle.std.specs.Prelude.{◌≡◌, ◌+◌, ◌==◌, []};
 ghost use Rattle.etp_values.specs.Weight.{capped};
+ghost use Rattle.etpctl.specs.Progress.{Tells, progress_line};
 ghost use Rattle.watch_views.specs.Held.{of_numbers};
 
 use crate::progress::Progress;
@@ -26,7 +27,9 @@ impl<T: time::Clock, W: Sink> CountedChanges<T, W> {
 
     /// One more, which may be told.
     fn see(&mut self)
-        ensures { self.new.progress.count ≡ capped (self.old.progress.count + 1) }
+        ensures counts { self.new.progress.count ≡ capped (self.old.progress.count + 1) }
+        ensures told { Tells self.old.progress.is_shown (self.new.progress.second == self.old.progress.second) (progress_line self.old.progress.counted (capped (self.old.progress.count + 1)))
+            (W.held self.old.progress.errors) (W.held self.new.progress.errors) (W.faults self.old.progress.errors) (W.faults self.new.progress.errors) }
     {
         self.progress.add(1);
         self.progress.tell();

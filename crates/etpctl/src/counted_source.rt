@@ -1,8 +1,8 @@
 //! An input whose points are counted.
-ghost use Rattle.std.specs.Prelude.{◌≡◌, ◌<◌, ◌≤◌, length};
+ghost use Rattle.std.specs.Prelude.{◌≡◌, ◌<◌, ◌≤◌, ◌==◌, length};
 ghost use Rattle.etp_outside.specs.Faults.{Rose};
 ghost use Rattle.etp_outside.specs.Source.{IsCount, Reads};
-ghost use Rattle.etpctl.specs.Progress.{count_with, line_feeds};
+ghost use Rattle.etpctl.specs.Progress.{Tells, count_with, line_feeds, progress_line};
 
 use crate::progress::Progress;
 use etp_outside::{ReadOutcome, Sink, Source};
@@ -36,6 +36,8 @@ impl<S: Source, T: time::Clock, W: Sink> Source for CountedSource<S, T, W> {
         ensures kept { S.faults self.old.source ≤ S.faults self.new.source }
         ensures cause { result ≡ ReadOutcome.Failed → Rose (S.faults self.old.source) (S.faults self.new.source) }
         ensures counts { self.new.progress.count ≡ count_with result buf.new self.old.progress.count }
+        ensures told { Tells self.old.progress.is_shown (self.new.progress.second == self.old.progress.second) (progress_line self.old.progress.counted self.old.progress.count)
+            (W.held self.old.progress.errors) (W.held self.new.progress.errors) (W.faults self.old.progress.errors) (W.faults self.new.progress.errors) }
     {
         self.progress.tell();
         let outcome = self.source.read(buf);

@@ -31,7 +31,7 @@ pub(crate) struct Progress<T: time::Clock, W: Sink> {
 impl<T: time::Clock, W: Sink> Progress<T, W> {
     /// None yet. Nothing is told in the second in which this is called.
     pub(crate) fn new(counted: Counted, is_shown: bool, clock: T, errors: W) -> Progress<T, W>
-        ensures { (result.counted ≡ counted) × (result.count ≡ 0) × (result.is_shown ≡ is_shown) × (result.errors ≡ errors) }
+        ensures { (result.counted ≡ counted) × (result.count ≡ 0) × (result.is_shown ≡ is_shown) × (result.clock ≡ clock) × (result.errors ≡ errors) }
     {
         Progress {
             counted,
@@ -52,7 +52,7 @@ impl<T: time::Clock, W: Sink> Progress<T, W> {
 
     /// Tells how many there are, unless nobody looks on, or something was told in this second. What can't be written is lost.
     pub(crate) fn tell(&mut self)
-        ensures same { (self.new.counted ≡ self.old.counted) × (self.new.count ≡ self.old.count) × (self.new.is_shown ≡ self.old.is_shown) }
+        ensures same { (self.new.counted ≡ self.old.counted) × (self.new.count ≡ self.old.count) × (self.new.is_shown ≡ self.old.is_shown) × (self.new.clock ≡ self.old.clock) }
         ensures told { Tells self.old.is_shown (self.new.second == self.old.second) (progress_line self.old.counted self.old.count)
             (W.held self.old.errors) (W.held self.new.errors) (W.faults self.old.errors) (W.faults self.new.errors) }
     {
@@ -64,7 +64,7 @@ impl<T: time::Clock, W: Sink> Progress<T, W> {
 
     /// Tells it in a second in which nothing was told yet.
     fn tell_in(&mut self, second: u64)
-        ensures same { (self.new.counted ≡ self.old.counted) × (self.new.count ≡ self.old.count) × (self.new.is_shown ≡ self.old.is_shown) × (self.new.second ≡ second) }
+        ensures same { (self.new.counted ≡ self.old.counted) × (self.new.count ≡ self.old.count) × (self.new.is_shown ≡ self.old.is_shown) × (self.new.clock ≡ self.old.clock) × (self.new.second ≡ second) }
         ensures told { Tells true (second == self.old.second) (progress_line self.old.counted self.old.count)
             (W.held self.old.errors) (W.held self.new.errors) (W.faults self.old.errors) (W.faults self.new.errors) }
     {

@@ -1,5 +1,4 @@
-use Rattle.std.proofs.Common.{subst, sym}
-use Rattle.etp_outside.specs.declared.whole.Written.TheVariants.{Done, Failed}
+use Rattle.std.proofs.Common.{subst}
 use Rattle.etpctl.specs.Progress.{IsWritten}
 use Rattle.etpctl.proofs.Pieces.{piece_written, piece_lost}
 use Rattle.etpctl.proofs.progress.write_behind.Goals as goal
