@@ -14,6 +14,6 @@ returns g c =
     let number = c.write_behind-number.ensures (codes "etpctl: ") held faults name in
     let all = c.write_behind.ensures (codes "etpctl: " ++ c.as_bytes.result.now) held faults number in
     let same : (codes "etpctl: " ++ c.as_bytes.result.now) ++ c.counted_text.result.now ≡ progress_line c.args.counted c.args.count =
-        ap (λ t. (codes "etpctl: " ++ t) ++ c.counted_text.result.now) (c.as_bytes.ensures.value ∙ c.format.ensures.text)
-        ∙ ap (λ t. (codes "etpctl: " ++ decimal c.args.count) ++ t) c.counted_text.ensures in
+    ap (λ t. (codes "etpctl: " ++ t) ++ c.counted_text.result.now) (c.as_bytes.ensures.value ∙ c.format.ensures.text)
+    ∙ ap (λ t. (codes "etpctl: " ++ decimal c.args.count) ++ t) c.counted_text.ensures in
     subst (λ t. IsWritten c.write_behind.result t held (g.W.Sink.held c.write_behind.new.errors) faults (g.W.Sink.faults c.write_behind.new.errors)) same all
