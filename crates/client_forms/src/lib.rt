@@ -3,8 +3,7 @@
 //! What a command sends, writes and answers is `ctl` of `specs/Ctl`: a fold over the items that its link took, by the moments that its
 //! clock told. [`talk`] has the pieces of work that commands are made of, each a step of that fold, and each command is a [`Command`](command::Command).
 //!
-//! [`run_client`] does what words ask for over any host, dialer, input, output and clock. [`run_program`] does it over the system, and is
-//! all that a `main` calls.
+//! [`run_client`] does what words ask for over any host, dialer, input, output and clock, and [`tell`] says how that ended.
 #![tactic(auto)]
 
 mod action;
@@ -20,5 +19,5 @@ mod stop;
 mod talk;
 mod watching;
 
-pub use program::{run_program, tell};
+pub use program::tell;
 pub use run::run_client;
