@@ -15,11 +15,11 @@ use Rattle.msg_channel.specs.declared.channel_subscribe_messages.ChannelSubscrib
 use Rattle.msg_channel.specs.declared.channel_subscribe_messages.SubscribeChannelsResponse.{SubscribeChannelsResponse}
 use Rattle.both_ends.specs.Beginnings.{IsAccepted, RepliesAccept}
 
-abbrev reply_of : SubscribeChannelsResponse → Message
+abbrev pub reply_of : SubscribeChannelsResponse → Message
 reply_of x = message.ChannelSubscribe (subscribe.SubscribeChannelsResponse x)
 
 -- the client with a subscription more, and what it hands on
-abbrev begun_with : ℤ → Header → Heard → Taken
+abbrev pub begun_with : ℤ → Header → Heard → Taken
 begun_with channel h s = record { state = record s { last = h.id; asks = without h.correlation s.asks; channels = subscribed channel s.channels }; result = Ok (got.Done h.correlation ∷ []) }
 
 module _ (limit number blobs : ℕ) (x : SubscribeChannelsResponse) (channel : ℤ) (h : Header) (sent : List Sent) (s : Heard) (n : IsAccepted limit number blobs x channel h sent s) where

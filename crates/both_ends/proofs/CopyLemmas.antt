@@ -50,7 +50,7 @@ copied law config id start m (suc k) h legal = elim (cases_lt m (length (take (s
 
 -- ---- the subscription of a channel
 
-int_eq_is : (a b : ℤ) → int_eq a b ≡ true → a ≡ b
+pub int_eq_is : (a b : ℤ) → int_eq a b ≡ true → a ≡ b
 int_eq_is a b h = grind (arith, ints)
 
 abbrev channel_or : ℤ → Option Sub → ℤ

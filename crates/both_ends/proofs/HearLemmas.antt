@@ -37,14 +37,14 @@ use Rattle.both_ends.proofs.NewsLemmas.{IsUnder, all_sent, heads, id_after, is_n
 
 -- ---- messages with their headers
 
-abbrev hear_sent : ℤ → Heard → Sent → Heard
+abbrev pub hear_sent : ℤ → Heard → Sent → Heard
 hear_sent channel k x = hear_message channel (has_flag x.0.flags final_part) x.1 k
 
-all_heard : (channel : ℤ) (os : List Outgoing) (k : Heard) → fold (hear channel) k os ≡ fold (hear_sent channel) k (all_sent os)
+pub all_heard : (channel : ℤ) (os : List Outgoing) (k : Heard) → fold (hear channel) k os ≡ fold (hear_sent channel) k (all_sent os)
 all_heard channel [] k = refl
 all_heard channel (o ∷ os) k = all_heard channel os (hear channel k o)
 
-more_heard : (channel : ℤ) (xs ys : List Sent) (k : Heard) → fold (hear_sent channel) k (xs ++ ys) ≡ fold (hear_sent channel) (fold (hear_sent channel) k xs) ys
+pub more_heard : (channel : ℤ) (xs ys : List Sent) (k : Heard) → fold (hear_sent channel) k (xs ++ ys) ≡ fold (hear_sent channel) (fold (hear_sent channel) k xs) ys
 more_heard channel [] ys k = refl
 more_heard channel (x ∷ xs) ys k = more_heard channel xs ys (hear_sent channel k x)
 
@@ -54,11 +54,11 @@ abbrev hear_parts : ℤ → Heard → Message → List Message → Heard
 hear_parts channel k m [] = hear_message channel true m k
 hear_parts channel k m (n ∷ ms) = hear_parts channel (hear_message channel false m k) n ms
 
-heads_heard : (r : Request) (protocol kind : ℤ) (channel : ℤ) (id : ℕ) (m : Message) (ms : List Message) (k : Heard) → fold (hear_sent channel) k (heads r protocol kind id m ms) ≡ hear_parts channel k m ms
+pub heads_heard : (r : Request) (protocol kind : ℤ) (channel : ℤ) (id : ℕ) (m : Message) (ms : List Message) (k : Heard) → fold (hear_sent channel) k (heads r protocol kind id m ms) ≡ hear_parts channel k m ms
 heads_heard r protocol kind channel id m [] k = refl
 heads_heard r protocol kind channel id m (n ∷ ms) k = heads_heard r protocol kind channel (id + 2) n ms (hear_message channel false m k)
 
-abbrev hear_all : ℤ → Heard → List Message → Heard
+abbrev pub hear_all : ℤ → Heard → List Message → Heard
 hear_all channel k [] = k
 hear_all channel k (m ∷ ms) = hear_parts channel k m ms
 
@@ -105,7 +105,7 @@ same_turned : (a b : ℤ) → int_eq a b ≡ int_eq b a
 same_turned a b = grind (arith, ints)
 
 -- what is heard of a change behind what was heard
-abbrev with_told : ℤ → ℤ → What → Heard → Heard
+abbrev pub with_told : ℤ → ℤ → What → Heard → Heard
 with_told channel c what k = record k { told = k.told ++ change_of channel (change_msg c what) }
 
 untold : (channel c : ℤ) (what : What) (k : Heard) → int_eq c channel ≡ false → k ≡ with_told channel c what k
@@ -123,7 +123,7 @@ module _ (limit number blobs : ℕ) (channel at c : ℤ) (k : Heard) (none : k.p
       (λ i. record k { told = k.told ++ append_of (none i ++ its_points channel c false is (p ∷ ps) i); part = [] })
       ∙ (λ i. record k { told = k.told ++ (if sym is i then Append (p ∷ ps) ∷ [] else []); part = sym none i })
 
-  notice_heard : (what : What) → HasNews what → hear_all channel k (parts limit number blobs (message.ChannelSubscribe (notice_of at c what))) ≡ with_told channel c what k
+  pub notice_heard : (what : What) → HasNews what → hear_all channel k (parts limit number blobs (message.ChannelSubscribe (notice_of at c what))) ≡ with_told channel c what k
   notice_heard (Append []) news = absurd news
   notice_heard (Append (p ∷ ps)) news =
       gathered_all channel (λ g. message.ChannelSubscribe (subscribe.ChannelData (record { payload = g }))) append_of (λ last g j. refl) (groups (item_amount data_item_form) limit (items_of c (p ∷ ps))) (items_of c (p ∷ ps)) k

@@ -1,6 +1,11 @@
+pub mod AsideLemmas
 pub mod BeginLemmas
+pub mod BlockLemmas
 pub mod CopyLemmas
+pub mod EndLemmas
+pub mod FollowLemmas
 pub mod HearLemmas
 pub mod NewsLemmas
 pub mod NoticeLemmas
+pub mod PutLemmas
 pub mod StopLemmas

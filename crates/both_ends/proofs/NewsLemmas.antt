@@ -37,7 +37,7 @@ use Rattle.session_core.specs.declared.state.Request.{Request}
 use Rattle.both_ends.specs.News.{IsTold, NewsAreHandedOn, all_given, behind, msg_of, news_parts}
 use Rattle.both_ends.specs.Notices.{HasNews, NoticesAreChanges, with_change}
 
-abbrev as_sent : Outgoing → Sent
+abbrev pub as_sent : Outgoing → Sent
 as_sent o = (o.header, o.message)
 
 abbrev pub all_sent : List Outgoing → List Sent
@@ -84,7 +84,7 @@ abbrev pub id_after : ℕ → List Message → ℕ
 id_after id [] = id + 2
 id_after id (m ∷ ms) = id_after (id + 2) ms
 
-abbrev last_id : ℕ → List Message → ℕ
+abbrev pub last_id : ℕ → List Message → ℕ
 last_id id [] = id
 last_id id (m ∷ ms) = last_id (id + 2) ms
 
@@ -96,15 +96,15 @@ reach_first id p ps reach = by (nat_le id max_id) refl reach
     by true is h = refl
     by false is h = sym h
 
-reach_rest : (id : ℕ) (p : Part) (ps : List Part) → is_spent id (p ∷ ps) ≡ false → is_spent (id + 2) ps ≡ false
+pub reach_rest : (id : ℕ) (p : Part) (ps : List Part) → is_spent id (p ∷ ps) ≡ false → is_spent (id + 2) ps ≡ false
 reach_rest id p ps reach = ap (λ b. if b then is_spent (id + 2) ps else true) (sym (reach_first id p ps reach)) ∙ reach
 
-numbered_one : (r : Request) (id : ℕ) (p : Part) (ps : List Part) → is_spent id (p ∷ ps) ≡ false → numbered r id (p ∷ ps) ≡ outgoing r id (replies_in ps) p ∷ numbered r (id + 2) ps
+pub numbered_one : (r : Request) (id : ℕ) (p : Part) (ps : List Part) → is_spent id (p ∷ ps) ≡ false → numbered r id (p ∷ ps) ≡ outgoing r id (replies_in ps) p ∷ numbered r (id + 2) ps
 numbered_one r id p ps reach = ap (λ b. if b then outgoing r id (replies_in ps) p ∷ numbered r (id + 2) ps else []) (reach_first id p ps reach)
 
 -- ---- the parts of one notice, and what is sent behind them
 
-abbrev header_at : ℤ → ℤ → ℕ → ℤ → Header
+abbrev pub header_at : ℤ → ℤ → ℕ → ℤ → Header
 header_at protocol kind id flags = record { protocol = protocol; kind = kind; correlation = pos 0; id = pos id; flags = flags }
 
 -- parts under this protocol and of this kind
@@ -136,11 +136,11 @@ module _ (r : Request) (protocol kind : ℤ) where
   reach_behind id m [] ps reach = reach_rest id (record { to = to.Nobody; message = m; last = true }) ps reach
   reach_behind id m (n ∷ ms) ps reach = reach_behind (id + 2) n ms ps (reach_rest id (record { to = to.Nobody; message = m; last = false }) (ended to.Nobody (n ∷ ms) ++ ps) reach)
 
-  heads_messages : (id : ℕ) (m : Message) (ms : List Message) → map (λ x. x.1) (heads id m ms) ≡ m ∷ ms
+  pub heads_messages : (id : ℕ) (m : Message) (ms : List Message) → map (λ x. x.1) (heads id m ms) ≡ m ∷ ms
   heads_messages id m [] = refl
   heads_messages id m (n ∷ ms) = ap (λ l. m ∷ l) (heads_messages (id + 2) n ms)
 
-  heads_of_parts : (id : ℕ) (last : ℤ) (m : Message) (ms : List Message) → is_fresh last (pos id) ≡ true → AreOfParts (header_at protocol kind (last_id id ms) (pos 2)) last (map (λ x. x.0) (heads id m ms))
+  pub heads_of_parts : (id : ℕ) (last : ℤ) (m : Message) (ms : List Message) → is_fresh last (pos id) ≡ true → AreOfParts (header_at protocol kind (last_id id ms) (pos 2)) last (map (λ x. x.0) (heads id m ms))
   heads_of_parts id last m [] fresh = (refl, fresh, refl)
   heads_of_parts id last m (n ∷ []) fresh = (refl, fresh, refl, heads_of_parts (id + 2) (pos id) n [] (fresh_next id (fresh_odd last id fresh)))
   heads_of_parts id last m (n ∷ o ∷ ms) fresh = (refl, fresh, refl, heads_of_parts (id + 2) (pos id) n (o ∷ ms) (fresh_next id (fresh_odd last id fresh)))
@@ -197,7 +197,7 @@ notice_some limit number blobs at channel (Truncate end) =
 abbrev live_at : ℤ → Channel → Bool
 live_at q f = int_eq f.id q && f.live
 
-live_follows : (q : ℤ) (change : ChangeMsg) (cs : List Channel) → is_live q (follows cs change) ≡ is_live q cs
+pub live_follows : (q : ℤ) (change : ChangeMsg) (cs : List Channel) → is_live q (follows cs change) ≡ is_live q cs
 live_follows q change [] = refl
 live_follows q change (f ∷ cs) = λ i. one (int_eq f.id change.channel) i || live_follows q change cs i
   where

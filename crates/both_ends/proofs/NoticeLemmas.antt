@@ -26,7 +26,7 @@ use Rattle.etp_values.specs.declared.point.ChannelPoint.{ChannelPoint}
 use Rattle.etp_values.specs.declared.point.Point.{Point}
 use Rattle.both_ends.specs.Notices.{HasNews, IsNotice, NoticesAreChanges, ReadNoticesAreChanges, change_msg, with_change}
 
-int_eq_self : (a : ℤ) → int_eq a a ≡ true
+pub int_eq_self : (a : ℤ) → int_eq a a ≡ true
 int_eq_self a = grind (arith, ints)
 
 -- ---- points of one channel

@@ -1,6 +1,7 @@
 //! What a client makes of what a session tells it.
 ghost use Rattle.both_ends.specs.Beginnings.{RepliesAccept};
 ghost use Rattle.both_ends.specs.Copies.{HandedHasPoints, IdleHasPoints};
+ghost use Rattle.both_ends.specs.Ends.{ClientHasPoints, ClientIsHanded, IdleClientHasPoints};
 ghost use Rattle.both_ends.specs.Hearing.{NewsAreHeard};
 ghost use Rattle.both_ends.specs.News.{NewsAreHandedOn};
 ghost use Rattle.both_ends.specs.Notices.{NoticesAreChanges, ReadNoticesAreChanges};
@@ -8,7 +9,7 @@ ghost use Rattle.both_ends.specs.Stops.{StopsAreTold};
 
 use client_core::copies_are_folds;
 use client_laws::parts_are_joined;
-use session_core::run_streams;
+use session_core::{run_streams, subscriptions_are_replied};
 use store_machine::stream_laws;
 
 /// A client whose subscription of a channel stands hands on exactly the change that a session tells of the channel, with the last
@@ -57,4 +58,21 @@ pub fn handed_copies_are_points()
     copies_are_folds();
     run_streams();
     stream_laws();
+}
+
+/// A client that took all that a session sent, where the session was given a beginning of what the client put out, was handed of
+/// each channel that the session has subscribed what the session told since its last stop. So where the subscription has all changes,
+/// its copy is the channel's points from the subscription's start on, as they are in the one history at the session's cursor; where a
+/// poll asks nothing, at the front that the poll tells of. What was asked when doesn't matter, nor what is on its way to the session:
+/// a reply that no ask awaits would have ended the client.
+pub fn clients_have_points()
+    ensures handed { ClientIsHanded }
+    ensures cursor { ClientHasPoints }
+    ensures idle { IdleClientHasPoints }
+{
+    copies_are_folds();
+    run_streams();
+    subscriptions_are_replied();
+    stream_laws();
+    notices_are_changes();
 }

@@ -4,6 +4,6 @@
 mod laws;
 
 pub use laws::{
-    handed_copies_are_points, news_are_handed_on, notices_are_changes, replies_accept,
-    stops_are_told,
+    clients_have_points, handed_copies_are_points, news_are_handed_on, notices_are_changes,
+    replies_accept, stops_are_told,
 };
