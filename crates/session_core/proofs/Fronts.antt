@@ -1,5 +1,5 @@
 -- What is heard in a front of what a run sends.
-use Rattle.std.specs.Prelude.{ℕ, ℤ, Bool, true, false, List, [], ◌∷◌, ◌++◌, ◌≡◌, ◌≤◌, Option, Some, None, fold, length, nat_le, take, if◌then◌else◌, refl}
+use Rattle.std.specs.Prelude.{ℕ, ℤ, Bool, true, false, List, [], ◌∷◌, ◌++◌, ◌≡◌, ◌≤◌, ◌<◌, Option, Some, None, fold, length, nat_le, take, if◌then◌else◌, refl}
 use Rattle.std.specs.List.{list_any}
 use Rattle.std.specs.Ordering.{int_eq}
 use Rattle.std.proofs.Common.{◌⊎◌, inl, inr, ap, sym, ◌∙◌, subst, arith, append_assoc, append-nil}
@@ -250,7 +250,8 @@ module _ (config : Config) (n : ℕ) (h : List Entry) (small : HasIds config) (s
           cut_here r e (x ∷ es) front k alive low
           (prefix_shorter front (next r e).sent (run_from config n h (next r e) (x ∷ es)).sent high (run_sends config n h (next r e) (x ∷ es)) short)
       by false live false test rest =
-          let short : length (next r e).sent ≤ length front = grind (arith, nat_tests, test) in
+          let over : length (next r e).sent < length front = grind (arith, nat_tests, test) in
+          let short : length (next r e).sent ≤ length front = omega (arith, over) in
           let y : CutAt (next r e) (x ∷ es) front =
           rest live (prefix_shorter (next r e).sent front (run_from config n h (next r e) (x ∷ es)).sent (run_sends config n h (next r e) (x ∷ es)) high short) in
           record { before = e ∷ y.before; e = y.e; later = y.later; split = ap (λ (l : List Event). e ∷ l) y.split; alive = y.alive; low = y.low; high = y.high; cut = y.cut }
