@@ -6,9 +6,11 @@
 ETPD is the built server. A rig sends what it loads as fast as the server takes it, and behind it a Ping, whose Pong ends the loading.
 Each office subscribes to the channel before the first point, counts the points that it is told of, and is done with the last one. The
 rig's messages are made before the clock starts, and an office reads of each message no more than it has to; all of them run on
-the machine of the server, each as a process of its own.
+the machine of the server, each as a process of its own. Of the server it says how much processor time it took, user and system, and the
+greatest memory that it had.
 """
 import multiprocessing
+import os
 import re
 import socket
 import subprocess
@@ -167,9 +169,16 @@ def measured(port, size, count, offices):
     return loaded, max(ends, default=loaded)
 
 
+def used(server):
+    """The processor seconds of a process, and its greatest memory in megabytes."""
+    times = Path(f"/proc/{server.pid}/stat").read_text().rpartition(")")[2].split()
+    memory = int(re.search(r"VmHWM:\s+(\d+)", Path(f"/proc/{server.pid}/status").read_text())[1])
+    return (int(times[11]) + int(times[12])) / os.sysconf("SC_CLK_TCK"), memory / 1000
+
+
 def main():
-    print("| points a message | offices | million points a second in | out, for each office | out, all |")
-    print("|---|---|---|---|---|")
+    print("| points a message | offices | million points a second in | out, for each office | out, all | processor seconds | MB |")
+    print("|---|---|---|---|---|---|---|")
     for size, count, offices in CASES:
         with tempfile.TemporaryDirectory() as folder:
             path = Path(folder, "wd.toml")
@@ -178,11 +187,12 @@ def main():
             try:
                 port = int(re.search(rb"(\d+)\s*$", server.stderr.readline())[1])
                 loaded, told = measured(port, size, count, offices)
+                seconds, memory = used(server)
             finally:
                 server.kill()
         points = size * count / 1e6
         out = f"{points / told:.2f} | {points * offices / told:.2f}" if offices else " | "
-        print(f"| {size} | {offices} | {points / loaded:.2f} | {out} |", flush=True)
+        print(f"| {size} | {offices} | {points / loaded:.2f} | {out} | {seconds:.2f} | {memory:.0f} |", flush=True)
 
 
 if __name__ == "__main__":
