@@ -84,10 +84,12 @@ class Peer:
             found = frame_at(self.held)
             if found:
                 opcode, start, end = found
-                assert opcode == 2, opcode
                 message = bytes(self.held[start:end])
                 del self.held[:end]
-                yield message
+                # A ping asks whether the rig is still there, whose messages take some time to make.
+                assert opcode in (2, 9), opcode
+                if opcode == 2:
+                    yield message
             else:
                 self.read()
 
