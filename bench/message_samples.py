@@ -164,8 +164,18 @@ def debug(node, value):
         case Record(name, [("item", Union(branches))]) if name in UNION_RECORDS:
             place, inner = value["item"]
             return debug_branch(branches[place], inner, name == "DataValue")
+        case Record("DataItem", fields):
+            return struct("DataItem", [(rust_name(field), debug_field(field, part, value[field])) for field, part in fields])
         case Record(name, fields):
             return struct(name, [(rust_name(field), debug(part, value[field])) for field, part in fields])
+
+
+def debug_field(field, node, value):
+    """A field of a point. Of its indexes a single one stands in the point itself."""
+    if field != "indexes":
+        return debug(node, value)
+    held = f"One([{debug(node.item, value[0])}])" if len(value) == 1 else f"Many({debug(node, value)})"
+    return struct("Few", [("held", held)])
 
 
 def rust_name(field):

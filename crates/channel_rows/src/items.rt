@@ -3,6 +3,7 @@ ghost use Rattle.std.specs.Prelude.{◌≡◌, IfOk, None};
 ghost use Rattle.channel_rows.specs.Points.{channel_items, ends_of, index_of, is_value_large, item_of, item_point, items_of, loaded, long_in, point_at, same_index};
 
 use crate::open_flags::Opens;
+use etp_schema::Few;
 use etp_values::{ChannelPoint, DataValue, ErrorCode, List, NoMemory, Point};
 use keyed_requests::Decision;
 use msg_channel::{DataItem, IndexInterval, IndexValue};
@@ -12,19 +13,16 @@ use std::alloc::Global;
 pub const MAX_VALUE_LEN: usize = 32_768;
 
 /// A point of a channel as it is sent.
-fn item_of(alloc: Global, channel: i64, point: Point) -> Result<DataItem, NoMemory>
-    ensures { IfOk result (λ x. x ≡ item_of channel point) }
+fn item_of(alloc: Global, channel: i64, point: Point) -> DataItem
+    ensures { result ≡ item_of channel point }
 {
     let Point { index, value } = point;
-    let mut indexes = Vec::new(alloc);
-    indexes.reserve_exact(1)?;
-    indexes.push(IndexValue::Long(index))?;
-    Ok(DataItem {
+    DataItem {
         channel_id: channel,
-        indexes: List::from_vec(indexes),
+        indexes: Few::one(IndexValue::Long(index)),
         value,
         value_attributes: List::new(alloc),
-    })
+    }
 }
 
 /// Points of a channel as they are sent.
@@ -38,7 +36,7 @@ pub(crate) fn items_of(
     let mut items = Vec::new(alloc);
     items.reserve(points.len())?;
     for point in points.into_vec() {
-        let item = item_of(alloc, channel, point)?;
+        let item = item_of(alloc, channel, point);
         items.push(item)?;
     }
     Ok(List::from_vec(items))
@@ -55,7 +53,7 @@ pub(crate) fn channel_items(
     items.reserve(points.len())?;
     for one in points.into_vec() {
         let ChannelPoint { channel, point } = one;
-        let item = item_of(alloc, channel, point)?;
+        let item = item_of(alloc, channel, point);
         items.push(item)?;
     }
     Ok(List::from_vec(items))

@@ -4,7 +4,7 @@ ghost use Rattle.client_core.specs.Messages.{channel_asked, channel_opened, chan
 
 use crate::ask::Ask;
 use etp_frame::Message;
-use etp_schema::{ActiveStatusKind, protocols};
+use etp_schema::{ActiveStatusKind, Few, protocols};
 use etp_values::{Blob, ChannelPoint, Id16, List, Named, NoMemory, StoreUri, Text};
 use msg_channel::{
     ChannelDataLoadMessage, ChannelSubscribeInfo, ChannelSubscribeMessage, DataItem,
@@ -195,18 +195,16 @@ fn open_channel(alloc: Global, uri: StoreUri) -> Result<Message, NoMemory>
 }
 
 /// A point with its one index.
-fn item_of(alloc: Global, point: ChannelPoint) -> Result<DataItem, NoMemory>
-    ensures { IfOk result (λ x. x ≡ item_of point) }
+fn item_of(alloc: Global, point: ChannelPoint) -> DataItem
+    ensures { result ≡ item_of point }
 {
     let ChannelPoint { channel, point } = point;
-    let mut indexes = Vec::new(alloc);
-    indexes.push(IndexValue::Long(point.index))?;
-    Ok(DataItem {
+    DataItem {
         channel_id: channel,
-        indexes: List::from_vec(indexes),
+        indexes: Few::one(IndexValue::Long(point.index)),
         value: point.value,
         value_attributes: List::new(alloc),
-    })
+    }
 }
 
 fn items_of(alloc: Global, points: List<ChannelPoint>) -> Result<List<DataItem>, NoMemory>
@@ -215,7 +213,7 @@ fn items_of(alloc: Global, points: List<ChannelPoint>) -> Result<List<DataItem>,
     let mut items = Vec::new(alloc);
     items.reserve(points.len())?;
     for point in points.into_vec() {
-        let item = item_of(alloc, point)?;
+        let item = item_of(alloc, point);
         items.push(item)?;
     }
     Ok(List::from_vec(items))

@@ -1,5 +1,5 @@
 -- Reading and writing item by item, as loops do.
-use Rattle.std.proofs.Common.{◌≡◌, ◌∙◌, ◌<◌, ◌^◌, ℕ, suc, pos, ◌++◌, List, [], ◌∷◌, map, length, Some, Ok, inr, refl, sym, ap, arith, append_assoc}
+use Rattle.std.proofs.Common.{◌≡◌, ◌∙◌, ◌<◌, ◌-◌, ◌^◌, ℕ, suc, pos, ◌++◌, List, [], ◌∷◌, map, length, Some, Ok, inr, refl, sym, ap, arith, append_assoc}
 use Rattle.std.specs.Ordering.{nat_cmp}
 use Rattle.std.specs.Cmp.Lexicographic.{slice_cmp}
 use Rattle.std.specs.List.Sorted.{IsStrictlySortedBy}
@@ -10,12 +10,12 @@ use Rattle.avro_bin.specs.Plain.{plain, plain_all, plain_named, plain_block}
 use Rattle.avro_bin.specs.Shape.{FitsTree, AllFit, AllNamedFit}
 use Rattle.avro_bin.specs.Value.{row, list, entries, pairs}
 use Rattle.avro_bin.specs.View.{with_value}
-use Rattle.avro_bin.specs.Reading.{Read, ◌>>=◌, Fails, place_at}
+use Rattle.avro_bin.specs.Reading.{Read, ◌>>=◌, Fails, block_at, blocks_at, items_at, number_at, place_at}
 use Rattle.avro_bin.specs.Along.{along, seen, push_at}
 use Rattle.avro_bin.proofs.AlongLemmas.{along_twice}
 use Rattle.avro_bin.proofs.Passing.{Fails-along}
 use Rattle.avro_bin.proofs.Plains.{block_some}
-use Rattle.avro_bin.proofs.Steps.{place_below}
+use Rattle.avro_bin.proofs.Steps.{blocks_more, blocks_stop, place_below}
 use Rattle.etp_schema.specs.Form.{Form, Holds, list_form, named_form, option_form, option_whole, null_form, last, or_at}
 use Rattle.etp_schema.specs.Measure.{counts, measured, measured_behind, measured_named}
 
@@ -29,6 +29,19 @@ module _ {A : Type 0} (value : ℕ → List ℕ → Read (A × ℕ)) (vs : List 
   push_fails e h = Fails-along e (λ x. (vs ++ x.0 ∷ [], x.1)) (value n bytes) h
 
 -- ---- lists
+
+-- a block of one item and the end
+pub single_is : {A : Type 0} (value : ℕ → List ℕ → Read (A × ℕ)) (n m k : ℕ) (bytes front behind rest : List ℕ) (x : A) → (length bytes ≡ 0 → ⊥)
+    → number_at bytes ≡ Ok (pos 1, front) → m ≡ n → value m front ≡ Ok ((x, k), behind) → number_at behind ≡ Ok (pos 0, rest)
+    → blocks_at (push_at value) (suc (length bytes)) ([], n) bytes ≡ Ok ((x ∷ [], k), rest)
+unfolding items_at
+single_is {A} value n m k bytes front behind rest x some one same item end =
+    let at : value n front ≡ Ok ((x, k), behind) = ap (λ (j : ℕ). value j front) (sym same) ∙ item in
+    let block : block_at (push_at value) ([], n) (pos 1) front ≡ Ok ((x ∷ [], k), behind) = rw (push_is value [] n front ((x, k), behind) at) refl in
+    let all : Read (List A × ℕ) = blocks_at (push_at value) (suc (length bytes)) ([], n) bytes in
+    let whole : suc (length bytes) - 0 ≡ suc (length bytes) = omega arith in
+    let more = blocks_more (push_at value) (length bytes) 0 ([], n) bytes (pos 1) front ((x ∷ [], k), behind) all (omega arith) one (λ h. cc h) block (ap (λ (j : ℕ). blocks_at (push_at value) j ([], n) bytes) whole) in
+    blocks_stop (push_at value) (length bytes) 1 (x ∷ [], k) behind (pos 0) rest all (omega (arith, some)) end refl more
 
 count_items : {A : Type 0} (f : Form A) (xs : List A) → length (list (row (map f.as_value xs))) ≡ length xs
 count_items f [] = refl

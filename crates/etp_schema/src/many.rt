@@ -4,6 +4,7 @@ ghost use Rattle.std.specs.List.{AllByRecursion};
 ghost use Rattle.avro_bin.specs.View.{value_of, entry_of, with_value};
 ghost use Rattle.etp_schema.specs.Form.{Holds, list_in, named_in};
 
+use crate::few::Few;
 use crate::in_tree::InTree;
 use avro_bin::Tree;
 use etp_values::{Boxed, Copied, List, Named, NoMemory};
@@ -26,6 +27,23 @@ impl<T: InTree> InTree for List<T> {
             items.push(T::from_tree(alloc, item)?)?;
         }
         Ok(List::from_vec(items))
+    }
+}
+
+impl<T: InTree> InTree for Few<T> {
+    ghost use Rattle.etp_schema.specs.Form.{list_form};
+
+    ghost form = { list_form T.form };
+
+    #[tactic(auto, using(crate::proofs::Parts::parts, crate::proofs::Parts::list_holds))]
+    fn to_tree(&self, alloc: Global) -> Result<Tree, NoMemory> {
+        let trees = trees_of_items(alloc, self.as_slice())?;
+        Ok(Tree::Array(List::from_vec(trees)))
+    }
+
+    fn from_tree(alloc: Global, tree: Tree) -> Result<Few<T>, NoMemory> {
+        let list: List<T> = InTree::from_tree(alloc, tree)?;
+        Ok(Few::of_list(list))
     }
 }
 

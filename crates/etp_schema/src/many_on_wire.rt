@@ -1,5 +1,5 @@
 //! Lists, maps, optional and boxed values from and to bytes.
-ghost use Rattle.std.specs.Prelude.{◌≡◌, ◌++◌, ◌<◌, ◌^◌, IfOk, OnOk, length, map, pos};
+ghost use Rattle.std.specs.Prelude.{◌≡◌, ◌++◌, ◌∷◌, [], ◌<◌, ◌^◌, IfOk, IfSome, Ok, OnOk, length, map, pos};
 ghost use Rattle.std.specs.List.{AllByRecursion};
 ghost use Rattle.avro_bin.specs.Number.{plain_number};
 ghost use Rattle.avro_bin.specs.Plain.{plain, plain_all, plain_named, plain_blob, Writes};
@@ -12,6 +12,7 @@ ghost use Rattle.etp_schema.specs.Form.{Holds, list_form, list_at, named_at};
 ghost use Rattle.etp_schema.specs.Measure.{counts, measured_behind, measured_named};
 ghost use Rattle.etp_schema.specs.Reading.{Reads, ReadsOn};
 
+use crate::few::Few;
 use crate::measure::Measure;
 use crate::on_wire::OnWire;
 use crate::reader::Reader;
@@ -38,6 +39,47 @@ impl<T: OnWire> OnWire for List<T> {
     fn measure(&self) -> Measure {
         measure_items(self.as_slice())
     }
+}
+
+impl<T: OnWire> OnWire for Few<T> {
+    fn read(from: &mut Reader<'_>) -> Result<Few<T>, Fault> {
+        from.node()?;
+        read_few(from)
+    }
+
+    fn write(&self, into: &mut Vec<u8>) -> Result<(), NoMemory> {
+        write_list(self.as_slice(), into)
+    }
+
+    fn measure(&self) -> Measure {
+        measure_items(self.as_slice())
+    }
+}
+
+/// The items of blocks, up to a count of 0, of which a single one is usual.
+fn read_few<T: OnWire>(from: &mut Reader<'_>) -> Result<Few<T>, Fault>
+    ensures { Reads (list_at T.form from.old.left from.old.rest.now) result from.new }
+{
+    let mut ahead = from.again();
+    if let Some(item) = read_single(&mut ahead) {
+        from.go_on(&ahead);
+        return Ok(Few::one(item));
+    }
+    let items = read_list(from)?;
+    Ok(Few::of_list(items))
+}
+
+/// The item of a list that is spelled as one block of one item and the end, and nothing of any other.
+fn read_single<T: OnWire>(from: &mut Reader<'_>) -> Option<T>
+    ensures { IfSome result (λ x. list_at T.form from.old.left from.old.rest.now ≡ Ok ((x ∷ [], from.new.left), from.new.rest.now)) }
+{
+    if from.rest().is_empty() || !from.passes(1) {
+        return None;
+    }
+    let Ok(item) = T::read(from) else {
+        return None;
+    };
+    if from.passes(0) { Some(item) } else { None }
 }
 
 /// The items of blocks, up to a count of 0.

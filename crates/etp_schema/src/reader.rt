@@ -1,5 +1,6 @@
 //! Reading typed values from the front of bytes, without a tree between.
-ghost use Rattle.std.specs.Prelude.{◌≡◌, ◌<◌, IfOk};
+ghost use Rattle.std.specs.Prelude.{◌≡◌, ◌<◌, IfOk, Ok};
+ghost use Rattle.std.specs.Bool.{OnTrue};
 ghost use Rattle.std.specs.Int.{w32, w64};
 ghost use Rattle.avro_bin.specs.Reading.{boolean_at, int_at, number_at, fixed_number_at, blob_at, text_at, place_at};
 ghost use Rattle.etp_schema.specs.Form.{leaf_at, node_at, bits_32, bits_64, id_of, sixteen_at};
@@ -43,6 +44,38 @@ impl<'a> Reader<'a> {
     /// Where values that are read get their memory.
     pub fn alloc(&self) -> Global {
         self.alloc
+    }
+
+    /// One more reader of the same bytes, which stands where this one does.
+    pub(crate) fn again(&self) -> Reader<'a>
+        ensures rest { result.rest.now ≡ self.now.rest.now }
+        ensures left { result.left ≡ self.now.left }
+    {
+        Reader {
+            rest: self.rest,
+            left: self.left,
+            alloc: self.alloc,
+        }
+    }
+
+    /// Goes on where another reader of the same bytes stands.
+    pub(crate) fn go_on(&mut self, ahead: &Reader<'a>)
+        ensures rest { self.new.rest.now ≡ ahead.now.rest.now }
+        ensures left { self.new.left ≡ ahead.now.left }
+    {
+        self.rest = ahead.rest;
+        self.left = ahead.left;
+    }
+
+    /// Whether a number stands next that is this one. After any other answer nothing is said of where the reader stands.
+    pub(crate) fn passes(&mut self, wanted: i64) -> bool
+        ensures read { OnTrue result (number_at self.old.rest.now ≡ Ok (wanted, self.new.rest.now)) }
+        ensures left { OnTrue result (self.new.left ≡ self.old.left) }
+    {
+        match self.long() {
+            Ok(number) => number == wanted,
+            Err(_) => false,
+        }
     }
 
     /// Begins a value, which takes a node.

@@ -41,7 +41,7 @@ use Rattle.etp_serve.specs.declared.served.Served.{Served}
 use Rattle.etp_serve.specs.declared.served.Served.TheVariants.{Stopped, ListenFault, NoMemory}
 use Rattle.etp_serve.specs.declared.thread.Started.{Started}
 use Rattle.etp_serve.proofs.Rans.{within_all}
-use Rattle.etp_serve.proofs.RunLaws.{is_serial, is_streamed, is_told_at_idle}
+use Rattle.etp_serve.proofs.RunLaws.{is_cut, is_serial, is_streamed, is_told_at_idle}
 use Rattle.etp_serve.proofs.Turns.{sent_all}
 
 -- ---- a session that was served over a history was served so over a longer one
@@ -85,6 +85,7 @@ served_longer laws config old new end n places moments fronts taken pre mine s =
       ids = s.ids;
       streams = is_streamed laws config n new places es rises s.ids;
       idle = is_told_at_idle laws config n new places es rises s.ids heeds;
+      cut = is_cut laws config n new places es rises s.ids;
     }
 
 pub was_served : Laws → (test : List ℤ → Bool) (config : Config) (old new : List Entry) (s : Session) → IsPrefix old new → own by_of s.met.number new ≡ own by_of s.met.number old → WasServed test config old s → WasServed test config new s

@@ -1,14 +1,18 @@
 -- What holds of a session's own run by the laws on runs.
-use Rattle.std.proofs.Common.{◌≡◌, ◌≤◌, ◌<◌, ◌+◌, ◌^◌, ℕ, List, [], ◌∷◌, length, subst, ◌∙◌, arith}
+use Rattle.std.proofs.Common.{◌≡◌, ◌≤◌, ◌<◌, ◌+◌, ◌^◌, ℕ, List, [], ◌∷◌, ◌++◌, length, map, refl, subst, ◌∙◌, arith}
+use mathlib.Core.List.{IsPrefix}
 use Rattle.chan_defs.specs.declared.config.ChannelDef.{ChannelDef}
 use Rattle.chan_defs.specs.declared.config.Config.{Config}
 use Rattle.store_machine.specs.declared.journal.Entry.{Entry}
 use Rattle.turn_book.specs.Lists.{Rises}
 use Rattle.session_core.specs.Arriving.{Event}
-use Rattle.session_core.specs.Run.{Heeds}
+use Rattle.session_core.specs.Run.{Heeds, run}
 use Rattle.session_core.specs.Serial as serial
+use Rattle.session_core.specs.Session.{bytes_of}
 use Rattle.session_core.specs.Streams as streams
+use Rattle.session_core.specs.declared.state.Outgoing.{Outgoing}
 use Rattle.etp_serve.specs.Laws.{Laws}
+use Rattle.etp_serve.specs.Served.{EndsInEvent, IsCutInEvent}
 
 -- ---- places that rise from one number on rise from any lower one on
 
@@ -25,6 +29,21 @@ rise_within m low (p ∷ ps) high le r = ((let f = r.0 in omega (arith, f, le)),
 pub each_has_one : (config : Config) (channels read : List ChannelDef) → channels ≡ config.channels → read ≡ channels → length read < 2 ^ 63 → streams.HasIds config
 each_has_one config channels read is whole few = subst (λ (l : List ChannelDef). length l < 2 ^ 63) (whole ∙ is) few
 
+-- ---- the first messages are those of a front
+
+record FrontOf (all : List Outgoing) (messages : List (List ℕ)) : Type 0 where
+  front : List Outgoing
+  messages_are : messages ≡ map bytes_of front
+  begins : IsPrefix front all
+
+front_of : (messages : List (List ℕ)) (all : List Outgoing) → IsPrefix messages (map bytes_of all) → FrontOf all messages
+front_of [] all p = record { front = []; messages_are = refl; begins = (all, refl) }
+front_of (m ∷ ms) [] p = absurd (cc (p.1))
+front_of (m ∷ ms) (o ∷ os) p =
+    let r = front_of ms os (p.0, cc (p.1)) in
+    let same : m ≡ bytes_of o = cc (p.1) in
+    record { front = o ∷ r.front; messages_are = cc (same, r.messages_are); begins = (r.begins.0, cc (r.begins.1)) }
+
 -- ---- the run
 
 module _ (laws : Laws) (config : Config) (n : ℕ) (h : List Entry) (places : List ℕ) (es : List Event) (rises : Rises (n + 1) places (length h)) where
@@ -39,3 +58,8 @@ module _ (laws : Laws) (config : Config) (n : ℕ) (h : List Entry) (places : Li
 
   pub is_told_at_idle : streams.HasIds config → Heeds config n h places es → streams.IsToldAtIdle config n h places es
   is_told_at_idle ids heeds = laws.idle config n h places es ids within heeds
+
+  pub is_cut : streams.HasIds config → IsCutInEvent config n h places es
+  is_cut ids messages p =
+      let r = front_of messages (run config n h places es).sent p in
+      record { front = r.front; messages_are = r.messages_are; within = laws.fronts config n h places es r.front ids within r.begins }

@@ -34,7 +34,7 @@ use Rattle.etp_serve.specs.declared.ended.Ended.TheVariants.{Closed, Refused, Id
 use Rattle.etp_serve.specs.declared.steps.Asked.{Asked}
 use Rattle.etp_serve.proofs.EventLemmas.{events_message, events_turn, matched_turn}
 use Rattle.etp_serve.proofs.Rans.{Cut, ran_start, ran_hears, ran_settled, cut_begun, cut_broken, settles_heard, breaks_heard}
-use Rattle.etp_serve.proofs.RunLaws.{is_serial, is_streamed, is_told_at_idle}
+use Rattle.etp_serve.proofs.RunLaws.{is_cut, is_serial, is_streamed, is_told_at_idle}
 use Rattle.etp_serve.proofs.TalkLemmas.{told_none, told_same, told_takes, told_sends, told_ticks}
 
 -- ---- what holds of each end alike
@@ -116,6 +116,7 @@ module _ (laws : Laws) (config : Config) (n : ℕ) (a0 : Option Talk) (c0 : Opti
           ids = r.ids;
           streams = is_streamed laws config n v.seen r.places all r.rises r.ids;
           idle = is_told_at_idle laws config n v.seen r.places all r.rises r.ids heeds;
+          cut = is_cut laws config n v.seen r.places all r.rises r.ids;
         };
       }
 
@@ -146,6 +147,7 @@ module _ (laws : Laws) (config : Config) (n : ℕ) (a0 : Option Talk) (c0 : Opti
           ids = r.ids;
           streams = is_streamed laws config n v.seen r.places all r.rises r.ids;
           idle = is_told_at_idle laws config n v.seen r.places all r.rises r.ids heeds;
+          cut = is_cut laws config n v.seen r.places all r.rises r.ids;
         };
       }
 

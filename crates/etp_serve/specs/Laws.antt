@@ -1,7 +1,7 @@
 -- The laws of the crates below that the proofs of this one rest on.
 use Rattle.session_core.specs.Run.{RunIsSame, RunGoesOn, FirstRemembers, TakingRemembers, HearingRemembers, MoreIsRemembered, DrainedRemembers}
 use Rattle.session_core.specs.Serial.{RunIsSerial}
-use Rattle.session_core.specs.Streams.{RunIsStreamed, RunIsToldAtIdle}
+use Rattle.session_core.specs.Streams.{FrontIsStreamed, RunIsStreamed, RunIsToldAtIdle}
 use Rattle.store_machine.specs.Laws.{EntriesAreTheSessions, CallsAddOne, CallsStay}
 
 pub record Laws : Type 0 where
@@ -11,6 +11,7 @@ pub record Laws : Type 0 where
   pub serial : RunIsSerial
   pub streams : RunIsStreamed
   pub idle : RunIsToldAtIdle
+  pub fronts : FrontIsStreamed
   -- what a session remembers of places
   pub first : FirstRemembers
   pub taken : TakingRemembers

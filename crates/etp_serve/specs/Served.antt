@@ -1,5 +1,6 @@
 -- What a session was served.
 use Rattle.std.specs.Prelude.{◌≡◌, ◌≤◌, ◌⊎◌, ◌+◌, ℕ, ℤ, true, false, List, [], ◌∷◌, ◌++◌, length, map, Option, None}
+use mathlib.Core.List.{IsPrefix}
 use Rattle.chan_defs.specs.declared.config.Config.{Config}
 use Rattle.store_machine.specs.declared.journal.Entry.{Entry}
 use Rattle.etp_outside.specs.Told.{Told}
@@ -12,7 +13,7 @@ use Rattle.session_core.specs.Run.{run, Heeds}
 use Rattle.session_core.specs.Serial.{IsSerial}
 use Rattle.session_core.specs.Session.{bytes_of, end_of}
 use Rattle.session_core.specs.State.{State}
-use Rattle.session_core.specs.Streams.{HasIds, IsStreamed, IsToldAtIdle}
+use Rattle.session_core.specs.Streams.{HasFront, HasIds, IsStreamed, IsToldAtIdle}
 use Rattle.session_core.specs.declared.state.Outgoing.{Outgoing}
 use Rattle.etp_serve.specs.Ends.{EndsAs}
 use Rattle.etp_serve.specs.Events.{events, event_of, Matched, HasMoment, Turned, AllOpen}
@@ -47,6 +48,20 @@ Owns PeerEnd n mine places made = IsEnterAnd n mine made
 Owns LinkFault n mine places made = IsEnterAnd n mine made
 Owns NoMemory n mine places made = IsEnterAnd n mine made ⊎ LacksLast n mine places made
 
+-- ---- a link that failed
+
+-- these messages are a front of what the run of these events sends, and end within what one event sends: of each channel they tell a beginning of
+-- what that event owes
+pub record EndsInEvent (config : Config) (n : ℕ) (h : List Entry) (places : List ℕ) (es : List Event) (messages : List (List ℕ)) : Type 0 where
+  pub front : List Outgoing
+  pub messages_are : messages ≡ map bytes_of front
+  pub within : HasFront config n h places es front
+
+-- whatever first messages of the run's a link was given, they are so
+abbrev pub IsCutInEvent : Config → ℕ → List Entry → List ℕ → List Event → Type 0
+IsCutInEvent config n h places es = (messages : List (List ℕ)) → IsPrefix messages (map bytes_of (run config n h places es).sent)
+    → EndsInEvent config n h places es messages
+
 -- ---- the session as a whole
 
 -- The session of this number was served over a history, with its calls answered at these places, the items that its link
@@ -54,7 +69,8 @@ Owns NoMemory n mine places made = IsEnterAnd n mine made ⊎ LacksLast n mine p
 -- of the run; the run ended so, and used all places, which never fall; each poll found no less than was seen before; and
 -- no event came after the session's end. Whatever other sessions did between these places, each transaction that it
 -- committed was answered as if it had stood alone at the place of its commit, and of each channel it was told the stream of
--- its subscription in this history, which at a poll that asked nothing is all that there was
+-- its subscription in this history, which at a poll that asked nothing is all that there was. Where its link failed, what the
+-- link was given ends within what one event sends
 pub record IsServed (end : Ended) (config : Config) (n : ℕ) (h : List Entry) (places : List ℕ) (moments : List ℤ) (fronts : List ℕ) (taken : List Item) : Type 0 where
   pub own : Owns end n (own by_of n h) places (run config n h places (events taken moments fronts)).made
   pub ends : EndsAs end (run config n h places (events taken moments fronts))
@@ -67,6 +83,7 @@ pub record IsServed (end : Ended) (config : Config) (n : ℕ) (h : List Entry) (
   pub ids : HasIds config
   pub streams : IsStreamed config n h places (events taken moments fronts)
   pub idle : IsToldAtIdle config n h places (events taken moments fronts)
+  pub cut : IsCutInEvent config n h places (events taken moments fronts)
 
 -- what the link was told to do: the items were taken, and the messages of the run sent, all or a part of them
 abbrev pub Serving : Ended → List Item → List Outgoing → Talk → Talk → Type 0

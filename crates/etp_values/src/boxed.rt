@@ -21,11 +21,23 @@ impl<T> Model for Boxed<T> {
 }
 
 impl<T> Boxed<T> {
+    ghost use Rattle.std.specs.Prelude.{◌≡◌};
+    ghost use Rattle.std.specs.Borrow.{Lends, sem};
+    ghost use Rattle.etp_values.specs.contracts.boxed.Boxed.{the_row};
+
     /// The value, to be read.
     pub fn get(&self) -> &T
         ensures { result.now ≡ self.now }
     {
         &self.inner
+    }
+
+    /// The value, to be changed where it stands.
+    pub fn get_mut(&mut self) -> &mut T
+        ensures value { result.now ≡ self.old }
+        ensures* writes_back { sem 𝓛 (Lends (the_row T.row) T.row self.entry result (λ w. w)) }
+    {
+        &mut self.inner
     }
 
     /// The value, which is moved out and not copied.

@@ -68,6 +68,7 @@ impl Copied for Blob {
 impl<T: Copied> Copied for List<T> {
     fn copy(&self, alloc: Global) -> Result<List<T>, NoMemory> {
         let mut items = Vec::new(alloc);
+        items.reserve_exact(self.len())?;
         for item in self.as_slice() {
             items.push(item.copy(alloc)?)?;
         }
@@ -78,6 +79,7 @@ impl<T: Copied> Copied for List<T> {
 impl<T: Copied> Copied for Named<T> {
     fn copy(&self, alloc: Global) -> Result<Named<T>, NoMemory> {
         let mut items = Vec::new(alloc);
+        items.reserve_exact(self.as_slice().len())?;
         for pair in self.as_slice() {
             items.push((pair.0.copy(alloc)?, pair.1.copy(alloc)?))?;
         }

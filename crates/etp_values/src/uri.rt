@@ -10,6 +10,7 @@ ghost use Rattle.etp_values.specs.Uri.{IsUri, plain_uri, uri_of};
 
 use crate::copied::Copied;
 use crate::id::Id16;
+use crate::id_text::ID_TEXT_LEN;
 use crate::memory::NoMemory;
 use crate::text::Text;
 use crate::uri::reading::{after, agreeing, read_body};
@@ -29,6 +30,12 @@ pub const MAX_URI_LEN: usize = 2_048;
 
 /// The greatest number of bytes of a dataspace's path, counted before quotes are doubled.
 pub const MAX_PATH_LEN: usize = 256;
+
+/// How many bytes the canonical text of a dataspace has besides its path.
+const SPACE_PARTS: usize = 20;
+
+/// How many bytes an object adds to the text besides its two names.
+const OBJECT_PARTS: usize = ID_TEXT_LEN + 4;
 
 /// What names an object in its dataspace: `DOMAIN.NAME(ID)`. The domain is lower-case letters and then two digits, the
 /// name a letter and then letters, digits and underscores.
@@ -88,11 +95,24 @@ impl StoreUri {
         }
     }
 
+    /// Room for the canonical text, where no quote is doubled.
+    fn text_room(&self) -> usize {
+        let space = self.space.len().saturating_add(SPACE_PARTS);
+        match &self.object {
+            Some(name) => space
+                .saturating_add(name.domain.len())
+                .saturating_add(name.name.len())
+                .saturating_add(OBJECT_PARTS),
+            None => space,
+        }
+    }
+
     /// The canonical text.
     pub fn write(&self, alloc: Global) -> Result<Text, NoMemory>
         ensures { IfOk result (λ text. text ≡ plain_uri self.now) }
     {
         let mut out = String::new(alloc);
+        out.reserve_exact(self.text_room())?;
         put_space(&mut out, self.space.as_str())?;
         if let Some(name) = &self.object {
             put_object(&mut out, self.space.as_str(), name)?;

@@ -5,7 +5,7 @@ ghost use Rattle.generator.specs.Generator.{wanted, request_session, open_channe
 
 use crate::channels::{channel_uri, id_ending};
 use etp_frame::Message;
-use etp_schema::protocols;
+use etp_schema::{Few, protocols};
 use etp_values::{DataValue, List, Named, NoMemory, Text};
 use msg_channel::{
     ChannelDataLoadMessage, ChannelSubscribeInfo, ChannelSubscribeMessage, DataItem, IndexInterval,
@@ -189,10 +189,9 @@ fn append_point(alloc: Global, channel: i64, at: i64, value: i64) -> Result<Mess
 fn points(alloc: Global, channel: i64, at: i64, value: i64) -> Result<List<DataItem>, NoMemory>
     ensures { IfOk result (λ l. l ≡ point channel at value ∷ []) }
 {
-    let indexes = single(alloc, IndexValue::Long(at))?;
     let point = DataItem {
         channel_id: channel,
-        indexes,
+        indexes: Few::one(IndexValue::Long(at)),
         value: DataValue::Long(value),
         value_attributes: List::new(alloc),
     };

@@ -1,7 +1,7 @@
 //! Points of channels, and where channels are cut off.
 use crate::indexes::IndexValue;
 use avro_bin::Tree;
-use etp_schema::{InTree, fields_of, tree_of};
+use etp_schema::{Few, InTree, fields_of, tree_of};
 use etp_values::{DataValue, List, NoMemory};
 use std::alloc::Global;
 
@@ -38,7 +38,7 @@ pub struct DataItem {
     /// The channel's number.
     pub channel_id: i64,
     /// The point's indexes, the primary one first. An item without one, or with a null, has that of the item before it.
-    pub indexes: List<IndexValue>,
+    pub indexes: Few<IndexValue>,
     /// The value there, in the channel's unit.
     pub value: DataValue,
     /// The value's attributes.

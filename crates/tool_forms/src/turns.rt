@@ -35,7 +35,7 @@ pub(crate) fn play_at(
 {
     match state {
         None => enter(alloc, config, store, frame, answers),
-        Some(TagState::Open(boxed)) => play_open(alloc, store, boxed.into_inner(), frame, answers),
+        Some(TagState::Open(open_session)) => play_open(alloc, store, open_session, frame, answers),
         Some(TagState::Ended) => Ok(TagState::Ended),
     }
 }
@@ -62,11 +62,14 @@ fn enter(
     };
     let session_config = config.copy(alloc)?;
     let session = Session::new(alloc, session_config, number, 1)?;
-    let open_session = OpenSession {
-        number,
-        entries: 1,
-        session,
-    };
+    let open_session = Boxed::new(
+        alloc,
+        OpenSession {
+            number,
+            entries: 1,
+            session,
+        },
+    )?;
     play_open(alloc, store, open_session, frame, answers)
 }
 
@@ -80,11 +83,11 @@ fn place_in(reply: Reply) -> Option<u64>
     }
 }
 
-/// A frame of an open session.
+/// A frame of an open session, which stays where it stands.
 fn play_open(
     alloc: Global,
     store: &mut Store,
-    open_session: OpenSession,
+    open_session: Boxed<OpenSession>,
     frame: &Frame,
     answers: &mut Vec<Frame>,
 ) -> Result<TagState, NoMemory>
@@ -97,28 +100,42 @@ fn play_open(
         return Ok(TagState::Ended);
     }
     let mut open_session = open_session;
-    make_turn(alloc, store, &mut open_session, frame)?;
+    make_turn(alloc, store, open_session.get_mut(), frame)?;
     settle(alloc, open_session, frame, answers)
 }
 
 /// What a session sends after a turn, and its end where it has ended.
 fn settle(
     alloc: Global,
-    open_session: OpenSession,
+    open_session: Boxed<OpenSession>,
     frame: &Frame,
     answers: &mut Vec<Frame>,
 ) -> Result<TagState, NoMemory>
     ensures { IfOk result (λ state. (j : List Entry) (marks : List ℕ) → Meets (effect_after frame.now (record { journal = j; session = open_session; marks = marks }) (end_of open_session.session.phase)) state j answers.old.items answers.new.items) }
 {
     let mut open_session = open_session;
-    send_all(alloc, &mut open_session.session, frame, answers)?;
-    match open_session.session.ended() {
-        None => Ok(TagState::Open(Boxed::new(alloc, open_session)?)),
+    match send_rest(alloc, open_session.get_mut(), frame, answers)? {
+        None => Ok(TagState::Open(open_session)),
         Some(end) => {
             push_end(alloc, answers, frame, Ending::Session(end))?;
             Ok(TagState::Ended)
         }
     }
+}
+
+/// The messages that a session sends after a turn, and why it has ended, if it has.
+fn send_rest(
+    alloc: Global,
+    open_session: &mut OpenSession,
+    frame: &Frame,
+    answers: &mut Vec<Frame>,
+) -> Result<Option<End>, NoMemory>
+    ensures answers { OnOk result (answers.new.items ≡ answers.old.items ++ messages frame.now open_session.old.session.out) }
+    ensures state { OnOk result (open_session.new ≡ record open_session.old { session = drained open_session.old.session }) }
+    ensures end { IfOk result (λ e. e ≡ end_of open_session.old.session.phase) }
+{
+    send_all(alloc, &mut open_session.session, frame, answers)?;
+    Ok(open_session.session.ended())
 }
 
 /// A frame's event: the session takes it, and the store answers its call.

@@ -7,6 +7,7 @@ returns c = record {
   serial = c.serial.ensures.run;
   streams = c.run_streams.ensures.streams;
   idle = c.run_streams.ensures.idle;
+  fronts = c.run_streams.ensures.fronts;
   first = c.steps.ensures.first;
   taken = c.steps.ensures.taken;
   given = c.steps.ensures.given;

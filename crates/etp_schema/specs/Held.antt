@@ -1,0 +1,8 @@
+-- Which items stand so.
+use Rattle.std.specs.Prelude.{List}
+use Rattle.etp_schema.specs.declared.few.Held.{Held}
+use Rattle.etp_schema.specs.declared.few.Held.TheVariants.{One, Many}
+
+abbrev pub items_in : {T : Type 0} → Held T → List T
+items_in (One xs) = xs
+items_in (Many xs) = xs
