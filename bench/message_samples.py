@@ -166,8 +166,16 @@ def debug(node, value):
             return debug_branch(branches[place], inner, name == "DataValue")
         case Record("DataItem", fields):
             return struct("DataItem", [(rust_name(field), debug_field(field, part, value[field])) for field, part in fields])
+        case Record("Dataspace", fields):
+            return struct("Dataspace", [(rust_name(field), debug_shared(field, part, value[field])) for field, part in fields])
         case Record(name, fields):
             return struct(name, [(rust_name(field), debug(part, value[field])) for field, part in fields])
+
+
+def debug_shared(field, node, value):
+    """A field of a dataspace, of which the texts are shared with those that the store has."""
+    text = debug(node, value)
+    return struct("Shared", [("inner", text)]) if node == Leaf("string") else text
 
 
 def debug_field(field, node, value):

@@ -5,7 +5,7 @@ ghost use Rattle.client_core.specs.Messages.{channel_asked, channel_opened, chan
 use crate::ask::Ask;
 use etp_frame::Message;
 use etp_schema::{ActiveStatusKind, Few, protocols};
-use etp_values::{Blob, ChannelPoint, Id16, List, Named, NoMemory, StoreUri, Text};
+use etp_values::{Blob, ChannelPoint, Id16, List, Named, NoMemory, Shared, StoreUri, Text};
 use msg_channel::{
     ChannelDataLoadMessage, ChannelSubscribeInfo, ChannelSubscribeMessage, DataItem,
     GetChannelMetadata, IndexValue, LoadChannelData, OpenChannels, SubscribeChannels,
@@ -127,8 +127,8 @@ fn put_space(alloc: Global, path: Text) -> Result<Message, NoMemory>
     let dataspaces = keyed(
         alloc,
         Dataspace {
-            uri,
-            path: Text::new(alloc),
+            uri: Shared::new(alloc, uri)?,
+            path: Shared::new(alloc, Text::new(alloc))?,
             store_last_write: 0,
             store_created: 0,
             custom_data: Named::new(alloc),

@@ -2,12 +2,12 @@
 ghost use Rattle.std.specs.Prelude.{◌≡◌, IfOk, OnOk, map};
 ghost use Rattle.std.specs.List.{AllByRecursion};
 ghost use Rattle.avro_bin.specs.View.{value_of, entry_of, with_value};
-ghost use Rattle.etp_schema.specs.Form.{Holds, list_in, named_in};
+ghost use Rattle.etp_schema.specs.Form.{Holds, list_form, list_in, named_in};
 
 use crate::few::Few;
 use crate::in_tree::InTree;
 use avro_bin::Tree;
-use etp_values::{Boxed, Copied, List, Named, NoMemory};
+use etp_values::{Boxed, Copied, List, Named, NoMemory, Shared};
 use std::alloc::Global;
 
 impl<T: InTree> InTree for List<T> {
@@ -15,10 +15,8 @@ impl<T: InTree> InTree for List<T> {
 
     ghost form = { list_form T.form };
 
-    #[tactic(auto, using(crate::proofs::Parts::parts, crate::proofs::Parts::list_holds))]
     fn to_tree(&self, alloc: Global) -> Result<Tree, NoMemory> {
-        let trees = trees_of_items(alloc, self.as_slice())?;
-        Ok(Tree::Array(List::from_vec(trees)))
+        tree_of_items(alloc, self.as_slice())
     }
 
     fn from_tree(alloc: Global, tree: Tree) -> Result<List<T>, NoMemory> {
@@ -35,16 +33,23 @@ impl<T: InTree> InTree for Few<T> {
 
     ghost form = { list_form T.form };
 
-    #[tactic(auto, using(crate::proofs::Parts::parts, crate::proofs::Parts::list_holds))]
     fn to_tree(&self, alloc: Global) -> Result<Tree, NoMemory> {
-        let trees = trees_of_items(alloc, self.as_slice())?;
-        Ok(Tree::Array(List::from_vec(trees)))
+        tree_of_items(alloc, self.as_slice())
     }
 
     fn from_tree(alloc: Global, tree: Tree) -> Result<Few<T>, NoMemory> {
         let list: List<T> = InTree::from_tree(alloc, tree)?;
         Ok(Few::of_list(list))
     }
+}
+
+#[tactic(auto, using(crate::proofs::Parts::parts, crate::proofs::Parts::list_holds))]
+fn tree_of_items<T: InTree>(alloc: Global, items: &[T]) -> Result<Tree, NoMemory>
+    ensures value { IfOk result (λ tree. value_of tree ≡ (list_form T.form).as_value items.now) }
+    ensures typed { OnOk result (Holds (list_form T.form) items.now) }
+{
+    let trees = trees_of_items(alloc, items)?;
+    Ok(Tree::Array(List::from_vec(trees)))
 }
 
 fn trees_of_items<T: InTree>(alloc: Global, items: &[T]) -> Result<Vec<Tree>, NoMemory>
@@ -141,5 +146,17 @@ impl<T: InTree> InTree for Boxed<T> {
 
     fn from_tree(alloc: Global, tree: Tree) -> Result<Boxed<T>, NoMemory> {
         Boxed::new(alloc, T::from_tree(alloc, tree)?)
+    }
+}
+
+impl<T: InTree> InTree for Shared<T> {
+    ghost form = { T.form };
+
+    fn to_tree(&self, alloc: Global) -> Result<Tree, NoMemory> {
+        self.get().to_tree(alloc)
+    }
+
+    fn from_tree(alloc: Global, tree: Tree) -> Result<Shared<T>, NoMemory> {
+        Shared::new(alloc, T::from_tree(alloc, tree)?)
     }
 }

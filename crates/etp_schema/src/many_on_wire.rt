@@ -19,7 +19,7 @@ use crate::reader::Reader;
 use avro_bin::blocks::is_filled;
 use avro_bin::numbers::put_number;
 use avro_bin::{Fault, Why, put_text};
-use etp_values::{Boxed, List, Named, NoMemory, Text};
+use etp_values::{Boxed, List, Named, NoMemory, Shared, Text};
 use std::alloc::Global;
 use std::collections::BTreeMap;
 
@@ -373,6 +373,22 @@ impl<T: OnWire> OnWire for Boxed<T> {
         let value = T::read(from)?;
         let boxed = Boxed::new(from.alloc(), value)?;
         Ok(boxed)
+    }
+
+    fn write(&self, into: &mut Vec<u8>) -> Result<(), NoMemory> {
+        self.get().write(into)
+    }
+
+    fn measure(&self) -> Measure {
+        self.get().measure()
+    }
+}
+
+impl<T: OnWire> OnWire for Shared<T> {
+    fn read(from: &mut Reader<'_>) -> Result<Shared<T>, Fault> {
+        let value = T::read(from)?;
+        let shared = Shared::new(from.alloc(), value)?;
+        Ok(shared)
     }
 
     fn write(&self, into: &mut Vec<u8>) -> Result<(), NoMemory> {

@@ -78,6 +78,9 @@ impl<T: Copied> Copied for List<T> {
 
 impl<T: Copied> Copied for Named<T> {
     fn copy(&self, alloc: Global) -> Result<Named<T>, NoMemory> {
+        if self.len() == 0 {
+            return Ok(Named::new(alloc));
+        }
         let mut items = Vec::new(alloc);
         items.reserve_exact(self.as_slice().len())?;
         for pair in self.as_slice() {

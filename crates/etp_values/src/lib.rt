@@ -43,7 +43,7 @@ pub use point::{ChannelPoint, Point};
 pub use shared::Shared;
 pub use text::Text;
 pub use uri::{
-    MAX_PATH_LEN, MAX_URI_LEN, ObjectName, StoreUri, UriError, id_texts, is_type_filter,
+    MAX_PATH_LEN, MAX_URI_LEN, ObjectName, SpacePath, StoreUri, UriError, id_texts, is_type_filter,
     uri_equality, uri_texts,
 };
 pub use weight::custom_weight;

@@ -20,10 +20,12 @@ use thiserror::Error;
 
 mod laws;
 mod reading;
+mod space_path;
 mod writing;
 
 pub use laws::{id_texts, uri_equality, uri_texts};
 pub use reading::is_type_filter;
+pub use space_path::SpacePath;
 
 /// The greatest number of bytes of a URI's text.
 pub const MAX_URI_LEN: usize = 2_048;

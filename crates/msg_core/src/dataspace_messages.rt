@@ -8,16 +8,16 @@ ghost use Rattle.msg_core.specs.Dataspace.{dataspace_body, dataspace_kinds};
 
 use avro_bin::Tree;
 use etp_schema::{InTree, fields_of, tree_of};
-use etp_values::{DataValue, List, Named, NoMemory, Text};
+use etp_values::{DataValue, List, Named, NoMemory, Shared, Text};
 use std::alloc::Global;
 
 /// A dataspace: a space of its own for data objects.
 #[derive(Debug, Drop)]
 pub struct Dataspace {
     /// The dataspace's URI.
-    pub uri: Text,
+    pub uri: Shared<Text>,
     /// The dataspace's path; empty for the default one.
-    pub path: Text,
+    pub path: Shared<Text>,
     /// The moment of the last write, in microseconds since 1970-01-01 UTC.
     pub store_last_write: i64,
     /// The moment at which the store first had it, in microseconds since 1970-01-01 UTC.

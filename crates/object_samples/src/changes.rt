@@ -1,6 +1,6 @@
 //! Operations on the store, by their words.
 use crate::keys::{path_of, text_of, uri_of, words_of};
-use etp_values::{Blob, Copied, List, Named, NoMemory, StoreUri, Text};
+use etp_values::{Blob, Copied, List, Named, NoMemory, SpacePath, StoreUri, Text};
 use object_store::{KeyedObject, KeyedSpace, ObjectOp, ObjectRecord, ObjectStore, SpaceRecord};
 use std::alloc::Global;
 
@@ -27,7 +27,7 @@ fn object_of(alloc: Global, uri: StoreUri, name: Text, payload: Blob, at: i64) -
 
 fn put_space(alloc: Global, path: &str, at: i64) -> Result<ObjectOp, NoMemory> {
     let record = SpaceRecord {
-        path: path_of(alloc, path)?,
+        path: SpacePath::new(alloc, path_of(alloc, path)?)?,
         written: at,
         created: 77,
         custom: Named::new(alloc),

@@ -83,7 +83,7 @@ impl GoingSpaces {
         ensures len { deque_len queue.new ≤ deque_len queue.old + 1 }
         ensures least { deque_len queue.old ≤ deque_len queue.new }
     {
-        if self.has(&space.as_record().path) {
+        if self.has(space.as_record().path.as_text()) {
             return;
         }
         queue.push_front_reserved(ObjectOp::SetSpace(space));

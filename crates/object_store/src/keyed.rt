@@ -29,7 +29,7 @@ impl KeyedSpace {
     pub fn new(alloc: Global, space: SpaceRecord) -> Result<KeyedSpace, NoMemory>
         ensures { IfOk result (λ keyed. keyed ≡ space) }
     {
-        let path = space.path.copy(alloc)?;
+        let path = space.path.as_text().copy(alloc)?;
         Ok(KeyedSpace { path, space })
     }
 

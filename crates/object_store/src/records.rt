@@ -1,12 +1,12 @@
 //! What is kept of a dataspace and of an object.
-use etp_values::{Blob, Copied, DataValue, List, Named, NoMemory, StoreUri, Text};
+use etp_values::{Blob, Copied, DataValue, List, Named, NoMemory, SpacePath, StoreUri, Text};
 use std::alloc::Global;
 
 /// A dataspace. Moments are microseconds since 1970-01-01 UTC.
 #[derive(Debug, Drop, PartialEq, Eq)]
 pub struct SpaceRecord {
     /// The path, empty for the default dataspace.
-    pub path: Text,
+    pub path: SpacePath,
     /// When it was last put.
     pub written: i64,
     /// When it was first put, since it was last dropped.

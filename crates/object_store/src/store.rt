@@ -8,7 +8,7 @@ use crate::records::{ObjectRecord, SpaceRecord};
 use crate::tables::{
     drop_going, drop_object, drop_objects_in, drop_space, object_at, put_object, put_space,
 };
-use etp_values::{List, Named, NoMemory, StoreUri, Text};
+use etp_values::{List, Named, NoMemory, SpacePath, StoreUri, Text};
 use indexmap::IndexMap;
 use std::alloc::Global;
 use std::marker::Model;
@@ -47,7 +47,7 @@ impl ObjectStore {
     {
         let mut spaces = IndexMap::new(alloc);
         let record = SpaceRecord {
-            path: Text::new(alloc),
+            path: SpacePath::new(alloc, Text::new(alloc))?,
             written: 0,
             created: 0,
             custom: Named::new(alloc),

@@ -1,13 +1,12 @@
 //! The requests of the Dataspace protocol.
 ghost use Rattle.std.specs.Prelude.{◌≡◌, [], IfOk};
-ghost use Rattle.etp_values.specs.Uri.{space_text};
 ghost use Rattle.keyed_requests.specs.Plain.{plain_outcome, plain_reply};
 ghost use Rattle.keyed_requests.specs.Sending.{refusal_alone};
 ghost use Rattle.session_rows.specs.Dataspaces.{change_refusal, changeable_path, checked_put, dataspace_of, dataspace_outcome, dataspace_reply, decided, decided_found, delete_called, delete_response, is_custom_large, listed, path_granted, put_called, put_response, records_reply, verdicts_reply};
 
 use crate::spaces::space_path;
 use etp_schema::encoded_size;
-use etp_values::{Copied, DataValue, ErrorCode, List, Named, NoMemory, StoreUri, Text};
+use etp_values::{Copied, DataValue, ErrorCode, List, Named, NoMemory, Text};
 use keyed_requests::{
     Decision, Findings, Outcome, Plain, PlainReply, PlainRequest, Sending, keys_refusal,
     refusal_alone, refused_outcome, reply_alone, request_outcome, request_reply,
@@ -89,7 +88,7 @@ impl PlainRequest for PutDataspaces {
             custom_data,
             ..
         } = item;
-        match changeable_path(alloc, uri.as_str())? {
+        match changeable_path(alloc, uri.get().as_str())? {
             Decision::Granted(path) => {
                 if is_custom_large(alloc, &custom_data)? {
                     return Ok(Decision::Refused(ErrorCode::SizeExceeded));
@@ -267,8 +266,8 @@ pub fn dataspace_outcome(
     }
 }
 
-fn dataspace_of(alloc: Global, space: SpaceRecord) -> Result<Dataspace, NoMemory>
-    ensures { IfOk result (λ d. d ≡ dataspace_of space) }
+fn dataspace_of(space: SpaceRecord) -> Dataspace
+    ensures { result ≡ dataspace_of space }
 {
     let SpaceRecord {
         path,
@@ -276,27 +275,14 @@ fn dataspace_of(alloc: Global, space: SpaceRecord) -> Result<Dataspace, NoMemory
         created,
         custom,
     } = space;
-    let (uri, path) = dataspace_uri(alloc, path)?;
-    Ok(Dataspace {
+    let (path, uri) = path.into_texts();
+    Dataspace {
         uri,
         path,
         store_last_write: written,
         store_created: created,
         custom_data: custom,
-    })
-}
-
-/// The canonical text of a dataspace's URI, and its path.
-fn dataspace_uri(alloc: Global, path: Text) -> Result<(Text, Text), NoMemory>
-    ensures { IfOk result (λ texts. texts ≡ (space_text path, path)) }
-{
-    let uri = StoreUri {
-        space: path,
-        object: None,
-    };
-    let text = uri.write(alloc)?;
-    let StoreUri { space, .. } = uri;
-    Ok((text, space))
+    }
 }
 
 /// The response that lists these dataspaces.
@@ -306,8 +292,7 @@ fn listed(alloc: Global, records: List<SpaceRecord>) -> Result<DataspaceMessage,
     let mut dataspaces = Vec::new(alloc);
     dataspaces.reserve(records.len())?;
     for space in records.into_vec() {
-        let dataspace = dataspace_of(alloc, space)?;
-        dataspaces.push(dataspace)?;
+        dataspaces.push(dataspace_of(space))?;
     }
     Ok(DataspaceMessage::GetDataspacesResponse(GetDataspacesResponse {
         dataspaces: List::from_vec(dataspaces),

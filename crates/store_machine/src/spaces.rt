@@ -35,7 +35,7 @@ fn sorted(alloc: Global, contents: &Contents) -> Result<Vec<SpaceRecord>, NoMemo
     ensures { IfOk result (λ s. (sofar : List Change) → Holds contents.now sofar → Stands s.items sofar) }
 {
     let mut found = copies(alloc, contents.spaces())?;
-    found.sort_by(|a, b| a.path.cmp(&b.path))?;
+    found.sort_by(|a, b| a.path.as_text().cmp(b.path.as_text()))?;
     Ok(found)
 }
 

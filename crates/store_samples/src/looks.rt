@@ -12,7 +12,7 @@ fn print_space(rt: &HostRuntime, space: &SpaceRecord) -> io::Result<()> {
     let (written, created) = (space.written, space.created);
     print!(rt;
         "space {} written {written} created {created} ",
-        space.path.as_str()
+        space.path.as_text().as_str()
     )?;
     print_custom(rt, &space.custom)
 }

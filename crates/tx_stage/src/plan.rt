@@ -9,7 +9,7 @@ ghost use Rattle.tx_stage.specs.declared.op.OpWhat.TheVariants as done;
 
 use crate::op::OpWhat;
 use array_store::{ArrayKey, ArrayOp, ArrayRecord};
-use etp_values::{AnyArray, Copied, DataValue, List, Named, NoMemory, StoreUri, Text};
+use etp_values::{AnyArray, Copied, DataValue, List, Named, NoMemory, SpacePath, StoreUri, Text};
 use object_store::{KeyedObject, KeyedSpace, ObjectOp, ObjectRecord, SpaceRecord};
 use std::alloc::Global;
 
@@ -42,7 +42,7 @@ impl Plan {
         ensures { OnOk result ((t : Contents) → PutsSpace t self.old self.new path.now custom.now at) }
     {
         let space = SpaceRecord {
-            path: path.copy(alloc)?,
+            path: SpacePath::new(alloc, path.copy(alloc)?)?,
             written: at,
             created: at,
             custom: custom.copy(alloc)?,

@@ -16,7 +16,7 @@ fn space_stands(op: &ObjectOp, path: &Text, before: bool) -> bool
     ensures { result ≡ space_stands path.now before op.now }
 {
     match op {
-        ObjectOp::SetSpace(space) => *path == space.as_record().path || before,
+        ObjectOp::SetSpace(space) => *path == *space.as_record().path.as_text() || before,
         ObjectOp::DropSpace(dropped) => *path != *dropped && before,
         ObjectOp::SetObject(_) => before,
         ObjectOp::DropObject(_) => before,

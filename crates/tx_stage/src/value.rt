@@ -158,6 +158,23 @@ fn patch_value(
     }
 }
 
+/// What a patch leaves of the value before.
+fn patch_before(
+    alloc: Global,
+    before: Option<Value>,
+    at: i64,
+    starts: &List<i64>,
+    counts: &List<i64>,
+    values: &AnyArray,
+) -> Result<Option<Value>, NoMemory>
+    ensures { IfOk result (λ v. v ≡ option_map (patched_value at starts.now counts.now values.now) before) }
+{
+    match before {
+        None => Ok(None),
+        Some(value) => Ok(Some(patch_value(alloc, value, at, starts, counts, values)?)),
+    }
+}
+
 /// What an operation leaves at a key that it alters, from the value before.
 pub fn left(alloc: Global, op: &Op, before: Option<Value>) -> Result<Option<Value>, NoMemory>
     ensures { IfOk result (λ v. v ≡ op_left op.now before) }
@@ -165,12 +182,14 @@ pub fn left(alloc: Global, op: &Op, before: Option<Value>) -> Result<Option<Valu
     let created = made_at(op.at, &before);
     match &op.what {
         OpWhat::SetObject(object) => {
+            drop(before);
             let mut object = object.copy(alloc)?;
             object.written = op.at;
             object.created = created;
             Ok(Some(Value::Object(object)))
         }
         OpWhat::SetArray(array) => {
+            drop(before);
             let mut array = array.copy(alloc)?;
             array.written = op.at;
             array.created = created;
@@ -180,13 +199,10 @@ pub fn left(alloc: Global, op: &Op, before: Option<Value>) -> Result<Option<Valu
             starts,
             counts,
             values,
-        } => {
-            let Some(value) = before else {
-                return Ok(None);
-            };
-            let value = patch_value(alloc, value, op.at, starts, counts, values)?;
-            Ok(Some(value))
+        } => patch_before(alloc, before, op.at, starts, counts, values),
+        OpWhat::Gone => {
+            drop(before);
+            Ok(None)
         }
-        OpWhat::Gone => Ok(None),
     }
 }
