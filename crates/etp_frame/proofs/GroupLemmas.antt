@@ -1,6 +1,7 @@
 -- Groups of items.
-use Rattle.std.proofs.Common.{length, ◌==◌, ◌≡◌, ◌∙◌, ◌++◌, ◌+◌, ◌-◌, ◌<◌, ◌^◌, min, ℕ, suc, Bool, true, false, cond, ◌&&◌, ◌||◌, List, [], ◌∷◌, map, nat_le, refl, sym, ap, subst, append_assoc, arith}
+use Rattle.std.proofs.Common.{length, ◌==◌, ◌≡◌, ◌∙◌, ◌++◌, ◌+◌, ◌-◌, ◌<◌, ◌≤◌, ◌^◌, min, ℕ, suc, Bool, true, false, cond, ◌&&◌, ◌||◌, List, [], ◌∷◌, map, nat_le, refl, sym, ap, subst, append_assoc, append-nil, drop, arith}
 use Rattle.std.proofs.lemmas.Bool.Decides.{nat_tests}
+use Rattle.std.proofs.lemmas.List.{at_drop_all}
 use Rattle.std.specs.Cmp.Lexicographic.{slice_cmp}
 use Rattle.std.specs.List.{AllByRecursion}
 use Rattle.std.specs.List.Sorted.{IsStrictlySortedBy}
@@ -86,6 +87,54 @@ module _ {A : Type 0} (size : A → Amount) (limit : ℕ) where
       (λ i. leads size limit (made.0 i) (made.1 i) rest)
       ∙ append_assoc closed (held ∷ []) (groups_from size limit (x ∷ []) rest)
       ∙ ap (λ (l : List (List A)). closed ++ l) (sym (leads_if held x rest false goes))
+
+-- ---- items that have room together
+
+module _ {A : Type 0} (size : A → Amount) where
+  -- a measure with an item's and with those behind it
+  pub joined : (s : Measure) (x : A) (xs : List A) → adds (adds s (capped (size x))) (capped (total size xs)) ≡ adds s (capped (total size (x ∷ xs)))
+  joined s x xs =
+      let b : min (min (s.bytes + min (size x).bytes most) most + min (total size xs).bytes most) most ≡ min (s.bytes + min ((size x).bytes + (total size xs).bytes) most) most = omega arith in
+      let k : min (min (s.nodes + min (size x).nodes most) most + min (total size xs).nodes most) most ≡ min (s.nodes + min ((size x).nodes + (total size xs).nodes) most) most = omega arith in
+      (λ i. record { bytes = b i; nodes = k i })
+
+  -- and where none is behind it
+  pub joined_all : (s all : Measure) (n : ℕ) (xs : List A) → length xs ≤ n → s.bytes ≤ most → s.nodes ≤ most → adds s (capped (total size (drop n xs))) ≡ all → s ≡ all
+  joined_all s all n xs past bytes nodes is =
+      let b : s.bytes ≡ min (s.bytes + min 0 most) most = omega (arith, bytes) in
+      let k : s.nodes ≡ min (s.nodes + min 0 most) most = omega (arith, nodes) in
+      (λ i. record { bytes = b i; nodes = k i }) ∙ sym (at_drop_all (λ (l : List A). adds s (capped (total size l))) xs n past) ∙ is
+
+  -- the items in front take no more than all
+  bytes_front : (xs ys : List A) → (total size xs).bytes ≤ (total size (xs ++ ys)).bytes
+  bytes_front [] ys = omega arith
+  bytes_front (x ∷ xs) ys = let h = bytes_front xs ys in omega (arith, h)
+
+  nodes_front : (xs ys : List A) → (total size xs).nodes ≤ (total size (xs ++ ys)).nodes
+  nodes_front [] ys = omega arith
+  nodes_front (x ∷ xs) ys = let h = nodes_front xs ys in omega (arith, h)
+
+less_fits : (a b c d e f : ℕ) → a ≤ b → d ≤ e → (nat_le b c && nat_le e f) ≡ true → (nat_le a c && nat_le d f) ≡ true
+less_fits a b c d e f bytes nodes h = grind (arith, nat_tests)
+
+module _ {A : Type 0} (size : A → Amount) (limit : ℕ) where
+  front_goes_in : (held : List A) (x : A) (xs : List A) → fits limit (total size (held ++ x ∷ xs)) ≡ true → goes_in size limit held x ≡ true
+  front_goes_in [] x xs room = refl
+  front_goes_in (h ∷ hs) x xs room =
+      let front : List A = (h ∷ hs) ++ x ∷ [] in
+      less_fits (total size front).bytes (total size (front ++ xs)).bytes (limit - frame_room) (total size front).nodes (total size (front ++ xs)).nodes item_nodes (bytes_front size front xs) (nodes_front size front xs)
+      (subst (λ (l : List A). fits limit (total size l) ≡ true) (sym (append_assoc (h ∷ hs) (x ∷ []) xs)) room)
+
+  -- so they are one group
+  one_group : (held xs : List A) → fits limit (total size (held ++ xs)) ≡ true → groups_from size limit held xs ≡ (held ++ xs) ∷ []
+  one_group held [] room = ap (λ (l : List A). l ∷ []) (sym (append-nil held))
+  one_group held (x ∷ xs) room =
+      leads_if size limit held x xs true (front_goes_in held x xs room)
+      ∙ one_group (held ++ x ∷ []) xs (subst (λ (l : List A). fits limit (total size l) ≡ true) (sym (append_assoc held (x ∷ []) xs)) room)
+      ∙ ap (λ (l : List A). l ∷ []) (append_assoc held (x ∷ []) xs)
+
+  pub all_together : (xs : List A) (m : Measure) → limit < 2 ^ 64 → m ≡ capped (total size xs) → fits limit (amount m) ≡ true → groups size limit xs ≡ xs ∷ []
+  all_together xs m small is room = one_group [] xs (sym (fits_capped limit (total size xs) small) ∙ ap (λ (m : Measure). fits limit (amount m)) (sym is) ∙ room)
 
 -- ---- facts of all groups
 

@@ -131,8 +131,28 @@ fn place<T: Drop, M: Measuring<T>>(
     close(alloc, grouped, item, own)
 }
 
-/// The items in groups. Nothing is copied.
-pub(crate) fn groups<T: Drop, M: Measuring<T>>(
+/// How much of a message items take together.
+fn total<T, M: Measuring<T>>(items: &[T]) -> Measure
+    ensures { result ≡ capped (total M.amount items.now) }
+{
+    let mut sum = Measure { bytes: 0, nodes: 0 };
+    for item in items {
+        sum = sum.plus(M::measure(item));
+    }
+    sum
+}
+
+/// One group of all items.
+fn one_group<T: Drop>(alloc: Global, items: Vec<T>) -> Result<Vec<List<T>>, NoMemory>
+    ensures { IfOk result (λ v. v.items ≡ items.items ∷ []) }
+{
+    let mut groups = Vec::new(alloc);
+    groups.push(List::from_vec(items))?;
+    Ok(groups)
+}
+
+/// The items in groups, one item after the other.
+fn in_groups<T: Drop, M: Measuring<T>>(
     alloc: Global,
     items: Vec<T>,
     limit: u64,
@@ -154,6 +174,21 @@ pub(crate) fn groups<T: Drop, M: Measuring<T>>(
     } = grouped;
     closed.push(List::from_vec(held))?;
     Ok(closed)
+}
+
+/// The items in groups. Nothing is copied, and where all have room together, nothing is moved.
+pub(crate) fn groups<T: Drop, M: Measuring<T>>(
+    alloc: Global,
+    items: Vec<T>,
+    limit: u64,
+) -> Result<Vec<List<T>>, NoMemory>
+    ensures { IfOk result (λ v. v.items ≡ groups M.amount limit items.items) }
+{
+    let all = total::<T, M>(items.as_slice());
+    if has_room(all, limit) {
+        return one_group(alloc, items);
+    }
+    in_groups::<T, M>(alloc, items, limit)
 }
 
 /// The entries of a map in groups.

@@ -50,4 +50,4 @@ pub use laws::{
 pub use message::Message;
 pub use reading::{read_message, read_tree};
 pub use splitting::{blobs_in, split};
-pub use writing::write_message;
+pub use writing::{write_in_room, write_message};

@@ -21,7 +21,23 @@ pub fn write_message(alloc: Global, header: &Header, message: &Message) -> Resul
         → IsMessage side header.now message.now b) }
 {
     let size = header.measure().plus(message.measure()).bytes;
-    let mut bytes = Vec::with_capacity(alloc, size as usize)?;
+    write_in_room(alloc, size as usize, header, message)
+}
+
+/// The same bytes, in memory that has room for so many of them. More is taken where they are more.
+pub fn write_in_room(
+    alloc: Global,
+    room: usize,
+    header: &Header,
+    message: &Message,
+) -> Result<Blob, NoMemory>
+    requires names { Names header.now message.now }
+    requires plain { IsPlain header.now }
+    ensures bytes { IfOk result (λ b. b ≡ message_bytes header.now message.now) }
+    ensures form { IfOk result (λ b. (side : Side) → Sends side header.now message.now → nodes (message_body message.now).value ≤ node_limit
+        → IsMessage side header.now message.now b) }
+{
+    let mut bytes = Vec::with_capacity(alloc, room)?;
     header.write(&mut bytes)?;
     message.write(&mut bytes)?;
     let blob = Blob::from_vec(bytes)?;

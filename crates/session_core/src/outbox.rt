@@ -18,10 +18,18 @@ pub(crate) const MAX_ID: u64 = 4_611_686_018_427_387_904;
 /// How far one own id is above the one before: own ids are odd.
 const OWN_ID_STEP: u64 = 2;
 
-/// Messages to send, first message first. Each has a header that it can be written with.
+/// The room that the first message is written in.
+const FIRST_ROOM: usize = 256;
+
+/// The most room that a message is written in before it has shown that it is longer.
+const MOST_ROOM: usize = 4_096;
+
+/// Messages to send, first message first. Each has a header that it can be written with. A contract sees the messages.
 #[derive(Drop)]
 pub(crate) struct Outbox {
     messages: VecDeque<Outgoing>,
+    /// The room to write the next message in: what the last one took, since like is sent after like.
+    room: usize,
 }
 
 impl Model for Outbox {
@@ -51,7 +59,20 @@ impl Outbox {
     {
         Outbox {
             messages: VecDeque::new(alloc),
+            room: FIRST_ROOM,
         }
+    }
+
+    /// The room to write the next message in.
+    pub(crate) fn room(&self) -> usize {
+        self.room
+    }
+
+    /// Keeps how many bytes a message had that was written.
+    pub(crate) fn note_size(&mut self, size: usize)
+        ensures { self.new ≡ self.old }
+    {
+        self.room = size.min(MOST_ROOM);
     }
 
     /// Takes the first message out.

@@ -2,7 +2,7 @@ use Rattle.std.proofs.Common.{◌≡◌}
 use Rattle.std.specs.Vec.Iter.{into_iter_items}
 use Rattle.etp_frame.specs.Grouped.{capped, leads}
 use Rattle.etp_frame.specs.Grouping.{total, groups}
-use Rattle.etp_frame.proofs.grouping.groups.Given as goal
+use Rattle.etp_frame.proofs.grouping.in_groups.Given as goal
 
 abbrev pub invariant-loop-item : goal.invariant-loop-item
 invariant-loop-item g l = record {

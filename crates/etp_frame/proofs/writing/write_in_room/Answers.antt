@@ -2,7 +2,7 @@ use Rattle.std.proofs.Common.{◌≡◌, sym, subst, rules}
 use Rattle.etp_frame.specs.Wire.{IsMessage, message_bytes}
 use Rattle.etp_frame.specs.Laws.{Fits}
 use Rattle.etp_frame.proofs.WireLemmas.{written_form}
-use Rattle.etp_frame.proofs.writing.write_message.Goals as goal
+use Rattle.etp_frame.proofs.writing.write_in_room.Goals as goal
 
 pub returns-clause-form : goal.returns-clause-form
 returns-clause-form c = λ side sent few.
