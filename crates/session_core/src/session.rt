@@ -22,7 +22,7 @@ use crate::state::{Arrived, End, Live, Outgoing, Pending, Phase, Request};
 use chan_defs::Config;
 use channel_rows::{Opens, SubscribePending, news_call};
 use etp_frame::flags::ACKNOWLEDGE;
-use etp_frame::{Header, Joiner, Message, write_message};
+use etp_frame::{Header, Joiner, Message, write_in_room};
 use etp_values::{Blob, ErrorCode, List, NoMemory};
 use msg_core::CoreMessage;
 use session_rows::{Format, PART_LIMIT};
@@ -37,7 +37,6 @@ use tx_stage::Stage;
 /// [`next_out`](Session::next_out) has, before the next event.
 ///
 /// After `NoMemory` the session has failed: no clause says what it holds, and its connection is to be ended.
-#[derive(Drop)]
 pub struct Session {
     config: Config,
     number: u64,
@@ -56,6 +55,39 @@ pub struct Session {
     subs: Option<Subs>,
     pending: Option<Pending>,
     out: Outbox,
+}
+
+/// Written out, so that a crate above drops a session by one call and knows nothing of its messages.
+impl Drop for Session {
+    fn drop(self) {
+        let Session {
+            config,
+            number: _,
+            phase: _,
+            last_id: _,
+            next_id: _,
+            accepted,
+            formats,
+            limit: _,
+            blobs: _,
+            stage,
+            starts: _,
+            joiner,
+            opens,
+            subs,
+            pending,
+            out,
+        } = self;
+        drop(config);
+        drop(accepted);
+        drop(formats);
+        drop(stage);
+        drop(joiner);
+        drop(opens);
+        drop(subs);
+        drop(pending);
+        drop(out);
+    }
 }
 
 impl Model for Session {
@@ -144,7 +176,8 @@ impl Session {
         let Some(outgoing) = self.out.pop() else {
             return Ok(None);
         };
-        let bytes = bytes_of(alloc, outgoing)?;
+        let bytes = bytes_of(alloc, self.out.room(), outgoing)?;
+        self.out.note_size(bytes.len());
         Ok(Some(bytes))
     }
 
@@ -290,9 +323,9 @@ fn is_asking(message: &CoreMessage) -> bool
     }
 }
 
-fn bytes_of(alloc: Global, outgoing: Outgoing) -> Result<Blob, NoMemory>
+fn bytes_of(alloc: Global, room: usize, outgoing: Outgoing) -> Result<Blob, NoMemory>
     requires { IsWritable outgoing }
     ensures { IfOk result (λ bytes. bytes ≡ bytes_of outgoing) }
 {
-    write_message(alloc, &outgoing.header, &outgoing.message)
+    write_in_room(alloc, room, &outgoing.header, &outgoing.message)
 }

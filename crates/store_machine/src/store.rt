@@ -29,7 +29,6 @@ use std::marker::Model;
 use tx_stage::{Contents, Op, Staged, Want};
 
 /// A store. A contract sees its configuration and its journal.
-#[derive(Drop)]
 pub struct Store {
     config: Config,
     journal: Vec<Entry>,
@@ -41,6 +40,25 @@ pub struct Store {
     channels: ChannelStore,
     /// By which entries keys were altered.
     alterations: Alterations,
+}
+
+/// Written out, so that a crate above drops a store by one call and knows nothing of its parts.
+impl Drop for Store {
+    fn drop(self) {
+        let Store {
+            config,
+            journal,
+            bytes: _,
+            contents,
+            channels,
+            alterations,
+        } = self;
+        drop(config);
+        drop(journal);
+        drop(contents);
+        drop(channels);
+        drop(alterations);
+    }
 }
 
 impl Model for Store {
