@@ -19,11 +19,19 @@ use std::marker::Model;
 
 /// Arrays by their keys. A contract sees them in the order of the table, and as `spare` how many more fit, and how many operations
 /// can be done, without memory.
-#[derive(Drop)]
 pub struct ArrayStore {
     arrays: IndexMap<ArrayKey, ArrayRecord>,
     /// What a list of operations removes, while it is done.
     going: GoingArrays,
+}
+
+/// Written out, so that whoever holds one drops it by one call.
+impl Drop for ArrayStore {
+    fn drop(self) {
+        let ArrayStore { arrays, going } = self;
+        drop(arrays);
+        drop(going);
+    }
 }
 
 impl Model for ArrayStore {

@@ -13,9 +13,17 @@ use std::alloc::Global;
 use std::marker::Model;
 
 /// Points with their channels, in order. A contract sees the list of them. A copy shares their memory.
-#[derive(Debug, Drop)]
+#[derive(Debug)]
 pub struct ChannelPoints {
     kept: Kept,
+}
+
+/// Written out, so that whoever holds one drops it by one call.
+impl Drop for ChannelPoints {
+    fn drop(self) {
+        let ChannelPoints { kept } = self;
+        drop(kept);
+    }
 }
 
 /// The points of one channel share the memory of its change; those of several keep their order.

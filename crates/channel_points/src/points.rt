@@ -21,9 +21,17 @@ use std::slice;
 /// Points in order. A contract sees the list of them.
 ///
 /// A copy shares the memory of what it is made of once the points are [`sealed`](Points::sealed).
-#[derive(Debug, Drop)]
+#[derive(Debug)]
 pub struct Points {
     form: Form,
+}
+
+/// Written out, so that whoever holds one drops it by one call.
+impl Drop for Points {
+    fn drop(self) {
+        let Points { form } = self;
+        drop(form);
+    }
 }
 
 /// Where the points stand. A number has no memory of its own and needs no block; points that are still added to have no other owner.
@@ -229,7 +237,8 @@ impl Points {
     pub fn sealed(self, alloc: Global) -> Result<Points, NoMemory>
         ensures { IfOk result (λ r. r ≡ self) }
     {
-        match self.form {
+        let Points { form } = self;
+        match form {
             Form::Own(points) => Points::of(alloc, points),
             form => Ok(Points { form }),
         }

@@ -27,12 +27,26 @@ const MAX_MESSAGE_LEN: u64 = 16_777_216;
 /// [`take`](Client::take), and asks by [`ask`](Client::ask).
 ///
 /// After `NoMemory` the client has ended.
-#[derive(Drop)]
 pub struct Client {
     heard: Hearing,
     ids: Ids,
     blobs: u64,
     out: VecDeque<Blob>,
+}
+
+/// Written out, so that whoever holds one drops it by one call.
+impl Drop for Client {
+    fn drop(self) {
+        let Client {
+            heard,
+            ids,
+            blobs: _,
+            out,
+        } = self;
+        drop(heard);
+        drop(ids);
+        drop(out);
+    }
 }
 
 impl Model for Client {

@@ -10,9 +10,17 @@ use std::alloc::Global;
 use std::marker::Model;
 
 /// Bytes with any number of owners. A contract sees the bytes.
-#[derive(Drop, Debug)]
+#[derive(Debug)]
 pub struct Blob {
     bytes: Bytes,
+}
+
+/// Written out, so that whoever holds one drops it by one call.
+impl Drop for Blob {
+    fn drop(self) {
+        let Blob { bytes } = self;
+        drop(bytes);
+    }
 }
 
 impl Model for Blob {

@@ -7,9 +7,17 @@ use std::alloc::Global;
 use std::marker::Model;
 
 /// A value on the heap, which takes the room of one pointer where it stands. A contract sees the value.
-#[derive(Debug, Drop)]
+#[derive(Debug)]
 pub struct Boxed<T> {
     inner: Box<T>,
+}
+
+/// Written out, so that whoever holds one drops it by one call.
+impl<T: Drop> Drop for Boxed<T> {
+    fn drop(self) {
+        let Boxed { inner } = self;
+        drop(inner);
+    }
 }
 
 impl<T> Model for Boxed<T> {

@@ -5,9 +5,17 @@ use std::alloc::Global;
 use std::marker::Model;
 
 /// A list of values. A contract sees the values in order.
-#[derive(Debug, Drop)]
+#[derive(Debug)]
 pub struct List<T> {
     items: Vec<T>,
+}
+
+/// Written out, so that whoever holds one drops it by one call.
+impl<T: Drop> Drop for List<T> {
+    fn drop(self) {
+        let List { items } = self;
+        drop(items);
+    }
 }
 
 impl<T> Model for List<T> {

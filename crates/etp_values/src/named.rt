@@ -15,9 +15,17 @@ use std::alloc::Global;
 use std::marker::Model;
 
 /// Values under distinct names, in the byte order of the names.
-#[derive(Drop, Debug)]
+#[derive(Debug)]
 pub struct Named<T> {
     items: Vec<(Text, T)>,
+}
+
+/// Written out, so that whoever holds one drops it by one call.
+impl<T: Drop> Drop for Named<T> {
+    fn drop(self) {
+        let Named { items } = self;
+        drop(items);
+    }
 }
 
 impl<T> Model for Named<T> {

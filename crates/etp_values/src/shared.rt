@@ -8,9 +8,17 @@ use std::marker::Model;
 use std::sync::Arc;
 
 /// A value on the heap with any number of owners, in any threads. A contract sees the value.
-#[derive(Debug, Drop)]
+#[derive(Debug)]
 pub struct Shared<T> {
     inner: Arc<T, Global>,
+}
+
+/// Written out, so that whoever holds one drops it by one call.
+impl<T: Drop> Drop for Shared<T> {
+    fn drop(self) {
+        let Shared { inner } = self;
+        drop(inner);
+    }
 }
 
 impl<T> Model for Shared<T> {

@@ -16,9 +16,17 @@ use std::hash::{Hash, Hasher};
 use std::marker::Model;
 
 /// A text. A contract sees its UTF-8 bytes. Texts are ordered by their bytes.
-#[derive(Drop, Debug)]
+#[derive(Debug)]
 pub struct Text {
     inner: String,
+}
+
+/// Written out, so that whoever holds one drops it by one call.
+impl Drop for Text {
+    fn drop(self) {
+        let Text { inner } = self;
+        drop(inner);
+    }
 }
 
 impl Model for Text {

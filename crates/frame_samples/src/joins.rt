@@ -31,7 +31,9 @@ fn join(
     message: Message,
 ) -> io::Result<()> {
     let joined = joiner.add(rt.alloc(), header, message);
-    print_joined(rt, &joined)
+    let printed = print_joined(rt, &joined);
+    drop(joined);
+    printed
 }
 
 /// Gives the joiner what was read.

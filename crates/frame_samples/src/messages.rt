@@ -66,7 +66,9 @@ fn print_typed(rt: &HostRuntime, frame: &Frame) -> io::Result<()> {
     };
     let bytes = frame.bytes.as_bytes();
     let read = read_message(rt.alloc(), bytes, sender);
-    print_read(rt, &read, bytes)
+    let printed = print_read(rt, &read, bytes);
+    drop(read);
+    printed
 }
 
 /// Prints the line that shows the frame.

@@ -23,12 +23,16 @@ fn print_parts(rt: &HostRuntime, parts: &[Message]) -> io::Result<()> {
     Ok(())
 }
 
-/// Cuts the message.
-fn cut(rt: &HostRuntime, message: Message, limit: u64, number: u64, blobs: u64) -> io::Result<()> {
-    match split(rt.alloc(), message, limit, number, blobs) {
-        Ok(parts) => print_parts(rt, parts.as_slice()),
-        Err(_) => println!(rt; "no memory"),
+/// Cuts the message, and answers how many blobs it has.
+fn cut(rt: &HostRuntime, message: Message, limit: u64, number: u64, blobs: u64) -> io::Result<u64> {
+    let count = blobs_in(&message, limit);
+    let parts = split(rt.alloc(), message, limit, number, blobs);
+    println!(rt; "{count} blobs")?;
+    match parts {
+        Ok(parts) => print_parts(rt, parts.as_slice())?,
+        Err(_) => println!(rt; "no memory")?,
     }
+    Ok(count)
 }
 
 /// Cuts what was read, where so many blobs were sent before, and answers how many there are then.
@@ -41,9 +45,7 @@ fn cut_read(
     match read {
         Ok((_, message)) => {
             let limit = frame.moment.unsigned_abs();
-            let count = blobs_in(&message, limit);
-            println!(rt; "{count} blobs")?;
-            cut(rt, message, limit, u64::from(frame.tag), blobs)?;
+            let count = cut(rt, message, limit, u64::from(frame.tag), blobs)?;
             Ok(blobs.saturating_add(count))
         }
         Err(error) => {

@@ -7,10 +7,19 @@ use std::alloc::Global;
 use std::marker::Model;
 
 /// A dataspace's record with a copy of its path. A contract sees the record.
-#[derive(Debug, Drop)]
+#[derive(Debug)]
 pub struct KeyedSpace {
     path: Text,
     space: SpaceRecord,
+}
+
+/// Written out, so that whoever holds one drops it by one call.
+impl Drop for KeyedSpace {
+    fn drop(self) {
+        let KeyedSpace { path, space } = self;
+        drop(path);
+        drop(space);
+    }
 }
 
 impl Model for KeyedSpace {
@@ -51,10 +60,19 @@ impl KeyedSpace {
 }
 
 /// An object's record with a copy of its URI. A contract sees the record.
-#[derive(Debug, Drop)]
+#[derive(Debug)]
 pub struct KeyedObject {
     uri: StoreUri,
     object: ObjectRecord,
+}
+
+/// Written out, so that whoever holds one drops it by one call.
+impl Drop for KeyedObject {
+    fn drop(self) {
+        let KeyedObject { uri, object } = self;
+        drop(uri);
+        drop(object);
+    }
 }
 
 impl Model for KeyedObject {

@@ -15,12 +15,25 @@ use std::marker::Model;
 
 /// Dataspaces by their path and objects by their URI. A contract sees the two tables, and as `spare` how many operations
 /// can be done without memory.
-#[derive(Drop)]
 pub struct ObjectStore {
     spaces: IndexMap<Text, SpaceRecord>,
     objects: IndexMap<StoreUri, ObjectRecord>,
     /// The dataspaces that a list of operations drops, while it is done.
     going: GoingSpaces,
+}
+
+/// Written out, so that whoever holds one drops it by one call.
+impl Drop for ObjectStore {
+    fn drop(self) {
+        let ObjectStore {
+            spaces,
+            objects,
+            going,
+        } = self;
+        drop(spaces);
+        drop(objects);
+        drop(going);
+    }
 }
 
 impl Model for ObjectStore {

@@ -248,7 +248,10 @@ impl Session {
             OnOk result (self.new ≡ (on_fresh header.now moment message s).state) }
     {
         self.last_id = header.id;
-        self.acknowledge(alloc, header, &message)?;
+        if let Err(refused) = self.acknowledge(alloc, header, &message) {
+            drop(message);
+            return Err(refused);
+        }
         match self.phase {
             Phase::Live(live) => self.on_message(alloc, live, header, moment, message),
             Phase::Ended(_) => no_call(message),
@@ -327,5 +330,7 @@ fn bytes_of(alloc: Global, room: usize, outgoing: Outgoing) -> Result<Blob, NoMe
     requires { IsWritable outgoing }
     ensures { IfOk result (λ bytes. bytes ≡ bytes_of outgoing) }
 {
-    write_in_room(alloc, room, &outgoing.header, &outgoing.message)
+    let written = write_in_room(alloc, room, &outgoing.header, &outgoing.message);
+    drop(outgoing);
+    written
 }

@@ -16,12 +16,25 @@ use std::marker::Model;
 pub const MAX_SUBS: usize = 256;
 
 /// The subscriptions of a session, their cursor, and the changes that are left to tell. A contract sees the three as `Subbed`.
-#[derive(Drop)]
 pub struct Subs {
     alloc: Global,
     subs: List<Sub>,
     cursor: u64,
     pending: Pending,
+}
+
+/// Written out, so that whoever holds one drops it by one call.
+impl Drop for Subs {
+    fn drop(self) {
+        let Subs {
+            alloc: _,
+            subs,
+            cursor: _,
+            pending,
+        } = self;
+        drop(subs);
+        drop(pending);
+    }
 }
 
 impl Model for Subs {

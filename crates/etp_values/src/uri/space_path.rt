@@ -18,10 +18,18 @@ use std::marker::Model;
 
 /// A dataspace's path, and with it the canonical text of the dataspace's URI. A contract sees the path. A copy asks for no
 /// memory: copies share both texts.
-#[derive(Drop)]
 pub struct SpacePath {
     path: Shared<Text>,
     uri: Shared<Text>,
+}
+
+/// Written out, so that whoever holds one drops it by one call.
+impl Drop for SpacePath {
+    fn drop(self) {
+        let SpacePath { path, uri } = self;
+        drop(path);
+        drop(uri);
+    }
 }
 
 impl Model for SpacePath {
