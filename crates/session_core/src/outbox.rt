@@ -108,6 +108,7 @@ impl Outbox {
         let mut left = replies_in(parts.as_slice());
         for part in parts.into_vec() {
             if id > MAX_ID {
+                drop(part);
                 return Ok(Ids {
                     next: id,
                     spent: true,

@@ -1,5 +1,5 @@
 //! The session of one client.
-ghost use Rattle.std.specs.Prelude.{◌≡◌, pos, None, IfOk, IfSome, OnOk, ◌≤ℤ◌, int_rem};
+ghost use Rattle.std.specs.Prelude.{◌≡◌, pos, None, Some, IfOk, IfSome, OnOk, ◌≤ℤ◌, int_rem};
 ghost use Rattle.channel_rows.specs.Subscriptions.{news_call};
 ghost use Rattle.etp_frame.specs.declared.message.Message.TheVariants as frame;
 ghost use Rattle.session_core.specs.Arriving.{Receives, Polls, request_of};
@@ -197,7 +197,10 @@ impl Session {
     {
         match self.phase {
             Phase::Live(live) => self.by_event(alloc, live, arrived),
-            Phase::Ended(_) => Ok(None),
+            Phase::Ended(_) => {
+                drop(arrived);
+                Ok(None)
+            }
         }
     }
 
@@ -288,12 +291,20 @@ impl Session {
         let Some(call) = news_call(alloc, subs, front)? else {
             return Ok(None);
         };
-        self.pending = Some(Pending::Subscriptions {
+        let pending = Pending::Subscriptions {
             request: Request { protocol: 0, id: 0 },
             pending: SubscribePending::News,
-        });
+        };
+        keep(&mut self.pending, pending);
         Ok(Some(call))
     }
+}
+
+/// Keeps the request that awaits the store's answer.
+pub(crate) fn keep(place: &mut Option<Pending>, pending: Pending)
+    ensures { place.new ≡ Some pending }
+{
+    *place = Some(pending);
 }
 
 /// A message that is let go calls for nothing.

@@ -13,7 +13,7 @@ ghost use Rattle.session_rows.specs.Transactions.{transaction_request};
 use crate::arriving::request_of;
 use crate::noting::keys_in;
 use crate::replies::sayings_of;
-use crate::session::Session;
+use crate::session::{Session, keep};
 use crate::state::{Live, Pending, Request, StagedPending};
 use array_rows::{ArrayOutcome, ArrayPending, array_outcome};
 use channel_rows::{LoadOutcome, SubscribeOutcome, load_outcome, subscribe_outcome};
@@ -116,7 +116,7 @@ impl Session {
                 Ok(None)
             }
             Outcome::Calls { call, pending } => {
-                self.pending = Some(Pending::Dataspaces { request, pending });
+                keep(&mut self.pending, Pending::Dataspaces { request, pending });
                 Ok(Some(call))
             }
         }
@@ -155,7 +155,7 @@ impl Session {
     {
         match &self.stage {
             None => {
-                self.pending = Some(Pending::Objects { request, pending });
+                keep(&mut self.pending, Pending::Objects { request, pending });
                 Ok(Some(call))
             }
             Some(_) => self.ask_staged(alloc, request, call, StagedPending::Objects(pending)),
@@ -195,7 +195,7 @@ impl Session {
     {
         match &self.stage {
             None => {
-                self.pending = Some(Pending::Arrays { request, pending });
+                keep(&mut self.pending, Pending::Arrays { request, pending });
                 Ok(Some(call))
             }
             Some(_) => self.ask_staged(alloc, request, call, StagedPending::Arrays(pending)),
@@ -216,11 +216,12 @@ impl Session {
     {
         match keys_in(alloc, &call) {
             Ok(keys) => {
-                self.pending = Some(Pending::Staged {
+                let kept = Pending::Staged {
                     request,
                     keys,
                     pending,
-                });
+                };
+                keep(&mut self.pending, kept);
                 Ok(Some(call))
             }
             Err(error) => {
@@ -282,7 +283,10 @@ impl Session {
                 Ok(None)
             }
             Outcome::Calls { call, pending } => {
-                self.pending = Some(Pending::Transactions { request, pending });
+                keep(
+                    &mut self.pending,
+                    Pending::Transactions { request, pending },
+                );
                 Ok(Some(call))
             }
         }
@@ -322,7 +326,7 @@ impl Session {
                 Ok(None)
             }
             Outcome::Calls { call, pending } => {
-                self.pending = Some(Pending::Loads { request, pending });
+                keep(&mut self.pending, Pending::Loads { request, pending });
                 Ok(Some(call))
             }
         }
@@ -363,7 +367,10 @@ impl Session {
                 Ok(None)
             }
             Outcome::Calls { call, pending } => {
-                self.pending = Some(Pending::Subscriptions { request, pending });
+                keep(
+                    &mut self.pending,
+                    Pending::Subscriptions { request, pending },
+                );
                 Ok(Some(call))
             }
         }

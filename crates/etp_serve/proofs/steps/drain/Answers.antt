@@ -10,14 +10,6 @@ loop-message-init g c = record {
   ended = refl;
 }
 
-pub loop-message-preserved-in-Done : goal.loop-message-preserved-in-Done
-loop-message-preserved-in-Done g c = record {
-  talk = drain_step c.args.session.now c.loop-message.session c.next_out.new.self (g.L.Link.talk c.args.link.now) (g.L.Link.talk c.loop-message.link) (g.L.Link.talk c.send.new.self) c.in-Ok-Some.message c.loop-message.invariant.talk
-      (sym c.in-Ok-Some.field-0-is ∙ c.in-Ok-Some.ensures.bytes) c.in-Ok-Some.ensures.state c.in-Done.ensures.talk;
-  kept = omega (arith, c.loop-message.invariant.kept, c.send.ensures.kept);
-  ended = c.send.ensures.ended ∙ c.loop-message.invariant.ended;
-}
-
 pub loop-message-preserved : goal.loop-message-preserved
 loop-message-preserved g c = record {
   talk = drain_step c.args.session.now c.loop-message.session c.next_out.new.self (g.L.Link.talk c.args.link.now) (g.L.Link.talk c.loop-message.link) (g.L.Link.talk c.send.new.self) c.in-Ok-Some.message c.loop-message.invariant.talk
