@@ -13,8 +13,8 @@ use Rattle.etp_values.specs.SameUri.{same_uri, same_uri-equiv}
 use Rattle.etp_values.specs.declared.uri.StoreUri.{StoreUri}
 use Rattle.chan_defs.specs.Keys.{text_at, instance_of}
 use Rattle.chan_defs.specs.Config.{next, or_else, table_of, config_of, defs, is_taken}
-use Rattle.chan_defs.specs.declared.config.Config.{Config}
-use Rattle.chan_defs.specs.declared.config.ChannelDef.{ChannelDef}
+use Rattle.server_config.specs.declared.config.Config.{Config}
+use Rattle.server_config.specs.declared.config.ChannelDef.{ChannelDef}
 use Rattle.chan_defs.specs.declared.error.DefsError.{DefsError}
 use Rattle.chan_defs.specs.declared.error.DefsError.TheVariants.{TooLong, Toml, NoMemory}
 

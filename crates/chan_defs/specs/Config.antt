@@ -9,8 +9,8 @@ use Rattle.etp_values.specs.SameUri.{same_uri}
 use Rattle.etp_values.specs.declared.uri.StoreUri.{StoreUri}
 use Rattle.etp_values.specs.declared.uri.UriError.{UriError}
 use Rattle.chan_defs.specs.Keys.{text_at, instance_of, name_of, number_at, types_of, tables_of, kind_of, unit_of}
-use Rattle.chan_defs.specs.declared.config.Config.{Config}
-use Rattle.chan_defs.specs.declared.config.ChannelDef.{ChannelDef}
+use Rattle.server_config.specs.declared.config.Config.{Config}
+use Rattle.server_config.specs.declared.config.ChannelDef.{ChannelDef}
 use Rattle.chan_defs.specs.declared.error.DefsError.{DefsError}
 use Rattle.chan_defs.specs.declared.error.DefsError.TheVariants.{TooLong, Toml, Key, TooMany, Uri, Kind, DoubleUri}
 

@@ -5,8 +5,8 @@ use Rattle.std.specs.Str.{bytes_eq}
 use Rattle.toml.specs.Data.{Data, Members, Items, no_items, item, get_member, as_str, as_integer, as_array, as_table}
 use Rattle.uuid.specs.Text.{parsed}
 use Rattle.etp_values.specs.Uri.{is_type_filter}
-use Rattle.chan_defs.specs.declared.config.ValueKind.{ValueKind}
-use Rattle.chan_defs.specs.declared.config.ValueKind.TheVariants.{Boolean, Int, Long, Float, Double, String, Bytes}
+use Rattle.server_config.specs.declared.config.ValueKind.{ValueKind}
+use Rattle.server_config.specs.declared.config.ValueKind.TheVariants.{Boolean, Int, Long, Float, Double, String, Bytes}
 
 -- a value that passes a test
 abbrev pub passing : {A : Type 0} → (A → Bool) → Option A → Option A

@@ -6,10 +6,10 @@ ghost use Rattle.etp_values.specs.Gives.{Gives};
 ghost use Rattle.etp_values.specs.Uri.{uri_of};
 ghost use Rattle.chan_defs.specs.Config.{or_else, object_uri, channel_of, put_channel, channels_of};
 
-use crate::config::ChannelDef;
 use crate::error::DefsError;
 use crate::keys::{kind, name, text, unit};
 use etp_values::{Copied, List, NoMemory, StoreUri, Text, UriError};
+use server_config::ChannelDef;
 use std::alloc::Global;
 use std::collections::HashSet;
 use std::marker::Model;
@@ -87,7 +87,7 @@ impl Model for Channels {
     ghost use Rattle.etp_values.specs.SameUri.{same_uri};
     ghost use Rattle.etp_values.specs.declared.uri.StoreUri.{StoreUri};
     ghost use Rattle.chan_defs.specs.Config.{is_taken};
-    ghost use Rattle.chan_defs.specs.declared.config.ChannelDef.{ChannelDef};
+    ghost use Rattle.server_config.specs.declared.config.ChannelDef.{ChannelDef};
 
     ghost Value = { List ChannelDef };
 

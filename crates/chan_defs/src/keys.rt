@@ -4,8 +4,8 @@ ghost use Rattle.toml.specs.View.{table_view, view, items_view};
 ghost use Rattle.toml.specs.Data.{get_member};
 ghost use Rattle.chan_defs.specs.Keys.{text_at, instance_of, name_of, is_name as is_name_text, within as number_within, number_at, filters_of, types_of, tables_in, tables_of, kind_of, is_unit as is_unit_text, unit_of};
 
-use crate::config::ValueKind;
 use etp_values::{Id16, List, NoMemory, Text, is_type_filter};
+use server_config::ValueKind;
 use std::alloc::Global;
 use toml::{Table, Value};
 use uuid::Uuid;

@@ -20,11 +20,9 @@
 #![tactic(auto)]
 
 mod channels;
-mod config;
 mod error;
 mod keys;
 mod reading;
 
-pub use config::{ChannelDef, Config, ValueKind};
 pub use error::DefsError;
 pub use reading::{MAX_DEFS_LEN, read_defs};

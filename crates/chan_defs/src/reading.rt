@@ -5,10 +5,10 @@ ghost use Rattle.etp_values.specs.Gives.{Gives};
 ghost use Rattle.chan_defs.specs.Config.{config_of, defs};
 
 use crate::channels::read_channels;
-use crate::config::Config;
 use crate::error::DefsError;
 use crate::keys::{instance, name, number, tables, types};
 use etp_values::{NoMemory, Shared, Text};
+use server_config::Config;
 use std::alloc::Global;
 use toml::Table;
 

@@ -1,6 +1,6 @@
 -- The requests of the ChannelDataLoad protocol: what a session answers, and what it asks of the store.
 use Rattle.std.specs.Prelude.{ℕ, ℤ, ◌==◌, Bool, true, not, List, [], ◌∷◌, Option, Some, None, codes, length, if◌then◌else◌}
-use Rattle.chan_defs.specs.declared.config.ChannelDef.{ChannelDef}
+use Rattle.server_config.specs.declared.config.ChannelDef.{ChannelDef}
 use Rattle.etp_values.specs.declared.code.ErrorCode.{ErrorCode}
 use Rattle.etp_values.specs.declared.code.ErrorCode.TheVariants.{InvalidArgument, InvalidIndexKind, InvalidMessageType, LimitExceeded, NotFound, RequestDenied}
 use Rattle.etp_values.specs.declared.point.ChannelPoint.{ChannelPoint}

@@ -1,8 +1,8 @@
 -- What is said of a channel.
 use Rattle.std.specs.Prelude.{ℕ, ℤ, true, List, [], ◌∷◌, Option, Some, None, codes, slice_get}
-use Rattle.chan_defs.specs.declared.config.ChannelDef.{ChannelDef}
-use Rattle.chan_defs.specs.declared.config.ValueKind.{ValueKind}
-use Rattle.chan_defs.specs.declared.config.ValueKind.TheVariants as kind
+use Rattle.server_config.specs.declared.config.ChannelDef.{ChannelDef}
+use Rattle.server_config.specs.declared.config.ValueKind.{ValueKind}
+use Rattle.server_config.specs.declared.config.ValueKind.TheVariants as kind
 use Rattle.etp_schema.specs.declared.status.ActiveStatusKind.TheVariants.{Active}
 use Rattle.etp_values.specs.Uri.{plain_uri}
 use Rattle.etp_values.specs.declared.code.ErrorCode.TheVariants.{NotFound}

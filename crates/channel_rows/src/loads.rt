@@ -8,10 +8,10 @@ use crate::open_flags::Opens;
 use crate::opening::{close_request, open_reply, open_request};
 use crate::replacing::replace_outcome;
 use crate::truncating::{truncate_reply, truncate_request};
-use chan_defs::ChannelDef;
 use etp_values::{ErrorCode, List, Named, NoMemory};
 use keyed_requests::{Decision, Outcome, Sending, refusal_alone, refused_outcome, reply_alone};
 use msg_channel::{ChannelDataLoadMessage, ReplaceRangeResponse};
+use server_config::ChannelDef;
 use std::alloc::Global;
 use store_machine::{MetaReply, Reply, StoreCall, Verdict};
 

@@ -4,7 +4,6 @@ ghost use Rattle.std.specs.Option.{option_copied};
 ghost use Rattle.channel_rows.specs.Metadata.{channel_at, index_value, kind_of, metadata_by, metadata_of, time_index};
 
 use crate::ids::place_of;
-use chan_defs::{ChannelDef, ValueKind};
 use etp_schema::ActiveStatusKind;
 use etp_values::{Copied, ErrorCode, List, Named, NoMemory, Text};
 use keyed_requests::Decision;
@@ -12,6 +11,7 @@ use msg_channel::{
     ChannelDataKind, ChannelIndexKind, ChannelMetadataRecord, IndexDirection, IndexInterval,
     IndexMetadataRecord, IndexValue,
 };
+use server_config::{ChannelDef, ValueKind};
 use std::alloc::Global;
 use store_machine::MetaReply;
 

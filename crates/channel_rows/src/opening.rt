@@ -10,7 +10,6 @@ ghost use Rattle.channel_rows.specs.Loads.{close_one, close_response, closing, o
 use crate::loads::{LoadOutcome, LoadPending};
 use crate::metadata::metadata_by;
 use crate::open_flags::Opens;
-use chan_defs::ChannelDef;
 use etp_values::{ErrorCode, List, Named, NoMemory, StoreUri, Text};
 use keyed_requests::{
     Decision, Findings, KeyedReply, KeyedRequest, Outcome, Plain, PlainRequest, Sending, check_all,
@@ -21,6 +20,7 @@ use msg_channel::{
     ChannelDataLoadMessage, ChannelMetadataRecord, ChannelsClosed, OpenChannelInfo,
     OpenChannelsResponse,
 };
+use server_config::ChannelDef;
 use std::alloc::Global;
 use store_machine::{MetaReply, StoreCall};
 

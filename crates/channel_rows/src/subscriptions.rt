@@ -12,7 +12,6 @@ use crate::notices::news_told;
 use crate::ranges::ranges_outcome;
 use crate::subscribing::{begin_reply, begin_request};
 use crate::unsubscribing::stop_request;
-use chan_defs::ChannelDef;
 use channel_store::{ChannelChange, Sub};
 use etp_values::{ChannelPoint, ErrorCode, List, Named, NoMemory, StoreUri, Text};
 use keyed_requests::{
@@ -22,6 +21,7 @@ use keyed_requests::{
 use msg_channel::{
     ChannelMetadataRecord, ChannelSubscribeMessage, GetChannelMetadataResponse, GetRangesResponse,
 };
+use server_config::ChannelDef;
 use std::alloc::Global;
 use store_machine::{Answer, MetaReply, Reply, StartAsk, StartReply, StoreCall};
 use subscribe_core::{StopCause, Subs, stop_cause};

@@ -8,7 +8,7 @@ use Rattle.channel_store.specs.declared.error.ChannelError.{ChannelError}
 use Rattle.channel_store.specs.declared.error.ChannelError.TheVariants.{NoChannel, Index, Kind, Doubled, Outside, NoMemory}
 use Rattle.channel_store.specs.declared.change.What.{What}
 use Rattle.channel_store.specs.declared.change.ChannelChange.{ChannelChange}
-use Rattle.chan_defs.specs.declared.config.ChannelDef.{ChannelDef}
+use Rattle.server_config.specs.declared.config.ChannelDef.{ChannelDef}
 use Rattle.etp_values.specs.Gives.{Gives}
 use Rattle.channel_store.specs.declared.change.What.TheVariants.{Replace, Truncate}
 use Rattle.channel_store.specs.declared.draft.Way.TheVariants.{Between, UpTo}

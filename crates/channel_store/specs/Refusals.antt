@@ -6,8 +6,8 @@ use Rattle.etp_values.specs.declared.data.DataValue.{DataValue}
 use Rattle.etp_values.specs.declared.data.DataValue.TheVariants as value
 use Rattle.etp_values.specs.declared.point.Point.{Point}
 use Rattle.etp_values.specs.declared.point.ChannelPoint.{ChannelPoint}
-use Rattle.chan_defs.specs.declared.config.ValueKind.{ValueKind}
-use Rattle.chan_defs.specs.declared.config.ValueKind.TheVariants as kind
+use Rattle.server_config.specs.declared.config.ValueKind.{ValueKind}
+use Rattle.server_config.specs.declared.config.ValueKind.TheVariants as kind
 use Rattle.channel_store.specs.declared.error.ChannelError.{ChannelError}
 use Rattle.channel_store.specs.declared.error.ChannelError.TheVariants.{NoChannel, Index, Kind, Doubled, Interval, Order, Outside, NoMemory}
 use Rattle.channel_store.specs.Points.{at_most, is_within, follows}

@@ -6,8 +6,8 @@ ghost use Rattle.channel_store.specs.Sweeps.{inside_refusal_in, item_refusal_in,
 
 use crate::error::ChannelError;
 use crate::track::Track;
-use chan_defs::ValueKind;
 use etp_values::{ChannelPoint, DataValue};
+use server_config::ValueKind;
 
 /// The least index.
 pub const MIN_INDEX: i64 = -4_611_686_018_427_387_904;

@@ -16,9 +16,9 @@ use crate::error::ChannelError;
 use crate::points::PointSize;
 use crate::track::Track;
 use crate::tracks::{channel_of, fresh_tracks};
-use chan_defs::Config;
 use channel_points::ChannelPoints;
 use etp_values::{ChannelPoint, List, NoMemory, Point, StoreUri};
+use server_config::Config;
 use std::alloc::Global;
 use std::marker::Model;
 

@@ -15,9 +15,9 @@ use crate::points::{
     PointSize, apply, copy_inside, copy_past, first_index, index_from_end, last_index, size_inside,
     size_past,
 };
-use chan_defs::{ChannelDef, ValueKind};
 use channel_points::{Points, Rows};
 use etp_values::{Copied, List, NoMemory, Point, StoreUri};
+use server_config::{ChannelDef, ValueKind};
 use std::alloc::Global;
 use std::marker::Model;
 

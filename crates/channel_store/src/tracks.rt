@@ -6,8 +6,8 @@ ghost use Rattle.channel_store.specs.Store.{id_of};
 ghost use Rattle.channel_store.specs.Sweeps.{shown_of};
 
 use crate::track::Track;
-use chan_defs::ChannelDef;
 use etp_values::{NoMemory, StoreUri};
+use server_config::ChannelDef;
 use std::alloc::Global;
 
 /// A track for each definition.

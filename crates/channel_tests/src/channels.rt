@@ -2,11 +2,11 @@
 ghost use Rattle.std.specs.Prelude.{ℕ, ◌≡◌, IfOk, length};
 ghost use Rattle.channel_store.specs.Store.{IsNewPlace};
 
-use chan_defs::{ChannelDef, Config, ValueKind};
 use channel_store::*;
 use etp_values::{
     ChannelPoint, Copied, DataValue, Id16, List, NoMemory, Point, Shared, StoreUri, Text,
 };
+use server_config::{ChannelDef, Config, ValueKind};
 use std::alloc::Global;
 use std::process::Abort;
 use std::test::Fail;

@@ -1,7 +1,7 @@
 -- What reading a configuration comes to.
 use Rattle.std.specs.Prelude.{◌≡◌, ℕ, List, Option, IfSome, Result, Ok, Err}
 use Rattle.chan_defs.specs.Config.{defs}
-use Rattle.chan_defs.specs.declared.config.Config.{Config as Settings}
+use Rattle.server_config.specs.declared.config.Config.{Config as Settings}
 use Rattle.chan_defs.specs.declared.error.DefsError.{DefsError}
 use Rattle.chan_defs.specs.declared.error.DefsError.TheVariants as defs_error
 use Rattle.etp_outside.specs.declared.whole.Unread.{Unread}

@@ -4,8 +4,9 @@ ghost use Rattle.etp_outside.specs.Faults.{Rose};
 ghost use Rattle.etp_outside.specs.declared.status.Status.TheVariants.{ReadFault};
 ghost use Rattle.config_file.specs.Settings.{refusal_status, unread_status, IsConfig};
 
-use chan_defs::{Config, DefsError, MAX_DEFS_LEN, read_defs};
+use chan_defs::{DefsError, MAX_DEFS_LEN, read_defs};
 use etp_outside::{Host, Opened, Status, Unread, read_all};
+use server_config::Config;
 use std::alloc::Global;
 
 /// Why a configuration is refused, by the number that its status has.

@@ -1,8 +1,8 @@
 -- What holds of a session's own run by the laws on runs.
 use Rattle.std.proofs.Common.{◌≡◌, ◌≤◌, ◌<◌, ◌+◌, ◌^◌, ℕ, List, [], ◌∷◌, ◌++◌, length, map, refl, subst, ◌∙◌, arith}
 use mathlib.Core.List.{IsPrefix}
-use Rattle.chan_defs.specs.declared.config.ChannelDef.{ChannelDef}
-use Rattle.chan_defs.specs.declared.config.Config.{Config}
+use Rattle.server_config.specs.declared.config.ChannelDef.{ChannelDef}
+use Rattle.server_config.specs.declared.config.Config.{Config}
 use Rattle.store_machine.specs.declared.journal.Entry.{Entry}
 use Rattle.turn_book.specs.Lists.{Rises}
 use Rattle.session_core.specs.Arriving.{Event}

@@ -4,7 +4,7 @@ use Rattle.std.proofs.lemmas.List.{append-nil}
 use Rattle.std.specs.declared.option.Option.{Option}
 use mathlib.Core.List.{IsPrefix, map-append}
 use Rattle.etp_values.proofs.Prefixes.{prefix_self}
-use Rattle.chan_defs.specs.declared.config.Config.{Config}
+use Rattle.server_config.specs.declared.config.Config.{Config}
 use Rattle.store_machine.specs.declared.journal.Entry.{Entry}
 use Rattle.store_machine.specs.Laws.{IsCallAt}
 use Rattle.turn_book.specs.Lists.{own}

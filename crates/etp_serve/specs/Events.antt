@@ -1,6 +1,6 @@
 -- The events of a session that is served: what each turn of a link gives it.
 use Rattle.std.specs.Prelude.{◌≡◌, ◌⊎◌, ℕ, ℤ, List, [], ◌∷◌, ◌++◌, None}
-use Rattle.chan_defs.specs.declared.config.Config.{Config}
+use Rattle.server_config.specs.declared.config.Config.{Config}
 use Rattle.store_machine.specs.declared.journal.Entry.{Entry}
 use Rattle.etp_outside.specs.declared.link.Item.{Item}
 use Rattle.etp_outside.specs.declared.link.Item.TheVariants.{Message, Idle}

@@ -1,7 +1,7 @@
 -- What a session was served.
 use Rattle.std.specs.Prelude.{◌≡◌, ◌≤◌, ◌⊎◌, ◌+◌, ℕ, ℤ, true, false, List, [], ◌∷◌, ◌++◌, length, map, Option, None}
 use mathlib.Core.List.{IsPrefix}
-use Rattle.chan_defs.specs.declared.config.Config.{Config}
+use Rattle.server_config.specs.declared.config.Config.{Config}
 use Rattle.store_machine.specs.declared.journal.Entry.{Entry}
 use Rattle.etp_outside.specs.Told.{Told}
 use Rattle.etp_outside.specs.Talk.{Talk}

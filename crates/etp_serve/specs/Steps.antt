@@ -1,6 +1,6 @@
 -- What one event does, to what its pass knows, to the session, and over the link.
 use Rattle.std.specs.Prelude.{◌≡◌, ◌⊎◌, ℕ, ℤ, List, [], ◌++◌, map, Option, None, Some}
-use Rattle.chan_defs.specs.declared.config.Config.{Config}
+use Rattle.server_config.specs.declared.config.Config.{Config}
 use Rattle.store_machine.specs.declared.call.StoreCall.{StoreCall}
 use Rattle.store_machine.specs.declared.call.Answer.{Answer}
 use Rattle.etp_outside.specs.Told.{Told}

@@ -13,8 +13,8 @@ use crate::children::{Child, Handle, put_last, settle_all, settle_ended, settle_
 use crate::laws::laws;
 use crate::served::Served;
 use crate::thread::{Finished, Started, serve_one};
-use chan_defs::Config;
 use etp_outside::{Clock, Gate, Link, Listener, Next};
+use server_config::Config;
 use std::alloc::Global;
 use std::collections::VecDeque;
 use std::snapshot::Snapshot;

@@ -6,8 +6,8 @@ ghost use Rattle.etp_serve.specs.Accepted.{IsDone};
 
 use crate::ended::Ended;
 use crate::serving::serve_session;
-use chan_defs::Config;
 use etp_outside::{Clock, Gate, Link};
+use server_config::Config;
 use std::alloc::Global;
 use std::snapshot::Snapshot;
 use std::sync::Wait;

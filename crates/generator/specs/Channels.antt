@@ -2,9 +2,9 @@
 use Rattle.std.specs.Prelude.{ℕ, ◌+◌, List, [], ◌∷◌, map, codes, Some, None}
 use Rattle.std.specs.List.{range_with_len}
 use Rattle.etp_values.specs.declared.uri.StoreUri.{StoreUri}
-use Rattle.chan_defs.specs.declared.config.ChannelDef.{ChannelDef}
-use Rattle.chan_defs.specs.declared.config.Config.{Config}
-use Rattle.chan_defs.specs.declared.config.ValueKind.TheVariants as value_kind
+use Rattle.server_config.specs.declared.config.ChannelDef.{ChannelDef}
+use Rattle.server_config.specs.declared.config.Config.{Config}
+use Rattle.server_config.specs.declared.config.ValueKind.TheVariants as value_kind
 
 -- the identifier of fifteen zeros and this byte
 abbrev pub id_ending : ℕ → List ℕ

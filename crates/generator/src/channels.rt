@@ -3,8 +3,8 @@ ghost use Rattle.std.specs.Prelude.{◌≡◌, ◌+◌, ◌<◌, [], ◌∷◌, 
 ghost use Rattle.std.specs.List.{range_with_len};
 ghost use Rattle.generator.specs.Channels.{id_ending, channel_uri, channel, generator_config};
 
-use chan_defs::{ChannelDef, Config, ValueKind};
 use etp_values::{Id16, List, NoMemory, ObjectName, Shared, StoreUri, Text};
+use server_config::{ChannelDef, Config, ValueKind};
 use std::alloc::Global;
 
 /// How many channels there are, and sessions of the load.

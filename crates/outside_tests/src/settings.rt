@@ -1,9 +1,10 @@
 //! Files that have a configuration, and files that have none. What is refused in a configuration is shown by the program
 //! `tool_cases`.
-use chan_defs::{Config, DefsError, MAX_DEFS_LEN, ValueKind};
+use chan_defs::{DefsError, MAX_DEFS_LEN};
 use config_file::read_config;
 use etp_outside::{MemFile, MemHost, Status};
 use etp_values::{Blob, Copied, List, NoMemory, Text};
+use server_config::{Config, ValueKind};
 use std::alloc::Global;
 use std::process::Abort;
 use std::test::Fail;

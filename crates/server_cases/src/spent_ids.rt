@@ -1,6 +1,6 @@
 //! Sessions that have few ids left. None of their messages asks the store. A session that has ended says so after each message.
-use chan_defs::Config;
 use etp_values::{Id16, List, NoMemory, Shared, Text};
+use server_config::Config;
 use session_core::Session;
 use std::alloc::{AllocError, Global};
 use std::io;

@@ -6,7 +6,7 @@ use Rattle.std.specs.Prelude.{IfSome}
 use Rattle.std.specs.declared.option.Option.{Option}
 use Rattle.etp_values.proofs.Prefixes.{prefix_self}
 use Rattle.chan_defs.specs.Config.{defs}
-use Rattle.chan_defs.specs.declared.config.Config.{Config}
+use Rattle.server_config.specs.declared.config.Config.{Config}
 use Rattle.config_file.specs.Settings.{IsNoConfig}
 use Rattle.etp_outside.specs.Doors.{Back}
 use Rattle.etp_outside.specs.Faults.{Rose}

@@ -2,7 +2,7 @@
 use Rattle.std.specs.Prelude.{◌≡◌, ◌⊎◌, ◌+◌, ◌≤◌, ℕ, ℤ, Bool, true, false, List, drop, Option, None, Some, IfSome, Ok}
 use Rattle.std.specs.Io.KnownBytes.{Keeps}
 use Rattle.chan_defs.specs.Config.{defs}
-use Rattle.chan_defs.specs.declared.config.Config.{Config as Settings}
+use Rattle.server_config.specs.declared.config.Config.{Config as Settings}
 use Rattle.config_file.specs.Settings.{IsNoConfig}
 use Rattle.etp_outside.specs.Doors.{Back}
 use Rattle.etp_outside.specs.Faults.{Rose}

@@ -13,13 +13,13 @@ ghost use Rattle.server_forms.specs.Words.{command_in};
 
 use crate::command::{Command, command_of};
 use crate::report::write_report;
-use chan_defs::Config;
 use command_words::words_of;
 use config_file::read_config;
 use etp_outside::{Clock, Gate, Host, Listened, Listener, Sink, Status};
 use etp_serve::{Served, closing_laws, serve_all};
 use etp_values::{Copied, NoMemory};
 use gathered_text::Wrote;
+use server_config::Config;
 use std::alloc::Global;
 use std::sync::Wait;
 use std::thread::Threads;

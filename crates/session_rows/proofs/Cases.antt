@@ -1,6 +1,6 @@
 -- A session is opened where neither its protocols nor its formats are none.
 use Rattle.std.specs.Prelude.{ℕ, ℤ, ◌≡◌, ◌≢◌, List, [], ◌∷◌, length, refl}
-use Rattle.chan_defs.specs.declared.config.Config.{Config}
+use Rattle.server_config.specs.declared.config.Config.{Config}
 use Rattle.session_rows.specs.Opening.{opening_with, open_session}
 use Rattle.session_rows.specs.declared.formats.Format.{Format}
 use Rattle.session_rows.specs.declared.opening.Opening.TheVariants.{Opened}

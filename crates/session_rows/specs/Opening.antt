@@ -5,7 +5,7 @@ use Rattle.std.specs.Map.{lookup}
 use Rattle.std.specs.Ordering.{int_eq}
 use Rattle.std.specs.Str.{bytes_eq}
 use Rattle.std.specs.Fmt.{decimal}
-use Rattle.chan_defs.specs.declared.config.Config.{Config}
+use Rattle.server_config.specs.declared.config.Config.{Config}
 use Rattle.etp_values.specs.Id.{version5}
 use Rattle.etp_values.specs.declared.code.ErrorCode.TheVariants.{NoSupportedProtocols, NoSupportedFormats}
 use Rattle.etp_values.specs.declared.data.DataValue.{DataValue}

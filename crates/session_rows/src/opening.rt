@@ -6,10 +6,10 @@ ghost use Rattle.session_rows.specs.Once.{with_new};
 ghost use Rattle.session_rows.specs.Opening.{accepted_protocols, capabilities, data_objects, is_acceptable, is_version_1_2, limit_in, limited, natural, offered, open_session, opening_of, part_limit, session_id, supported};
 
 use crate::formats::{Format, format_texts, formats_of};
-use chan_defs::Config;
 use etp_schema::protocols;
 use etp_values::{Copied, DataValue, ErrorCode, Id16, List, Named, NoMemory, Text};
 use msg_core::{OpenSession, RequestSession, SupportedDataObject, SupportedProtocol, Version};
+use server_config::Config;
 use std::alloc::Global;
 
 /// The greatest number of bytes of a message, as the server states it.

@@ -4,7 +4,7 @@ use Rattle.std.specs.Prelude.{if◌then◌else◌}
 use mathlib.Core.List.{IsPrefix}
 use Rattle.std.proofs.lemmas.Bool.Decides.{nat_tests}
 use Rattle.std.proofs.lemmas.List.{append-nil}
-use Rattle.chan_defs.specs.declared.config.Config.{Config}
+use Rattle.server_config.specs.declared.config.Config.{Config}
 use Rattle.store_machine.specs.declared.call.StoreCall.TheVariants as call
 use Rattle.store_machine.specs.declared.journal.Act.TheVariants.{Enter}
 use Rattle.store_machine.specs.declared.journal.Entry.{Entry}

@@ -3,7 +3,7 @@ use Rattle.std.proofs.Common.{◌≡◌, ◌==◌, ◌≤◌, ℕ, ℤ, Bool, tr
 use Rattle.std.specs.Prelude.{if◌then◌else◌}
 use Rattle.std.proofs.lemmas.Bool.{false≢true, eqb-true}
 use Rattle.std.proofs.lemmas.List.{append-nil, take_at}
-use Rattle.chan_defs.specs.declared.config.Config.{Config}
+use Rattle.server_config.specs.declared.config.Config.{Config}
 use Rattle.store_machine.specs.declared.call.StoreCall.{StoreCall}
 use Rattle.store_machine.specs.declared.call.Answer.{Answer}
 use Rattle.store_machine.specs.declared.journal.Entry.{Entry}

@@ -1,6 +1,6 @@
 -- What a clause reads of a hub and of a pass.
 use Rattle.std.specs.Prelude.{◌≡◌, [], ◌∷◌}
-use Rattle.chan_defs.specs.declared.config.Config.{Config}
+use Rattle.server_config.specs.declared.config.Config.{Config}
 use Rattle.turn_book.specs.Words.{view, fixed_of, IsSeatOf}
 use Rattle.store_hub.specs.declared.hub.Hub.{Hub}
 use Rattle.store_hub.specs.declared.pass.Pass.{Pass}

@@ -1,6 +1,6 @@
 -- What the turn's book is told of a store.
 use Rattle.std.specs.Prelude.{ℕ, Bool}
-use Rattle.chan_defs.specs.declared.config.Config.{Config}
+use Rattle.server_config.specs.declared.config.Config.{Config}
 use Rattle.store_machine.specs.declared.journal.Entry.{Entry}
 use Rattle.store_machine.specs.Laws.{is_enter}
 use Rattle.turn_book.specs.declared.view.View.{View}

@@ -1,5 +1,5 @@
 //! The store as a book that is shared in turns.
-use chan_defs::Config;
+use server_config::Config;
 use store_machine::{Entry, Store};
 use turn_book::Book;
 

@@ -5,7 +5,7 @@ use Rattle.std.specs.Option.{unwrap_or}
 use Rattle.std.proofs.Common.{ap, sym, ◌∙◌, append_assoc}
 use Rattle.etp_values.specs.declared.code.ErrorCode.TheVariants.{InvalidArgument, LimitExceeded, NotFound}
 use Rattle.etp_values.specs.declared.point.Point.{Point}
-use Rattle.chan_defs.specs.declared.config.Config.{Config}
+use Rattle.server_config.specs.declared.config.Config.{Config}
 use Rattle.channel_store.specs.declared.error.ChannelError.{ChannelError}
 use Rattle.channel_store.specs.declared.points.PointSize.{PointSize}
 use Rattle.channel_store.specs.Channels.{Channel}

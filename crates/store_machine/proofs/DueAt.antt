@@ -10,8 +10,8 @@ use Rattle.std.proofs.lemmas.List.{length-drop}
 use Rattle.std.proofs.lemmas.List.Elements.{filter-append}
 use Rattle.etp_values.proofs.Each.{all-append}
 use Rattle.channel_points.specs.Splits.{RisesBy}
-use Rattle.chan_defs.specs.declared.config.ChannelDef.{ChannelDef}
-use Rattle.chan_defs.specs.declared.config.Config.{Config}
+use Rattle.server_config.specs.declared.config.ChannelDef.{ChannelDef}
+use Rattle.server_config.specs.declared.config.Config.{Config}
 use Rattle.channel_store.specs.declared.change.ChannelChange.{ChannelChange}
 use Rattle.channel_store.specs.declared.change.What.{What}
 use Rattle.channel_store.specs.declared.subscription.Sub.{Sub}

@@ -6,8 +6,8 @@ use Rattle.std.proofs.lemmas.Int.{ints}
 use Rattle.etp_values.proofs.Each.{all-append}
 use Rattle.etp_values.specs.declared.point.ChannelPoint.{ChannelPoint}
 use Rattle.etp_values.specs.declared.point.Point.{Point}
-use Rattle.chan_defs.specs.declared.config.ChannelDef.{ChannelDef}
-use Rattle.chan_defs.specs.declared.config.Config.{Config}
+use Rattle.server_config.specs.declared.config.ChannelDef.{ChannelDef}
+use Rattle.server_config.specs.declared.config.Config.{Config}
 use Rattle.channel_store.specs.declared.change.What.{What}
 use Rattle.channel_store.specs.declared.change.What.TheVariants.{Append, Replace, Truncate}
 use Rattle.channel_store.specs.declared.error.ChannelError.{ChannelError}

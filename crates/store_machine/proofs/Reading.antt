@@ -8,7 +8,7 @@ use Rattle.etp_values.specs.declared.point.ChannelPoint.{ChannelPoint}
 use Rattle.etp_values.specs.declared.point.Point.{Point}
 use Rattle.etp_values.specs.declared.uri.StoreUri.{StoreUri}
 use Rattle.channel_points.specs.Handles.{of_channel}
-use Rattle.chan_defs.specs.declared.config.Config.{Config}
+use Rattle.server_config.specs.declared.config.Config.{Config}
 use Rattle.channel_store.specs.declared.error.ChannelError.{ChannelError}
 use Rattle.channel_store.specs.declared.error.ChannelError.TheVariants as fault
 use Rattle.channel_store.specs.declared.points.PointSize.{PointSize}

@@ -4,7 +4,7 @@ use Rattle.std.specs.List.{AllByRecursion}
 use Rattle.std.proofs.Common.{ap, sym, ◌∙◌, subst, append_assoc, arith}
 use Rattle.std.proofs.lemmas.List.{length-take-le, map-append, take-append-drop}
 use Rattle.etp_values.specs.declared.point.Point.{Point}
-use Rattle.chan_defs.specs.declared.config.Config.{Config}
+use Rattle.server_config.specs.declared.config.Config.{Config}
 use Rattle.channel_store.specs.declared.change.ChannelChange.{ChannelChange}
 use Rattle.channel_store.specs.declared.change.What.{What}
 use Rattle.channel_store.specs.declared.change.What.TheVariants.{Truncate}

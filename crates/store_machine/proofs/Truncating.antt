@@ -2,7 +2,7 @@
 use Rattle.std.specs.Prelude.{ℕ, ℤ, Bool, true, false, ◌≡◌, ◌*◌, List, [], ◌∷◌, Some, None, length, refl, if◌then◌else◌}
 use Rattle.std.specs.Map.{values_of}
 use Rattle.std.proofs.Common.{ap, sym, ◌∙◌, subst}
-use Rattle.chan_defs.specs.declared.config.Config.{Config}
+use Rattle.server_config.specs.declared.config.Config.{Config}
 use Rattle.channel_store.specs.Channels.{Channel}
 use Rattle.etp_values.specs.Weight.{capped}
 use Rattle.tx_stage.specs.declared.contents.Contents.{Contents}

@@ -1,6 +1,6 @@
 -- How a legal history grows.
 use Rattle.std.specs.Prelude.{ℕ, ℤ, List, ◌++◌}
-use Rattle.chan_defs.specs.declared.config.Config.{Config}
+use Rattle.server_config.specs.declared.config.Config.{Config}
 use Rattle.store_machine.specs.declared.call.StoreCall.{StoreCall}
 use Rattle.store_machine.specs.declared.journal.Entry.{Entry}
 use Rattle.store_machine.specs.Answers.{entries_of}

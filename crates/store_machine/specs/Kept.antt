@@ -7,7 +7,7 @@ use Rattle.std.specs.Map.{values_of}
 use Rattle.std.specs.Option.{option_map}
 use Rattle.std.specs.Ordering.{nat_cmp}
 use Rattle.std.specs.Str.{bytes_eq}
-use Rattle.chan_defs.specs.declared.config.Config.{Config}
+use Rattle.server_config.specs.declared.config.Config.{Config}
 use Rattle.channel_store.specs.Channels.{Channel}
 use Rattle.object_store.specs.declared.records.SpaceRecord.{SpaceRecord}
 use Rattle.tx_stage.specs.declared.contents.Contents.{Contents}

@@ -2,7 +2,7 @@
 use Rattle.std.specs.Prelude.{ℕ, ℤ, pos, ◌≡◌, ◌+◌, ◌≤◌, ◌<◌, Bool, true, false, List, [], ◌∷◌, ◌++◌, Option, Some, None, IsSomeAnd, slice_get, length, filter, take, drop}
 use Rattle.std.specs.List.{Any, list_any, AllByRecursion}
 use Rattle.std.specs.Ordering.{int_eq}
-use Rattle.chan_defs.specs.declared.config.Config.{Config}
+use Rattle.server_config.specs.declared.config.Config.{Config}
 use Rattle.channel_store.specs.declared.change.ChannelChange.{ChannelChange}
 use Rattle.channel_store.specs.declared.subscription.Sub.{Sub}
 use Rattle.channel_store.specs.Points.{copy, past}

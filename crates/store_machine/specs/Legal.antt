@@ -1,6 +1,6 @@
 -- Which histories a store can have.
 use Rattle.std.specs.Prelude.{ℕ, pos, ◌≡◌, ◌==◌, List, [], ◌∷◌, ◌++◌, IsSomeAnd, length, filter, slice_get}
-use Rattle.chan_defs.specs.declared.config.Config.{Config}
+use Rattle.server_config.specs.declared.config.Config.{Config}
 use Rattle.store_machine.specs.declared.call.StoreCall.{StoreCall}
 use Rattle.store_machine.specs.declared.call.StoreCall.TheVariants as call
 use Rattle.store_machine.specs.declared.journal.Act.{Act}

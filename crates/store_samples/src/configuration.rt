@@ -1,8 +1,8 @@
 //! Configurations, by their words.
 use crate::keys::uri_of;
 use crate::words::{members, texts};
-use chan_defs::{ChannelDef, Config, ValueKind};
 use etp_values::{Id16, List, NoMemory, Shared, StoreUri, Text};
+use server_config::{ChannelDef, Config, ValueKind};
 use std::alloc::Global;
 
 fn kind_of(word: &str) -> ValueKind {

@@ -1,6 +1,6 @@
 //! A hub whose turn is free.
-use chan_defs::Config;
 use etp_values::{Id16, List, NoMemory, Shared, Text};
+use server_config::Config;
 use std::alloc::Global;
 use std::test::Fail;
 use store_hub::{Hub, Tried};

@@ -3,7 +3,7 @@ use Rattle.std.proofs.Common.{◌≡◌, ℕ, ℤ, ◌==◌, Bool, true, false, 
 use Rattle.std.specs.Prelude.{IfSome}
 use Rattle.std.specs.declared.option.Option.{Option}
 use Rattle.etp_capture.specs.declared.frame.Frame.{Frame}
-use Rattle.chan_defs.specs.declared.config.Config.{Config}
+use Rattle.server_config.specs.declared.config.Config.{Config}
 use Rattle.store_machine.specs.Answers.{added}
 use Rattle.store_machine.specs.Growth.{CallsKeepLegal}
 use Rattle.store_machine.specs.Laws.{IsCallAt, NextMayAsk}

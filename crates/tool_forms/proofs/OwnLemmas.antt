@@ -8,7 +8,7 @@ use Rattle.std.specs.BTreeMap.{is_at}
 use mathlib.Core.List.{IsPrefix, prefix-append}
 use Rattle.etp_values.proofs.Prefixes.{prefix_get}
 use Rattle.etp_capture.specs.declared.frame.Frame.{Frame}
-use Rattle.chan_defs.specs.declared.config.Config.{Config}
+use Rattle.server_config.specs.declared.config.Config.{Config}
 use Rattle.store_machine.specs.Answers.{answered, added, has_room, wanted}
 use Rattle.store_machine.specs.Legal.{own}
 use Rattle.store_machine.specs.declared.call.StoreCall.{StoreCall}

@@ -3,7 +3,7 @@ use Rattle.std.proofs.Common.{◌≡◌, ℕ, Bool, true, false, List, [], ◌�
 use Rattle.etp_capture.specs.Capture.{frames_bytes}
 use Rattle.etp_capture.specs.Frames.{magic, frame_bytes}
 use Rattle.etp_capture.specs.declared.frame.Frame.{Frame}
-use Rattle.chan_defs.specs.declared.config.Config.{Config}
+use Rattle.server_config.specs.declared.config.Config.{Config}
 use Rattle.capture_run.specs.Form.{Takes}
 use Rattle.capture_run.specs.Laws.{IsForward}
 use Rattle.tool_forms.specs.Play.{World, Played, effect, first, next_played, happens, happens_to, play_from, play, world_after, is_refused}

@@ -7,7 +7,7 @@ use Rattle.std.specs.BTreeMap.{is_at}
 use Rattle.std.proofs.lemmas.Bool.{false≢true}
 use Rattle.std.proofs.lemmas.Bool.Decides.{nat_tests}
 use Rattle.etp_capture.specs.declared.frame.Frame.{Frame}
-use Rattle.chan_defs.specs.declared.config.Config.{Config}
+use Rattle.server_config.specs.declared.config.Config.{Config}
 use Rattle.store_machine.specs.Answers.{answered, added, has_room, wanted}
 use Rattle.store_machine.specs.Laws.{IsCallAt, IsNumber, NumbersStay, EntriesAreTheSessions}
 use Rattle.store_machine.specs.Legal.{own, IsNext}

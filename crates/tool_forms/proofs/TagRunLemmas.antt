@@ -12,7 +12,7 @@ use Rattle.std.proofs.lemmas.Bool.Decides.{nat_tests}
 use mathlib.Core.List.{IsPrefix, prefix-append}
 use Rattle.etp_values.proofs.Prefixes.{prefix_self, prefix_trans, prefix_length, prefix_get}
 use Rattle.etp_capture.specs.declared.frame.Frame.{Frame}
-use Rattle.chan_defs.specs.declared.config.Config.{Config}
+use Rattle.server_config.specs.declared.config.Config.{Config}
 use Rattle.store_machine.specs.Answers.{answered, added, has_room, wanted}
 use Rattle.store_machine.specs.declared.journal.Act.TheVariants as act
 use Rattle.store_machine.specs.declared.call.Reply.TheVariants as reply

@@ -5,7 +5,7 @@ use Rattle.std.specs.Map.{lookup}
 use Rattle.std.specs.BTreeMap.{is_at, insert_entry}
 use Rattle.etp_capture.specs.Kinds.{kind_out, kind_ended}
 use Rattle.etp_capture.specs.declared.frame.Frame.{Frame}
-use Rattle.chan_defs.specs.declared.config.Config.{Config}
+use Rattle.server_config.specs.declared.config.Config.{Config}
 use Rattle.store_machine.specs.Legal.{door}
 use Rattle.store_machine.specs.declared.journal.Entry.{Entry}
 use Rattle.tool_forms.specs.Turns.{Effect, effect_at}

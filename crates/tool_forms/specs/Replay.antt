@@ -3,7 +3,7 @@ use Rattle.std.specs.Prelude.{◌≡◌, ◌++◌, ℕ, Bool, true, false, List,
 use Rattle.etp_capture.specs.Capture.{frames_bytes}
 use Rattle.etp_capture.specs.Frames.{magic}
 use Rattle.etp_capture.specs.declared.frame.Frame.{Frame}
-use Rattle.chan_defs.specs.declared.config.Config.{Config}
+use Rattle.server_config.specs.declared.config.Config.{Config}
 use Rattle.capture_run.specs.Form.{Plan}
 use Rattle.tool_forms.specs.Play.{World, play}
 

@@ -4,7 +4,7 @@ use Rattle.std.specs.Option.{option_map}
 use Rattle.std.specs.Map.{values_of}
 use Rattle.etp_capture.specs.Kinds.{kind_end, kind_out, kind_ended}
 use Rattle.etp_capture.specs.declared.frame.Frame.{Frame}
-use Rattle.chan_defs.specs.declared.config.Config.{Config}
+use Rattle.server_config.specs.declared.config.Config.{Config}
 use Rattle.store_machine.specs.declared.journal.Act.TheVariants.{Enter}
 use Rattle.store_machine.specs.declared.journal.Entry.{Entry}
 use Rattle.store_machine.specs.Legal.{Legal, own}

@@ -4,7 +4,7 @@ use Rattle.std.specs.Io.KnownBytes.{Keeps}
 use Rattle.etp_outside.specs.declared.status.Status.{Status}
 use Rattle.etp_outside.specs.declared.status.Status.TheVariants.{Done, Usage, WriteFault, NoMemory}
 use Rattle.chan_defs.specs.Config.{defs}
-use Rattle.chan_defs.specs.declared.config.Config.{Config as Settings}
+use Rattle.server_config.specs.declared.config.Config.{Config as Settings}
 use Rattle.tool_forms.specs.Words.{Command, Replay, Show, Check, Capture, Generate}
 use Rattle.config_file.specs.Settings.{IsNoConfig}
 use Rattle.etp_capture.specs.Capture.{frames_bytes}

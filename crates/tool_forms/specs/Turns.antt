@@ -4,7 +4,7 @@ use Rattle.std.specs.Int.{w32, to_be_bytes, cast_unsigned}
 use Rattle.etp_values.specs.Code.{number_of}
 use Rattle.etp_capture.specs.Kinds.{kind_in, kind_end, kind_out, kind_ended}
 use Rattle.etp_capture.specs.declared.frame.Frame.{Frame}
-use Rattle.chan_defs.specs.declared.config.Config.{Config}
+use Rattle.server_config.specs.declared.config.Config.{Config}
 use Rattle.store_machine.specs.Answers.{answered, added}
 use Rattle.store_machine.specs.declared.journal.Entry.{Entry}
 use Rattle.store_machine.specs.declared.call.StoreCall.{StoreCall}

@@ -1,5 +1,5 @@
 //! The laws of the tool. Each stands on an empty function, so that it is proved with the crate.
-ghost use Rattle.chan_defs.specs.declared.config.Config.{Config};
+ghost use Rattle.server_config.specs.declared.config.Config.{Config};
 ghost use Rattle.capture_run.specs.Laws.{StopsOnce};
 ghost use Rattle.tool_forms.specs.Replay.{replay_plan};
 ghost use Rattle.capture_listing.specs.Listing.{show_plan, check_plan};

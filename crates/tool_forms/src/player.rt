@@ -6,9 +6,9 @@ ghost use Rattle.tool_forms.specs.Sound.{IsSound};
 
 use crate::tag::TagState;
 use crate::turns::play_at;
-use chan_defs::Config;
 use etp_capture::{Frame, kinds};
 use etp_values::{Copied, NoMemory};
+use server_config::Config;
 use session_core::steps;
 use std::alloc::Global;
 use std::collections::BTreeMap;

@@ -8,9 +8,9 @@ ghost use Rattle.tool_forms.specs.Sound.{IsSound};
 
 use crate::player::Player;
 use capture_run::Form;
-use chan_defs::Config;
 use etp_capture::{Frame, push_frame, push_magic};
 use etp_values::NoMemory;
+use server_config::Config;
 use std::alloc::Global;
 
 /// A replay: the sessions of the capture over one store.

@@ -11,9 +11,9 @@ ghost use Rattle.tool_forms.specs.Plays.{Meets};
 ghost use Rattle.tool_forms.specs.Sound.{FitsOpen, FitsTag};
 
 use crate::tag::{Ending, OpenSession, TagState};
-use chan_defs::Config;
 use etp_capture::{Frame, kinds};
 use etp_values::{Blob, Boxed, Copied, NoMemory};
+use server_config::Config;
 use session_core::{End, Session, steps};
 use std::alloc::Global;
 use store_machine::{Answer, Reply, Store, StoreCall, number_laws};

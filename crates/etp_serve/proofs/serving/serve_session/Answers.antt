@@ -1,5 +1,5 @@
 use Rattle.std.proofs.Common.{◌≡◌, ℕ, length, pos, arith, ap, sym, ◌∙◌, subst, refl}
-use Rattle.chan_defs.specs.declared.config.Config.{Config}
+use Rattle.server_config.specs.declared.config.Config.{Config}
 use Rattle.session_core.specs.Run.{Remembers}
 use Rattle.session_core.specs.State.{State, first_state}
 use Rattle.session_core.specs.Streams.{HasIds}

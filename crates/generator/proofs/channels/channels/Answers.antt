@@ -1,6 +1,6 @@
 use Rattle.std.proofs.Common.{◌≡◌, ℕ, ◌+◌, List, [], ◌∷◌, ◌++◌, ap₂, sym, ◌∙◌, arith}
 use Rattle.std.proofs.lemmas.List.FromFn.{map-range_with_len_more}
-use Rattle.chan_defs.specs.declared.config.ChannelDef.{ChannelDef}
+use Rattle.server_config.specs.declared.config.ChannelDef.{ChannelDef}
 use Rattle.generator.specs.Channels.{channel}
 use Rattle.generator.proofs.channels.channels.Goals as goal
 

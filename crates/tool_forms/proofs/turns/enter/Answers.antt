@@ -5,7 +5,7 @@ use Rattle.store_machine.specs.declared.call.StoreCall.TheVariants.{Enter}
 use Rattle.store_machine.specs.Answers.{added}
 use Rattle.store_machine.specs.Legal.{IsNext}
 use Rattle.store_machine.specs.declared.journal.Entry.{Entry}
-use Rattle.chan_defs.specs.declared.config.Config.{Config}
+use Rattle.server_config.specs.declared.config.Config.{Config}
 use Rattle.session_core.specs.State.{State, first_state}
 use Rattle.session_core.specs.Run.{Remembers}
 use Rattle.tool_forms.specs.declared.tag.OpenSession.{OpenSession}

@@ -2,7 +2,7 @@ use Rattle.std.proofs.Common.{◌≡◌, ◌++◌, ◌∷◌, [], List, true, co
 use Rattle.std.specs.HashSet.{contains}
 use Rattle.etp_values.specs.SameUri.{same_uri}
 use Rattle.etp_values.specs.declared.uri.StoreUri.{StoreUri}
-use Rattle.chan_defs.specs.declared.config.ChannelDef.{ChannelDef}
+use Rattle.server_config.specs.declared.config.ChannelDef.{ChannelDef}
 use Rattle.chan_defs.proofs.ReadingLemmas.{put_taken}
 use Rattle.chan_defs.proofs.channels.Channels.put.Goals as goal
 
