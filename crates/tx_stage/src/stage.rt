@@ -17,7 +17,6 @@ use std::alloc::Global;
 use std::marker::Model;
 
 /// A transaction: what it was started for, its operations, and the keys that it touched. A contract sees these.
-#[derive(Drop)]
 pub struct Stage {
     alloc: Global,
     id: Id16,
@@ -31,6 +30,28 @@ pub struct Stage {
     touched: Vec<Touch>,
     /// The touched keys, to be found.
     noted: IndexSet<Key>,
+}
+
+/// Written out, so that whoever holds one drops it by one call.
+impl Drop for Stage {
+    fn drop(self) {
+        let Stage {
+            alloc: _,
+            id: _,
+            read_only: _,
+            spaces,
+            ops,
+            bytes: _,
+            altered,
+            touched,
+            noted,
+        } = self;
+        drop(spaces);
+        drop(ops);
+        drop(altered);
+        drop(touched);
+        drop(noted);
+    }
 }
 
 impl Model for Stage {
@@ -200,7 +221,20 @@ impl Stage {
     pub fn finish(self) -> Staged
         ensures { result ≡ record { ops = self.ops; touched = self.touched } }
     {
-        let Stage { ops, touched, .. } = self;
+        let Stage {
+            alloc: _,
+            id: _,
+            read_only: _,
+            spaces,
+            ops,
+            bytes: _,
+            altered,
+            touched,
+            noted,
+        } = self;
+        drop(spaces);
+        drop(altered);
+        drop(noted);
         Staged {
             ops: List::from_vec(ops),
             touched: List::from_vec(touched),
