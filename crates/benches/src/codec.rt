@@ -6,6 +6,7 @@ mod values;
 use avro_bin::{Node, Refusal, Table, decode, encode};
 use etp_schema::{OnWire, read_body, write_body};
 use etp_values::NoMemory;
+use message_trees::InTree;
 use std::io;
 use std::time::{Duration, Instant};
 use values::{doubles, longs, map};
@@ -71,7 +72,7 @@ fn tell_times(rt: &HostRuntime, bytes: usize, times: Times) -> io::Result<()> {
 
 /// Writes and reads a value as a tree, and prints how many bytes it has, and how fast that was where `timed`.
 #[tactic(auto, using(avro_bin::proofs::TableTest::table_is))]
-fn measure_tree<T: OnWire>(rt: &HostRuntime, kind: &str, value: &T, timed: bool) -> io::Result<()> {
+fn measure_tree<T: InTree>(rt: &HostRuntime, kind: &str, value: &T, timed: bool) -> io::Result<()> {
     let alloc = rt.alloc();
     let place = place_of(kind);
     let Ok(tree) = value.to_tree(alloc) else {
@@ -119,7 +120,7 @@ fn measure_typed<T: OnWire>(
     Ok(())
 }
 
-fn measure<T: OnWire>(
+fn measure<T: OnWire + InTree>(
     rt: &HostRuntime,
     kind: &str,
     value: Result<T, NoMemory>,

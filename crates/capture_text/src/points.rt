@@ -7,8 +7,9 @@ ghost use Rattle.capture_text.specs.Points.{point_line, value_alone};
 use crate::names::child_of;
 use crate::pieces::{put, put_signed};
 use crate::values::put_value;
-use etp_schema::{InTree, branch_of, places};
+use etp_schema::places;
 use etp_values::{DataValue, NoMemory, Point};
+use message_trees::{InTree, branch_of};
 use std::alloc::Global;
 
 /// Appends a channel's value, without the number of its branch.

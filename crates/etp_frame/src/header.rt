@@ -4,12 +4,9 @@ ghost use Rattle.etp_frame.specs.Header.{has_flag};
 ghost use Rattle.etp_frame.specs.Message.{Names};
 
 use crate::message::Message;
-use avro_bin::{Fault, Tree};
-use etp_schema::{
-    InTree, Measure, OnWire, Reader, fields_of, measure_fields, tree_of, write_fields,
-};
+use avro_bin::Fault;
+use etp_schema::{Measure, OnWire, Reader, Typed, measure_fields, write_fields};
 use etp_values::NoMemory;
-use std::alloc::Global;
 
 /// What stands in front of each body.
 #[derive(Clone, Copy, Debug, PartialEq, Eq, Drop)]
@@ -26,35 +23,10 @@ pub struct Header {
     pub flags: i32,
 }
 
-impl InTree for Header {
+impl Typed for Header {
     ghost use Rattle.etp_frame.specs.Header.{header_form};
 
     ghost form = { header_form };
-
-    #[tactic(auto, unfolding(etp_schema::specs::Form::Holds))]
-    fn to_tree(&self, alloc: Global) -> Result<Tree, NoMemory> {
-        tree_of(
-            alloc,
-            (
-                &self.protocol,
-                (
-                    &self.kind,
-                    (&self.correlation, (&self.id, (&self.flags, ()))),
-                ),
-            ),
-        )
-    }
-
-    fn from_tree(alloc: Global, tree: Tree) -> Result<Header, NoMemory> {
-        let (protocol, (kind, (correlation, (id, (flags, ()))))) = fields_of(alloc, tree)?;
-        Ok(Header {
-            protocol,
-            kind,
-            correlation,
-            id,
-            flags,
-        })
-    }
 }
 
 impl OnWire for Header {

@@ -1,5 +1,8 @@
 -- Reading and writing item by item, as loops do.
-use Rattle.std.proofs.Common.{◌≡◌, ◌∙◌, ◌<◌, ◌-◌, ◌^◌, ℕ, suc, pos, ◌++◌, List, [], ◌∷◌, map, length, Some, Ok, inr, refl, sym, ap, arith, append_assoc}
+use Rattle.std.proofs.Common.{◌≡◌, ◌∙◌, ◌<◌, ◌-◌, ◌^◌, ◌+◌, ◌==◌, ℕ, ℤ, true, false, suc, pos, negsuc, ◌++◌, List, [], ◌∷◌, map, length, Some, Ok, Err, inr, refl, sym, ap, arith, append_assoc}
+use Rattle.std.proofs.lemmas.Bool.{leb-false, true≢false}
+use Rattle.std.specs.Prelude.{unsigned_abs}
+use Rattle.std.specs.Int.Signed.{le_z, lt_z}
 use Rattle.std.specs.Ordering.{nat_cmp}
 use Rattle.std.specs.Cmp.Lexicographic.{slice_cmp}
 use Rattle.std.specs.List.Sorted.{IsStrictlySortedBy}
@@ -10,7 +13,8 @@ use Rattle.avro_bin.specs.Plain.{plain, plain_all, plain_named, plain_block}
 use Rattle.avro_bin.specs.Shape.{FitsTree, AllFit, AllNamedFit}
 use Rattle.avro_bin.specs.Value.{row, list, entries, pairs}
 use Rattle.avro_bin.specs.View.{with_value}
-use Rattle.avro_bin.specs.Reading.{Read, ◌>>=◌, Fails, block_at, blocks_at, items_at, number_at, place_at}
+use Rattle.avro_bin.specs.Reading.{Read, ◌>>=◌, Fails, block_at, blocks_at, items_at, number_at, place_at, sized}
+use Rattle.avro_bin.specs.declared.fault.Why.TheVariants as why
 use Rattle.avro_bin.specs.Along.{along, seen, push_at}
 use Rattle.avro_bin.proofs.AlongLemmas.{along_twice}
 use Rattle.avro_bin.proofs.Passing.{Fails-along}
@@ -27,6 +31,25 @@ module _ {A : Type 0} (value : ℕ → List ℕ → Read (A × ℕ)) (vs : List 
   pub push_fails : (e : Fault) → Fails e (value n bytes) → Fails e (push_at value (vs, n) bytes)
   unfolding push_at
   push_fails e h = Fails-along e (λ x. (vs ++ x.0 ∷ [], x.1)) (value n bytes) h
+
+-- ---- blocks that state their size
+
+-- a count below zero, and a size that is none
+block_sized : {S : Type 0} (item : S → List ℕ → Read S) (s : S) (z size : ℤ) (k : ℕ) (bytes after : List ℕ) (r : Read S)
+    → le_z (pos 0) z ≡ false → lt_z size (pos 0) ≡ false → k ≡ unsigned_abs z → number_at bytes ≡ Ok (size, after) → items_at item k s after ≡ r
+    → block_at item s z bytes ≡ sized (length bytes) (pos (unsigned_abs size)) (length after) r
+block_sized item s (pos j) size k bytes after r below some all read items = absurd (omega (arith, leb-false 0 j below))
+block_sized item s (negsuc j) (negsuc n) k bytes after r below some all read items = absurd (true≢false some)
+block_sized item s (negsuc j) (pos n) k bytes after r below some all read items =
+    let at : items_at item (suc j) s after ≡ r = ap (λ (i : ℕ). items_at item i s after) (sym all) ∙ items in
+    rw (read, at) refl
+
+module _ {S : Type 0} (item : S → List ℕ → Read S) (s : S) (z size : ℤ) (k : ℕ) (bytes after : List ℕ) (x : S × List ℕ) (below : le_z (pos 0) z ≡ false) (some : lt_z size (pos 0) ≡ false) (all : k ≡ unsigned_abs z) (read : number_at bytes ≡ Ok (size, after)) (items : items_at item k s after ≡ Ok x) where
+  pub block_filled : true ≡ (length x.1 + unsigned_abs size == length after) → block_at item s z bytes ≡ Ok x
+  block_filled full = block_sized item s z size k bytes after (Ok x) below some all read items ∙ rw (sym full) refl
+
+  pub block_not_filled : false ≡ (length x.1 + unsigned_abs size == length after) → block_at item s z bytes ≡ Err (why.BlockSize, length bytes)
+  block_not_filled full = block_sized item s z size k bytes after (Ok x) below some all read items ∙ rw (sym full) refl
 
 -- ---- lists
 

@@ -1,6 +1,5 @@
 pub mod BodyLemmas
 pub mod Parts
-pub mod LastKind
 pub mod Measured
 pub mod ItemLemmas
 pub mod TypedLemmas

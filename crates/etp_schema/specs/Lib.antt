@@ -1,6 +1,5 @@
 pub mod Form
 pub mod Held
-pub mod Left
 pub mod AnyArray
 pub mod DataValue
 pub mod Status

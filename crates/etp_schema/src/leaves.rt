@@ -1,36 +1,21 @@
-//! Numbers, texts, bytes and identifiers as trees.
+//! Numbers, texts, bytes and identifiers.
 ghost use Rattle.std.specs.Prelude.{◌≡◌, get_or, length};
 ghost use Rattle.avro_bin.specs.Reading.{place_at};
-ghost use Rattle.avro_bin.specs.View.{value_of};
-ghost use Rattle.etp_schema.specs.Form.{id_of, symbol_in, node_at, leaf_at};
+ghost use Rattle.etp_schema.specs.Form.{id_of, node_at, leaf_at};
 ghost use Rattle.etp_schema.specs.Reading.{Reads};
 
-use crate::in_tree::InTree;
 use crate::measure::Measure;
 use crate::on_wire::OnWire;
 use crate::reader::Reader;
+use crate::typed::Typed;
 use avro_bin::numbers::put_number;
-use avro_bin::{Fault, Tree, put_blob, put_text};
-use etp_values::{Bits32, Bits64, Blob, Copied, Id16, NoMemory, Text};
-use std::alloc::Global;
+use avro_bin::{Fault, put_blob, put_text};
+use etp_values::{Bits32, Bits64, Blob, Id16, NoMemory, Text};
 
-impl InTree for bool {
+impl Typed for bool {
     ghost use Rattle.etp_schema.specs.Form.{boolean_form};
 
     ghost form = { boolean_form };
-
-    #[tactic(auto, using(avro_bin::proofs::Views::values), unfolding(crate::specs::Form::Holds))]
-    fn to_tree(&self, _alloc: Global) -> Result<Tree, NoMemory> {
-        Ok(Tree::Boolean(*self))
-    }
-
-    #[tactic(auto, using(avro_bin::proofs::Views::values))]
-    fn from_tree(_alloc: Global, tree: Tree) -> Result<bool, NoMemory> {
-        match tree {
-            Tree::Boolean(value) => Ok(value),
-            _ => Ok(false),
-        }
-    }
 }
 
 impl OnWire for bool {
@@ -50,23 +35,10 @@ impl OnWire for bool {
     }
 }
 
-impl InTree for i32 {
+impl Typed for i32 {
     ghost use Rattle.etp_schema.specs.Form.{int_form};
 
     ghost form = { int_form };
-
-    #[tactic(auto, using(avro_bin::proofs::Views::values), unfolding(crate::specs::Form::Holds))]
-    fn to_tree(&self, _alloc: Global) -> Result<Tree, NoMemory> {
-        Ok(Tree::Int(*self))
-    }
-
-    #[tactic(auto, using(avro_bin::proofs::Views::values))]
-    fn from_tree(_alloc: Global, tree: Tree) -> Result<i32, NoMemory> {
-        match tree {
-            Tree::Int(value) => Ok(value),
-            _ => Ok(0),
-        }
-    }
 }
 
 impl OnWire for i32 {
@@ -85,23 +57,10 @@ impl OnWire for i32 {
     }
 }
 
-impl InTree for i64 {
+impl Typed for i64 {
     ghost use Rattle.etp_schema.specs.Form.{long_form};
 
     ghost form = { long_form };
-
-    #[tactic(auto, using(avro_bin::proofs::Views::values), unfolding(crate::specs::Form::Holds))]
-    fn to_tree(&self, _alloc: Global) -> Result<Tree, NoMemory> {
-        Ok(Tree::Long(*self))
-    }
-
-    #[tactic(auto, using(avro_bin::proofs::Views::values))]
-    fn from_tree(_alloc: Global, tree: Tree) -> Result<i64, NoMemory> {
-        match tree {
-            Tree::Long(value) => Ok(value),
-            _ => Ok(0),
-        }
-    }
 }
 
 impl OnWire for i64 {
@@ -120,23 +79,10 @@ impl OnWire for i64 {
     }
 }
 
-impl InTree for Bits32 {
+impl Typed for Bits32 {
     ghost use Rattle.etp_schema.specs.Form.{float_form};
 
     ghost form = { float_form };
-
-    #[tactic(auto, using(avro_bin::proofs::Views::values), unfolding(crate::specs::Form::Holds))]
-    fn to_tree(&self, _alloc: Global) -> Result<Tree, NoMemory> {
-        Ok(Tree::Float(*self))
-    }
-
-    #[tactic(auto, using(avro_bin::proofs::Views::values))]
-    fn from_tree(_alloc: Global, tree: Tree) -> Result<Bits32, NoMemory> {
-        match tree {
-            Tree::Float(value) => Ok(value),
-            _ => Ok(Bits32(0)),
-        }
-    }
 }
 
 impl OnWire for Bits32 {
@@ -156,23 +102,10 @@ impl OnWire for Bits32 {
     }
 }
 
-impl InTree for Bits64 {
+impl Typed for Bits64 {
     ghost use Rattle.etp_schema.specs.Form.{double_form};
 
     ghost form = { double_form };
-
-    #[tactic(auto, using(avro_bin::proofs::Views::values), unfolding(crate::specs::Form::Holds))]
-    fn to_tree(&self, _alloc: Global) -> Result<Tree, NoMemory> {
-        Ok(Tree::Double(*self))
-    }
-
-    #[tactic(auto, using(avro_bin::proofs::Views::values))]
-    fn from_tree(_alloc: Global, tree: Tree) -> Result<Bits64, NoMemory> {
-        match tree {
-            Tree::Double(value) => Ok(value),
-            _ => Ok(Bits64(0)),
-        }
-    }
 }
 
 impl OnWire for Bits64 {
@@ -192,23 +125,10 @@ impl OnWire for Bits64 {
     }
 }
 
-impl InTree for Text {
+impl Typed for Text {
     ghost use Rattle.etp_schema.specs.Form.{text_form};
 
     ghost form = { text_form };
-
-    #[tactic(auto, using(avro_bin::proofs::Views::values), unfolding(crate::specs::Form::Holds))]
-    fn to_tree(&self, alloc: Global) -> Result<Tree, NoMemory> {
-        Ok(Tree::Text(self.copy(alloc)?))
-    }
-
-    #[tactic(auto, using(avro_bin::proofs::Views::values))]
-    fn from_tree(alloc: Global, tree: Tree) -> Result<Text, NoMemory> {
-        match tree {
-            Tree::Text(text) => Ok(text),
-            _ => Ok(Text::new(alloc)),
-        }
-    }
 }
 
 impl OnWire for Text {
@@ -227,23 +147,10 @@ impl OnWire for Text {
     }
 }
 
-impl InTree for Blob {
+impl Typed for Blob {
     ghost use Rattle.etp_schema.specs.Form.{bytes_form};
 
     ghost form = { bytes_form };
-
-    #[tactic(auto, using(avro_bin::proofs::Views::values), unfolding(crate::specs::Form::Holds))]
-    fn to_tree(&self, _alloc: Global) -> Result<Tree, NoMemory> {
-        Ok(Tree::Bytes(self.share()?))
-    }
-
-    #[tactic(auto, using(avro_bin::proofs::Views::values))]
-    fn from_tree(_alloc: Global, tree: Tree) -> Result<Blob, NoMemory> {
-        match tree {
-            Tree::Bytes(bytes) => Ok(bytes),
-            _ => Ok(Blob::new()),
-        }
-    }
 }
 
 impl OnWire for Blob {
@@ -262,23 +169,10 @@ impl OnWire for Blob {
     }
 }
 
-impl InTree for Id16 {
+impl Typed for Id16 {
     ghost use Rattle.etp_schema.specs.Form.{id_form};
 
     ghost form = { id_form };
-
-    #[tactic(auto, using(avro_bin::proofs::Views::values), unfolding(crate::specs::Form::Holds))]
-    fn to_tree(&self, alloc: Global) -> Result<Tree, NoMemory> {
-        Ok(Tree::Fixed(Blob::copy(alloc, self.as_bytes())?))
-    }
-
-    #[tactic(auto, using(avro_bin::proofs::Views::values))]
-    fn from_tree(_alloc: Global, tree: Tree) -> Result<Id16, NoMemory> {
-        match tree {
-            Tree::Fixed(bytes) => Ok(id_from(bytes.as_bytes())),
-            _ => Ok(Id16::from_bytes([0; 16])),
-        }
-    }
 }
 
 impl OnWire for Id16 {
@@ -299,7 +193,7 @@ impl OnWire for Id16 {
 }
 
 /// The identifier of sixteen bytes.
-pub(crate) fn id_from(bytes: &[u8]) -> Id16
+pub fn id_from(bytes: &[u8]) -> Id16
     ensures { result ≡ id_of bytes.now }
 {
     let mut id = [0; 16];
@@ -307,14 +201,6 @@ pub(crate) fn id_from(bytes: &[u8]) -> Id16
         id.copy_from_slice(bytes);
     }
     Id16::from_bytes(id)
-}
-
-/// The symbol of an enumeration with these symbols in order: `past` for a place past them, and the first for another
-/// tree.
-pub fn symbol_of<T: Copy>(tree: Tree, symbols: &[T], past: T) -> T
-    ensures { result ≡ get_or symbols.now (symbol_in (value_of tree)) past }
-{
-    symbol_at(place_of(tree), symbols, past)
 }
 
 /// Reads the symbol of an enumeration with these symbols in order.
@@ -326,21 +212,12 @@ pub fn read_symbol<T: Copy>(from: &mut Reader<'_>, symbols: &[T], past: T) -> Re
     Ok(symbol_at(place, symbols, past))
 }
 
-fn symbol_at<T: Copy>(place: u32, symbols: &[T], past: T) -> T
+/// The symbol at a place, `past` for a place past them.
+pub fn symbol_at<T: Copy>(place: u32, symbols: &[T], past: T) -> T
     ensures { result ≡ get_or symbols.now place past }
 {
     match symbols.get(place as usize) {
         Some(symbol) => *symbol,
         None => past,
-    }
-}
-
-#[tactic(auto, using(avro_bin::proofs::Views::values))]
-fn place_of(tree: Tree) -> u32
-    ensures { result ≡ symbol_in (value_of tree) }
-{
-    match tree {
-        Tree::Enum(place) => place,
-        _ => 0,
     }
 }

@@ -1,10 +1,10 @@
-//! The profile's schema, and typed values as the trees of it.
+//! The profile's schema, and typed values of it.
 //!
 //! [`TABLE`] has the schema of every record, enumeration and message of the Energistics Transfer Protocol 1.2 as this
 //! product speaks it, each at its place of [`places`]; [`schema_table`] says what the table is. [`body_of`] answers the
 //! place of a message's body.
 //!
-//! [`InTree`] is a type whose values are, one to one, the values of a schema. Its ghost member `form` says which schema,
+//! [`Typed`] is a type whose values are, one to one, the values of a schema. Its ghost member `form` says which schema,
 //! and carries both laws. [`OnWire`] reads and writes the same values straight from and to bytes, and measures them; the form
 //! says how they are read, too (`at`, with the law `at_is`: as the value at the front of the bytes is read). The form of a
 //! record is put together of its fields' forms by `fields`, `◌&◌` and `done` of `specs/Form`:
@@ -40,22 +40,17 @@
 //! }
 //! ```
 //!
-//! Trees go the same way, by [`fields_of`] and [`tree_of`].
-//!
-//! [`read_body`] and [`write_body`] are the whole calls, equal to `decode` with `from_tree` and to `to_tree` with `encode`;
-//! [`measure_of`] counts the bytes and nodes of a value.
+//! [`read_body`] and [`write_body`] are the whole calls; [`measure_of`] counts the bytes and nodes of a value. `message_trees` has the
+//! same values as trees.
 //!
 //! Unions go by `union`, `◌or◌` and `last` in the same way, enumerations by `symbols`. The messages of a protocol are an
 //! enum, with `specs/Family` for its numbers.
 #![tactic(auto)]
 
 mod body;
-mod choices;
 mod data;
 mod data_on_wire;
 mod few;
-mod fields;
-mod in_tree;
 mod leaves;
 mod many;
 mod many_on_wire;
@@ -68,20 +63,17 @@ mod record_fields;
 mod size;
 mod status;
 mod table;
+mod typed;
 
 pub use body::{Side, body_of, is_protocol};
-pub use choices::{branch_of, branch_record};
 pub use data_on_wire::{write_branch, write_null};
 pub use few::Few;
-pub use fields::Fields;
-pub use in_tree::{InTree, read_back, write_back};
-pub use leaves::{read_symbol, symbol_of};
+pub use leaves::{id_from, read_symbol, symbol_at};
 pub use measure::Measure;
 pub use on_wire::{OnWire, read_body, write_body};
 pub use reader::Reader;
-pub use record_fields::{
-    ReadFields, WriteFields, fields_of, measure_fields, tree_of, write_fields,
-};
+pub use record_fields::{ReadFields, WriteFields, measure_fields, write_fields};
 pub use size::{encoded_size, measure_of};
 pub use status::ActiveStatusKind;
 pub use table::{TABLE, schema_table};
+pub use typed::Typed;

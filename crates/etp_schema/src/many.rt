@@ -1,162 +1,36 @@
-//! Lists, maps, optional and boxed values as trees.
-ghost use Rattle.std.specs.Prelude.{◌≡◌, IfOk, OnOk, map};
-ghost use Rattle.std.specs.List.{AllByRecursion};
-ghost use Rattle.avro_bin.specs.View.{value_of, entry_of, with_value};
-ghost use Rattle.etp_schema.specs.Form.{Holds, list_form, list_in, named_in};
-
+//! The forms of lists, maps, optional and boxed values.
 use crate::few::Few;
-use crate::in_tree::InTree;
-use avro_bin::Tree;
-use etp_values::{Boxed, Copied, List, Named, NoMemory, Shared};
-use std::alloc::Global;
+use crate::typed::Typed;
+use etp_values::{Boxed, List, Named, Shared};
 
-impl<T: InTree> InTree for List<T> {
+impl<T: Typed> Typed for List<T> {
     ghost use Rattle.etp_schema.specs.Form.{list_form};
 
     ghost form = { list_form T.form };
-
-    fn to_tree(&self, alloc: Global) -> Result<Tree, NoMemory> {
-        tree_of_items(alloc, self.as_slice())
-    }
-
-    fn from_tree(alloc: Global, tree: Tree) -> Result<List<T>, NoMemory> {
-        let mut items = Vec::new(alloc);
-        for item in items_of(alloc, tree) {
-            items.push(T::from_tree(alloc, item)?)?;
-        }
-        Ok(List::from_vec(items))
-    }
 }
 
-impl<T: InTree> InTree for Few<T> {
+impl<T: Typed> Typed for Few<T> {
     ghost use Rattle.etp_schema.specs.Form.{list_form};
 
     ghost form = { list_form T.form };
-
-    fn to_tree(&self, alloc: Global) -> Result<Tree, NoMemory> {
-        tree_of_items(alloc, self.as_slice())
-    }
-
-    fn from_tree(alloc: Global, tree: Tree) -> Result<Few<T>, NoMemory> {
-        let list: List<T> = InTree::from_tree(alloc, tree)?;
-        Ok(Few::of_list(list))
-    }
 }
 
-#[tactic(auto, using(crate::proofs::Parts::parts, crate::proofs::Parts::list_holds))]
-fn tree_of_items<T: InTree>(alloc: Global, items: &[T]) -> Result<Tree, NoMemory>
-    ensures value { IfOk result (λ tree. value_of tree ≡ (list_form T.form).as_value items.now) }
-    ensures typed { OnOk result (Holds (list_form T.form) items.now) }
-{
-    let trees = trees_of_items(alloc, items)?;
-    Ok(Tree::Array(List::from_vec(trees)))
-}
-
-fn trees_of_items<T: InTree>(alloc: Global, items: &[T]) -> Result<Vec<Tree>, NoMemory>
-    ensures value { IfOk result (λ trees. map value_of trees.items ≡ map T.form.as_value items.now) }
-    ensures typed { OnOk result (AllByRecursion (Holds T.form) items.now) }
-{
-    let mut trees = Vec::new(alloc);
-    for item in items {
-        trees.push(item.to_tree(alloc)?)?;
-    }
-    Ok(trees)
-}
-
-#[tactic(auto, using(crate::proofs::Parts::parts))]
-fn items_of(alloc: Global, tree: Tree) -> Vec<Tree>
-    ensures { map value_of result.items ≡ list_in (value_of tree) }
-{
-    match tree {
-        Tree::Array(items) => items.into_vec(),
-        _ => Vec::new(alloc),
-    }
-}
-
-impl<T: InTree> InTree for Named<T> {
+impl<T: Typed> Typed for Named<T> {
     ghost use Rattle.etp_schema.specs.Form.{named_form};
 
     ghost form = { named_form T.form };
-
-    #[tactic(auto, using(crate::proofs::Parts::parts))]
-    fn to_tree(&self, alloc: Global) -> Result<Tree, NoMemory> {
-        let trees = trees_of_named(alloc, self)?;
-        Ok(Tree::Map(trees))
-    }
-
-    fn from_tree(alloc: Global, tree: Tree) -> Result<Named<T>, NoMemory> {
-        let mut items = Vec::new(alloc);
-        for (name, value) in named_of(alloc, tree).into_vec() {
-            items.push((name, T::from_tree(alloc, value)?))?;
-        }
-        Ok(Named::from_sorted(items))
-    }
 }
 
-fn trees_of_named<T: InTree>(alloc: Global, named: &Named<T>) -> Result<Named<Tree>, NoMemory>
-    ensures value { IfOk result (λ trees. map entry_of trees ≡ map (with_value T.form.as_value) named.now) }
-    ensures typed { OnOk result (AllByRecursion (λ e. Holds T.form e.1) named.now) }
-{
-    let mut trees = Vec::new(alloc);
-    for pair in named.as_slice() {
-        trees.push((pair.0.copy(alloc)?, pair.1.to_tree(alloc)?))?;
-    }
-    Ok(Named::from_sorted(trees))
-}
-
-#[tactic(auto, using(crate::proofs::Parts::parts))]
-fn named_of(alloc: Global, tree: Tree) -> Named<Tree>
-    ensures { map entry_of result ≡ named_in (value_of tree) }
-{
-    match tree {
-        Tree::Map(named) => named,
-        _ => Named::new(alloc),
-    }
-}
-
-impl<T: InTree> InTree for Option<T> {
+impl<T: Typed> Typed for Option<T> {
     ghost use Rattle.etp_schema.specs.Form.{option_form};
 
     ghost form = { option_form T.form };
-
-    #[tactic(auto, using(crate::proofs::Parts::parts))]
-    fn to_tree(&self, alloc: Global) -> Result<Tree, NoMemory> {
-        match self {
-            None => Ok(Tree::Union(0, Box::new(alloc, Tree::Null)?)),
-            Some(value) => Ok(Tree::Union(1, Box::new(alloc, value.to_tree(alloc)?)?)),
-        }
-    }
-
-    #[tactic(auto, using(crate::proofs::Parts::parts))]
-    fn from_tree(alloc: Global, tree: Tree) -> Result<Option<T>, NoMemory> {
-        match tree {
-            Tree::Union(0, _) => Ok(None),
-            Tree::Union(_, value) => Ok(Some(T::from_tree(alloc, Box::into_inner(value))?)),
-            _ => Ok(None),
-        }
-    }
 }
 
-impl<T: InTree> InTree for Boxed<T> {
+impl<T: Typed> Typed for Boxed<T> {
     ghost form = { T.form };
-
-    fn to_tree(&self, alloc: Global) -> Result<Tree, NoMemory> {
-        self.get().to_tree(alloc)
-    }
-
-    fn from_tree(alloc: Global, tree: Tree) -> Result<Boxed<T>, NoMemory> {
-        Boxed::new(alloc, T::from_tree(alloc, tree)?)
-    }
 }
 
-impl<T: InTree> InTree for Shared<T> {
+impl<T: Typed> Typed for Shared<T> {
     ghost form = { T.form };
-
-    fn to_tree(&self, alloc: Global) -> Result<Tree, NoMemory> {
-        self.get().to_tree(alloc)
-    }
-
-    fn from_tree(alloc: Global, tree: Tree) -> Result<Shared<T>, NoMemory> {
-        Shared::new(alloc, T::from_tree(alloc, tree)?)
-    }
 }

@@ -112,7 +112,7 @@ fn read_block<T: OnWire>(from: &mut Reader<'_>, count: i64, items: &mut Vec<T>) 
         return Err(Fault::At(Why::Length, start));
     }
     let before = from.rest().len();
-    read_items(from, (-(count + 1)) as u64 + 1, items)?;
+    read_items(from, count.unsigned_abs(), items)?;
     if !is_filled(before, size as u64, from.rest().len()) {
         return Err(Fault::At(Why::BlockSize, start));
     }
@@ -250,7 +250,7 @@ fn read_entry_block<T: OnWire>(
         return Err(Fault::At(Why::Length, start));
     }
     let before = from.rest().len();
-    read_entries(from, (-(count + 1)) as u64 + 1, held)?;
+    read_entries(from, count.unsigned_abs(), held)?;
     if !is_filled(before, size as u64, from.rest().len()) {
         return Err(Fault::At(Why::BlockSize, start));
     }

@@ -7,18 +7,18 @@ ghost use Rattle.etp_schema.specs.Form.{Holds};
 ghost use Rattle.etp_schema.specs.Measure.{measured};
 ghost use Rattle.etp_schema.specs.Reading.{Reads, ReadsAs};
 
-use crate::in_tree::InTree;
 use crate::measure::Measure;
 use crate::reader::Reader;
+use crate::typed::Typed;
 use avro_bin::{Fault, NODE_LIMIT, Refusal, refusal_at};
 use etp_values::NoMemory;
 use std::alloc::Global;
 
 /// A type whose values are read from bytes and written to bytes without a tree.
 ///
-/// Both say the same as the way by a tree: `form.at` is what the value at the front of the bytes is read as, by the law `at_is`
-/// of a form, and what is written is the spelling of `form.as_value`.
-pub trait OnWire: InTree {
+/// `form.at` is what the value at the front of the bytes is read as, which by the law `at_is` of a form is to read a value of the
+/// schema and to see it as one of the type; what is written is the spelling of `form.as_value`.
+pub trait OnWire: Typed {
     /// The value at the front of what is left.
     fn read(from: &mut Reader<'_>) -> Result<Self, Fault>
         ensures { Reads (Self.form.at from.old.left from.old.rest.now) result from.new };
@@ -34,7 +34,7 @@ pub trait OnWire: InTree {
         ensures { result ≡ measured (Self.form.as_value self.now) };
 }
 
-/// The value at the front of the bytes, and how many of them spell it: what `decode` and then `from_tree` give.
+/// The value at the front of the bytes, and how many of them spell it: what `decode` gives, seen by the form.
 pub fn read_body<T: OnWire>(alloc: Global, bytes: &[u8]) -> Result<(T, usize), Refusal>
     ensures reads { ReadsAs T.form.from_value (read_value T.form.schema node_limit bytes.now) result }
     ensures within { IfOk result (λ r. r.1 ≤ length bytes.now) }
@@ -47,7 +47,7 @@ pub fn read_body<T: OnWire>(alloc: Global, bytes: &[u8]) -> Result<(T, usize), R
     }
 }
 
-/// Appends the written spelling of the value: what `to_tree` and then `encode` give. After `NoMemory` the bytes are as before.
+/// Appends the written spelling of the value, as `encode` does that of its tree. After `NoMemory` the bytes are as before.
 pub fn write_body<T: OnWire>(value: &T, into: &mut Vec<u8>) -> Result<(), NoMemory>
     ensures written { OnOk result (into.new.items ≡ into.old.items ++ plain (T.form.as_value value.now)) }
     ensures kept { OnErr result (into.new.items ≡ into.old.items) }

@@ -1,30 +1,22 @@
 //! The fields of a record, first to last: each is read, written and measured behind the one before.
-ghost use Rattle.std.specs.Prelude.{◌≡◌, ◌++◌, ◌∷◌, [], IfOk, OnOk, map, List as Items};
+ghost use Rattle.std.specs.Prelude.{◌≡◌, ◌∷◌, [], OnOk, List as Items};
 ghost use Rattle.avro_bin.specs.Plain.{plain, plain_all, Writes};
 ghost use Rattle.avro_bin.specs.Schema.{SFields, Schemas, none, more};
 ghost use Rattle.avro_bin.specs.Shape.{AllFit, FieldsHave, FitsTree, HasSchema};
 ghost use Rattle.avro_bin.specs.Value.{Value, VFields, row, list};
-ghost use Rattle.avro_bin.specs.View.{value_of};
-ghost use Rattle.etp_schema.specs.Form.{Row, done, ◌&◌, fields_in};
-ghost use Rattle.etp_schema.specs.Left.{left};
+ghost use Rattle.etp_schema.specs.Form.{Row, done, ◌&◌};
 ghost use Rattle.etp_schema.specs.Measure.{measured, measured_behind};
 ghost use Rattle.etp_schema.specs.Reading.{Reads};
 
-use crate::fields::{Fields, record_of};
 use crate::measure::Measure;
 use crate::on_wire::OnWire;
 use crate::reader::Reader;
-use avro_bin::{Fault, Tree};
+use avro_bin::Fault;
 use etp_values::NoMemory;
-use std::alloc::Global;
 
 /// The fields of a record that are read: a pair of the first and the others, and `()` behind the last.
 pub trait ReadFields: Drop {
     ghost forms: { Row Self };
-
-    /// The fields that are still to be read of a record's tree; where there is none more, null is read.
-    fn from_trees(trees: &mut Fields) -> Result<Self, NoMemory>
-        ensures { IfOk result (λ x. x ≡ forms.from_values (left trees.old)) };
 
     /// The fields at the front of what is left.
     fn read(from: &mut Reader<'_>) -> Result<Self, Fault>
@@ -34,10 +26,6 @@ pub trait ReadFields: Drop {
 impl ReadFields for () {
     ghost forms = { done };
 
-    fn from_trees(_trees: &mut Fields) -> Result<(), NoMemory> {
-        Ok(())
-    }
-
     fn read(_from: &mut Reader<'_>) -> Result<(), Fault> {
         Ok(())
     }
@@ -45,12 +33,6 @@ impl ReadFields for () {
 
 impl<A: OnWire, B: ReadFields> ReadFields for (A, B) {
     ghost forms = { A.form & B.forms };
-
-    fn from_trees(trees: &mut Fields) -> Result<(A, B), NoMemory> {
-        let first = trees.take()?;
-        let others = B::from_trees(trees)?;
-        Ok((first, others))
-    }
 
     fn read(from: &mut Reader<'_>) -> Result<(A, B), Fault> {
         let first = A::read(from)?;
@@ -64,11 +46,6 @@ pub trait WriteFields: Drop {
     ghost schemas: { Schemas };
 
     ghost values: { Self → Items Value };
-
-    /// Appends each field's tree.
-    fn to_trees(self, alloc: Global, trees: &mut Vec<Tree>) -> Result<(), NoMemory>
-        ensures value { OnOk result (map value_of trees.new.items ≡ map value_of trees.old.items ++ values self) }
-        ensures typed { OnOk result (FieldsHave schemas (list (row (values self)))) };
 
     /// Appends each field's written spelling. After `NoMemory` what was there still stands in front.
     fn write(self, into: &mut Vec<u8>) -> Result<(), NoMemory>
@@ -86,10 +63,6 @@ impl WriteFields for () {
 
     ghost values = { λ u. [] };
 
-    fn to_trees(self, _alloc: Global, _trees: &mut Vec<Tree>) -> Result<(), NoMemory> {
-        Ok(())
-    }
-
     fn write(self, _into: &mut Vec<u8>) -> Result<(), NoMemory> {
         Ok(())
     }
@@ -105,14 +78,6 @@ impl<'a, A: OnWire, B: WriteFields> WriteFields for (&'a A, B) {
     ghost values = { λ p. A.form.as_value p.0.now ∷ B.values p.1 };
 
     #[tactic(auto, unfolding(crate::specs::Form::Holds))]
-    fn to_trees(self, alloc: Global, trees: &mut Vec<Tree>) -> Result<(), NoMemory> {
-        let (first, others) = self;
-        trees.push(first.to_tree(alloc)?)?;
-        others.to_trees(alloc, trees)?;
-        Ok(())
-    }
-
-    #[tactic(auto, unfolding(crate::specs::Form::Holds))]
     fn write(self, into: &mut Vec<u8>) -> Result<(), NoMemory> {
         let (first, others) = self;
         first.write(into)?;
@@ -124,23 +89,6 @@ impl<'a, A: OnWire, B: WriteFields> WriteFields for (&'a A, B) {
         let (first, others) = self;
         others.measure(before.with(first))
     }
-}
-
-/// The fields of a record's tree.
-pub fn fields_of<R: ReadFields>(alloc: Global, tree: Tree) -> Result<R, NoMemory>
-    ensures { IfOk result (λ x. x ≡ R.forms.from_values (fields_in (value_of tree))) }
-{
-    R::from_trees(&mut Fields::of(alloc, tree))
-}
-
-/// The tree of a record of these fields.
-pub fn tree_of<W: WriteFields>(alloc: Global, fields: W) -> Result<Tree, NoMemory>
-    ensures value { IfOk result (λ t. value_of t ≡ VFields (row (W.values fields))) }
-    ensures typed { OnOk result (HasSchema (SFields W.schemas) (VFields (row (W.values fields)))) }
-{
-    let mut trees = Vec::new(alloc);
-    fields.to_trees(alloc, &mut trees)?;
-    Ok(record_of(trees))
 }
 
 /// Appends the written spelling of a record of these fields. After `NoMemory` what was there still stands in front.

@@ -1,11 +1,11 @@
 //! Whether a channel or an object is active.
-use crate::in_tree::InTree;
-use crate::leaves::{read_symbol, symbol_of};
+use crate::leaves::read_symbol;
 use crate::measure::Measure;
 use crate::on_wire::OnWire;
 use crate::reader::Reader;
+use crate::typed::Typed;
+use avro_bin::Fault;
 use avro_bin::numbers::put_number;
-use avro_bin::{Fault, Tree};
 use etp_values::{Copied, NoMemory};
 use std::alloc::Global;
 
@@ -16,26 +16,10 @@ pub enum ActiveStatusKind {
     Inactive,
 }
 
-impl InTree for ActiveStatusKind {
+impl Typed for ActiveStatusKind {
     ghost use Rattle.etp_schema.specs.Status.{active_status_kind_form};
 
     ghost form = { active_status_kind_form };
-
-    #[tactic(auto, using(avro_bin::proofs::Views::values), unfolding(crate::specs::Form::Holds))]
-    fn to_tree(&self, _alloc: Global) -> Result<Tree, NoMemory> {
-        match self {
-            ActiveStatusKind::Active => Ok(Tree::Enum(0)),
-            ActiveStatusKind::Inactive => Ok(Tree::Enum(1)),
-        }
-    }
-
-    fn from_tree(_alloc: Global, tree: Tree) -> Result<ActiveStatusKind, NoMemory> {
-        Ok(symbol_of(
-            tree,
-            &[ActiveStatusKind::Active, ActiveStatusKind::Inactive],
-            ActiveStatusKind::Inactive,
-        ))
-    }
 }
 
 impl OnWire for ActiveStatusKind {

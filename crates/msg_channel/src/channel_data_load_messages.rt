@@ -1,18 +1,14 @@
 //! The messages of the ChannelDataLoad protocol (22), with the records that only they have.
-ghost use Rattle.std.specs.Prelude.{◌≡◌, IfOk, OnOk, pos};
-ghost use Rattle.avro_bin.specs.Shape.{HasSchema};
-ghost use Rattle.avro_bin.specs.View.{value_of};
+ghost use Rattle.std.specs.Prelude.{◌≡◌, pos};
 ghost use Rattle.std.specs.List.{AllByRecursion};
-ghost use Rattle.etp_schema.specs.Family.{read_kind, IsFound, IsAgain};
+ghost use Rattle.etp_schema.specs.Family.{IsFound, IsAgain};
 ghost use Rattle.msg_channel.specs.ChannelDataLoad.{channel_data_load_body, channel_data_load_kinds};
 
 use crate::channel_records::ChannelMetadataRecord;
 use crate::indexes::IndexInterval;
 use crate::points::{DataItem, TruncateInfo};
-use avro_bin::Tree;
-use etp_schema::{InTree, fields_of, tree_of};
-use etp_values::{List, Named, NoMemory, Text};
-use std::alloc::Global;
+use etp_schema::Typed;
+use etp_values::{List, Named, Text};
 
 /// A channel that is open for loading, and what the server wants of it.
 #[derive(Debug, Drop)]
@@ -25,30 +21,10 @@ pub struct OpenChannelInfo {
     pub data_changes: bool,
 }
 
-impl InTree for OpenChannelInfo {
+impl Typed for OpenChannelInfo {
     ghost use Rattle.msg_channel.specs.ChannelDataLoad.{open_channel_info_form};
 
     ghost form = { open_channel_info_form };
-
-    #[tactic(auto, unfolding(etp_schema::specs::Form::Holds))]
-    fn to_tree(&self, alloc: Global) -> Result<Tree, NoMemory> {
-        tree_of(
-            alloc,
-            (
-                &self.metadata,
-                (&self.prefer_realtime, (&self.data_changes, ())),
-            ),
-        )
-    }
-
-    fn from_tree(alloc: Global, tree: Tree) -> Result<OpenChannelInfo, NoMemory> {
-        let (metadata, (prefer_realtime, (data_changes, ()))) = fields_of(alloc, tree)?;
-        Ok(OpenChannelInfo {
-            metadata,
-            prefer_realtime,
-            data_changes,
-        })
-    }
 }
 
 /// Asks to load points into channels.
@@ -58,20 +34,10 @@ pub struct OpenChannels {
     pub uris: Named<Text>,
 }
 
-impl InTree for OpenChannels {
+impl Typed for OpenChannels {
     ghost use Rattle.msg_channel.specs.ChannelDataLoad.{open_channels_form};
 
     ghost form = { open_channels_form };
-
-    #[tactic(auto, unfolding(etp_schema::specs::Form::Holds))]
-    fn to_tree(&self, alloc: Global) -> Result<Tree, NoMemory> {
-        tree_of(alloc, (&self.uris, ()))
-    }
-
-    fn from_tree(alloc: Global, tree: Tree) -> Result<OpenChannels, NoMemory> {
-        let (uris, ()) = fields_of(alloc, tree)?;
-        Ok(OpenChannels { uris })
-    }
 }
 
 /// The channels that are open.
@@ -81,20 +47,10 @@ pub struct OpenChannelsResponse {
     pub channels: Named<OpenChannelInfo>,
 }
 
-impl InTree for OpenChannelsResponse {
+impl Typed for OpenChannelsResponse {
     ghost use Rattle.msg_channel.specs.ChannelDataLoad.{open_channels_response_form};
 
     ghost form = { open_channels_response_form };
-
-    #[tactic(auto, unfolding(etp_schema::specs::Form::Holds))]
-    fn to_tree(&self, alloc: Global) -> Result<Tree, NoMemory> {
-        tree_of(alloc, (&self.channels, ()))
-    }
-
-    fn from_tree(alloc: Global, tree: Tree) -> Result<OpenChannelsResponse, NoMemory> {
-        let (channels, ()) = fields_of(alloc, tree)?;
-        Ok(OpenChannelsResponse { channels })
-    }
 }
 
 /// Ends the loading of channels.
@@ -104,20 +60,10 @@ pub struct CloseChannels {
     pub id: Named<i64>,
 }
 
-impl InTree for CloseChannels {
+impl Typed for CloseChannels {
     ghost use Rattle.msg_channel.specs.ChannelDataLoad.{close_channels_form};
 
     ghost form = { close_channels_form };
-
-    #[tactic(auto, unfolding(etp_schema::specs::Form::Holds))]
-    fn to_tree(&self, alloc: Global) -> Result<Tree, NoMemory> {
-        tree_of(alloc, (&self.id, ()))
-    }
-
-    fn from_tree(alloc: Global, tree: Tree) -> Result<CloseChannels, NoMemory> {
-        let (id, ()) = fields_of(alloc, tree)?;
-        Ok(CloseChannels { id })
-    }
 }
 
 /// Appends points to open channels. The schema calls it ChannelData, as the message of ChannelSubscribe.
@@ -127,20 +73,10 @@ pub struct LoadChannelData {
     pub payload: List<DataItem>,
 }
 
-impl InTree for LoadChannelData {
+impl Typed for LoadChannelData {
     ghost use Rattle.msg_channel.specs.ChannelDataLoad.{load_channel_data_form};
 
     ghost form = { load_channel_data_form };
-
-    #[tactic(auto, unfolding(etp_schema::specs::Form::Holds))]
-    fn to_tree(&self, alloc: Global) -> Result<Tree, NoMemory> {
-        tree_of(alloc, (&self.payload, ()))
-    }
-
-    fn from_tree(alloc: Global, tree: Tree) -> Result<LoadChannelData, NoMemory> {
-        let (payload, ()) = fields_of(alloc, tree)?;
-        Ok(LoadChannelData { payload })
-    }
 }
 
 /// Replaces the points of an interval in open channels.
@@ -154,30 +90,10 @@ pub struct ReplaceRange {
     pub payload: List<DataItem>,
 }
 
-impl InTree for ReplaceRange {
+impl Typed for ReplaceRange {
     ghost use Rattle.msg_channel.specs.ChannelDataLoad.{replace_range_form};
 
     ghost form = { replace_range_form };
-
-    #[tactic(auto, unfolding(etp_schema::specs::Form::Holds))]
-    fn to_tree(&self, alloc: Global) -> Result<Tree, NoMemory> {
-        tree_of(
-            alloc,
-            (
-                &self.changed_interval,
-                (&self.channel_ids, (&self.payload, ())),
-            ),
-        )
-    }
-
-    fn from_tree(alloc: Global, tree: Tree) -> Result<ReplaceRange, NoMemory> {
-        let (changed_interval, (channel_ids, (payload, ()))) = fields_of(alloc, tree)?;
-        Ok(ReplaceRange {
-            changed_interval,
-            channel_ids,
-            payload,
-        })
-    }
 }
 
 /// Says that channels are closed: the answer to CloseChannels, or a notice.
@@ -189,20 +105,10 @@ pub struct ChannelsClosed {
     pub id: Named<i64>,
 }
 
-impl InTree for ChannelsClosed {
+impl Typed for ChannelsClosed {
     ghost use Rattle.msg_channel.specs.ChannelDataLoad.{channels_closed_form};
 
     ghost form = { channels_closed_form };
-
-    #[tactic(auto, unfolding(etp_schema::specs::Form::Holds))]
-    fn to_tree(&self, alloc: Global) -> Result<Tree, NoMemory> {
-        tree_of(alloc, (&self.reason, (&self.id, ())))
-    }
-
-    fn from_tree(alloc: Global, tree: Tree) -> Result<ChannelsClosed, NoMemory> {
-        let (reason, (id, ())) = fields_of(alloc, tree)?;
-        Ok(ChannelsClosed { reason, id })
-    }
 }
 
 /// The range was replaced.
@@ -212,22 +118,10 @@ pub struct ReplaceRangeResponse {
     pub channel_change_time: i64,
 }
 
-impl InTree for ReplaceRangeResponse {
+impl Typed for ReplaceRangeResponse {
     ghost use Rattle.msg_channel.specs.ChannelDataLoad.{replace_range_response_form};
 
     ghost form = { replace_range_response_form };
-
-    #[tactic(auto, unfolding(etp_schema::specs::Form::Holds))]
-    fn to_tree(&self, alloc: Global) -> Result<Tree, NoMemory> {
-        tree_of(alloc, (&self.channel_change_time, ()))
-    }
-
-    fn from_tree(alloc: Global, tree: Tree) -> Result<ReplaceRangeResponse, NoMemory> {
-        let (channel_change_time, ()) = fields_of(alloc, tree)?;
-        Ok(ReplaceRangeResponse {
-            channel_change_time,
-        })
-    }
 }
 
 /// Cuts off open channels.
@@ -237,20 +131,10 @@ pub struct TruncateChannels {
     pub channels: Named<TruncateInfo>,
 }
 
-impl InTree for TruncateChannels {
+impl Typed for TruncateChannels {
     ghost use Rattle.msg_channel.specs.ChannelDataLoad.{truncate_channels_form};
 
     ghost form = { truncate_channels_form };
-
-    #[tactic(auto, unfolding(etp_schema::specs::Form::Holds))]
-    fn to_tree(&self, alloc: Global) -> Result<Tree, NoMemory> {
-        tree_of(alloc, (&self.channels, ()))
-    }
-
-    fn from_tree(alloc: Global, tree: Tree) -> Result<TruncateChannels, NoMemory> {
-        let (channels, ()) = fields_of(alloc, tree)?;
-        Ok(TruncateChannels { channels })
-    }
 }
 
 /// The channels that were cut off.
@@ -260,22 +144,10 @@ pub struct TruncateChannelsResponse {
     pub channels_truncated_time: Named<i64>,
 }
 
-impl InTree for TruncateChannelsResponse {
+impl Typed for TruncateChannelsResponse {
     ghost use Rattle.msg_channel.specs.ChannelDataLoad.{truncate_channels_response_form};
 
     ghost form = { truncate_channels_response_form };
-
-    #[tactic(auto, unfolding(etp_schema::specs::Form::Holds))]
-    fn to_tree(&self, alloc: Global) -> Result<Tree, NoMemory> {
-        tree_of(alloc, (&self.channels_truncated_time, ()))
-    }
-
-    fn from_tree(alloc: Global, tree: Tree) -> Result<TruncateChannelsResponse, NoMemory> {
-        let (channels_truncated_time, ()) = fields_of(alloc, tree)?;
-        Ok(TruncateChannelsResponse {
-            channels_truncated_time,
-        })
-    }
 }
 
 /// A message of the ChannelDataLoad protocol.
@@ -307,65 +179,6 @@ impl ChannelDataLoadMessage {
             ChannelDataLoadMessage::ReplaceRangeResponse(_) => 8,
             ChannelDataLoadMessage::TruncateChannels(_) => 9,
             ChannelDataLoadMessage::TruncateChannelsResponse(_) => 10,
-        }
-    }
-
-    /// The tree of the message's body.
-    #[tactic(auto, unfolding(etp_schema::specs::Form::Holds))]
-    pub fn to_tree(&self, alloc: Global) -> Result<Tree, NoMemory>
-        ensures value { IfOk result (λ t. value_of t ≡ (channel_data_load_body self.now).value) }
-        ensures typed { OnOk result (HasSchema (channel_data_load_body self.now).schema (channel_data_load_body self.now).value) }
-    {
-        match self {
-            ChannelDataLoadMessage::OpenChannels(message) => message.to_tree(alloc),
-            ChannelDataLoadMessage::OpenChannelsResponse(message) => message.to_tree(alloc),
-            ChannelDataLoadMessage::CloseChannels(message) => message.to_tree(alloc),
-            ChannelDataLoadMessage::LoadChannelData(message) => message.to_tree(alloc),
-            ChannelDataLoadMessage::ReplaceRange(message) => message.to_tree(alloc),
-            ChannelDataLoadMessage::ChannelsClosed(message) => message.to_tree(alloc),
-            ChannelDataLoadMessage::ReplaceRangeResponse(message) => message.to_tree(alloc),
-            ChannelDataLoadMessage::TruncateChannels(message) => message.to_tree(alloc),
-            ChannelDataLoadMessage::TruncateChannelsResponse(message) => message.to_tree(alloc),
-        }
-    }
-
-    /// The message of this number with this body, where the protocol has one.
-    pub fn from_tree(
-        alloc: Global,
-        kind: i32,
-        tree: Tree,
-    ) -> Result<Option<ChannelDataLoadMessage>, NoMemory>
-        ensures { IfOk result (λ m. m ≡ read_kind channel_data_load_kinds kind (value_of tree)) }
-    {
-        match kind {
-            1 => Ok(Some(ChannelDataLoadMessage::OpenChannels(OpenChannels::from_tree(
-                alloc, tree,
-            )?))),
-            2 => Ok(Some(ChannelDataLoadMessage::OpenChannelsResponse(
-                OpenChannelsResponse::from_tree(alloc, tree)?,
-            ))),
-            3 => Ok(Some(ChannelDataLoadMessage::CloseChannels(CloseChannels::from_tree(
-                alloc, tree,
-            )?))),
-            4 => Ok(Some(ChannelDataLoadMessage::LoadChannelData(LoadChannelData::from_tree(
-                alloc, tree,
-            )?))),
-            6 => Ok(Some(ChannelDataLoadMessage::ReplaceRange(ReplaceRange::from_tree(
-                alloc, tree,
-            )?))),
-            7 => Ok(Some(ChannelDataLoadMessage::ChannelsClosed(ChannelsClosed::from_tree(
-                alloc, tree,
-            )?))),
-            8 => Ok(Some(ChannelDataLoadMessage::ReplaceRangeResponse(
-                ReplaceRangeResponse::from_tree(alloc, tree)?,
-            ))),
-            9 => Ok(Some(ChannelDataLoadMessage::TruncateChannels(TruncateChannels::from_tree(
-                alloc, tree,
-            )?))),
-            10 => Ok(Some(ChannelDataLoadMessage::TruncateChannelsResponse(
-                TruncateChannelsResponse::from_tree(alloc, tree)?,
-            ))),
-            _ => Ok(None),
         }
     }
 }

@@ -1,8 +1,6 @@
 //! Indexes: the values of one, and intervals of them.
-use avro_bin::Tree;
-use etp_schema::{InTree, branch_of, branch_record, fields_of, symbol_of, tree_of};
-use etp_values::{Bits64, NoMemory, Text};
-use std::alloc::Global;
+use etp_schema::Typed;
+use etp_values::{Bits64, Text};
 
 /// Which way a logging tool moves during a pass.
 #[derive(Clone, Copy, Debug, PartialEq, Eq, Drop)]
@@ -13,31 +11,10 @@ pub enum PassDirection {
     Down,
 }
 
-impl InTree for PassDirection {
+impl Typed for PassDirection {
     ghost use Rattle.msg_channel.specs.ChannelRecords.{pass_direction_form};
 
     ghost form = { pass_direction_form };
-
-    #[tactic(auto, using(avro_bin::proofs::Views::values), unfolding(etp_schema::specs::Form::Holds))]
-    fn to_tree(&self, _alloc: Global) -> Result<Tree, NoMemory> {
-        match self {
-            PassDirection::Up => Ok(Tree::Enum(0)),
-            PassDirection::HoldingSteady => Ok(Tree::Enum(1)),
-            PassDirection::Down => Ok(Tree::Enum(2)),
-        }
-    }
-
-    fn from_tree(_alloc: Global, tree: Tree) -> Result<PassDirection, NoMemory> {
-        Ok(symbol_of(
-            tree,
-            &[
-                PassDirection::Up,
-                PassDirection::HoldingSteady,
-                PassDirection::Down,
-            ],
-            PassDirection::Down,
-        ))
-    }
 }
 
 /// A depth within one pass of a logging tool.
@@ -51,24 +28,10 @@ pub struct PassIndexedDepth {
     pub depth: Bits64,
 }
 
-impl InTree for PassIndexedDepth {
+impl Typed for PassIndexedDepth {
     ghost use Rattle.msg_channel.specs.ChannelRecords.{pass_indexed_depth_form};
 
     ghost form = { pass_indexed_depth_form };
-
-    #[tactic(auto, unfolding(etp_schema::specs::Form::Holds))]
-    fn to_tree(&self, alloc: Global) -> Result<Tree, NoMemory> {
-        tree_of(alloc, (&self.pass, (&self.direction, (&self.depth, ()))))
-    }
-
-    fn from_tree(alloc: Global, tree: Tree) -> Result<PassIndexedDepth, NoMemory> {
-        let (pass, (direction, (depth, ()))) = fields_of(alloc, tree)?;
-        Ok(PassIndexedDepth {
-            pass,
-            direction,
-            depth,
-        })
-    }
 }
 
 /// A value of an index: a moment, a depth, another number, or none.
@@ -84,30 +47,10 @@ pub enum IndexValue {
     PassIndexedDepth(PassIndexedDepth),
 }
 
-impl InTree for IndexValue {
+impl Typed for IndexValue {
     ghost use Rattle.msg_channel.specs.ChannelRecords.{index_value_form};
 
     ghost form = { index_value_form };
-
-    #[tactic(auto, using(avro_bin::proofs::Views::values), unfolding(etp_schema::specs::Form::Holds))]
-    fn to_tree(&self, alloc: Global) -> Result<Tree, NoMemory> {
-        match self {
-            IndexValue::Null => branch_record(alloc, 0, Tree::Null),
-            IndexValue::Long(value) => branch_record(alloc, 1, value.to_tree(alloc)?),
-            IndexValue::Double(value) => branch_record(alloc, 2, value.to_tree(alloc)?),
-            IndexValue::PassIndexedDepth(depth) => branch_record(alloc, 3, depth.to_tree(alloc)?),
-        }
-    }
-
-    fn from_tree(alloc: Global, tree: Tree) -> Result<IndexValue, NoMemory> {
-        let (place, value) = branch_of(alloc, tree);
-        match place {
-            0 => Ok(IndexValue::Null),
-            1 => Ok(IndexValue::Long(i64::from_tree(alloc, value)?)),
-            2 => Ok(IndexValue::Double(Bits64::from_tree(alloc, value)?)),
-            _ => Ok(IndexValue::PassIndexedDepth(PassIndexedDepth::from_tree(alloc, value)?)),
-        }
-    }
 }
 
 /// The values of an index from one to another, both included.
@@ -123,29 +66,8 @@ pub struct IndexInterval {
     pub depth_datum: Text,
 }
 
-impl InTree for IndexInterval {
+impl Typed for IndexInterval {
     ghost use Rattle.msg_channel.specs.ChannelRecords.{index_interval_form};
 
     ghost form = { index_interval_form };
-
-    #[tactic(auto, unfolding(etp_schema::specs::Form::Holds))]
-    fn to_tree(&self, alloc: Global) -> Result<Tree, NoMemory> {
-        tree_of(
-            alloc,
-            (
-                &self.start_index,
-                (&self.end_index, (&self.uom, (&self.depth_datum, ()))),
-            ),
-        )
-    }
-
-    fn from_tree(alloc: Global, tree: Tree) -> Result<IndexInterval, NoMemory> {
-        let (start_index, (end_index, (uom, (depth_datum, ())))) = fields_of(alloc, tree)?;
-        Ok(IndexInterval {
-            start_index,
-            end_index,
-            uom,
-            depth_datum,
-        })
-    }
 }

@@ -1,7 +1,7 @@
 //! The messages of the protocols ChannelSubscribe and ChannelDataLoad, with their records.
 //!
-//! Each message and record is a struct with the schema's fields in order, and is [`InTree`](etp_schema::InTree): its tree
-//! gives it back, and a tree of its schema is the tree of what is read of it. The messages of a protocol are an enum, as
+//! Each message and record is a struct with the schema's fields in order, and is [`Typed`](etp_schema::Typed): its values are,
+//! one to one, those of its schema. The messages of a protocol are an enum, as
 //! [`ChannelSubscribeMessage`], which knows each message's number and reads a body by it. A point is a [`DataItem`], its
 //! place in a channel an [`IndexValue`]. The forms and the tables of numbers stand in `specs/ChannelRecords`,
 //! `specs/ChannelSubscribe` and `specs/ChannelDataLoad`. The schema's field `data` is called `payload`.

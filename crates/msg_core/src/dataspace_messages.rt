@@ -1,15 +1,11 @@
 //! The messages of the Dataspace protocol (24), with their records.
-ghost use Rattle.std.specs.Prelude.{◌≡◌, IfOk, OnOk, pos};
-ghost use Rattle.avro_bin.specs.Shape.{HasSchema};
-ghost use Rattle.avro_bin.specs.View.{value_of};
+ghost use Rattle.std.specs.Prelude.{◌≡◌, pos};
 ghost use Rattle.std.specs.List.{AllByRecursion};
-ghost use Rattle.etp_schema.specs.Family.{read_kind, IsFound, IsAgain};
+ghost use Rattle.etp_schema.specs.Family.{IsFound, IsAgain};
 ghost use Rattle.msg_core.specs.Dataspace.{dataspace_body, dataspace_kinds};
 
-use avro_bin::Tree;
-use etp_schema::{InTree, fields_of, tree_of};
-use etp_values::{DataValue, List, Named, NoMemory, Shared, Text};
-use std::alloc::Global;
+use etp_schema::Typed;
+use etp_values::{DataValue, List, Named, Shared, Text};
 
 /// A dataspace: a space of its own for data objects.
 #[derive(Debug, Drop)]
@@ -26,40 +22,10 @@ pub struct Dataspace {
     pub custom_data: Named<DataValue>,
 }
 
-impl InTree for Dataspace {
+impl Typed for Dataspace {
     ghost use Rattle.msg_core.specs.Dataspace.{dataspace_form};
 
     ghost form = { dataspace_form };
-
-    #[tactic(auto, unfolding(etp_schema::specs::Form::Holds))]
-    fn to_tree(&self, alloc: Global) -> Result<Tree, NoMemory> {
-        tree_of(
-            alloc,
-            (
-                &self.uri,
-                (
-                    &self.path,
-                    (
-                        &self.store_last_write,
-                        (&self.store_created, (&self.custom_data, ())),
-                    ),
-                ),
-            ),
-        )
-    }
-
-    fn from_tree(alloc: Global, tree: Tree) -> Result<Dataspace, NoMemory> {
-        let (uri, (path, (store_last_write, (store_created, (custom_data, ()))))) = fields_of(
-            alloc, tree,
-        )?;
-        Ok(Dataspace {
-            uri,
-            path,
-            store_last_write,
-            store_created,
-            custom_data,
-        })
-    }
 }
 
 /// Asks which dataspaces there are.
@@ -70,22 +36,10 @@ pub struct GetDataspaces {
     pub store_last_write_filter: Option<i64>,
 }
 
-impl InTree for GetDataspaces {
+impl Typed for GetDataspaces {
     ghost use Rattle.msg_core.specs.Dataspace.{get_dataspaces_form};
 
     ghost form = { get_dataspaces_form };
-
-    #[tactic(auto, unfolding(etp_schema::specs::Form::Holds))]
-    fn to_tree(&self, alloc: Global) -> Result<Tree, NoMemory> {
-        tree_of(alloc, (&self.store_last_write_filter, ()))
-    }
-
-    fn from_tree(alloc: Global, tree: Tree) -> Result<GetDataspaces, NoMemory> {
-        let (store_last_write_filter, ()) = fields_of(alloc, tree)?;
-        Ok(GetDataspaces {
-            store_last_write_filter,
-        })
-    }
 }
 
 /// Answers GetDataspaces.
@@ -95,20 +49,10 @@ pub struct GetDataspacesResponse {
     pub dataspaces: List<Dataspace>,
 }
 
-impl InTree for GetDataspacesResponse {
+impl Typed for GetDataspacesResponse {
     ghost use Rattle.msg_core.specs.Dataspace.{get_dataspaces_response_form};
 
     ghost form = { get_dataspaces_response_form };
-
-    #[tactic(auto, unfolding(etp_schema::specs::Form::Holds))]
-    fn to_tree(&self, alloc: Global) -> Result<Tree, NoMemory> {
-        tree_of(alloc, (&self.dataspaces, ()))
-    }
-
-    fn from_tree(alloc: Global, tree: Tree) -> Result<GetDataspacesResponse, NoMemory> {
-        let (dataspaces, ()) = fields_of(alloc, tree)?;
-        Ok(GetDataspacesResponse { dataspaces })
-    }
 }
 
 /// Makes or writes dataspaces.
@@ -118,20 +62,10 @@ pub struct PutDataspaces {
     pub dataspaces: Named<Dataspace>,
 }
 
-impl InTree for PutDataspaces {
+impl Typed for PutDataspaces {
     ghost use Rattle.msg_core.specs.Dataspace.{put_dataspaces_form};
 
     ghost form = { put_dataspaces_form };
-
-    #[tactic(auto, unfolding(etp_schema::specs::Form::Holds))]
-    fn to_tree(&self, alloc: Global) -> Result<Tree, NoMemory> {
-        tree_of(alloc, (&self.dataspaces, ()))
-    }
-
-    fn from_tree(alloc: Global, tree: Tree) -> Result<PutDataspaces, NoMemory> {
-        let (dataspaces, ()) = fields_of(alloc, tree)?;
-        Ok(PutDataspaces { dataspaces })
-    }
 }
 
 /// Deletes dataspaces with all that they hold.
@@ -141,20 +75,10 @@ pub struct DeleteDataspaces {
     pub uris: Named<Text>,
 }
 
-impl InTree for DeleteDataspaces {
+impl Typed for DeleteDataspaces {
     ghost use Rattle.msg_core.specs.Dataspace.{delete_dataspaces_form};
 
     ghost form = { delete_dataspaces_form };
-
-    #[tactic(auto, unfolding(etp_schema::specs::Form::Holds))]
-    fn to_tree(&self, alloc: Global) -> Result<Tree, NoMemory> {
-        tree_of(alloc, (&self.uris, ()))
-    }
-
-    fn from_tree(alloc: Global, tree: Tree) -> Result<DeleteDataspaces, NoMemory> {
-        let (uris, ()) = fields_of(alloc, tree)?;
-        Ok(DeleteDataspaces { uris })
-    }
 }
 
 /// Answers DeleteDataspaces.
@@ -164,20 +88,10 @@ pub struct DeleteDataspacesResponse {
     pub success: Named<Text>,
 }
 
-impl InTree for DeleteDataspacesResponse {
+impl Typed for DeleteDataspacesResponse {
     ghost use Rattle.msg_core.specs.Dataspace.{delete_dataspaces_response_form};
 
     ghost form = { delete_dataspaces_response_form };
-
-    #[tactic(auto, unfolding(etp_schema::specs::Form::Holds))]
-    fn to_tree(&self, alloc: Global) -> Result<Tree, NoMemory> {
-        tree_of(alloc, (&self.success, ()))
-    }
-
-    fn from_tree(alloc: Global, tree: Tree) -> Result<DeleteDataspacesResponse, NoMemory> {
-        let (success, ()) = fields_of(alloc, tree)?;
-        Ok(DeleteDataspacesResponse { success })
-    }
 }
 
 /// Answers PutDataspaces.
@@ -187,20 +101,10 @@ pub struct PutDataspacesResponse {
     pub success: Named<Text>,
 }
 
-impl InTree for PutDataspacesResponse {
+impl Typed for PutDataspacesResponse {
     ghost use Rattle.msg_core.specs.Dataspace.{put_dataspaces_response_form};
 
     ghost form = { put_dataspaces_response_form };
-
-    #[tactic(auto, unfolding(etp_schema::specs::Form::Holds))]
-    fn to_tree(&self, alloc: Global) -> Result<Tree, NoMemory> {
-        tree_of(alloc, (&self.success, ()))
-    }
-
-    fn from_tree(alloc: Global, tree: Tree) -> Result<PutDataspacesResponse, NoMemory> {
-        let (success, ()) = fields_of(alloc, tree)?;
-        Ok(PutDataspacesResponse { success })
-    }
 }
 
 /// A message of the Dataspace protocol.
@@ -226,49 +130,6 @@ impl DataspaceMessage {
             DataspaceMessage::DeleteDataspaces(_) => 4,
             DataspaceMessage::DeleteDataspacesResponse(_) => 5,
             DataspaceMessage::PutDataspacesResponse(_) => 6,
-        }
-    }
-
-    /// The tree of the message's body.
-    #[tactic(auto, unfolding(etp_schema::specs::Form::Holds))]
-    pub fn to_tree(&self, alloc: Global) -> Result<Tree, NoMemory>
-        ensures value { IfOk result (λ t. value_of t ≡ (dataspace_body self.now).value) }
-        ensures typed { OnOk result (HasSchema (dataspace_body self.now).schema (dataspace_body self.now).value) }
-    {
-        match self {
-            DataspaceMessage::GetDataspaces(message) => message.to_tree(alloc),
-            DataspaceMessage::GetDataspacesResponse(message) => message.to_tree(alloc),
-            DataspaceMessage::PutDataspaces(message) => message.to_tree(alloc),
-            DataspaceMessage::DeleteDataspaces(message) => message.to_tree(alloc),
-            DataspaceMessage::DeleteDataspacesResponse(message) => message.to_tree(alloc),
-            DataspaceMessage::PutDataspacesResponse(message) => message.to_tree(alloc),
-        }
-    }
-
-    /// The message of this number with this body, where the protocol has one.
-    pub fn from_tree(
-        alloc: Global,
-        kind: i32,
-        tree: Tree,
-    ) -> Result<Option<DataspaceMessage>, NoMemory>
-        ensures { IfOk result (λ m. m ≡ read_kind dataspace_kinds kind (value_of tree)) }
-    {
-        match kind {
-            1 => Ok(Some(DataspaceMessage::GetDataspaces(GetDataspaces::from_tree(alloc, tree)?))),
-            2 => Ok(Some(DataspaceMessage::GetDataspacesResponse(GetDataspacesResponse::from_tree(
-                alloc, tree,
-            )?))),
-            3 => Ok(Some(DataspaceMessage::PutDataspaces(PutDataspaces::from_tree(alloc, tree)?))),
-            4 => Ok(Some(DataspaceMessage::DeleteDataspaces(DeleteDataspaces::from_tree(
-                alloc, tree,
-            )?))),
-            5 => Ok(Some(DataspaceMessage::DeleteDataspacesResponse(
-                DeleteDataspacesResponse::from_tree(alloc, tree)?,
-            ))),
-            6 => Ok(Some(DataspaceMessage::PutDataspacesResponse(PutDataspacesResponse::from_tree(
-                alloc, tree,
-            )?))),
-            _ => Ok(None),
         }
     }
 }

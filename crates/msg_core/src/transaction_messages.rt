@@ -1,15 +1,11 @@
 //! The messages of the Transaction protocol (18).
-ghost use Rattle.std.specs.Prelude.{◌≡◌, IfOk, OnOk, pos};
-ghost use Rattle.avro_bin.specs.Shape.{HasSchema};
-ghost use Rattle.avro_bin.specs.View.{value_of};
+ghost use Rattle.std.specs.Prelude.{◌≡◌, pos};
 ghost use Rattle.std.specs.List.{AllByRecursion};
-ghost use Rattle.etp_schema.specs.Family.{read_kind, IsFound, IsAgain};
+ghost use Rattle.etp_schema.specs.Family.{IsFound, IsAgain};
 ghost use Rattle.msg_core.specs.Transaction.{transaction_body, transaction_kinds};
 
-use avro_bin::Tree;
-use etp_schema::{InTree, fields_of, tree_of};
-use etp_values::{Id16, List, NoMemory, Text};
-use std::alloc::Global;
+use etp_schema::Typed;
+use etp_values::{Id16, List, Text};
 
 /// Starts a transaction.
 #[derive(Debug, Drop)]
@@ -22,27 +18,10 @@ pub struct StartTransaction {
     pub dataspace_uris: List<Text>,
 }
 
-impl InTree for StartTransaction {
+impl Typed for StartTransaction {
     ghost use Rattle.msg_core.specs.Transaction.{start_transaction_form};
 
     ghost form = { start_transaction_form };
-
-    #[tactic(auto, unfolding(etp_schema::specs::Form::Holds))]
-    fn to_tree(&self, alloc: Global) -> Result<Tree, NoMemory> {
-        tree_of(
-            alloc,
-            (&self.read_only, (&self.message, (&self.dataspace_uris, ()))),
-        )
-    }
-
-    fn from_tree(alloc: Global, tree: Tree) -> Result<StartTransaction, NoMemory> {
-        let (read_only, (message, (dataspace_uris, ()))) = fields_of(alloc, tree)?;
-        Ok(StartTransaction {
-            read_only,
-            message,
-            dataspace_uris,
-        })
-    }
 }
 
 /// Answers StartTransaction.
@@ -56,30 +35,10 @@ pub struct StartTransactionResponse {
     pub failure_reason: Text,
 }
 
-impl InTree for StartTransactionResponse {
+impl Typed for StartTransactionResponse {
     ghost use Rattle.msg_core.specs.Transaction.{start_transaction_response_form};
 
     ghost form = { start_transaction_response_form };
-
-    #[tactic(auto, unfolding(etp_schema::specs::Form::Holds))]
-    fn to_tree(&self, alloc: Global) -> Result<Tree, NoMemory> {
-        tree_of(
-            alloc,
-            (
-                &self.transaction_uuid,
-                (&self.successful, (&self.failure_reason, ())),
-            ),
-        )
-    }
-
-    fn from_tree(alloc: Global, tree: Tree) -> Result<StartTransactionResponse, NoMemory> {
-        let (transaction_uuid, (successful, (failure_reason, ()))) = fields_of(alloc, tree)?;
-        Ok(StartTransactionResponse {
-            transaction_uuid,
-            successful,
-            failure_reason,
-        })
-    }
 }
 
 /// Asks that all writes of the transaction be done at once.
@@ -89,20 +48,10 @@ pub struct CommitTransaction {
     pub transaction_uuid: Id16,
 }
 
-impl InTree for CommitTransaction {
+impl Typed for CommitTransaction {
     ghost use Rattle.msg_core.specs.Transaction.{commit_transaction_form};
 
     ghost form = { commit_transaction_form };
-
-    #[tactic(auto, unfolding(etp_schema::specs::Form::Holds))]
-    fn to_tree(&self, alloc: Global) -> Result<Tree, NoMemory> {
-        tree_of(alloc, (&self.transaction_uuid, ()))
-    }
-
-    fn from_tree(alloc: Global, tree: Tree) -> Result<CommitTransaction, NoMemory> {
-        let (transaction_uuid, ()) = fields_of(alloc, tree)?;
-        Ok(CommitTransaction { transaction_uuid })
-    }
 }
 
 /// Drops the transaction and its writes.
@@ -112,20 +61,10 @@ pub struct RollbackTransaction {
     pub transaction_uuid: Id16,
 }
 
-impl InTree for RollbackTransaction {
+impl Typed for RollbackTransaction {
     ghost use Rattle.msg_core.specs.Transaction.{rollback_transaction_form};
 
     ghost form = { rollback_transaction_form };
-
-    #[tactic(auto, unfolding(etp_schema::specs::Form::Holds))]
-    fn to_tree(&self, alloc: Global) -> Result<Tree, NoMemory> {
-        tree_of(alloc, (&self.transaction_uuid, ()))
-    }
-
-    fn from_tree(alloc: Global, tree: Tree) -> Result<RollbackTransaction, NoMemory> {
-        let (transaction_uuid, ()) = fields_of(alloc, tree)?;
-        Ok(RollbackTransaction { transaction_uuid })
-    }
 }
 
 /// Answers CommitTransaction.
@@ -139,30 +78,10 @@ pub struct CommitTransactionResponse {
     pub failure_reason: Text,
 }
 
-impl InTree for CommitTransactionResponse {
+impl Typed for CommitTransactionResponse {
     ghost use Rattle.msg_core.specs.Transaction.{commit_transaction_response_form};
 
     ghost form = { commit_transaction_response_form };
-
-    #[tactic(auto, unfolding(etp_schema::specs::Form::Holds))]
-    fn to_tree(&self, alloc: Global) -> Result<Tree, NoMemory> {
-        tree_of(
-            alloc,
-            (
-                &self.transaction_uuid,
-                (&self.successful, (&self.failure_reason, ())),
-            ),
-        )
-    }
-
-    fn from_tree(alloc: Global, tree: Tree) -> Result<CommitTransactionResponse, NoMemory> {
-        let (transaction_uuid, (successful, (failure_reason, ()))) = fields_of(alloc, tree)?;
-        Ok(CommitTransactionResponse {
-            transaction_uuid,
-            successful,
-            failure_reason,
-        })
-    }
 }
 
 /// Answers RollbackTransaction.
@@ -176,30 +95,10 @@ pub struct RollbackTransactionResponse {
     pub failure_reason: Text,
 }
 
-impl InTree for RollbackTransactionResponse {
+impl Typed for RollbackTransactionResponse {
     ghost use Rattle.msg_core.specs.Transaction.{rollback_transaction_response_form};
 
     ghost form = { rollback_transaction_response_form };
-
-    #[tactic(auto, unfolding(etp_schema::specs::Form::Holds))]
-    fn to_tree(&self, alloc: Global) -> Result<Tree, NoMemory> {
-        tree_of(
-            alloc,
-            (
-                &self.transaction_uuid,
-                (&self.successful, (&self.failure_reason, ())),
-            ),
-        )
-    }
-
-    fn from_tree(alloc: Global, tree: Tree) -> Result<RollbackTransactionResponse, NoMemory> {
-        let (transaction_uuid, (successful, (failure_reason, ()))) = fields_of(alloc, tree)?;
-        Ok(RollbackTransactionResponse {
-            transaction_uuid,
-            successful,
-            failure_reason,
-        })
-    }
 }
 
 /// A message of the Transaction protocol.
@@ -225,53 +124,6 @@ impl TransactionMessage {
             TransactionMessage::RollbackTransaction(_) => 4,
             TransactionMessage::CommitTransactionResponse(_) => 5,
             TransactionMessage::RollbackTransactionResponse(_) => 6,
-        }
-    }
-
-    /// The tree of the message's body.
-    #[tactic(auto, unfolding(etp_schema::specs::Form::Holds))]
-    pub fn to_tree(&self, alloc: Global) -> Result<Tree, NoMemory>
-        ensures value { IfOk result (λ t. value_of t ≡ (transaction_body self.now).value) }
-        ensures typed { OnOk result (HasSchema (transaction_body self.now).schema (transaction_body self.now).value) }
-    {
-        match self {
-            TransactionMessage::StartTransaction(message) => message.to_tree(alloc),
-            TransactionMessage::StartTransactionResponse(message) => message.to_tree(alloc),
-            TransactionMessage::CommitTransaction(message) => message.to_tree(alloc),
-            TransactionMessage::RollbackTransaction(message) => message.to_tree(alloc),
-            TransactionMessage::CommitTransactionResponse(message) => message.to_tree(alloc),
-            TransactionMessage::RollbackTransactionResponse(message) => message.to_tree(alloc),
-        }
-    }
-
-    /// The message of this number with this body, where the protocol has one.
-    pub fn from_tree(
-        alloc: Global,
-        kind: i32,
-        tree: Tree,
-    ) -> Result<Option<TransactionMessage>, NoMemory>
-        ensures { IfOk result (λ m. m ≡ read_kind transaction_kinds kind (value_of tree)) }
-    {
-        match kind {
-            1 => Ok(Some(TransactionMessage::StartTransaction(StartTransaction::from_tree(
-                alloc, tree,
-            )?))),
-            2 => Ok(Some(TransactionMessage::StartTransactionResponse(
-                StartTransactionResponse::from_tree(alloc, tree)?,
-            ))),
-            3 => Ok(Some(TransactionMessage::CommitTransaction(CommitTransaction::from_tree(
-                alloc, tree,
-            )?))),
-            4 => Ok(Some(TransactionMessage::RollbackTransaction(RollbackTransaction::from_tree(
-                alloc, tree,
-            )?))),
-            5 => Ok(Some(TransactionMessage::CommitTransactionResponse(
-                CommitTransactionResponse::from_tree(alloc, tree)?,
-            ))),
-            6 => Ok(Some(TransactionMessage::RollbackTransactionResponse(
-                RollbackTransactionResponse::from_tree(alloc, tree)?,
-            ))),
-            _ => Ok(None),
         }
     }
 }

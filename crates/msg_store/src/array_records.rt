@@ -1,9 +1,7 @@
 //! Records of the DataArray protocol (9): arrays, what is known of them, and what is asked of them.
 use crate::array_types::{AnyArrayType, AnyLogicalArrayType};
-use avro_bin::Tree;
-use etp_schema::{InTree, fields_of, tree_of};
-use etp_values::{AnyArray, DataValue, List, Named, NoMemory, Text};
-use std::alloc::Global;
+use etp_schema::Typed;
+use etp_values::{AnyArray, DataValue, List, Named, Text};
 
 /// Names an array.
 #[derive(Debug, Drop)]
@@ -14,23 +12,10 @@ pub struct DataArrayIdentifier {
     pub path_in_resource: Text,
 }
 
-impl InTree for DataArrayIdentifier {
+impl Typed for DataArrayIdentifier {
     ghost use Rattle.msg_store.specs.ArrayRecords.{data_array_identifier_form};
 
     ghost form = { data_array_identifier_form };
-
-    #[tactic(auto, unfolding(etp_schema::specs::Form::Holds))]
-    fn to_tree(&self, alloc: Global) -> Result<Tree, NoMemory> {
-        tree_of(alloc, (&self.uri, (&self.path_in_resource, ())))
-    }
-
-    fn from_tree(alloc: Global, tree: Tree) -> Result<DataArrayIdentifier, NoMemory> {
-        let (uri, (path_in_resource, ())) = fields_of(alloc, tree)?;
-        Ok(DataArrayIdentifier {
-            uri,
-            path_in_resource,
-        })
-    }
 }
 
 /// An array, or a region of one.
@@ -42,23 +27,10 @@ pub struct DataArray {
     pub payload: AnyArray,
 }
 
-impl InTree for DataArray {
+impl Typed for DataArray {
     ghost use Rattle.msg_store.specs.ArrayRecords.{data_array_form};
 
     ghost form = { data_array_form };
-
-    #[tactic(auto, unfolding(etp_schema::specs::Form::Holds))]
-    fn to_tree(&self, alloc: Global) -> Result<Tree, NoMemory> {
-        tree_of(alloc, (&self.dimensions, (&self.payload, ())))
-    }
-
-    fn from_tree(alloc: Global, tree: Tree) -> Result<DataArray, NoMemory> {
-        let (dimensions, (payload, ())) = fields_of(alloc, tree)?;
-        Ok(DataArray {
-            dimensions,
-            payload,
-        })
-    }
 }
 
 /// What is known of an array beside its elements.
@@ -80,55 +52,10 @@ pub struct DataArrayMetadata {
     pub custom_data: Named<DataValue>,
 }
 
-impl InTree for DataArrayMetadata {
+impl Typed for DataArrayMetadata {
     ghost use Rattle.msg_store.specs.ArrayRecords.{data_array_metadata_form};
 
     ghost form = { data_array_metadata_form };
-
-    #[tactic(auto, unfolding(etp_schema::specs::Form::Holds))]
-    fn to_tree(&self, alloc: Global) -> Result<Tree, NoMemory> {
-        tree_of(
-            alloc,
-            (
-                &self.dimensions,
-                (
-                    &self.preferred_subarray_dimensions,
-                    (
-                        &self.transport_array_type,
-                        (
-                            &self.logical_array_type,
-                            (
-                                &self.store_last_write,
-                                (&self.store_created, (&self.custom_data, ())),
-                            ),
-                        ),
-                    ),
-                ),
-            ),
-        )
-    }
-
-    fn from_tree(alloc: Global, tree: Tree) -> Result<DataArrayMetadata, NoMemory> {
-        let (
-            dimensions,
-            (
-                preferred_subarray_dimensions,
-                (
-                    transport_array_type,
-                    (logical_array_type, (store_last_write, (store_created, (custom_data, ())))),
-                ),
-            ),
-        ) = fields_of(alloc, tree)?;
-        Ok(DataArrayMetadata {
-            dimensions,
-            preferred_subarray_dimensions,
-            transport_array_type,
-            logical_array_type,
-            store_last_write,
-            store_created,
-            custom_data,
-        })
-    }
 }
 
 /// A region of an array that is wanted.
@@ -141,24 +68,10 @@ pub struct GetDataSubarraysType {
     pub counts: List<i64>,
 }
 
-impl InTree for GetDataSubarraysType {
+impl Typed for GetDataSubarraysType {
     ghost use Rattle.msg_store.specs.ArrayRecords.{get_data_subarrays_type_form};
 
     ghost form = { get_data_subarrays_type_form };
-
-    #[tactic(auto, unfolding(etp_schema::specs::Form::Holds))]
-    fn to_tree(&self, alloc: Global) -> Result<Tree, NoMemory> {
-        tree_of(alloc, (&self.uid, (&self.starts, (&self.counts, ()))))
-    }
-
-    fn from_tree(alloc: Global, tree: Tree) -> Result<GetDataSubarraysType, NoMemory> {
-        let (uid, (starts, (counts, ()))) = fields_of(alloc, tree)?;
-        Ok(GetDataSubarraysType {
-            uid,
-            starts,
-            counts,
-        })
-    }
 }
 
 /// An array to make or to write.
@@ -170,24 +83,10 @@ pub struct PutDataArraysType {
     pub custom_data: Named<DataValue>,
 }
 
-impl InTree for PutDataArraysType {
+impl Typed for PutDataArraysType {
     ghost use Rattle.msg_store.specs.ArrayRecords.{put_data_arrays_type_form};
 
     ghost form = { put_data_arrays_type_form };
-
-    #[tactic(auto, unfolding(etp_schema::specs::Form::Holds))]
-    fn to_tree(&self, alloc: Global) -> Result<Tree, NoMemory> {
-        tree_of(alloc, (&self.uid, (&self.array, (&self.custom_data, ()))))
-    }
-
-    fn from_tree(alloc: Global, tree: Tree) -> Result<PutDataArraysType, NoMemory> {
-        let (uid, (array, (custom_data, ()))) = fields_of(alloc, tree)?;
-        Ok(PutDataArraysType {
-            uid,
-            array,
-            custom_data,
-        })
-    }
 }
 
 /// A region of an array to write.
@@ -202,31 +101,10 @@ pub struct PutDataSubarraysType {
     pub counts: List<i64>,
 }
 
-impl InTree for PutDataSubarraysType {
+impl Typed for PutDataSubarraysType {
     ghost use Rattle.msg_store.specs.ArrayRecords.{put_data_subarrays_type_form};
 
     ghost form = { put_data_subarrays_type_form };
-
-    #[tactic(auto, unfolding(etp_schema::specs::Form::Holds))]
-    fn to_tree(&self, alloc: Global) -> Result<Tree, NoMemory> {
-        tree_of(
-            alloc,
-            (
-                &self.uid,
-                (&self.payload, (&self.starts, (&self.counts, ()))),
-            ),
-        )
-    }
-
-    fn from_tree(alloc: Global, tree: Tree) -> Result<PutDataSubarraysType, NoMemory> {
-        let (uid, (payload, (starts, (counts, ())))) = fields_of(alloc, tree)?;
-        Ok(PutDataSubarraysType {
-            uid,
-            payload,
-            starts,
-            counts,
-        })
-    }
 }
 
 /// An array to make whose elements are false, 0, the empty text or the byte 0.
@@ -237,18 +115,8 @@ pub struct PutUninitializedDataArrayType {
     pub metadata: DataArrayMetadata,
 }
 
-impl InTree for PutUninitializedDataArrayType {
+impl Typed for PutUninitializedDataArrayType {
     ghost use Rattle.msg_store.specs.ArrayRecords.{put_uninitialized_data_array_type_form};
 
     ghost form = { put_uninitialized_data_array_type_form };
-
-    #[tactic(auto, unfolding(etp_schema::specs::Form::Holds))]
-    fn to_tree(&self, alloc: Global) -> Result<Tree, NoMemory> {
-        tree_of(alloc, (&self.uid, (&self.metadata, ())))
-    }
-
-    fn from_tree(alloc: Global, tree: Tree) -> Result<PutUninitializedDataArrayType, NoMemory> {
-        let (uid, (metadata, ())) = fields_of(alloc, tree)?;
-        Ok(PutUninitializedDataArrayType { uid, metadata })
-    }
 }

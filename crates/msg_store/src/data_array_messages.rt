@@ -1,19 +1,15 @@
 //! The messages of the DataArray protocol (9).
-ghost use Rattle.std.specs.Prelude.{◌≡◌, IfOk, OnOk, pos};
-ghost use Rattle.avro_bin.specs.Shape.{HasSchema};
-ghost use Rattle.avro_bin.specs.View.{value_of};
+ghost use Rattle.std.specs.Prelude.{◌≡◌, pos};
 ghost use Rattle.std.specs.List.{AllByRecursion};
-ghost use Rattle.etp_schema.specs.Family.{read_kind, IsFound, IsAgain};
+ghost use Rattle.etp_schema.specs.Family.{IsFound, IsAgain};
 ghost use Rattle.msg_store.specs.DataArray.{data_array_body, data_array_kinds};
 
 use crate::array_records::{
     DataArray, DataArrayIdentifier, DataArrayMetadata, GetDataSubarraysType, PutDataArraysType,
     PutDataSubarraysType, PutUninitializedDataArrayType,
 };
-use avro_bin::Tree;
-use etp_schema::{InTree, fields_of, tree_of};
-use etp_values::{Named, NoMemory, Text};
-use std::alloc::Global;
+use etp_schema::Typed;
+use etp_values::{Named, Text};
 
 /// Answers GetDataArrays.
 #[derive(Debug, Drop)]
@@ -22,20 +18,10 @@ pub struct GetDataArraysResponse {
     pub data_arrays: Named<DataArray>,
 }
 
-impl InTree for GetDataArraysResponse {
+impl Typed for GetDataArraysResponse {
     ghost use Rattle.msg_store.specs.DataArray.{get_data_arrays_response_form};
 
     ghost form = { get_data_arrays_response_form };
-
-    #[tactic(auto, unfolding(etp_schema::specs::Form::Holds))]
-    fn to_tree(&self, alloc: Global) -> Result<Tree, NoMemory> {
-        tree_of(alloc, (&self.data_arrays, ()))
-    }
-
-    fn from_tree(alloc: Global, tree: Tree) -> Result<GetDataArraysResponse, NoMemory> {
-        let (data_arrays, ()) = fields_of(alloc, tree)?;
-        Ok(GetDataArraysResponse { data_arrays })
-    }
 }
 
 /// Asks for whole arrays.
@@ -45,20 +31,10 @@ pub struct GetDataArrays {
     pub data_arrays: Named<DataArrayIdentifier>,
 }
 
-impl InTree for GetDataArrays {
+impl Typed for GetDataArrays {
     ghost use Rattle.msg_store.specs.DataArray.{get_data_arrays_form};
 
     ghost form = { get_data_arrays_form };
-
-    #[tactic(auto, unfolding(etp_schema::specs::Form::Holds))]
-    fn to_tree(&self, alloc: Global) -> Result<Tree, NoMemory> {
-        tree_of(alloc, (&self.data_arrays, ()))
-    }
-
-    fn from_tree(alloc: Global, tree: Tree) -> Result<GetDataArrays, NoMemory> {
-        let (data_arrays, ()) = fields_of(alloc, tree)?;
-        Ok(GetDataArrays { data_arrays })
-    }
 }
 
 /// Asks for regions of arrays.
@@ -68,20 +44,10 @@ pub struct GetDataSubarrays {
     pub data_subarrays: Named<GetDataSubarraysType>,
 }
 
-impl InTree for GetDataSubarrays {
+impl Typed for GetDataSubarrays {
     ghost use Rattle.msg_store.specs.DataArray.{get_data_subarrays_form};
 
     ghost form = { get_data_subarrays_form };
-
-    #[tactic(auto, unfolding(etp_schema::specs::Form::Holds))]
-    fn to_tree(&self, alloc: Global) -> Result<Tree, NoMemory> {
-        tree_of(alloc, (&self.data_subarrays, ()))
-    }
-
-    fn from_tree(alloc: Global, tree: Tree) -> Result<GetDataSubarrays, NoMemory> {
-        let (data_subarrays, ()) = fields_of(alloc, tree)?;
-        Ok(GetDataSubarrays { data_subarrays })
-    }
 }
 
 /// Makes or writes whole arrays.
@@ -91,20 +57,10 @@ pub struct PutDataArrays {
     pub data_arrays: Named<PutDataArraysType>,
 }
 
-impl InTree for PutDataArrays {
+impl Typed for PutDataArrays {
     ghost use Rattle.msg_store.specs.DataArray.{put_data_arrays_form};
 
     ghost form = { put_data_arrays_form };
-
-    #[tactic(auto, unfolding(etp_schema::specs::Form::Holds))]
-    fn to_tree(&self, alloc: Global) -> Result<Tree, NoMemory> {
-        tree_of(alloc, (&self.data_arrays, ()))
-    }
-
-    fn from_tree(alloc: Global, tree: Tree) -> Result<PutDataArrays, NoMemory> {
-        let (data_arrays, ()) = fields_of(alloc, tree)?;
-        Ok(PutDataArrays { data_arrays })
-    }
 }
 
 /// Writes regions of arrays that are there.
@@ -114,20 +70,10 @@ pub struct PutDataSubarrays {
     pub data_subarrays: Named<PutDataSubarraysType>,
 }
 
-impl InTree for PutDataSubarrays {
+impl Typed for PutDataSubarrays {
     ghost use Rattle.msg_store.specs.DataArray.{put_data_subarrays_form};
 
     ghost form = { put_data_subarrays_form };
-
-    #[tactic(auto, unfolding(etp_schema::specs::Form::Holds))]
-    fn to_tree(&self, alloc: Global) -> Result<Tree, NoMemory> {
-        tree_of(alloc, (&self.data_subarrays, ()))
-    }
-
-    fn from_tree(alloc: Global, tree: Tree) -> Result<PutDataSubarrays, NoMemory> {
-        let (data_subarrays, ()) = fields_of(alloc, tree)?;
-        Ok(PutDataSubarrays { data_subarrays })
-    }
 }
 
 /// Asks what is known of arrays, without their elements.
@@ -137,20 +83,10 @@ pub struct GetDataArrayMetadata {
     pub data_arrays: Named<DataArrayIdentifier>,
 }
 
-impl InTree for GetDataArrayMetadata {
+impl Typed for GetDataArrayMetadata {
     ghost use Rattle.msg_store.specs.DataArray.{get_data_array_metadata_form};
 
     ghost form = { get_data_array_metadata_form };
-
-    #[tactic(auto, unfolding(etp_schema::specs::Form::Holds))]
-    fn to_tree(&self, alloc: Global) -> Result<Tree, NoMemory> {
-        tree_of(alloc, (&self.data_arrays, ()))
-    }
-
-    fn from_tree(alloc: Global, tree: Tree) -> Result<GetDataArrayMetadata, NoMemory> {
-        let (data_arrays, ()) = fields_of(alloc, tree)?;
-        Ok(GetDataArrayMetadata { data_arrays })
-    }
 }
 
 /// Answers GetDataArrayMetadata.
@@ -160,20 +96,10 @@ pub struct GetDataArrayMetadataResponse {
     pub array_metadata: Named<DataArrayMetadata>,
 }
 
-impl InTree for GetDataArrayMetadataResponse {
+impl Typed for GetDataArrayMetadataResponse {
     ghost use Rattle.msg_store.specs.DataArray.{get_data_array_metadata_response_form};
 
     ghost form = { get_data_array_metadata_response_form };
-
-    #[tactic(auto, unfolding(etp_schema::specs::Form::Holds))]
-    fn to_tree(&self, alloc: Global) -> Result<Tree, NoMemory> {
-        tree_of(alloc, (&self.array_metadata, ()))
-    }
-
-    fn from_tree(alloc: Global, tree: Tree) -> Result<GetDataArrayMetadataResponse, NoMemory> {
-        let (array_metadata, ()) = fields_of(alloc, tree)?;
-        Ok(GetDataArrayMetadataResponse { array_metadata })
-    }
 }
 
 /// Answers GetDataSubarrays.
@@ -183,20 +109,10 @@ pub struct GetDataSubarraysResponse {
     pub data_subarrays: Named<DataArray>,
 }
 
-impl InTree for GetDataSubarraysResponse {
+impl Typed for GetDataSubarraysResponse {
     ghost use Rattle.msg_store.specs.DataArray.{get_data_subarrays_response_form};
 
     ghost form = { get_data_subarrays_response_form };
-
-    #[tactic(auto, unfolding(etp_schema::specs::Form::Holds))]
-    fn to_tree(&self, alloc: Global) -> Result<Tree, NoMemory> {
-        tree_of(alloc, (&self.data_subarrays, ()))
-    }
-
-    fn from_tree(alloc: Global, tree: Tree) -> Result<GetDataSubarraysResponse, NoMemory> {
-        let (data_subarrays, ()) = fields_of(alloc, tree)?;
-        Ok(GetDataSubarraysResponse { data_subarrays })
-    }
 }
 
 /// Makes arrays without sending their elements.
@@ -206,20 +122,10 @@ pub struct PutUninitializedDataArrays {
     pub data_arrays: Named<PutUninitializedDataArrayType>,
 }
 
-impl InTree for PutUninitializedDataArrays {
+impl Typed for PutUninitializedDataArrays {
     ghost use Rattle.msg_store.specs.DataArray.{put_uninitialized_data_arrays_form};
 
     ghost form = { put_uninitialized_data_arrays_form };
-
-    #[tactic(auto, unfolding(etp_schema::specs::Form::Holds))]
-    fn to_tree(&self, alloc: Global) -> Result<Tree, NoMemory> {
-        tree_of(alloc, (&self.data_arrays, ()))
-    }
-
-    fn from_tree(alloc: Global, tree: Tree) -> Result<PutUninitializedDataArrays, NoMemory> {
-        let (data_arrays, ()) = fields_of(alloc, tree)?;
-        Ok(PutUninitializedDataArrays { data_arrays })
-    }
 }
 
 /// Answers PutDataArrays.
@@ -229,20 +135,10 @@ pub struct PutDataArraysResponse {
     pub success: Named<Text>,
 }
 
-impl InTree for PutDataArraysResponse {
+impl Typed for PutDataArraysResponse {
     ghost use Rattle.msg_store.specs.DataArray.{put_data_arrays_response_form};
 
     ghost form = { put_data_arrays_response_form };
-
-    #[tactic(auto, unfolding(etp_schema::specs::Form::Holds))]
-    fn to_tree(&self, alloc: Global) -> Result<Tree, NoMemory> {
-        tree_of(alloc, (&self.success, ()))
-    }
-
-    fn from_tree(alloc: Global, tree: Tree) -> Result<PutDataArraysResponse, NoMemory> {
-        let (success, ()) = fields_of(alloc, tree)?;
-        Ok(PutDataArraysResponse { success })
-    }
 }
 
 /// Answers PutDataSubarrays.
@@ -252,20 +148,10 @@ pub struct PutDataSubarraysResponse {
     pub success: Named<Text>,
 }
 
-impl InTree for PutDataSubarraysResponse {
+impl Typed for PutDataSubarraysResponse {
     ghost use Rattle.msg_store.specs.DataArray.{put_data_subarrays_response_form};
 
     ghost form = { put_data_subarrays_response_form };
-
-    #[tactic(auto, unfolding(etp_schema::specs::Form::Holds))]
-    fn to_tree(&self, alloc: Global) -> Result<Tree, NoMemory> {
-        tree_of(alloc, (&self.success, ()))
-    }
-
-    fn from_tree(alloc: Global, tree: Tree) -> Result<PutDataSubarraysResponse, NoMemory> {
-        let (success, ()) = fields_of(alloc, tree)?;
-        Ok(PutDataSubarraysResponse { success })
-    }
 }
 
 /// Answers PutUninitializedDataArrays.
@@ -275,23 +161,10 @@ pub struct PutUninitializedDataArraysResponse {
     pub success: Named<Text>,
 }
 
-impl InTree for PutUninitializedDataArraysResponse {
+impl Typed for PutUninitializedDataArraysResponse {
     ghost use Rattle.msg_store.specs.DataArray.{put_uninitialized_data_arrays_response_form};
 
     ghost form = { put_uninitialized_data_arrays_response_form };
-
-    #[tactic(auto, unfolding(etp_schema::specs::Form::Holds))]
-    fn to_tree(&self, alloc: Global) -> Result<Tree, NoMemory> {
-        tree_of(alloc, (&self.success, ()))
-    }
-
-    fn from_tree(
-        alloc: Global,
-        tree: Tree,
-    ) -> Result<PutUninitializedDataArraysResponse, NoMemory> {
-        let (success, ()) = fields_of(alloc, tree)?;
-        Ok(PutUninitializedDataArraysResponse { success })
-    }
 }
 
 /// A message of the DataArray protocol.
@@ -329,73 +202,6 @@ impl DataArrayMessage {
             DataArrayMessage::PutDataArraysResponse(_) => 10,
             DataArrayMessage::PutDataSubarraysResponse(_) => 11,
             DataArrayMessage::PutUninitializedDataArraysResponse(_) => 12,
-        }
-    }
-
-    /// The tree of the message's body.
-    #[tactic(auto, unfolding(etp_schema::specs::Form::Holds))]
-    pub fn to_tree(&self, alloc: Global) -> Result<Tree, NoMemory>
-        ensures value { IfOk result (λ t. value_of t ≡ (data_array_body self.now).value) }
-        ensures typed { OnOk result (HasSchema (data_array_body self.now).schema (data_array_body self.now).value) }
-    {
-        match self {
-            DataArrayMessage::GetDataArraysResponse(message) => message.to_tree(alloc),
-            DataArrayMessage::GetDataArrays(message) => message.to_tree(alloc),
-            DataArrayMessage::GetDataSubarrays(message) => message.to_tree(alloc),
-            DataArrayMessage::PutDataArrays(message) => message.to_tree(alloc),
-            DataArrayMessage::PutDataSubarrays(message) => message.to_tree(alloc),
-            DataArrayMessage::GetDataArrayMetadata(message) => message.to_tree(alloc),
-            DataArrayMessage::GetDataArrayMetadataResponse(message) => message.to_tree(alloc),
-            DataArrayMessage::GetDataSubarraysResponse(message) => message.to_tree(alloc),
-            DataArrayMessage::PutUninitializedDataArrays(message) => message.to_tree(alloc),
-            DataArrayMessage::PutDataArraysResponse(message) => message.to_tree(alloc),
-            DataArrayMessage::PutDataSubarraysResponse(message) => message.to_tree(alloc),
-            DataArrayMessage::PutUninitializedDataArraysResponse(message) => message.to_tree(alloc),
-        }
-    }
-
-    /// The message of this number with this body, where the protocol has one.
-    pub fn from_tree(
-        alloc: Global,
-        kind: i32,
-        tree: Tree,
-    ) -> Result<Option<DataArrayMessage>, NoMemory>
-        ensures { IfOk result (λ m. m ≡ read_kind data_array_kinds kind (value_of tree)) }
-    {
-        match kind {
-            1 => Ok(Some(DataArrayMessage::GetDataArraysResponse(GetDataArraysResponse::from_tree(
-                alloc, tree,
-            )?))),
-            2 => Ok(Some(DataArrayMessage::GetDataArrays(GetDataArrays::from_tree(alloc, tree)?))),
-            3 => Ok(Some(DataArrayMessage::GetDataSubarrays(GetDataSubarrays::from_tree(
-                alloc, tree,
-            )?))),
-            4 => Ok(Some(DataArrayMessage::PutDataArrays(PutDataArrays::from_tree(alloc, tree)?))),
-            5 => Ok(Some(DataArrayMessage::PutDataSubarrays(PutDataSubarrays::from_tree(
-                alloc, tree,
-            )?))),
-            6 => Ok(Some(DataArrayMessage::GetDataArrayMetadata(GetDataArrayMetadata::from_tree(
-                alloc, tree,
-            )?))),
-            7 => Ok(Some(DataArrayMessage::GetDataArrayMetadataResponse(
-                GetDataArrayMetadataResponse::from_tree(alloc, tree)?,
-            ))),
-            8 => Ok(Some(DataArrayMessage::GetDataSubarraysResponse(
-                GetDataSubarraysResponse::from_tree(alloc, tree)?,
-            ))),
-            9 => Ok(Some(DataArrayMessage::PutUninitializedDataArrays(
-                PutUninitializedDataArrays::from_tree(alloc, tree)?,
-            ))),
-            10 => Ok(Some(DataArrayMessage::PutDataArraysResponse(PutDataArraysResponse::from_tree(
-                alloc, tree,
-            )?))),
-            11 => Ok(Some(DataArrayMessage::PutDataSubarraysResponse(
-                PutDataSubarraysResponse::from_tree(alloc, tree)?,
-            ))),
-            12 => Ok(Some(DataArrayMessage::PutUninitializedDataArraysResponse(
-                PutUninitializedDataArraysResponse::from_tree(alloc, tree)?,
-            ))),
-            _ => Ok(None),
         }
     }
 }

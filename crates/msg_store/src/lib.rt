@@ -1,7 +1,7 @@
 //! The messages of the protocols Store and DataArray, with their records.
 //!
-//! Each message and record is a struct with the schema's fields in order, and is [`InTree`](etp_schema::InTree): its tree
-//! gives it back, and a tree of its schema is the tree of what is read of it. The schema's fields `data` and `final` are
+//! Each message and record is a struct with the schema's fields in order, and is [`Typed`](etp_schema::Typed): its values are,
+//! one to one, those of its schema. The schema's fields `data` and `final` are
 //! called `payload` and `last` here. The messages of a protocol are an enum, as [`StoreMessage`], which knows each
 //! message's number and reads a body by it. The forms and the tables of numbers stand in `specs/Store`,
 //! `specs/ArrayTypes`, `specs/ArrayRecords` and `specs/DataArray`.

@@ -3,11 +3,11 @@ ghost use Rattle.std.specs.Prelude.{◌≡◌, ◌+◌, IfOk, OnErr, length};
 
 use crate::channel::changes::Change;
 use crate::channel::error::FeedError;
-use chan_defs::{ChannelDef, Config, ValueKind};
 use channel_store::ChannelStore;
 use etp_values::{
     ChannelPoint, Copied, DataValue, Id16, List, NoMemory, Point, Shared, StoreUri, Text,
 };
+use server_config::{ChannelDef, Config, ValueKind};
 use std::alloc::Global;
 use std::marker::Model;
 

@@ -1,6 +1,7 @@
 //! Custom data, which has values of every kind.
-use etp_schema::{encoded_size, measure_of, read_back, read_body, write_body};
+use etp_schema::{encoded_size, measure_of, read_body, write_body};
 use etp_values::{Copied, DataValue, Named, NoMemory, custom_weight};
+use message_trees::read_back;
 use std::alloc::Global;
 
 /// The values that these digits spell, read straight from the bytes.

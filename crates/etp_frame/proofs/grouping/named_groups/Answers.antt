@@ -7,7 +7,7 @@ use Rattle.etp_frame.proofs.grouping.named_groups.Goals as goal
 
 pub loop-group-init : goal.loop-group-init
 loop-group-init g c =
-    let size = entry_amount g.T.InTree.form in
+    let size = entry_amount g.T.Typed.form in
     let is : into_iter_items c.into_iter-group-iterator.result ≡ groups size c.args.limit c.args.items =
     c.into_iter-group-iterator.ensures.into_iter_gives.0 ∙ c.in_ok-in_groups.ensures ∙ ap (groups size c.args.limit) c.into_vec-entries.ensures.items in
     record {

@@ -4,4 +4,4 @@ use Rattle.etp_frame.specs.Grouping.{entry_amount, groups}
 use Rattle.etp_frame.proofs.parting.parts_of_entries.Given as goal
 
 abbrev pub invariant-loop-group : goal.invariant-loop-group
-invariant-loop-group g l = l.parts.items ++ map (g.W.WithEntries.whole l.rest) (into_iter_items l.group-iterator) ≡ map (g.W.WithEntries.whole l.rest) (groups (entry_amount g.T.InTree.form) l.limit l.fn.entries)
+invariant-loop-group g l = l.parts.items ++ map (g.W.WithEntries.whole l.rest) (into_iter_items l.group-iterator) ≡ map (g.W.WithEntries.whole l.rest) (groups (entry_amount g.T.Typed.form) l.limit l.fn.entries)

@@ -4,4 +4,4 @@ use Rattle.etp_schema.specs.Measure.{counts, measured_behind}
 use Rattle.etp_schema.proofs.many_on_wire.measure_items.Given as goal
 
 abbrev pub invariant-loop-item : goal.invariant-loop-item
-invariant-loop-item g l = measured_behind l.measure (row (map g.T.InTree.form.as_value (drop l.item-index l.items))) ≡ measured_behind (counts (length l.items)) (row (map g.T.InTree.form.as_value l.items))
+invariant-loop-item g l = measured_behind l.measure (row (map g.T.Typed.form.as_value (drop l.item-index l.items))) ≡ measured_behind (counts (length l.items)) (row (map g.T.Typed.form.as_value l.items))

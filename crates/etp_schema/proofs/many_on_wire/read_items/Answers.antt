@@ -7,13 +7,13 @@ use Rattle.etp_schema.proofs.many_on_wire.read_items.Goals as goal
 pub returns-in_err-item : goal.returns-in_err-item
 returns-in_err-item g c =
     let p = err_from_is_err_and c.from_residual-in_err-item.result c.from_residual-in_err-item.ensures.1 in
-    let fails = push_fails g.T.InTree.form.at c.loop.items.items c.loop.from.left c.loop.from.rest.now c.in_err-item.field-0.0 c.in_err-item.ensures in
-    rw (p.1, p.2) (items_fail (push_at g.T.InTree.form.at) c.in_err-item.field-0.0 c.args.count c.loop.counter (c.loop.items.items, c.loop.from.left) c.loop.from.rest.now _ c.loop-test.true fails c.loop.invariant)
+    let fails = push_fails g.T.Typed.form.at c.loop.items.items c.loop.from.left c.loop.from.rest.now c.in_err-item.field-0.0 c.in_err-item.ensures in
+    rw (p.1, p.2) (items_fail (push_at g.T.Typed.form.at) c.in_err-item.field-0.0 c.args.count c.loop.counter (c.loop.items.items, c.loop.from.left) c.loop.from.rest.now _ c.loop-test.true fails c.loop.invariant)
 
 pub loop-preserved : goal.loop-preserved
 loop-preserved g c =
-    let is = push_is g.T.InTree.form.at c.loop.items.items c.loop.from.left c.loop.from.rest.now _ c.in_ok-item.ensures in
-    rw c.in_ok-push.ensures.items (items_next (push_at g.T.InTree.form.at) c.args.count c.loop.counter (c.loop.items.items, c.loop.from.left) c.loop.from.rest.now _ _ c.loop-test.true is c.loop.invariant)
+    let is = push_is g.T.Typed.form.at c.loop.items.items c.loop.from.left c.loop.from.rest.now _ c.in_ok-item.ensures in
+    rw c.in_ok-push.ensures.items (items_next (push_at g.T.Typed.form.at) c.args.count c.loop.counter (c.loop.items.items, c.loop.from.left) c.loop.from.rest.now _ _ c.loop-test.true is c.loop.invariant)
 
 pub returns : goal.returns
-returns g c = items_done (push_at g.T.InTree.form.at) c.args.count c.loop.counter (c.loop.items.items, c.loop.from.left) c.loop.from.rest.now _ c.loop-test.false c.loop.invariant
+returns g c = items_done (push_at g.T.Typed.form.at) c.args.count c.loop.counter (c.loop.items.items, c.loop.from.left) c.loop.from.rest.now _ c.loop-test.false c.loop.invariant

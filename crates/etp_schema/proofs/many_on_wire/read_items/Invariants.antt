@@ -4,4 +4,4 @@ use Rattle.avro_bin.specs.Along.{push_at}
 use Rattle.etp_schema.proofs.many_on_wire.read_items.Given as goal
 
 abbrev pub invariant-loop : goal.invariant-loop
-invariant-loop g l = items_at (push_at g.T.InTree.form.at) (l.count - l.counter) (l.items.items, l.from.left) l.from.rest.now ≡ items_at (push_at g.T.InTree.form.at) l.count (l.fn.items.items, l.fn.from.left) l.fn.from.rest.now
+invariant-loop g l = items_at (push_at g.T.Typed.form.at) (l.count - l.counter) (l.items.items, l.from.left) l.from.rest.now ≡ items_at (push_at g.T.Typed.form.at) l.count (l.fn.items.items, l.fn.from.left) l.fn.from.rest.now

@@ -8,13 +8,13 @@ pub returns-in_err-count : goal.returns-in_err-count
 returns-in_err-count g c =
     let p = err_from_is_err_and c.from_residual.result c.from_residual.ensures.1 in
     let lt : c.loop.counter < length c.args.from.now.rest.now + 1 = rw c.rest-bytes.ensures at c.loop-test.true in
-    rw (p.1, p.2) (blocks_ends (push_at g.T.InTree.form.at) c.in_err-count.field-0.0 (length c.args.from.now.rest.now) c.loop.counter (c.loop.items.items, c.loop.from.left) c.loop.from.rest.now _ lt c.in_err-count.ensures c.loop.invariant)
+    rw (p.1, p.2) (blocks_ends (push_at g.T.Typed.form.at) c.in_err-count.field-0.0 (length c.args.from.now.rest.now) c.loop.counter (c.loop.items.items, c.loop.from.left) c.loop.from.rest.now _ lt c.in_err-count.ensures c.loop.invariant)
 
 pub returns-then-count-eq0 : goal.returns-then-count-eq0
 returns-then-count-eq0 g c =
     let f : FitsSigned w64 c.in_ok-count.count = search rules in
     let lt : c.loop.counter < length c.args.from.now.rest.now + 1 = rw c.rest-bytes.ensures at c.loop-test.true in
-    rw (c.from_vec.ensures, c.in_ok-count.ensures.1) (blocks_stop (push_at g.T.InTree.form.at) (length c.args.from.now.rest.now) c.loop.counter (c.loop.items.items, c.loop.from.left) c.loop.from.rest.now c.in_ok-count.count _ _ lt c.in_ok-count.ensures.0 (is_zero c.in_ok-count.count f c.if-count-eq0.true) c.loop.invariant)
+    rw (c.from_vec.ensures, c.in_ok-count.ensures.1) (blocks_stop (push_at g.T.Typed.form.at) (length c.args.from.now.rest.now) c.loop.counter (c.loop.items.items, c.loop.from.left) c.loop.from.rest.now c.in_ok-count.count _ _ lt c.in_ok-count.ensures.0 (is_zero c.in_ok-count.count f c.if-count-eq0.true) c.loop.invariant)
 
 pub returns-in_err-read_block : goal.returns-in_err-read_block
 returns-in_err-read_block g c =
@@ -23,7 +23,7 @@ returns-in_err-read_block g c =
     let same : to_z w64 (of_z w64 c.in_ok-count.count) ≡ c.in_ok-count.count = to_z-of_z f in
     let lt : c.loop.counter < length c.args.from.now.rest.now + 1 = rw c.rest-bytes.ensures at c.loop-test.true in
     let h = rw (same, c.in_ok-count.ensures.1) at c.in_err-read_block.ensures in
-    rw (p.1, p.2) (blocks_fail (push_at g.T.InTree.form.at) c.in_err-read_block.field-0.0 (length c.args.from.now.rest.now) c.loop.counter (c.loop.items.items, c.loop.from.left) c.loop.from.rest.now c.in_ok-count.count _ _ lt c.in_ok-count.ensures.0 c.if-count-eq0.false h c.loop.invariant)
+    rw (p.1, p.2) (blocks_fail (push_at g.T.Typed.form.at) c.in_err-read_block.field-0.0 (length c.args.from.now.rest.now) c.loop.counter (c.loop.items.items, c.loop.from.left) c.loop.from.rest.now c.in_ok-count.count _ _ lt c.in_ok-count.ensures.0 c.if-count-eq0.false h c.loop.invariant)
 
 pub loop-preserved : goal.loop-preserved
 loop-preserved g c =
@@ -31,9 +31,9 @@ loop-preserved g c =
     let same : to_z w64 (of_z w64 c.in_ok-count.count) ≡ c.in_ok-count.count = to_z-of_z f in
     let lt : c.loop.counter < length c.args.from.now.rest.now + 1 = rw c.rest-bytes.ensures at c.loop-test.true in
     let h = rw (same, c.in_ok-count.ensures.1) at c.in_ok-read_block.ensures in
-    blocks_more (push_at g.T.InTree.form.at) (length c.args.from.now.rest.now) c.loop.counter (c.loop.items.items, c.loop.from.left) c.loop.from.rest.now c.in_ok-count.count _ _ _ lt c.in_ok-count.ensures.0 c.if-count-eq0.false h c.loop.invariant
+    blocks_more (push_at g.T.Typed.form.at) (length c.args.from.now.rest.now) c.loop.counter (c.loop.items.items, c.loop.from.left) c.loop.from.rest.now c.in_ok-count.count _ _ _ lt c.in_ok-count.ensures.0 c.if-count-eq0.false h c.loop.invariant
 
 pub returns : goal.returns
 returns g c =
     let le : length c.args.from.now.rest.now + 1 ≤ c.loop.counter = rw c.rest-bytes.ensures at c.loop-test.false in
-    rw c.rest.ensures (blocks_none (push_at g.T.InTree.form.at) (length c.args.from.now.rest.now) c.loop.counter (c.loop.items.items, c.loop.from.left) c.loop.from.rest.now _ le c.loop.invariant)
+    rw c.rest.ensures (blocks_none (push_at g.T.Typed.form.at) (length c.args.from.now.rest.now) c.loop.counter (c.loop.items.items, c.loop.from.left) c.loop.from.rest.now _ le c.loop.invariant)

@@ -9,8 +9,8 @@ use Rattle.etp_schema.proofs.many_on_wire.write_items.Given as goal
 
 abbrev pub invariant-loop-item : goal.invariant-loop-item
 invariant-loop-item g l = record {
-  written : l.into.items ++ plain_all (row (map g.T.InTree.form.as_value (drop l.item-index l.items))) ≡ l.fn.into.items ++ plain_all (row (map g.T.InTree.form.as_value l.items));
+  written : l.into.items ++ plain_all (row (map g.T.Typed.form.as_value (drop l.item-index l.items))) ≡ l.fn.into.items ++ plain_all (row (map g.T.Typed.form.as_value l.items));
   kept : StartsWith l.into.items l.fn.into.items;
-  typed : AllByRecursion (Holds g.T.InTree.form) (drop l.item-index l.items) → AllByRecursion (Holds g.T.InTree.form) l.items;
-  fit : AllFit (row (map g.T.InTree.form.as_value (drop l.item-index l.items))) → AllFit (row (map g.T.InTree.form.as_value l.items));
+  typed : AllByRecursion (Holds g.T.Typed.form) (drop l.item-index l.items) → AllByRecursion (Holds g.T.Typed.form) l.items;
+  fit : AllFit (row (map g.T.Typed.form.as_value (drop l.item-index l.items))) → AllFit (row (map g.T.Typed.form.as_value l.items));
 }

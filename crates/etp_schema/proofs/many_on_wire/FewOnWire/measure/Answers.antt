@@ -5,4 +5,4 @@ use Rattle.etp_schema.proofs.many_on_wire.FewOnWire.measure.Goals as goal
 pub returns : goal.returns
 returns g c =
     let is = rw c.as_slice.ensures at c.measure_items.ensures in
-    is ∙ items_measured g.T.InTree.form c.args.self.now
+    is ∙ items_measured g.T.Typed.form c.args.self.now

@@ -8,17 +8,17 @@ use Rattle.etp_schema.proofs.many_on_wire.NamedOnWire.write.Goals as goal
 pub returns-then-count-eq0-clause-written : goal.returns-then-count-eq0-clause-written
 returns-then-count-eq0-clause-written g c =
     let none : length c.args.self.now ≡ 0 = omega (arith, c.len-count.ensures.len, c.if-count-eq0.true) in
-    rw (no_entries g.T.InTree.form c.args.self.now none) c.put_count.ensures.written
+    rw (no_entries g.T.Typed.form c.args.self.now none) c.put_count.ensures.written
 
 pub returns-then-count-eq0-clause-typed : goal.returns-then-count-eq0-clause-typed
 returns-then-count-eq0-clause-typed g c =
     let none : length c.args.self.now ≡ 0 = omega (arith, c.len-count.ensures.len, c.if-count-eq0.true) in
-    on_ok c.put_count.result (no_names_hold g.T.InTree.form c.args.self.now none)
+    on_ok c.put_count.result (no_names_hold g.T.Typed.form c.args.self.now none)
 
 pub returns-then-count-eq0-clause-fits : goal.returns-then-count-eq0-clause-fits
 returns-then-count-eq0-clause-fits g c =
     let none : length c.args.self.now ≡ 0 = omega (arith, c.len-count.ensures.len, c.if-count-eq0.true) in
-    on_ok c.put_count.result (no_names_fit g.T.InTree.form c.args.self.now none c.len-count.ensures.sorted)
+    on_ok c.put_count.result (no_names_fit g.T.Typed.form c.args.self.now none c.len-count.ensures.sorted)
 
 pub returns-in_err-write_entries-clause-written : goal.returns-in_err-write_entries-clause-written
 returns-in_err-write_entries-clause-written g c =
@@ -34,10 +34,10 @@ pub returns-clause-written : goal.returns-clause-written
 returns-clause-written g c =
     let some : length c.args.self.now ≡ 0 → ⊥ = λ (h : length c.args.self.now ≡ 0). c.if-count-eq0.false (omega (arith, c.len-count.ensures.len, h)) in
     let front = rw c.len-count.ensures.len at c.in_ok-put_count.ensures.written in
-    entries_written g.T.InTree.form c.args.self.now _ _ _ _ some front c.in_ok-write_entries.ensures.written c.in_ok-put_number.ensures
+    entries_written g.T.Typed.form c.args.self.now _ _ _ _ some front c.in_ok-write_entries.ensures.written c.in_ok-put_number.ensures
 
 pub returns-clause-typed : goal.returns-clause-typed
-returns-clause-typed g c = named_holds g.T.InTree.form c.args.self.now c.in_ok-write_entries.ensures.typed
+returns-clause-typed g c = named_holds g.T.Typed.form c.args.self.now c.in_ok-write_entries.ensures.typed
 
 pub returns-clause-fits : goal.returns-clause-fits
-returns-clause-fits g c = named_fits g.T.InTree.form c.args.self.now (omega (arith, c.len-count.ensures.len, c.len-count.ensures.small)) c.len-count.ensures.sorted c.in_ok-write_entries.ensures.fits
+returns-clause-fits g c = named_fits g.T.Typed.form c.args.self.now (omega (arith, c.len-count.ensures.len, c.len-count.ensures.small)) c.len-count.ensures.sorted c.in_ok-write_entries.ensures.fits

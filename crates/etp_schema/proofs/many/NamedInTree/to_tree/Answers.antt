@@ -1,5 +1,0 @@
-use Rattle.etp_schema.proofs.Parts.{named_holds}
-use Rattle.etp_schema.proofs.many.NamedInTree.to_tree.Goals as goal
-
-pub returns-clause-typed : goal.returns-clause-typed
-returns-clause-typed g c = named_holds g.T.InTree.form c.args.self.now c.in_ok-trees.ensures.typed
