@@ -1,6 +1,6 @@
 -- A client that was handed what a session told of a channel, and the channel's points.
 use Rattle.std.specs.Prelude.{◌≡◌, ℕ, ℤ, true, false, List, ◌∷◌, ◌++◌, Some, None, fold, length, max, take}
-use Rattle.chan_defs.specs.declared.config.Config.{Config}
+use Rattle.server_config.specs.declared.config.Config.{Config}
 use Rattle.channel_store.specs.Points.{past}
 use Rattle.channel_store.specs.declared.subscription.Sub.{Sub}
 use Rattle.client_core.specs.Asking.{begun}

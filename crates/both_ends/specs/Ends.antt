@@ -2,7 +2,7 @@
 use Rattle.std.specs.Prelude.{◌≡◌, ◌+◌, ◌||◌, ℕ, ℤ, Bool, true, false, not, List, [], ◌∷◌, ◌++◌, Some, None, Ok, fold, length, map, max, take}
 use Rattle.std.specs.List.{AllByRecursion, flat_map}
 use mathlib.Core.List.{IsPrefix}
-use Rattle.chan_defs.specs.declared.config.Config.{Config}
+use Rattle.server_config.specs.declared.config.Config.{Config}
 use Rattle.channel_store.specs.Points.{past}
 use Rattle.channel_store.specs.declared.subscription.Sub.{Sub}
 use Rattle.client_core.specs.Asking.{begun, header_of, is_last, is_spent, pieces}

@@ -9,7 +9,8 @@ ghost use Rattle.both_ends.specs.Stops.{StopsAreTold};
 
 use client_core::copies_are_folds;
 use client_laws::parts_are_joined;
-use session_core::{run_streams, subscriptions_are_replied};
+use session_core::run_streams;
+use session_laws::subscriptions_are_replied;
 use store_machine::stream_laws;
 
 /// A client whose subscription of a channel stands hands on exactly the change that a session tells of the channel, with the last

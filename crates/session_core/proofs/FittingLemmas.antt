@@ -18,7 +18,7 @@ use Rattle.array_rows.specs.declared.changing.ArrayPatch.{ArrayPatch}
 use Rattle.array_rows.specs.declared.changing.ArrayPut.{ArrayPut}
 use Rattle.array_rows.specs.declared.naming.Region.{Region}
 use Rattle.array_store.specs.declared.key.ArrayKey.{ArrayKey}
-use Rattle.chan_defs.specs.declared.config.Config.{Config}
+use Rattle.server_config.specs.declared.config.Config.{Config}
 use Rattle.channel_rows.specs.Loads as loads
 use Rattle.channel_rows.specs.Opens.{are_open}
 use Rattle.channel_rows.specs.Points.{ends_of, loaded}

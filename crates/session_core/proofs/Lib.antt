@@ -7,7 +7,6 @@ pub mod WritableLemmas
 pub mod JoiningLemmas
 pub mod NotingLemmas
 pub mod ChannelCalls
-pub mod StagedLemmas
 mod Retouched
 mod Asking
 mod Marked
@@ -17,22 +16,17 @@ mod Alone
 mod Requesting
 mod Committed
 mod Reached
-mod Witness
-mod MessageParts
+pub mod MessageParts
 mod Hearing
-mod Telling
+pub mod Telling
 mod Owing
-mod Standing
-mod Starting
-mod Stopping
-mod Moving
+pub mod Standing
+pub mod Starting
+pub mod Stopping
+pub mod Moving
 mod Newsing
-mod Walking
-mod Arrivals
-mod Subscribing
-mod Streaming
+pub mod Walking
+pub mod Arrivals
+pub mod Subscribing
+pub mod Streaming
 mod Fronts
-mod Speaking
-mod Deciding
-mod Replying
-mod Granting

@@ -6,7 +6,7 @@ use Rattle.std.proofs.Common.{inl, inr, ap, sym, ◌∙◌, subst, arith}
 use Rattle.std.proofs.lemmas.Bool.{false≢true}
 use Rattle.std.proofs.lemmas.Option.{none-some, same_Some}
 use mathlib.Core.List.{IsPrefix}
-use Rattle.chan_defs.specs.declared.config.Config.{Config}
+use Rattle.server_config.specs.declared.config.Config.{Config}
 use Rattle.channel_rows.specs.Notices.{reason_of}
 use Rattle.channel_store.specs.declared.change.What.{What}
 use Rattle.channel_store.specs.declared.subscription.Sub.{Sub}

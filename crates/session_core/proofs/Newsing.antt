@@ -2,7 +2,7 @@
 use Rattle.std.specs.Prelude.{ℕ, ℤ, pos, List, [], ◌∷◌, ◌++◌, ◌≡◌, ◌+◌, ◌≤◌, ◌<◌, min, Option, Some, None, map, take, drop, length, refl}
 use Rattle.std.specs.List.{flat_map}
 use Rattle.std.proofs.Common.{ap, sym, ◌∙◌, arith, length-take}
-use Rattle.chan_defs.specs.declared.config.Config.{Config}
+use Rattle.server_config.specs.declared.config.Config.{Config}
 use Rattle.channel_rows.specs.Notices.{notice}
 use Rattle.channel_store.specs.Channels.{whats_of}
 use Rattle.channel_store.specs.Points.{view}

@@ -4,7 +4,7 @@ use Rattle.std.specs.List.{AllByRecursion}
 use Rattle.std.proofs.Common.{ap, sym, ◌∙◌, subst, arith}
 use Rattle.std.proofs.lemmas.Bool.{false≢true}
 use Rattle.array_rows.specs.Arrays as arrays
-use Rattle.chan_defs.specs.declared.config.Config.{Config}
+use Rattle.server_config.specs.declared.config.Config.{Config}
 use Rattle.etp_frame.specs.Header.{acknowledge, has_flag}
 use Rattle.etp_frame.specs.Joining.{Awaited, joins}
 use Rattle.etp_frame.specs.declared.header.Header.{Header}

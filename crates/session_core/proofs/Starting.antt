@@ -8,7 +8,7 @@ use Rattle.std.proofs.lemmas.Bool.Decides.{nat_tests}
 use Rattle.std.proofs.lemmas.Int.{ints}
 use Rattle.std.proofs.lemmas.List.{map-append}
 use Rattle.std.proofs.lemmas.Option.{none-some}
-use Rattle.chan_defs.specs.declared.config.Config.{Config}
+use Rattle.server_config.specs.declared.config.Config.{Config}
 use Rattle.channel_rows.specs.Notices.{notice_of}
 use Rattle.channel_rows.specs.Subscriptions.{begin_one, begins, first_notices, is_full, is_taken, names, start_at, subscribe_one, subscribe_with}
 use Rattle.channel_rows.specs.declared.subscribing.Beginning.{Beginning}

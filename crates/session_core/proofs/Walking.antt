@@ -2,7 +2,7 @@
 use Rattle.std.specs.Prelude.{ℕ, ℤ, Bool, true, false, List, [], ◌∷◌, ◌≤◌, ◌&&◌, is_some, Option, Some, None, Result, Ok, Err, take, length, if◌then◌else◌, refl}
 use Rattle.std.proofs.Common.{arith}
 use Rattle.array_rows.specs.Arrays.{ArrayOutcome, ArraysAnswered, array_outcome, array_reply}
-use Rattle.chan_defs.specs.declared.config.Config.{Config}
+use Rattle.server_config.specs.declared.config.Config.{Config}
 use Rattle.array_rows.specs.declared.arrays.ArrayPending.{ArrayPending}
 use Rattle.channel_rows.specs.Loads.{LoadOutcome, Loaded, load_outcome, load_reply}
 use Rattle.channel_rows.specs.Subscriptions.{subscribe_request}

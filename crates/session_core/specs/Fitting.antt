@@ -3,7 +3,7 @@ use Rattle.std.specs.Prelude.{ℕ, ◌≡◌, ◌*◌, List, length, IsSomeAnd, 
 use Rattle.std.specs.Map.{keys_of}
 use Rattle.array_rows.specs.declared.arrays.ArrayPending.{ArrayPending}
 use Rattle.array_rows.specs.declared.arrays.ArrayPending.TheVariants as arrays
-use Rattle.chan_defs.specs.declared.config.Config.{Config}
+use Rattle.server_config.specs.declared.config.Config.{Config}
 use Rattle.channel_rows.specs.declared.loads.LoadPending.{LoadPending}
 use Rattle.channel_rows.specs.declared.loads.LoadPending.TheVariants as loads
 use Rattle.channel_rows.specs.declared.subscriptions.SubscribePending.{SubscribePending}

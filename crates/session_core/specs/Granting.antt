@@ -1,7 +1,7 @@
 -- What an event adds to what a session sends: where its subscriptions begin, and by which reply, what they are told, and where they end.
 use Rattle.std.specs.Prelude.{ℕ, ℤ, ◌≡◌, ◌⊎◌, Bool, true, false, List, [], ◌∷◌, ◌++◌, Option, Some, None, Ok, length, map}
 use Rattle.std.specs.List.{AllByRecursion}
-use Rattle.chan_defs.specs.declared.config.Config.{Config}
+use Rattle.server_config.specs.declared.config.Config.{Config}
 use Rattle.channel_rows.specs.Notices.{notice, stop_response}
 use Rattle.channel_rows.specs.Subscriptions.{start_at, stop_one, subscribe_response}
 use Rattle.channel_store.specs.declared.change.ChannelChange.{ChannelChange}

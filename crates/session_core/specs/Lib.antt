@@ -11,4 +11,3 @@ pub mod Staged
 pub mod Serial
 pub mod Streams
 pub mod Granting
-pub mod Committing

@@ -1,7 +1,7 @@
 -- A transaction that was committed was answered as if it had stood alone at the place of its commit.
 use Rattle.std.specs.Prelude.{ℕ, ℤ, pos, Bool, true, false, ◌||◌, List, [], ◌∷◌, ◌++◌, ◌≡◌, ◌≤◌, ◌-◌, ◌^◌, Option, Some, None, map, take}
 use Rattle.std.specs.Ordering.{int_eq}
-use Rattle.chan_defs.specs.declared.config.Config.{Config}
+use Rattle.server_config.specs.declared.config.Config.{Config}
 use Rattle.etp_frame.specs.Message.{data_array_number, store_number}
 use Rattle.etp_frame.specs.declared.message.Message.{Message}
 use Rattle.store_machine.specs.Answers.{answered}

@@ -1,7 +1,7 @@
 -- What a session asks of the store while a transaction is open, and what that leaves in the history: nothing of the transaction
 -- before its commit.
 use Rattle.std.specs.Prelude.{ℕ, ℤ, Bool, true, false, List, [], ◌∷◌, ◌≡◌, Some, IsSome, IsSomeAnd, MatchOption, filter, map}
-use Rattle.chan_defs.specs.declared.config.Config.{Config}
+use Rattle.server_config.specs.declared.config.Config.{Config}
 use Rattle.session_rows.specs.Transactions.{to_commit}
 use Rattle.store_machine.specs.Answers.{added}
 use Rattle.store_machine.specs.declared.call.StoreCall.{StoreCall}

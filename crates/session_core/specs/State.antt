@@ -1,6 +1,6 @@
 -- The state of a session.
 use Rattle.std.specs.Prelude.{ℕ, ℤ, pos, Bool, List, [], Option, Some, None}
-use Rattle.chan_defs.specs.declared.config.Config.{Config}
+use Rattle.server_config.specs.declared.config.Config.{Config}
 use Rattle.etp_frame.specs.Joining.{Awaited}
 use Rattle.session_rows.specs.Opening.{natural}
 use Rattle.session_rows.specs.declared.formats.Format.{Format}

@@ -2,10 +2,7 @@
 ghost use Rattle.session_core.specs.Run.{FirstRemembers, TakingRemembers, TakingAsks, HearingRemembers, MoreIsRemembered, DrainedRemembers, AnswersAreLast};
 ghost use Rattle.session_core.specs.Run.{PlayIsRun, RunGoesOn, RunIsSame};
 ghost use Rattle.session_core.specs.Fitting.{AnswersFit};
-ghost use Rattle.session_core.specs.Committing.{SerialIsMet};
 ghost use Rattle.session_core.specs.Serial.{CommittedIsSerial, RunIsSerial};
-ghost use Rattle.session_core.specs.Staged.{CallsWithin, LooksAddNothing, UncommittedIsUnseen};
-ghost use Rattle.session_core.specs.Granting.{SubscriptionsAreReplied};
 ghost use Rattle.session_core.specs.Streams.{FrontIsStreamed, RunIsStreamed, RunIsToldAtIdle};
 
 use store_machine::{conflict_laws, news_laws, state_laws};
@@ -39,24 +36,13 @@ pub fn answer_fits()
     ensures { AnswersFit }
 {}
 
-/// Before its commit nothing of a transaction is in the history. Within a transaction a request of Store or DataArray makes a look at
-/// the keys that are noted at its answer, and no other call; a look adds no entry; and as long as no commit is asked for, the
-/// session adds none that changes what stands at keys. A commit is of exactly what was staged.
-pub fn staged()
-    ensures calls { CallsWithin }
-    ensures looks { LooksAddNothing }
-    ensures unseen { UncommittedIsUnseen }
-{}
-
 /// Committed transactions are serial. Where a transaction's commit succeeds after the entries below a place, what its requests
 /// were answered is what this session alone answers them from its start on, with every look made at that one place, whatever
 /// others did in between; but for a transaction in which a key was refused for there being too many. So it is from any state in
-/// which a transaction has just begun, and in each run of a session whose places never fall, split at any event. What is asked of
-/// the transaction can be met.
+/// which a transaction has just begun, and in each run of a session whose places never fall, split at any event.
 pub fn serial()
     ensures law { CommittedIsSerial }
     ensures run { RunIsSerial }
-    ensures met { SerialIsMet }
 {
     state_laws();
     conflict_laws();
@@ -73,15 +59,6 @@ pub fn run_streams()
     ensures streams { RunIsStreamed }
     ensures idle { RunIsToldAtIdle }
     ensures fronts { FrontIsStreamed }
-{
-    news_laws();
-}
-
-/// Where a session makes a subscription, the event is a request that names the channel under a key, and the reply to that
-/// request grants the key; it is sent before anything is told of the channel. No other message grants a key. What else an event
-/// sends is the changes that subscriptions are told, or that they end, or speaks of none.
-pub fn subscriptions_are_replied()
-    ensures { SubscriptionsAreReplied }
 {
     news_laws();
 }

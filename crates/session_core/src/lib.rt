@@ -22,7 +22,7 @@ mod replies;
 mod session;
 mod state;
 
-pub use laws::{answer_fits, run_streams, runs, serial, staged, steps, subscriptions_are_replied};
+pub use laws::{answer_fits, run_streams, runs, serial, steps};
 pub use session::Session;
 pub use state::{
     Addressee, Arrived, End, Live, Outgoing, Part, Pending, Phase, Request, Saying, StagedPending,

@@ -2,7 +2,6 @@ use Rattle.session_core.proofs.Committed.{committed_is_serial}
 use Rattle.session_core.proofs.FittingLemmas.{answers_fit}
 use Rattle.session_core.proofs.Reached.{run_is_serial}
 use Rattle.session_core.proofs.StepLemmas.{answers_are_last}
-use Rattle.session_core.proofs.Witness.{serial_is_met}
 use Rattle.session_core.proofs.laws.serial.Goals as goal
 
 pub returns : goal.returns
@@ -13,5 +12,4 @@ returns c =
     record {
       law = committed_is_serial between free own;
       run = run_is_serial between free own answers_fit answers_are_last;
-      met = serial_is_met;
     }

@@ -1,5 +1,5 @@
-use Rattle.session_core.proofs.Granting.{subscriptions_replied}
-use Rattle.session_core.proofs.laws.subscriptions_are_replied.Goals as goal
+use Rattle.session_laws.proofs.Granting.{subscriptions_replied}
+use Rattle.session_laws.proofs.laws.subscriptions_are_replied.Goals as goal
 
 pub returns : goal.returns
 returns c = subscriptions_replied c.news_laws.ensures.bound c.news_laws.ensures.segment c.news_laws.ensures.each

@@ -1,6 +1,6 @@
 -- A transaction that is committed: one object is got, another session puts another one, and then the transaction is committed.
 use Rattle.std.specs.Prelude.{ℕ, pos, false, List, [], ◌∷◌, ◌≡◌, Some, None, Ok, codes}
-use Rattle.chan_defs.specs.declared.config.Config.{Config}
+use Rattle.server_config.specs.declared.config.Config.{Config}
 use Rattle.etp_frame.specs.declared.header.Header.{Header}
 use Rattle.etp_frame.specs.declared.message.Message.{Message}
 use Rattle.etp_frame.specs.declared.message.Message.TheVariants as message

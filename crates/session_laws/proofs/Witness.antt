@@ -16,7 +16,7 @@ use Rattle.session_core.specs.declared.state.Live.TheVariants as live
 use Rattle.session_core.specs.Arriving.{Event, Receives}
 use Rattle.session_core.specs.Machine.{Taken, by_event}
 use Rattle.session_core.specs.Run.{Course, asked, hears, takes}
-use Rattle.session_core.specs.Committing.{GetIsCommitted, SerialIsMet, commit, commit_bytes, commit_header, config, course, get, get_header, history, started, transaction, well}
+use Rattle.session_laws.specs.Committing.{GetIsCommitted, SerialIsMet, commit, commit_bytes, commit_header, config, course, get, get_header, history, started, transaction, well}
 use Rattle.session_core.specs.Serial.{Begins, EndsBy, Succeeds}
 
 commit_read : read_of Client commit_bytes ≡ Ok (commit_header, commit)

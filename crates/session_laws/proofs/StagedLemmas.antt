@@ -8,7 +8,7 @@ use Rattle.std.proofs.lemmas.List.{append-nil}
 use Rattle.std.proofs.lemmas.List.Elements.{filter-append}
 use Rattle.array_rows.specs.Arrays as arrays
 use Rattle.array_rows.specs.declared.arrays.ArrayPending.{ArrayPending}
-use Rattle.chan_defs.specs.declared.config.Config.{Config}
+use Rattle.server_config.specs.declared.config.Config.{Config}
 use Rattle.channel_rows.specs.Loads as loads
 use Rattle.channel_rows.specs.Subscriptions as subscribes
 use Rattle.channel_store.specs.Refusals.{append_refusal, replace_refusal}

@@ -2,7 +2,7 @@
 use Rattle.std.specs.Prelude.{ℕ, Bool, true, false, List, [], ◌∷◌, ◌++◌, ◌≡◌, Option, Some, None, take, refl}
 use Rattle.std.specs.List.{AllByRecursion}
 use Rattle.std.proofs.Common.{ap, sym, ◌∙◌, subst, append-nil}
-use Rattle.chan_defs.specs.declared.config.Config.{Config}
+use Rattle.server_config.specs.declared.config.Config.{Config}
 use Rattle.store_machine.specs.Answers.{answered}
 use Rattle.store_machine.specs.Channels.{channels_of}
 use Rattle.store_machine.specs.Laws.{NewsAreTheDue, NewsOfEach, NewsStayWithin}
@@ -18,8 +18,8 @@ use Rattle.session_core.specs.Granting.{Aside, IsMatter, IsReceipt, IsSent, Matt
 use Rattle.session_core.specs.Machine.{given, taken, unread}
 use Rattle.session_core.specs.Run.{Course, answered_at, asked, first_course, happens, happens_unless, hears, moment_of, run, takes}
 use Rattle.session_core.specs.Streams.{is_spent_course}
-use Rattle.session_core.proofs.Deciding.{are_fair}
-use Rattle.session_core.proofs.Replying.{IsFair, Leads, phase_leads, silent_says}
+use Rattle.session_laws.proofs.Deciding.{are_fair}
+use Rattle.session_laws.proofs.Replying.{IsFair, Leads, phase_leads, silent_says}
 use Rattle.session_core.proofs.RunLemmas.{run_snoc}
 use Rattle.session_core.proofs.Streaming.{alive_before, stands}
 use Rattle.session_core.proofs.Subscribing.{started_answer}

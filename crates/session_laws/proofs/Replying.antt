@@ -3,7 +3,7 @@ use Rattle.std.specs.Prelude.{ℕ, ℤ, Bool, true, false, List, [], ◌∷◌, 
 use Rattle.std.specs.List.{flat_map, AllByRecursion}
 use Rattle.std.proofs.Common.{ap, sym, ◌∙◌, subst, append-nil, arith}
 use Rattle.array_rows.specs.Arrays.{ArrayOutcome, ArraysAnswered, array_outcome, array_reply}
-use Rattle.chan_defs.specs.declared.config.ChannelDef.{ChannelDef}
+use Rattle.server_config.specs.declared.config.ChannelDef.{ChannelDef}
 use Rattle.channel_rows.specs.Loads.{LoadOutcome, Loaded, load_outcome, load_reply}
 use Rattle.channel_rows.specs.Notices.{Told, ids_of, news_told, notice, stop_response}
 use Rattle.channel_rows.specs.Subscriptions.{SubscribeOutcome, asks_of, begin_one, beginning, metadata_called, metadata_outcome, metadata_response, news_call, news_from, none_named, ranges_refusal, replied, started_reply, stop_one, stopping, subscribe_called, subscribe_one, subscribe_outcome, subscribe_request, subscribe_response, unless_leaving}
@@ -82,10 +82,10 @@ use Rattle.session_core.specs.Replies.{receipt, refusal, sayings_of, to_request}
 use Rattle.session_core.specs.Sending.{blobs_sent, is_spent, max_id, next_after, numbered, outgoing, parts_of, replies_in, said}
 use Rattle.session_core.specs.Streams.{is_spent_phase}
 use Rattle.subscribe_core.proofs.SubLemmas.{absent-others}
-use Rattle.session_core.proofs.Deciding.{AreFair, Decides, all_decide}
+use Rattle.session_laws.proofs.Deciding.{AreFair, Decides, all_decide}
 use Rattle.session_core.proofs.MessageParts.{all_append}
 use Rattle.session_core.proofs.Moving.{all_weaker, parts_in, unspent}
-use Rattle.session_core.proofs.Speaking.{notices_replies, numbered_silent, numbered_split, parts_append}
+use Rattle.session_laws.proofs.Speaking.{notices_replies, numbered_silent, numbered_split, parts_append}
 use Rattle.session_core.proofs.Starting.{told_as}
 use Rattle.session_core.proofs.Stopping.{kept_after}
 use Rattle.session_core.proofs.Subscribing.{sayings_append}

@@ -1,0 +1,6 @@
+mod Deciding
+mod Speaking
+mod Replying
+mod Granting
+mod StagedLemmas
+mod Witness

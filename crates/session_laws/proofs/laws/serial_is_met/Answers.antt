@@ -1,0 +1,5 @@
+use Rattle.session_laws.proofs.Witness.{serial_is_met}
+use Rattle.session_laws.proofs.laws.serial_is_met.Goals as goal
+
+pub returns : goal.returns
+returns c = serial_is_met
