@@ -3,7 +3,7 @@
 //! What a command sends, writes and answers is `ctl` of `specs/Ctl`: a fold over the items that its link took, by the moments that its
 //! clock told. [`talk`] has the pieces of work that commands are made of, each a step of that fold, and each command is a [`Command`](command::Command).
 //!
-//! [`run_client`] does what words ask for over any host, dialer, input, output and clock, and [`tell`] says how that ended.
+//! [`run_client`] does what words ask for over any host, dialer, input, output and clock, and [`finish`] tells how that ended.
 #![tactic(auto)]
 
 mod action;
@@ -19,5 +19,5 @@ mod stop;
 mod talk;
 mod watching;
 
-pub use program::tell;
+pub use program::{finish, tell};
 pub use run::run_client;

@@ -12,14 +12,14 @@ mod counted_source;
 mod progress;
 mod run;
 
-use client_forms::tell;
+use client_forms::finish;
 use counted_changes::CountedChanges;
 use etp_outside::{Status, StdSink};
 use etp_values::NoMemory;
 use progress::{Counted, Progress};
 use run::run_words;
 use std::alloc::Global;
-use std::io::{IsTerminal, Write};
+use std::io::IsTerminal;
 use std::process::ExitCode;
 use watch_views::{Counts, Latest, View, Window};
 
@@ -56,10 +56,4 @@ fn parts(alloc: Global) -> Result<Parts, NoMemory> {
     let window = Box::new(alloc, Window::new(alloc, WINDOW_LEN)?)?;
     let counts = Box::new(alloc, Counts::new())?;
     Ok((latest, window, counts))
-}
-
-/// Tells `errors` how the client has ended, and gives its exit status.
-fn finish<E: Write + Drop>(alloc: Global, status: Status, errors: E) -> ExitCode {
-    tell(alloc, status, &mut StdSink::new(errors));
-    ExitCode::from(status.number())
 }

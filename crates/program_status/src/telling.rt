@@ -1,40 +1,47 @@
 //! What is told of a status, and the exit status.
-ghost use Rattle.std.specs.Prelude.{◌≡◌, ◌++◌, OnOk};
-ghost use Rattle.program_status.specs.Told.{told_with, ending, IsTold};
+ghost use Rattle.std.specs.Prelude.{◌≡◌, ◌≤◌, ◌++◌, OnOk, IfOk, IfErr, IsOk};
+ghost use Rattle.std.specs.Process.{exit_status};
+ghost use Rattle.etp_outside.specs.Faults.{Rose};
+ghost use Rattle.etp_outside.specs.Status.{number_of};
+ghost use Rattle.etp_outside.specs.Whole.{WritesAll};
+ghost use Rattle.program_status.specs.Told.{told_with, ending};
 
-use etp_outside::{Sink, Status, StdSink, write_all};
+use etp_outside::{Sink, Status, StdSink, Written, write_all};
 use etp_values::NoMemory;
 use std::alloc::Global;
 use std::io::Write;
 use std::process::ExitCode;
 
-/// Tells `errors` how a program has ended, and gives its exit status. `usage` says how it is called.
-pub fn finish<E: Write + Drop>(alloc: Global, status: Status, usage: &[u8], errors: E) -> ExitCode {
-    tell(alloc, status, usage, &mut StdSink::new(errors));
+/// Tells `errors` how a program has ended, as [`tell`] does, and gives its exit status. `usage` says how it is called. What can't be
+/// told is lost.
+pub fn finish<E: Write + Drop>(alloc: Global, status: Status, usage: &[u8], errors: E) -> ExitCode
+    ensures { exit_status result ≡ number_of status }
+{
+    let _ = tell(alloc, status, usage, &mut StdSink::new(errors));
     ExitCode::from(status.number())
 }
 
-/// Writes the status line, and behind that of words in no form how the program is called. `Done` has no line. What can't be
-/// written is lost; the line of `NoMemory` needs no memory.
-pub fn tell<W: Sink>(alloc: Global, status: Status, usage: &[u8], errors: &mut W)
-    ensures { IsTold (told_with usage.now status) (W.held errors.old) (W.held errors.new) }
+/// Writes the status line, and behind that of words in no form how the program is called. `Done` has no line. The line of
+/// `NoMemory` needs no memory.
+pub fn tell<W: Sink>(
+    alloc: Global,
+    status: Status,
+    usage: &[u8],
+    errors: &mut W,
+) -> Result<Written, NoMemory>
+    ensures bytes { IfOk result (λ written. WritesAll written (told_with usage.now status) (W.held errors.old) (W.held errors.new)) }
+    ensures kept { W.faults errors.old ≤ W.faults errors.new }
+    ensures cause { IfOk result (λ written. written ≡ Written.Failed → Rose (W.faults errors.old) (W.faults errors.new)) }
+    ensures untold { IfErr result (λ _. errors.new ≡ errors.old) }
+    ensures memory { status ≡ Status.NoMemory → IsOk result }
 {
     match status {
-        Status::NoMemory => return write_front(errors, b"no memory\n"),
+        Status::NoMemory => return Ok(write_all(errors, b"no memory\n")),
         _ => {}
     }
     let mut text = Vec::new(alloc);
-    match push_told(alloc, status, usage, &mut text) {
-        Ok(()) => write_front(errors, text.as_slice()),
-        Err(_) => {}
-    }
-}
-
-/// Writes a piece, or what of its front can be written.
-fn write_front<W: Sink>(errors: &mut W, piece: &[u8])
-    ensures { IsTold piece.now (W.held errors.old) (W.held errors.new) }
-{
-    let _ = write_all(errors, piece);
+    push_told(alloc, status, usage, &mut text)?;
+    Ok(write_all(errors, text.as_slice()))
 }
 
 /// Appends all that is told of a status.

@@ -1,10 +1,13 @@
 //! The server over the system: its words, files, sockets and streams, the status line, and the exit status.
-ghost use Rattle.program_status.specs.Told.{IsTold};
+ghost use Rattle.std.specs.Prelude.{◌≡◌, ◌≤◌, IfOk, IfErr, IsOk};
+ghost use Rattle.etp_outside.specs.Faults.{Rose};
+ghost use Rattle.etp_outside.specs.Whole.{WritesAll};
 ghost use Rattle.server_forms.specs.Program.{told};
 
 use crate::door::ToldDoor;
 use crate::run::run_server;
-use etp_outside::{DirHost, NoGate, Sink, Status, StdSink, WallClock};
+use etp_outside::{DirHost, NoGate, Sink, Status, StdSink, WallClock, Written};
+use etp_values::NoMemory;
 use program_status::{finish, words};
 use std::alloc::{AllocError, Global};
 use std::io::{self, Write};
@@ -79,10 +82,14 @@ where
     )
 }
 
-/// Writes the status line, and behind that of words in no form how the program is called. `Done` has no line. What can't be
-/// written is lost; the line of `NoMemory` needs no memory.
-pub fn tell<W: Sink>(alloc: Global, status: Status, errors: &mut W)
-    ensures { IsTold (told status) (W.held errors.old) (W.held errors.new) }
+/// Writes the status line, and behind that of words in no form how the program is called. `Done` has no line. The line of
+/// `NoMemory` needs no memory.
+pub fn tell<W: Sink>(alloc: Global, status: Status, errors: &mut W) -> Result<Written, NoMemory>
+    ensures bytes { IfOk result (λ written. WritesAll written (told status) (W.held errors.old) (W.held errors.new)) }
+    ensures kept { W.faults errors.old ≤ W.faults errors.new }
+    ensures cause { IfOk result (λ written. written ≡ Written.Failed → Rose (W.faults errors.old) (W.faults errors.new)) }
+    ensures untold { IfErr result (λ _. errors.new ≡ errors.old) }
+    ensures memory { status ≡ Status.NoMemory → IsOk result }
 {
-    program_status::tell(alloc, status, USAGE, errors);
+    program_status::tell(alloc, status, USAGE, errors)
 }

@@ -1,7 +1,7 @@
 //! Prints what a program tells of each status on standard error.
 #![tactic(auto)]
 
-use etp_outside::{Status, StdSink};
+use etp_outside::{Status, StdSink, Written};
 use program_status::tell;
 use std::io;
 
@@ -43,7 +43,10 @@ fn main(rt: HostRuntime) -> io::Result<()> {
     ] {
         let number = status.number();
         println!(rt; "{number}")?;
-        tell(rt.alloc(), status, USAGE, &mut out);
+        match tell(rt.alloc(), status, USAGE, &mut out) {
+            Ok(Written::Done) => {}
+            Ok(Written::Failed) | Err(_) => println!(rt; "not told")?,
+        }
     }
     Ok(())
 }

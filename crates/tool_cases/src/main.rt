@@ -15,7 +15,7 @@ mod runs;
 use crate::captures::read_capture;
 use crate::digest::digest;
 use crate::runs::{Faults, run_case};
-use etp_outside::StdSink;
+use etp_outside::{StdSink, Written};
 use std::io::{self, BufRead, BufReader, Write};
 use tool_forms::tell;
 
@@ -46,8 +46,10 @@ fn print_case(
             print_output(rt, out.as_bytes())?;
             let number = status.number();
             println!(rt; "\n= {number}")?;
-            tell(rt.alloc(), status, &mut StdSink::new(io::writer(rt)));
-            Ok(())
+            match tell(rt.alloc(), status, &mut StdSink::new(io::writer(rt))) {
+                Ok(Written::Done) => Ok(()),
+                Ok(Written::Failed) | Err(_) => println!(rt; "not told"),
+            }
         }
         Err(_) => println!(rt; "no memory"),
     }
