@@ -74,7 +74,7 @@ fn session_in(message: &Message) -> Option<Id16>
     ensures { result ≡ session_in message.now }
 {
     match message {
-        Message::Core(message) => core_session(message),
+        Message::Core(message) => core_session(message.get()),
         _ => None,
     }
 }
@@ -101,7 +101,7 @@ fn moment_in(message: &Message) -> Option<i64>
     ensures { result ≡ moment_in message.now }
 {
     match message {
-        Message::Core(message) => core_moment(message),
+        Message::Core(message) => core_moment(message.get()),
         _ => None,
     }
 }
@@ -130,7 +130,7 @@ fn grants_space(message: &Message) -> bool
     ensures { result ≡ grants_space message.now }
 {
     match message {
-        Message::Dataspace(message) => dataspace_granted(message),
+        Message::Dataspace(message) => dataspace_granted(message.get()),
         _ => false,
     }
 }
@@ -148,7 +148,7 @@ fn grants_object(message: &Message) -> bool
     ensures { result ≡ grants_object message.now }
 {
     match message {
-        Message::Store(message) => store_granted(message),
+        Message::Store(message) => store_granted(message.get()),
         _ => false,
     }
 }
@@ -166,7 +166,7 @@ fn grants_subscription(message: &Message) -> bool
     ensures { result ≡ grants_subscription message.now }
 {
     match message {
-        Message::ChannelSubscribe(message) => subscribe_granted(message),
+        Message::ChannelSubscribe(message) => subscribe_granted(message.get()),
         _ => false,
     }
 }
@@ -195,7 +195,7 @@ fn object_in(message: &Message) -> Result<Option<Blob>, NoMemory>
     ensures { IfOk result (λ b. b ≡ object_in message.now) }
 {
     match message {
-        Message::Store(message) => store_object(message),
+        Message::Store(message) => store_object(message.get()),
         _ => Ok(None),
     }
 }
@@ -229,7 +229,7 @@ fn meta(id: i64, message: &Message) -> Option<Got>
     ensures { result ≡ option_map (meta_of id) (channel_in message.now) }
 {
     match message {
-        Message::ChannelSubscribe(message) => subscribe_meta(id, message),
+        Message::ChannelSubscribe(message) => subscribe_meta(id, message.get()),
         _ => None,
     }
 }
@@ -250,7 +250,7 @@ fn opening(id: i64, message: &Message) -> Option<Got>
     ensures { result ≡ option_map (meta_of id) (opened_in message.now) }
 {
     match message {
-        Message::ChannelDataLoad(message) => load_meta(id, message),
+        Message::ChannelDataLoad(message) => load_meta(id, message.get()),
         _ => None,
     }
 }

@@ -6,7 +6,7 @@ ghost use Rattle.etp_frame.specs.declared.message.Message.TheVariants as message
 use crate::state::Kept;
 use client_parts::{core_joined, dataspace_joined, load_joined, store_joined, subscribe_joined};
 use etp_frame::{Header, Message};
-use etp_values::NoMemory;
+use etp_values::{Boxed, NoMemory};
 use msg_channel::{ChannelDataLoadMessage, ChannelSubscribeMessage};
 use msg_core::{CoreMessage, DataspaceMessage};
 use msg_store::StoreMessage;
@@ -24,8 +24,11 @@ fn core_behind(alloc: Global, first: Message, more: CoreMessage) -> Result<Messa
     ensures { IfOk result (λ m. m ≡ joined first (message.Core more)) }
 {
     match first {
-        Message::Core(first) => Ok(Message::Core(core_joined(alloc, first, more)?)),
-        other => Ok(later(other, Message::Core(more))),
+        Message::Core(first) => Ok(Message::Core(Boxed::new(
+            alloc,
+            core_joined(alloc, first.into_inner(), more)?,
+        )?)),
+        other => Ok(later(other, Message::Core(Boxed::new(alloc, more)?))),
     }
 }
 
@@ -37,8 +40,11 @@ fn dataspace_behind(
     ensures { IfOk result (λ m. m ≡ joined first (message.Dataspace more)) }
 {
     match first {
-        Message::Dataspace(first) => Ok(Message::Dataspace(dataspace_joined(alloc, first, more)?)),
-        other => Ok(later(other, Message::Dataspace(more))),
+        Message::Dataspace(first) => Ok(Message::Dataspace(Boxed::new(
+            alloc,
+            dataspace_joined(alloc, first.into_inner(), more)?,
+        )?)),
+        other => Ok(later(other, Message::Dataspace(Boxed::new(alloc, more)?))),
     }
 }
 
@@ -46,8 +52,11 @@ fn store_behind(alloc: Global, first: Message, more: StoreMessage) -> Result<Mes
     ensures { IfOk result (λ m. m ≡ joined first (message.Store more)) }
 {
     match first {
-        Message::Store(first) => Ok(Message::Store(store_joined(alloc, first, more)?)),
-        other => Ok(later(other, Message::Store(more))),
+        Message::Store(first) => Ok(Message::Store(Boxed::new(
+            alloc,
+            store_joined(alloc, first.into_inner(), more)?,
+        )?)),
+        other => Ok(later(other, Message::Store(Boxed::new(alloc, more)?))),
     }
 }
 
@@ -59,10 +68,11 @@ fn subscribe_behind(
     ensures { IfOk result (λ m. m ≡ joined first (message.ChannelSubscribe more)) }
 {
     match first {
-        Message::ChannelSubscribe(first) => Ok(Message::ChannelSubscribe(subscribe_joined(
-            alloc, first, more,
+        Message::ChannelSubscribe(first) => Ok(Message::ChannelSubscribe(Boxed::new(
+            alloc,
+            subscribe_joined(alloc, first.into_inner(), more)?,
         )?)),
-        other => Ok(later(other, Message::ChannelSubscribe(more))),
+        other => Ok(later(other, Message::ChannelSubscribe(Boxed::new(alloc, more)?))),
     }
 }
 
@@ -74,10 +84,11 @@ fn load_behind(
     ensures { IfOk result (λ m. m ≡ joined first (message.ChannelDataLoad more)) }
 {
     match first {
-        Message::ChannelDataLoad(first) => Ok(Message::ChannelDataLoad(load_joined(
-            alloc, first, more,
+        Message::ChannelDataLoad(first) => Ok(Message::ChannelDataLoad(Boxed::new(
+            alloc,
+            load_joined(alloc, first.into_inner(), more)?,
         )?)),
-        other => Ok(later(other, Message::ChannelDataLoad(more))),
+        other => Ok(later(other, Message::ChannelDataLoad(Boxed::new(alloc, more)?))),
     }
 }
 
@@ -86,11 +97,11 @@ fn joined(alloc: Global, first: Message, more: Message) -> Result<Message, NoMem
     ensures { IfOk result (λ m. m ≡ joined first more) }
 {
     match more {
-        Message::Core(more) => core_behind(alloc, first, more),
-        Message::Dataspace(more) => dataspace_behind(alloc, first, more),
-        Message::Store(more) => store_behind(alloc, first, more),
-        Message::ChannelSubscribe(more) => subscribe_behind(alloc, first, more),
-        Message::ChannelDataLoad(more) => load_behind(alloc, first, more),
+        Message::Core(more) => core_behind(alloc, first, more.into_inner()),
+        Message::Dataspace(more) => dataspace_behind(alloc, first, more.into_inner()),
+        Message::Store(more) => store_behind(alloc, first, more.into_inner()),
+        Message::ChannelSubscribe(more) => subscribe_behind(alloc, first, more.into_inner()),
+        Message::ChannelDataLoad(more) => load_behind(alloc, first, more.into_inner()),
         other => Ok(later(first, other)),
     }
 }
@@ -119,7 +130,7 @@ pub(crate) fn is_exception(message: &Message) -> bool
     ensures { result ≡ is_exception message.now }
 {
     match message {
-        Message::Core(message) => core_exception(message),
+        Message::Core(message) => core_exception(message.get()),
         _ => false,
     }
 }

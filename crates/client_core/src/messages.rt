@@ -5,7 +5,7 @@ ghost use Rattle.client_core.specs.Messages.{channel_asked, channel_opened, chan
 use crate::ask::Ask;
 use etp_frame::Message;
 use etp_schema::{ActiveStatusKind, Few, protocols};
-use etp_values::{Blob, ChannelPoint, Id16, List, Named, NoMemory, Shared, StoreUri, Text};
+use etp_values::{Blob, Boxed, ChannelPoint, Id16, List, Named, NoMemory, Shared, StoreUri, Text};
 use msg_channel::{
     ChannelDataLoadMessage, ChannelSubscribeInfo, ChannelSubscribeMessage, DataItem,
     GetChannelMetadata, IndexValue, LoadChannelData, OpenChannels, SubscribeChannels,
@@ -113,7 +113,7 @@ pub(crate) fn request_message(alloc: Global, moment: i64) -> Result<Message, NoM
     ensures { IfOk result (λ m. m ≡ request_message moment) }
 {
     let request = request_session(alloc, moment)?;
-    Ok(Message::Core(CoreMessage::RequestSession(request)))
+    Ok(Message::Core(Boxed::new(alloc, CoreMessage::RequestSession(request))?))
 }
 
 fn put_space(alloc: Global, path: Text) -> Result<Message, NoMemory>
@@ -134,7 +134,10 @@ fn put_space(alloc: Global, path: Text) -> Result<Message, NoMemory>
             custom_data: Named::new(alloc),
         },
     )?;
-    Ok(Message::Dataspace(DataspaceMessage::PutDataspaces(PutDataspaces { dataspaces })))
+    Ok(Message::Dataspace(Boxed::new(
+        alloc,
+        DataspaceMessage::PutDataspaces(PutDataspaces { dataspaces }),
+    )?))
 }
 
 fn resource_of(alloc: Global, uri: &StoreUri) -> Result<Resource, NoMemory>
@@ -169,10 +172,13 @@ fn put(alloc: Global, uri: StoreUri, payload: Blob) -> Result<Message, NoMemory>
             payload,
         },
     )?;
-    Ok(Message::Store(StoreMessage::PutDataObjects(PutDataObjects {
-        data_objects,
-        prune_contained_objects: false,
-    })))
+    Ok(Message::Store(Boxed::new(
+        alloc,
+        StoreMessage::PutDataObjects(PutDataObjects {
+            data_objects,
+            prune_contained_objects: false,
+        }),
+    )?))
 }
 
 fn get(alloc: Global, uri: StoreUri) -> Result<Message, NoMemory>
@@ -180,10 +186,13 @@ fn get(alloc: Global, uri: StoreUri) -> Result<Message, NoMemory>
 {
     let uri = uri.write(alloc)?;
     let uris = keyed(alloc, uri)?;
-    Ok(Message::Store(StoreMessage::GetDataObjects(GetDataObjects {
-        uris,
-        format: Text::new(alloc),
-    })))
+    Ok(Message::Store(Boxed::new(
+        alloc,
+        StoreMessage::GetDataObjects(GetDataObjects {
+            uris,
+            format: Text::new(alloc),
+        }),
+    )?))
 }
 
 fn open_channel(alloc: Global, uri: StoreUri) -> Result<Message, NoMemory>
@@ -191,7 +200,10 @@ fn open_channel(alloc: Global, uri: StoreUri) -> Result<Message, NoMemory>
 {
     let uri = uri.write(alloc)?;
     let uris = keyed(alloc, uri)?;
-    Ok(Message::ChannelDataLoad(ChannelDataLoadMessage::OpenChannels(OpenChannels { uris })))
+    Ok(Message::ChannelDataLoad(Boxed::new(
+        alloc,
+        ChannelDataLoadMessage::OpenChannels(OpenChannels { uris }),
+    )?))
 }
 
 /// A point with its one index.
@@ -223,9 +235,10 @@ fn load(alloc: Global, points: List<ChannelPoint>) -> Result<Message, NoMemory>
     ensures { IfOk result (λ m. m ≡ points_loaded points) }
 {
     let payload = items_of(alloc, points)?;
-    Ok(Message::ChannelDataLoad(ChannelDataLoadMessage::LoadChannelData(LoadChannelData {
-        payload,
-    })))
+    Ok(Message::ChannelDataLoad(Boxed::new(
+        alloc,
+        ChannelDataLoadMessage::LoadChannelData(LoadChannelData { payload }),
+    )?))
 }
 
 fn meta(alloc: Global, uri: StoreUri) -> Result<Message, NoMemory>
@@ -233,9 +246,10 @@ fn meta(alloc: Global, uri: StoreUri) -> Result<Message, NoMemory>
 {
     let uri = uri.write(alloc)?;
     let uris = keyed(alloc, uri)?;
-    Ok(Message::ChannelSubscribe(ChannelSubscribeMessage::GetChannelMetadata(GetChannelMetadata {
-        uris,
-    })))
+    Ok(Message::ChannelSubscribe(Boxed::new(
+        alloc,
+        ChannelSubscribeMessage::GetChannelMetadata(GetChannelMetadata { uris }),
+    )?))
 }
 
 fn subscribe(alloc: Global, channel: i64, start: i64) -> Result<Message, NoMemory>
@@ -250,25 +264,32 @@ fn subscribe(alloc: Global, channel: i64, start: i64) -> Result<Message, NoMemor
             request_latest_index_count: None,
         },
     )?;
-    Ok(Message::ChannelSubscribe(ChannelSubscribeMessage::SubscribeChannels(SubscribeChannels {
-        channels,
-    })))
+    Ok(Message::ChannelSubscribe(Boxed::new(
+        alloc,
+        ChannelSubscribeMessage::SubscribeChannels(SubscribeChannels { channels }),
+    )?))
 }
 
-fn ping(moment: i64) -> Message
-    ensures { result ≡ pinged moment }
+fn ping(alloc: Global, moment: i64) -> Result<Message, NoMemory>
+    ensures { IfOk result (λ m. m ≡ pinged moment) }
 {
-    Message::Core(CoreMessage::Ping(Ping {
-        current_date_time: moment,
-    }))
+    Ok(Message::Core(Boxed::new(
+        alloc,
+        CoreMessage::Ping(Ping {
+            current_date_time: moment,
+        }),
+    )?))
 }
 
-fn close(alloc: Global) -> Message
-    ensures { result ≡ session_closed }
+fn close(alloc: Global) -> Result<Message, NoMemory>
+    ensures { IfOk result (λ m. m ≡ session_closed) }
 {
-    Message::Core(CoreMessage::CloseSession(CloseSession {
-        reason: Text::new(alloc),
-    }))
+    Ok(Message::Core(Boxed::new(
+        alloc,
+        CoreMessage::CloseSession(CloseSession {
+            reason: Text::new(alloc),
+        }),
+    )?))
 }
 
 /// What is sent of an ask, which was made at this moment.
@@ -283,7 +304,7 @@ pub(crate) fn message_of(alloc: Global, ask: Ask, moment: i64) -> Result<Message
         Ask::Load(points) => load(alloc, points),
         Ask::Meta(uri) => meta(alloc, uri),
         Ask::Subscribe { channel, start } => subscribe(alloc, channel, start),
-        Ask::Ping => Ok(ping(moment)),
-        Ask::Close => Ok(close(alloc)),
+        Ask::Ping => ping(alloc, moment),
+        Ask::Close => close(alloc),
     }
 }

@@ -24,7 +24,7 @@ pub(crate) fn changes_of(
     ensures { IfOk result (λ cs. cs ≡ changes_of message) }
 {
     match message {
-        Message::ChannelSubscribe(message) => subscribe_changes(alloc, message),
+        Message::ChannelSubscribe(message) => subscribe_changes(alloc, message.into_inner()),
         other => no_changes(other),
     }
 }

@@ -80,7 +80,7 @@ fn is_chunk(message: &Message) -> bool
     ensures { result ≡ is_chunk message.now }
 {
     match message {
-        Message::Store(message) => is_chunk_message(message),
+        Message::Store(message) => is_chunk_message(message.get()),
         _ => false,
     }
 }

@@ -17,7 +17,7 @@ use channel_store::ChangeMsg;
 use etp_frame::flags::FINAL_PART;
 use etp_frame::{FrameError, Header, JoinError, Joined, Message, read_message};
 use etp_schema::Side;
-use etp_values::{List, Named, NoMemory};
+use etp_values::{Boxed, List, Named, NoMemory};
 use msg_channel::{ChannelSubscribeMessage, SubscriptionsStopped};
 use msg_core::{CoreMessage, ErrorInfo, ProtocolException};
 use msg_store::StoreMessage;
@@ -43,7 +43,7 @@ fn is_silent(message: &Message) -> bool
     ensures { result ≡ is_silent message.now }
 {
     match message {
-        Message::Core(message) => core_silent(message),
+        Message::Core(message) => core_silent(message.get()),
         _ => false,
     }
 }
@@ -58,7 +58,7 @@ fn is_closing(message: &Message) -> bool
     ensures { result ≡ is_closing message.now }
 {
     match message {
-        Message::Core(message) => core_closes(message),
+        Message::Core(message) => core_closes(message.get()),
         _ => false,
     }
 }
@@ -73,7 +73,7 @@ fn is_opening(message: &Message) -> bool
     ensures { result ≡ is_opening message.now }
 {
     match message {
-        Message::Core(message) => core_opens(message),
+        Message::Core(message) => core_opens(message.get()),
         _ => false,
     }
 }
@@ -110,7 +110,7 @@ fn has_objects(message: &Message) -> bool
     ensures { result ≡ has_objects message.now }
 {
     match message {
-        Message::Store(message) => store_joins(message),
+        Message::Store(message) => store_joins(message.get()),
         _ => false,
     }
 }
@@ -343,8 +343,12 @@ impl Hearing {
         ensures state { OnOk result (self.new ≡ (on_whole header.now message self.old).state) }
     {
         match message {
-            Message::Core(message) => self.on_core(alloc, header, message),
-            Message::ChannelSubscribe(message) => self.on_channels(alloc, header, message),
+            Message::Core(message) => self.on_core(alloc, header, message.into_inner()),
+            Message::ChannelSubscribe(message) => self.on_channels(
+                alloc,
+                header,
+                message.into_inner(),
+            ),
             other => self.on_told(alloc, header, other),
         }
     }
@@ -362,7 +366,7 @@ impl Hearing {
             CoreMessage::ProtocolException(exception) => {
                 Ok(self.on_exception(header.correlation, exception))
             }
-            other => self.on_told(alloc, header, Message::Core(other)),
+            other => self.on_told(alloc, header, Message::Core(Boxed::new(alloc, other)?)),
         }
     }
 
@@ -377,7 +381,11 @@ impl Hearing {
     {
         match message {
             ChannelSubscribeMessage::SubscriptionsStopped(stopped) => Ok(self.on_stop(stopped)),
-            other => self.on_told(alloc, header, Message::ChannelSubscribe(other)),
+            other => self.on_told(
+                alloc,
+                header,
+                Message::ChannelSubscribe(Boxed::new(alloc, other)?),
+            ),
         }
     }
 

@@ -1,14 +1,15 @@
 //! A message that awaits the data of its objects.
-ghost use Rattle.std.specs.Prelude.{◌≡◌, ◌<◌, ◌≤◌, ◌+◌, ◌++◌, IfOk, IfErr, Some, None, true, false, length, nat_lt, if◌then◌else◌};
+ghost use Rattle.std.specs.Prelude.{◌≡◌, ◌<◌, ◌≤◌, ◌+◌, ◌++◌, Ok, IfOk, IfErr, Some, None, true, false, length, nat_lt, if◌then◌else◌};
 ghost use Rattle.std.specs.List.{list_any};
 ghost use Rattle.etp_values.specs.Gives.{Gives};
 ghost use Rattle.etp_frame.specs.Joining.{came, chunk_came, carried, refused, grows, with_piece, is_double, is_blob, is_other, awaits, data_size, data_limit, fed};
 ghost use Rattle.etp_frame.specs.Kept.{FindsEach, IsPlace, PlacesOf, AddsPlace, last_piece, filled_at, awaiting};
 ghost use Rattle.etp_frame.specs.declared.joining.JoinError.TheVariants as e;
+ghost use Rattle.etp_frame.specs.declared.joining.Joined.TheVariants as j;
 
 use crate::joining::{JoinError, Joined};
 use crate::message::Message;
-use etp_values::{Blob, Id16, Named, NoMemory, Text};
+use etp_values::{Blob, Boxed, Id16, Named, NoMemory, Text};
 use msg_store::{Chunk, DataObject, GetDataObjectsResponse, PutDataObjects, StoreMessage};
 use std::alloc::Global;
 use std::collections::BTreeMap;
@@ -119,10 +120,7 @@ impl Awaiting {
             Err(_) => return Err(JoinError::NoMemory),
         };
         if left == 1 {
-            return Ok((
-                Joined::Whole(carried(carrier, Named::from_sorted(objects))),
-                None,
-            ));
+            return brought(alloc, carrier, Named::from_sorted(objects));
         }
         let awaiting = Awaiting {
             correlation,
@@ -230,19 +228,34 @@ fn filled(
 }
 
 /// The message that brings these objects.
-fn carried(carrier: Carrier, objects: Named<DataObject>) -> Message
-    ensures { result ≡ carried carrier objects }
+fn carried(alloc: Global, carrier: Carrier, objects: Named<DataObject>) -> Result<Message, NoMemory>
+    ensures { IfOk result (λ message. message ≡ carried carrier objects) }
 {
-    match carrier {
-        Carrier::Put(prune) => Message::Store(StoreMessage::PutDataObjects(PutDataObjects {
+    let message = match carrier {
+        Carrier::Put(prune) => StoreMessage::PutDataObjects(PutDataObjects {
             data_objects: objects,
             prune_contained_objects: prune,
-        })),
-        Carrier::Reply => {
-            Message::Store(StoreMessage::GetDataObjectsResponse(GetDataObjectsResponse {
-                data_objects: objects,
-            }))
-        }
+        }),
+        Carrier::Reply => StoreMessage::GetDataObjectsResponse(GetDataObjectsResponse {
+            data_objects: objects,
+        }),
+    };
+    Ok(Message::Store(Boxed::new(alloc, message)?))
+}
+
+/// The whole message that brings these objects; nothing is awaited then.
+fn brought(
+    alloc: Global,
+    carrier: Carrier,
+    objects: Named<DataObject>,
+) -> Result<(Joined, Option<Awaiting>), JoinError>
+    ensures gives { Gives e.NoMemory result (Ok (j.Whole (carried carrier objects), None)) }
+    ensures ok { IfOk result (λ r. r ≡ (j.Whole (carried carrier objects), None)) }
+    ensures err { IfErr result (λ x. x ≡ e.NoMemory) }
+{
+    match carried(alloc, carrier, objects) {
+        Ok(message) => Ok((Joined::Whole(message), None)),
+        Err(_) => Err(JoinError::NoMemory),
     }
 }
 
@@ -288,7 +301,7 @@ pub(crate) fn came(
     let Some(size) = sum_data(objects.as_slice()) else {
         return Err(JoinError::TooLong);
     };
-    Ok(opened(alloc, correlation, carrier, objects, places, size))
+    opened(alloc, correlation, carrier, objects, places, size)
 }
 
 /// What a message with such objects makes, where nothing is awaited.
@@ -299,16 +312,16 @@ fn opened(
     objects: Named<DataObject>,
     places: BTreeMap<Id16, usize>,
     size: u64,
-) -> (Joined, Option<Awaiting>)
+) -> Result<(Joined, Option<Awaiting>), JoinError>
     requires finds { FindsEach places.entries objects }
     requires single { list_any is_double objects ≡ false }
     requires size { size ≡ data_size objects }
     requires small { data_size objects ≤ data_limit }
-    ensures { result ≡ grows (record { correlation = correlation; carrier = carrier; objects = objects; begun = None }) }
+    ensures { Gives e.NoMemory result (Ok (grows (record { correlation = correlation; carrier = carrier; objects = objects; begun = None }))) }
 {
     let left = count_awaiting(objects.as_slice());
     if left == 0 {
-        return (Joined::Whole(carried(carrier, objects)), None);
+        return brought(alloc, carrier, objects);
     }
     let awaiting = Awaiting {
         correlation,
@@ -320,7 +333,7 @@ fn opened(
         begun: None,
         pieces: Vec::new(alloc),
     };
-    (Joined::More, Some(awaiting))
+    Ok((Joined::More, Some(awaiting)))
 }
 
 /// How many objects await a blob.

@@ -8,6 +8,7 @@ ghost use Rattle.etp_frame.specs.declared.joining.JoinError.TheVariants as e;
 use crate::awaiting::{Awaiting, Carrier, came, chunk_came};
 use crate::header::Header;
 use crate::message::Message;
+use etp_values::Boxed;
 use msg_store::StoreMessage;
 use std::alloc::Global;
 use std::marker::Model;
@@ -109,7 +110,7 @@ fn message_came(
     ensures { Gives e.NoMemory result (joins awaited header.now message) }
 {
     match message {
-        Message::Store(message) => store_came(alloc, awaited, header, message),
+        Message::Store(message) => store_came(alloc, awaited, header, message.into_inner()),
         other => Ok((Joined::Whole(other), awaited)),
     }
 }
@@ -138,7 +139,10 @@ fn store_came(
             reply.data_objects,
         ),
         StoreMessage::Chunk(chunk) => chunk_came(alloc, awaited, header.correlation, chunk),
-        other => Ok((Joined::Whole(Message::Store(other)), awaited)),
+        other => match Boxed::new(alloc, other) {
+            Ok(message) => Ok((Joined::Whole(Message::Store(message)), awaited)),
+            Err(_) => Err(JoinError::NoMemory),
+        },
     }
 }
 

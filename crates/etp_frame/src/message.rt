@@ -1,5 +1,5 @@
 //! The messages of all protocols.
-ghost use Rattle.std.specs.Prelude.{◌≡◌, ◌↔◌, ◌++◌, OnOk, IsTrue, pos, is_some};
+ghost use Rattle.std.specs.Prelude.{◌≡◌, ◌↔◌, ◌++◌, OnOk, IfOk, IfErr, IsTrue, pos, is_some};
 ghost use Rattle.avro_bin.specs.Plain.{plain, Writes};
 ghost use Rattle.avro_bin.specs.Shape.{HasSchema, FitsTree};
 ghost use Rattle.etp_schema.specs.Family.{kind_in};
@@ -17,21 +17,22 @@ ghost use Rattle.etp_frame.specs.declared.message.Message.TheVariants as m;
 
 use avro_bin::Fault;
 use etp_schema::{Measure, Reader, is_protocol, protocols};
-use etp_values::NoMemory;
+use etp_values::{Boxed, NoMemory};
 use msg_channel::{ChannelDataLoadMessage, ChannelSubscribeMessage};
 use msg_core::{CoreMessage, DataspaceMessage, TransactionMessage};
 use msg_store::{DataArrayMessage, StoreMessage};
 
-/// A message of any protocol. ProtocolException and Acknowledge stand in Core's enum under every protocol.
+/// A message of any protocol, behind one pointer: moving it moves that alone. ProtocolException and Acknowledge stand in Core's enum
+/// under every protocol.
 #[derive(Debug, Drop)]
 pub enum Message {
-    Core(CoreMessage),
-    Transaction(TransactionMessage),
-    Dataspace(DataspaceMessage),
-    Store(StoreMessage),
-    DataArray(DataArrayMessage),
-    ChannelSubscribe(ChannelSubscribeMessage),
-    ChannelDataLoad(ChannelDataLoadMessage),
+    Core(Boxed<CoreMessage>),
+    Transaction(Boxed<TransactionMessage>),
+    Dataspace(Boxed<DataspaceMessage>),
+    Store(Boxed<StoreMessage>),
+    DataArray(Boxed<DataArrayMessage>),
+    ChannelSubscribe(Boxed<ChannelSubscribeMessage>),
+    ChannelDataLoad(Boxed<ChannelDataLoadMessage>),
 }
 
 impl Message {
@@ -40,13 +41,13 @@ impl Message {
         ensures { result ≡ pos (message_body self.now).number }
     {
         match self {
-            Message::Core(message) => message.kind(),
-            Message::Transaction(message) => message.kind(),
-            Message::Dataspace(message) => message.kind(),
-            Message::Store(message) => message.kind(),
-            Message::DataArray(message) => message.kind(),
-            Message::ChannelSubscribe(message) => message.kind(),
-            Message::ChannelDataLoad(message) => message.kind(),
+            Message::Core(message) => message.get().kind(),
+            Message::Transaction(message) => message.get().kind(),
+            Message::Dataspace(message) => message.get().kind(),
+            Message::Store(message) => message.get().kind(),
+            Message::DataArray(message) => message.get().kind(),
+            Message::ChannelSubscribe(message) => message.get().kind(),
+            Message::ChannelDataLoad(message) => message.get().kind(),
         }
     }
 
@@ -70,9 +71,7 @@ impl Message {
         ensures { IsTrue result ↔ IsOf self.now protocol }
     {
         match self {
-            Message::Core(CoreMessage::ProtocolException(_)) => is_protocol(protocol),
-            Message::Core(CoreMessage::Acknowledge(_)) => is_protocol(protocol),
-            Message::Core(_) => protocol == protocols::CORE,
+            Message::Core(message) => is_core_of(message.get(), protocol),
             Message::Transaction(_) => protocol == protocols::TRANSACTION,
             Message::Dataspace(_) => protocol == protocols::DATASPACE,
             Message::Store(_) => protocol == protocols::STORE,
@@ -109,13 +108,13 @@ impl Message {
         ensures fits { OnOk result (FitsTree (message_body self.now).value) }
     {
         match self {
-            Message::Core(message) => message.write(into),
-            Message::Transaction(message) => message.write(into),
-            Message::Dataspace(message) => message.write(into),
-            Message::Store(message) => message.write(into),
-            Message::DataArray(message) => message.write(into),
-            Message::ChannelSubscribe(message) => message.write(into),
-            Message::ChannelDataLoad(message) => message.write(into),
+            Message::Core(message) => message.get().write(into),
+            Message::Transaction(message) => message.get().write(into),
+            Message::Dataspace(message) => message.get().write(into),
+            Message::Store(message) => message.get().write(into),
+            Message::DataArray(message) => message.get().write(into),
+            Message::ChannelSubscribe(message) => message.get().write(into),
+            Message::ChannelDataLoad(message) => message.get().write(into),
         }
     }
 
@@ -124,14 +123,25 @@ impl Message {
         ensures { result ≡ measured (message_body self.now).value }
     {
         match self {
-            Message::Core(message) => message.measure(),
-            Message::Transaction(message) => message.measure(),
-            Message::Dataspace(message) => message.measure(),
-            Message::Store(message) => message.measure(),
-            Message::DataArray(message) => message.measure(),
-            Message::ChannelSubscribe(message) => message.measure(),
-            Message::ChannelDataLoad(message) => message.measure(),
+            Message::Core(message) => message.get().measure(),
+            Message::Transaction(message) => message.get().measure(),
+            Message::Dataspace(message) => message.get().measure(),
+            Message::Store(message) => message.get().measure(),
+            Message::DataArray(message) => message.get().measure(),
+            Message::ChannelSubscribe(message) => message.get().measure(),
+            Message::ChannelDataLoad(message) => message.get().measure(),
         }
+    }
+}
+
+/// Whether the protocol of this number has the message.
+fn is_core_of(message: &CoreMessage, protocol: i32) -> bool
+    ensures { IsTrue result ↔ IsOf (m.Core message.now) protocol }
+{
+    match message {
+        CoreMessage::ProtocolException(_) => is_protocol(protocol),
+        CoreMessage::Acknowledge(_) => is_protocol(protocol),
+        _ => protocol == protocols::CORE,
     }
 }
 
@@ -143,6 +153,17 @@ fn is_common(kind: i32) -> bool
         protocols::PROTOCOL_EXCEPTION_KIND => true,
         protocols::ACKNOWLEDGE_KIND => true,
         _ => false,
+    }
+}
+
+/// A message of a protocol that was read, on the heap.
+fn boxed<T: Drop>(from: &Reader<'_>, message: T) -> Result<Boxed<T>, Fault>
+    ensures value { IfOk result (λ b. b ≡ message) }
+    ensures cause { IfErr result (λ e. e ≡ Fault.Memory) }
+{
+    match Boxed::new(from.alloc(), message) {
+        Ok(message) => Ok(message),
+        Err(_) => Err(Fault::Memory),
     }
 }
 
@@ -160,7 +181,7 @@ fn read_core(from: &mut Reader<'_>, kind: i32) -> Result<Option<Message>, Fault>
     ensures { Reads (kind_at (kind_in (under m.Core core_kinds) kind) from.old.left from.old.rest.now) result from.new }
 {
     match CoreMessage::read(from, kind) {
-        Ok(Some(message)) => Ok(Some(Message::Core(message))),
+        Ok(Some(message)) => Ok(Some(Message::Core(boxed(from, message)?))),
         Ok(None) => Ok(None),
         Err(fault) => Err(fault),
     }
@@ -173,7 +194,7 @@ fn read_transaction(from: &mut Reader<'_>, kind: i32) -> Result<Option<Message>,
         return read_common(from, kind);
     }
     match TransactionMessage::read(from, kind) {
-        Ok(Some(message)) => Ok(Some(Message::Transaction(message))),
+        Ok(Some(message)) => Ok(Some(Message::Transaction(boxed(from, message)?))),
         Ok(None) => Ok(None),
         Err(fault) => Err(fault),
     }
@@ -186,7 +207,7 @@ fn read_dataspace(from: &mut Reader<'_>, kind: i32) -> Result<Option<Message>, F
         return read_common(from, kind);
     }
     match DataspaceMessage::read(from, kind) {
-        Ok(Some(message)) => Ok(Some(Message::Dataspace(message))),
+        Ok(Some(message)) => Ok(Some(Message::Dataspace(boxed(from, message)?))),
         Ok(None) => Ok(None),
         Err(fault) => Err(fault),
     }
@@ -199,7 +220,7 @@ fn read_store(from: &mut Reader<'_>, kind: i32) -> Result<Option<Message>, Fault
         return read_common(from, kind);
     }
     match StoreMessage::read(from, kind) {
-        Ok(Some(message)) => Ok(Some(Message::Store(message))),
+        Ok(Some(message)) => Ok(Some(Message::Store(boxed(from, message)?))),
         Ok(None) => Ok(None),
         Err(fault) => Err(fault),
     }
@@ -212,7 +233,7 @@ fn read_data_array(from: &mut Reader<'_>, kind: i32) -> Result<Option<Message>, 
         return read_common(from, kind);
     }
     match DataArrayMessage::read(from, kind) {
-        Ok(Some(message)) => Ok(Some(Message::DataArray(message))),
+        Ok(Some(message)) => Ok(Some(Message::DataArray(boxed(from, message)?))),
         Ok(None) => Ok(None),
         Err(fault) => Err(fault),
     }
@@ -225,7 +246,7 @@ fn read_channel_subscribe(from: &mut Reader<'_>, kind: i32) -> Result<Option<Mes
         return read_common(from, kind);
     }
     match ChannelSubscribeMessage::read(from, kind) {
-        Ok(Some(message)) => Ok(Some(Message::ChannelSubscribe(message))),
+        Ok(Some(message)) => Ok(Some(Message::ChannelSubscribe(boxed(from, message)?))),
         Ok(None) => Ok(None),
         Err(fault) => Err(fault),
     }
@@ -238,7 +259,7 @@ fn read_channel_data_load(from: &mut Reader<'_>, kind: i32) -> Result<Option<Mes
         return read_common(from, kind);
     }
     match ChannelDataLoadMessage::read(from, kind) {
-        Ok(Some(message)) => Ok(Some(Message::ChannelDataLoad(message))),
+        Ok(Some(message)) => Ok(Some(Message::ChannelDataLoad(boxed(from, message)?))),
         Ok(None) => Ok(None),
         Err(fault) => Err(fault),
     }

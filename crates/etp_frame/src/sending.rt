@@ -12,7 +12,7 @@ use crate::grouping::{Entries, Measuring};
 use crate::message::Message;
 use crate::parting::WithEntries;
 use etp_schema::Measure;
-use etp_values::{Blob, Id16, List, Named, NoMemory, Text};
+use etp_values::{Blob, Boxed, Id16, List, Named, NoMemory, Text};
 use msg_store::{Chunk, DataObject, StoreMessage};
 use std::alloc::Global;
 
@@ -209,11 +209,11 @@ pub(crate) fn as_sent(
 }
 
 /// Adds the chunks as messages.
-fn push_chunks(into: &mut Vec<Message>, chunks: List<Chunk>) -> Result<(), NoMemory>
+fn push_chunks(alloc: Global, into: &mut Vec<Message>, chunks: List<Chunk>) -> Result<(), NoMemory>
     ensures { OnOk result (into.new.items ≡ into.old.items ++ map (λ c. m.Store (s.Chunk c)) chunks) }
 {
     for chunk in chunks.into_vec() {
-        into.push(Message::Store(StoreMessage::Chunk(chunk)))?;
+        into.push(Message::Store(Boxed::new(alloc, StoreMessage::Chunk(chunk))?))?;
     }
     Ok(())
 }
@@ -238,7 +238,7 @@ fn unpack(alloc: Global, sent: Vec<Sent>) -> Result<Unpacked, NoMemory>
             chunks: own,
         } = one;
         objects.push(object)?;
-        push_chunks(&mut chunks, own)?;
+        push_chunks(alloc, &mut chunks, own)?;
     }
     Ok(Unpacked { objects, chunks })
 }

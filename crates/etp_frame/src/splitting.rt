@@ -25,13 +25,21 @@ fn parts_of(
     ensures { IfOk result (λ l. l ≡ parts limit number blobs message) }
 {
     match message {
-        Message::Core(message) => core_parts(alloc, message, limit),
+        Message::Core(message) => core_parts(alloc, message.into_inner(), limit),
         Message::Transaction(message) => one_part(alloc, Message::Transaction(message)),
-        Message::Dataspace(message) => dataspace_parts(alloc, message, limit),
-        Message::Store(message) => store_parts(alloc, message, limit, number, blobs),
-        Message::DataArray(message) => data_array_parts(alloc, message, limit),
-        Message::ChannelSubscribe(message) => channel_subscribe_parts(alloc, message, limit),
-        Message::ChannelDataLoad(message) => channel_data_load_parts(alloc, message, limit),
+        Message::Dataspace(message) => dataspace_parts(alloc, message.into_inner(), limit),
+        Message::Store(message) => store_parts(alloc, message.into_inner(), limit, number, blobs),
+        Message::DataArray(message) => data_array_parts(alloc, message.into_inner(), limit),
+        Message::ChannelSubscribe(message) => channel_subscribe_parts(
+            alloc,
+            message.into_inner(),
+            limit,
+        ),
+        Message::ChannelDataLoad(message) => channel_data_load_parts(
+            alloc,
+            message.into_inner(),
+            limit,
+        ),
     }
 }
 
@@ -68,7 +76,7 @@ pub fn blobs_in(message: &Message, limit: u64) -> u64
     ensures { result ≡ blobs_in limit message.now }
 {
     match message {
-        Message::Store(message) => store_blobs(limit, message),
+        Message::Store(message) => store_blobs(limit, message.get()),
         _ => 0,
     }
 }

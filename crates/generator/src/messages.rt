@@ -6,7 +6,7 @@ ghost use Rattle.generator.specs.Generator.{wanted, request_session, open_channe
 use crate::channels::{channel_uri, id_ending};
 use etp_frame::Message;
 use etp_schema::{Few, protocols};
-use etp_values::{DataValue, List, Named, NoMemory, Text};
+use etp_values::{Boxed, DataValue, List, Named, NoMemory, Text};
 use msg_channel::{
     ChannelDataLoadMessage, ChannelSubscribeInfo, ChannelSubscribeMessage, DataItem, IndexInterval,
     IndexValue, LoadChannelData, OpenChannels, ReplaceRange, SubscribeChannels,
@@ -42,19 +42,22 @@ fn request_session(alloc: Global) -> Result<Message, NoMemory>
     let application_version = Text::copy(alloc, "1")?;
     let requested_protocols = wanted_protocols(alloc)?;
     let supported_formats = formats(alloc)?;
-    Ok(Message::Core(CoreMessage::RequestSession(RequestSession {
-        application_name,
-        application_version,
-        client_instance_id: id_ending(0),
-        requested_protocols,
-        supported_data_objects: List::new(alloc),
-        supported_compression: List::new(alloc),
-        supported_formats,
-        current_date_time: 0,
-        earliest_retained_change_time: 0,
-        server_authorization_required: false,
-        endpoint_capabilities: Named::new(alloc),
-    })))
+    Ok(Message::Core(Boxed::new(
+        alloc,
+        CoreMessage::RequestSession(RequestSession {
+            application_name,
+            application_version,
+            client_instance_id: id_ending(0),
+            requested_protocols,
+            supported_data_objects: List::new(alloc),
+            supported_compression: List::new(alloc),
+            supported_formats,
+            current_date_time: 0,
+            earliest_retained_change_time: 0,
+            server_authorization_required: false,
+            endpoint_capabilities: Named::new(alloc),
+        }),
+    )?))
 }
 
 /// The protocols of channels.
@@ -99,7 +102,10 @@ fn open_channel(alloc: Global, channel: u8) -> Result<Message, NoMemory>
 {
     let uri = channel_uri(alloc, channel)?.write(alloc)?;
     let uris = named(alloc, "c", uri)?;
-    Ok(Message::ChannelDataLoad(ChannelDataLoadMessage::OpenChannels(OpenChannels { uris })))
+    Ok(Message::ChannelDataLoad(Boxed::new(
+        alloc,
+        ChannelDataLoadMessage::OpenChannels(OpenChannels { uris }),
+    )?))
 }
 
 /// Subscribes to a channel from index 0 on, with all its changes.
@@ -113,9 +119,10 @@ fn subscribe_channel(alloc: Global, channel: i64) -> Result<Message, NoMemory>
         request_latest_index_count: None,
     };
     let channels = named(alloc, "s", wish)?;
-    Ok(Message::ChannelSubscribe(ChannelSubscribeMessage::SubscribeChannels(SubscribeChannels {
-        channels,
-    })))
+    Ok(Message::ChannelSubscribe(Boxed::new(
+        alloc,
+        ChannelSubscribeMessage::SubscribeChannels(SubscribeChannels { channels }),
+    )?))
 }
 
 /// One value under a name.
@@ -136,18 +143,21 @@ fn later_message(alloc: Global, number: u64, place: u32) -> Result<Message, NoMe
     let at = i64::from(place);
     let value = (number >> 40) as i64;
     match (number >> 33) % 4 {
-        2 => Ok(ping(at)),
+        2 => ping(alloc, at),
         3 => replace_range(alloc, channel, at - 64, at - 33, value),
         _ => append_point(alloc, channel, at, value),
     }
 }
 
-fn ping(at: i64) -> Message
-    ensures { result ≡ ping at }
+fn ping(alloc: Global, at: i64) -> Result<Message, NoMemory>
+    ensures { IfOk result (λ m. m ≡ ping at) }
 {
-    Message::Core(CoreMessage::Ping(Ping {
-        current_date_time: at,
-    }))
+    Ok(Message::Core(Boxed::new(
+        alloc,
+        CoreMessage::Ping(Ping {
+            current_date_time: at,
+        }),
+    )?))
 }
 
 /// Leaves a range of a channel with one point, at its first index.
@@ -168,11 +178,14 @@ fn replace_range(
     };
     let channel_ids = single(alloc, channel)?;
     let payload = points(alloc, channel, first, value)?;
-    Ok(Message::ChannelDataLoad(ChannelDataLoadMessage::ReplaceRange(ReplaceRange {
-        changed_interval,
-        channel_ids,
-        payload,
-    })))
+    Ok(Message::ChannelDataLoad(Boxed::new(
+        alloc,
+        ChannelDataLoadMessage::ReplaceRange(ReplaceRange {
+            changed_interval,
+            channel_ids,
+            payload,
+        }),
+    )?))
 }
 
 /// Appends a point.
@@ -180,9 +193,10 @@ fn append_point(alloc: Global, channel: i64, at: i64, value: i64) -> Result<Mess
     ensures { IfOk result (λ m. m ≡ append_point channel at value) }
 {
     let payload = points(alloc, channel, at, value)?;
-    Ok(Message::ChannelDataLoad(ChannelDataLoadMessage::LoadChannelData(LoadChannelData {
-        payload,
-    })))
+    Ok(Message::ChannelDataLoad(Boxed::new(
+        alloc,
+        ChannelDataLoadMessage::LoadChannelData(LoadChannelData { payload }),
+    )?))
 }
 
 /// One point.

@@ -15,6 +15,7 @@
 
 mod arriving;
 mod laws;
+mod machine;
 mod noting;
 mod outbox;
 mod parting;

@@ -191,7 +191,7 @@ fn sent_under(request: &Request, message: &Message) -> i32
     ensures { result ≡ sent_under request.now.protocol message.now }
 {
     match message {
-        Message::Core(message) => core_protocol(request, message),
+        Message::Core(message) => core_protocol(request, message.get()),
         other => other.protocol(),
     }
 }

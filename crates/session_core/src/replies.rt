@@ -4,7 +4,7 @@ ghost use Rattle.session_core.specs.Replies.{error_info, receipt, refusal, refus
 
 use crate::state::{Addressee, Saying};
 use etp_frame::Message;
-use etp_values::{ErrorCode, List, Named, NoMemory, Text};
+use etp_values::{Boxed, ErrorCode, List, Named, NoMemory, Text};
 use keyed_requests::Sending;
 use msg_channel::{ChannelDataLoadMessage, ChannelSubscribeMessage};
 use msg_core::{
@@ -15,13 +15,13 @@ use std::alloc::Global;
 
 /// A message of one protocol, as a message of any.
 pub(crate) trait IntoMessage {
-    ghost use Rattle.std.specs.Prelude.{◌≡◌};
+    ghost use Rattle.std.specs.Prelude.{◌≡◌, IfOk};
     ghost use Rattle.etp_frame.specs.declared.message.Message.{Message};
 
     ghost wrapped: { Self → Message };
 
-    fn into_message(self) -> Message
-        ensures { result ≡ wrapped self };
+    fn into_message(self, alloc: Global) -> Result<Message, NoMemory>
+        ensures { IfOk result (λ message. message ≡ wrapped self) };
 }
 
 impl IntoMessage for StoreMessage {
@@ -29,8 +29,8 @@ impl IntoMessage for StoreMessage {
 
     ghost wrapped = { λ message. Store message };
 
-    fn into_message(self) -> Message {
-        Message::Store(self)
+    fn into_message(self, alloc: Global) -> Result<Message, NoMemory> {
+        Ok(Message::Store(Boxed::new(alloc, self)?))
     }
 }
 
@@ -39,8 +39,8 @@ impl IntoMessage for DataArrayMessage {
 
     ghost wrapped = { λ message. DataArray message };
 
-    fn into_message(self) -> Message {
-        Message::DataArray(self)
+    fn into_message(self, alloc: Global) -> Result<Message, NoMemory> {
+        Ok(Message::DataArray(Boxed::new(alloc, self)?))
     }
 }
 
@@ -49,8 +49,8 @@ impl IntoMessage for ChannelSubscribeMessage {
 
     ghost wrapped = { λ message. ChannelSubscribe message };
 
-    fn into_message(self) -> Message {
-        Message::ChannelSubscribe(self)
+    fn into_message(self, alloc: Global) -> Result<Message, NoMemory> {
+        Ok(Message::ChannelSubscribe(Boxed::new(alloc, self)?))
     }
 }
 
@@ -59,8 +59,8 @@ impl IntoMessage for ChannelDataLoadMessage {
 
     ghost wrapped = { λ message. ChannelDataLoad message };
 
-    fn into_message(self) -> Message {
-        Message::ChannelDataLoad(self)
+    fn into_message(self, alloc: Global) -> Result<Message, NoMemory> {
+        Ok(Message::ChannelDataLoad(Boxed::new(alloc, self)?))
     }
 }
 
@@ -69,8 +69,8 @@ impl IntoMessage for TransactionMessage {
 
     ghost wrapped = { λ message. Transaction message };
 
-    fn into_message(self) -> Message {
-        Message::Transaction(self)
+    fn into_message(self, alloc: Global) -> Result<Message, NoMemory> {
+        Ok(Message::Transaction(Boxed::new(alloc, self)?))
     }
 }
 
@@ -79,8 +79,8 @@ impl IntoMessage for DataspaceMessage {
 
     ghost wrapped = { λ message. Dataspace message };
 
-    fn into_message(self) -> Message {
-        Message::Dataspace(self)
+    fn into_message(self, alloc: Global) -> Result<Message, NoMemory> {
+        Ok(Message::Dataspace(Boxed::new(alloc, self)?))
     }
 }
 
@@ -98,10 +98,13 @@ pub(crate) fn refusal(alloc: Global, code: ErrorCode) -> Result<Message, NoMemor
     ensures { IfOk result (λ message. message ≡ refusal code) }
 {
     let error = error_info(alloc, code)?;
-    Ok(Message::Core(CoreMessage::ProtocolException(ProtocolException {
-        error: Some(error),
-        errors: Named::new(alloc),
-    })))
+    Ok(Message::Core(Boxed::new(
+        alloc,
+        CoreMessage::ProtocolException(ProtocolException {
+            error: Some(error),
+            errors: Named::new(alloc),
+        }),
+    )?))
 }
 
 /// The exception that refuses some keys of a request, each with its code.
@@ -113,10 +116,13 @@ fn refused_keys(alloc: Global, keys: Named<ErrorCode>) -> Result<Message, NoMemo
         let info = error_info(alloc, code)?;
         errors.push((key, info))?;
     }
-    Ok(Message::Core(CoreMessage::ProtocolException(ProtocolException {
-        error: None,
-        errors: Named::from_sorted(errors),
-    })))
+    Ok(Message::Core(Boxed::new(
+        alloc,
+        CoreMessage::ProtocolException(ProtocolException {
+            error: None,
+            errors: Named::from_sorted(errors),
+        }),
+    )?))
 }
 
 /// What a protocol sends, with whom it is for.
@@ -124,12 +130,12 @@ fn saying_of<M: IntoMessage>(alloc: Global, sending: Sending<M>) -> Result<Sayin
     ensures { IfOk result (λ saying. saying ≡ saying_of M.wrapped sending) }
 {
     match sending {
-        Sending::Reply(message) => Ok(to_request(message.into_message())),
+        Sending::Reply(message) => Ok(to_request(message.into_message(alloc)?)),
         Sending::Refusal(code) => Ok(to_request(refusal(alloc, code)?)),
         Sending::RefusedKeys(keys) => Ok(to_request(refused_keys(alloc, keys)?)),
         Sending::Notice(message) => Ok(Saying {
             to: Addressee::Nobody,
-            message: message.into_message(),
+            message: message.into_message(alloc)?,
         }),
     }
 }
@@ -145,13 +151,13 @@ pub(crate) fn to_request(message: Message) -> Saying
 }
 
 /// The message by which the receipt of another is acknowledged.
-pub(crate) fn receipt() -> Saying
-    ensures { result ≡ receipt }
+pub(crate) fn receipt(alloc: Global) -> Result<Saying, NoMemory>
+    ensures { IfOk result (λ saying. saying ≡ receipt) }
 {
-    Saying {
+    Ok(Saying {
         to: Addressee::Receipt,
-        message: Message::Core(CoreMessage::Acknowledge(Acknowledge)),
-    }
+        message: Message::Core(Boxed::new(alloc, CoreMessage::Acknowledge(Acknowledge))?),
+    })
 }
 
 /// What a protocol answers a request, and tells behind it.

@@ -6,7 +6,7 @@ ghost use Rattle.msg_channel.specs.declared.channel_data_load_messages.ChannelDa
 
 use crate::message::Message;
 use crate::parting::{WithEntries, one_part, parts_of_entries};
-use etp_values::{List, Named, NoMemory, Text};
+use etp_values::{Boxed, List, Named, NoMemory, Text};
 use msg_channel::{
     ChannelDataLoadMessage, ChannelsClosed, OpenChannelInfo, OpenChannelsResponse,
     TruncateChannelsResponse,
@@ -21,14 +21,17 @@ impl WithEntries<OpenChannelInfo> for OpenChannelsResponse {
 
     fn with_entries(
         &self,
-        _alloc: Global,
+        alloc: Global,
         entries: Named<OpenChannelInfo>,
     ) -> Result<Message, NoMemory>
         ensures { IfOk result (λ x. x ≡ m.ChannelDataLoad (load.OpenChannelsResponse (record self.now { channels = entries }))) }
     {
-        Ok(Message::ChannelDataLoad(ChannelDataLoadMessage::OpenChannelsResponse(
-            OpenChannelsResponse { channels: entries },
-        )))
+        Ok(Message::ChannelDataLoad(Boxed::new(
+            alloc,
+            ChannelDataLoadMessage::OpenChannelsResponse(OpenChannelsResponse {
+                channels: entries,
+            }),
+        )?))
     }
 }
 
@@ -56,10 +59,13 @@ impl WithEntries<i64> for ChannelsClosed {
     fn with_entries(&self, alloc: Global, entries: Named<i64>) -> Result<Message, NoMemory>
         ensures { IfOk result (λ x. x ≡ m.ChannelDataLoad (load.ChannelsClosed (record self.now { id = entries }))) }
     {
-        Ok(Message::ChannelDataLoad(ChannelDataLoadMessage::ChannelsClosed(ChannelsClosed {
-            reason: Text::copy(alloc, self.reason.as_str())?,
-            id: entries,
-        })))
+        Ok(Message::ChannelDataLoad(Boxed::new(
+            alloc,
+            ChannelDataLoadMessage::ChannelsClosed(ChannelsClosed {
+                reason: Text::copy(alloc, self.reason.as_str())?,
+                id: entries,
+            }),
+        )?))
     }
 }
 
@@ -85,14 +91,15 @@ impl WithEntries<i64> for TruncateChannelsResponse {
 
     ghost whole = { λ x g. m.ChannelDataLoad (load.TruncateChannelsResponse (record x { channels_truncated_time = g })) };
 
-    fn with_entries(&self, _alloc: Global, entries: Named<i64>) -> Result<Message, NoMemory>
+    fn with_entries(&self, alloc: Global, entries: Named<i64>) -> Result<Message, NoMemory>
         ensures { IfOk result (λ x. x ≡ m.ChannelDataLoad (load.TruncateChannelsResponse (record self.now { channels_truncated_time = entries }))) }
     {
-        Ok(Message::ChannelDataLoad(ChannelDataLoadMessage::TruncateChannelsResponse(
-            TruncateChannelsResponse {
+        Ok(Message::ChannelDataLoad(Boxed::new(
+            alloc,
+            ChannelDataLoadMessage::TruncateChannelsResponse(TruncateChannelsResponse {
                 channels_truncated_time: entries,
-            },
-        )))
+            }),
+        )?))
     }
 }
 
@@ -129,6 +136,6 @@ pub(crate) fn channel_data_load_parts(
         ),
         ChannelDataLoadMessage::TruncateChannelsResponse(message) =>
             channel_data_load_truncate_channels_response(alloc, message, limit),
-        other => one_part(alloc, Message::ChannelDataLoad(other)),
+        other => one_part(alloc, Message::ChannelDataLoad(Boxed::new(alloc, other)?)),
     }
 }

@@ -7,7 +7,7 @@ ghost use Rattle.msg_channel.specs.declared.channel_subscribe_messages.ChannelSu
 use crate::message::Message;
 use crate::parting::{WithElements, WithEntries, one_part, parts_of_elements, parts_of_entries};
 use crate::parts::copies::copied_interval;
-use etp_values::{Copied, List, Named, NoMemory, Text};
+use etp_values::{Boxed, Copied, List, Named, NoMemory, Text};
 use msg_channel::{
     ChannelData, ChannelMetadataRecord, ChannelSubscribeMessage, ChannelsTruncated, DataItem,
     GetChannelMetadataResponse, GetRangesResponse, RangeReplaced, SubscribeChannelsResponse,
@@ -24,14 +24,17 @@ impl WithEntries<ChannelMetadataRecord> for GetChannelMetadataResponse {
 
     fn with_entries(
         &self,
-        _alloc: Global,
+        alloc: Global,
         entries: Named<ChannelMetadataRecord>,
     ) -> Result<Message, NoMemory>
         ensures { IfOk result (λ x. x ≡ m.ChannelSubscribe (subscribe.GetChannelMetadataResponse (record self.now { metadata = entries }))) }
     {
-        Ok(Message::ChannelSubscribe(ChannelSubscribeMessage::GetChannelMetadataResponse(
-            GetChannelMetadataResponse { metadata: entries },
-        )))
+        Ok(Message::ChannelSubscribe(Boxed::new(
+            alloc,
+            ChannelSubscribeMessage::GetChannelMetadataResponse(GetChannelMetadataResponse {
+                metadata: entries,
+            }),
+        )?))
     }
 }
 
@@ -56,12 +59,15 @@ impl WithEntries<Text> for SubscribeChannelsResponse {
 
     ghost whole = { λ x g. m.ChannelSubscribe (subscribe.SubscribeChannelsResponse (record x { success = g })) };
 
-    fn with_entries(&self, _alloc: Global, entries: Named<Text>) -> Result<Message, NoMemory>
+    fn with_entries(&self, alloc: Global, entries: Named<Text>) -> Result<Message, NoMemory>
         ensures { IfOk result (λ x. x ≡ m.ChannelSubscribe (subscribe.SubscribeChannelsResponse (record self.now { success = entries }))) }
     {
-        Ok(Message::ChannelSubscribe(ChannelSubscribeMessage::SubscribeChannelsResponse(
-            SubscribeChannelsResponse { success: entries },
-        )))
+        Ok(Message::ChannelSubscribe(Boxed::new(
+            alloc,
+            ChannelSubscribeMessage::SubscribeChannelsResponse(SubscribeChannelsResponse {
+                success: entries,
+            }),
+        )?))
     }
 }
 
@@ -86,12 +92,13 @@ impl WithElements<DataItem> for ChannelData {
 
     ghost whole = { λ x g. m.ChannelSubscribe (subscribe.ChannelData (record x { payload = g })) };
 
-    fn with_elements(&self, _alloc: Global, elements: List<DataItem>) -> Result<Message, NoMemory>
+    fn with_elements(&self, alloc: Global, elements: List<DataItem>) -> Result<Message, NoMemory>
         ensures { IfOk result (λ x. x ≡ m.ChannelSubscribe (subscribe.ChannelData (record self.now { payload = elements }))) }
     {
-        Ok(Message::ChannelSubscribe(ChannelSubscribeMessage::ChannelData(ChannelData {
-            payload: elements,
-        })))
+        Ok(Message::ChannelSubscribe(Boxed::new(
+            alloc,
+            ChannelSubscribeMessage::ChannelData(ChannelData { payload: elements }),
+        )?))
     }
 }
 
@@ -119,12 +126,15 @@ impl WithElements<DataItem> for RangeReplaced {
     fn with_elements(&self, alloc: Global, elements: List<DataItem>) -> Result<Message, NoMemory>
         ensures { IfOk result (λ x. x ≡ m.ChannelSubscribe (subscribe.RangeReplaced (record self.now { payload = elements }))) }
     {
-        Ok(Message::ChannelSubscribe(ChannelSubscribeMessage::RangeReplaced(RangeReplaced {
-            change_time: self.change_time,
-            channel_ids: self.channel_ids.copy(alloc)?,
-            changed_interval: copied_interval(alloc, &self.changed_interval)?,
-            payload: elements,
-        })))
+        Ok(Message::ChannelSubscribe(Boxed::new(
+            alloc,
+            ChannelSubscribeMessage::RangeReplaced(RangeReplaced {
+                change_time: self.change_time,
+                channel_ids: self.channel_ids.copy(alloc)?,
+                changed_interval: copied_interval(alloc, &self.changed_interval)?,
+                payload: elements,
+            }),
+        )?))
     }
 }
 
@@ -148,17 +158,18 @@ impl WithElements<TruncateInfo> for ChannelsTruncated {
 
     fn with_elements(
         &self,
-        _alloc: Global,
+        alloc: Global,
         elements: List<TruncateInfo>,
     ) -> Result<Message, NoMemory>
         ensures { IfOk result (λ x. x ≡ m.ChannelSubscribe (subscribe.ChannelsTruncated (record self.now { channels = elements }))) }
     {
-        Ok(Message::ChannelSubscribe(ChannelSubscribeMessage::ChannelsTruncated(
-            ChannelsTruncated {
+        Ok(Message::ChannelSubscribe(Boxed::new(
+            alloc,
+            ChannelSubscribeMessage::ChannelsTruncated(ChannelsTruncated {
                 change_time: self.change_time,
                 channels: elements,
-            },
-        )))
+            }),
+        )?))
     }
 }
 
@@ -183,12 +194,13 @@ impl WithEntries<i64> for SubscriptionsStopped {
     fn with_entries(&self, alloc: Global, entries: Named<i64>) -> Result<Message, NoMemory>
         ensures { IfOk result (λ x. x ≡ m.ChannelSubscribe (subscribe.SubscriptionsStopped (record self.now { channel_ids = entries }))) }
     {
-        Ok(Message::ChannelSubscribe(ChannelSubscribeMessage::SubscriptionsStopped(
-            SubscriptionsStopped {
+        Ok(Message::ChannelSubscribe(Boxed::new(
+            alloc,
+            ChannelSubscribeMessage::SubscriptionsStopped(SubscriptionsStopped {
                 reason: Text::copy(alloc, self.reason.as_str())?,
                 channel_ids: entries,
-            },
-        )))
+            }),
+        )?))
     }
 }
 
@@ -217,12 +229,13 @@ impl WithElements<DataItem> for GetRangesResponse {
 
     ghost whole = { λ x g. m.ChannelSubscribe (subscribe.GetRangesResponse (record x { payload = g })) };
 
-    fn with_elements(&self, _alloc: Global, elements: List<DataItem>) -> Result<Message, NoMemory>
+    fn with_elements(&self, alloc: Global, elements: List<DataItem>) -> Result<Message, NoMemory>
         ensures { IfOk result (λ x. x ≡ m.ChannelSubscribe (subscribe.GetRangesResponse (record self.now { payload = elements }))) }
     {
-        Ok(Message::ChannelSubscribe(ChannelSubscribeMessage::GetRangesResponse(GetRangesResponse {
-            payload: elements,
-        })))
+        Ok(Message::ChannelSubscribe(Boxed::new(
+            alloc,
+            ChannelSubscribeMessage::GetRangesResponse(GetRangesResponse { payload: elements }),
+        )?))
     }
 }
 
@@ -267,6 +280,6 @@ pub(crate) fn channel_subscribe_parts(
             channel_subscribe_subscriptions_stopped(alloc, message, limit),
         ChannelSubscribeMessage::GetRangesResponse(message) =>
             channel_subscribe_get_ranges_response(alloc, message, limit),
-        other => one_part(alloc, Message::ChannelSubscribe(other)),
+        other => one_part(alloc, Message::ChannelSubscribe(Boxed::new(alloc, other)?)),
     }
 }

@@ -6,7 +6,7 @@ ghost use Rattle.msg_store.specs.declared.data_array_messages.DataArrayMessage.T
 
 use crate::message::Message;
 use crate::parting::{WithEntries, one_part, parts_of_entries};
-use etp_values::{List, Named, NoMemory, Text};
+use etp_values::{Boxed, List, Named, NoMemory, Text};
 use msg_store::{
     DataArray, DataArrayMessage, DataArrayMetadata, GetDataArrayMetadataResponse,
     GetDataArraysResponse, GetDataSubarraysResponse, PutDataArraysResponse,
@@ -20,12 +20,15 @@ impl WithEntries<DataArray> for GetDataArraysResponse {
 
     ghost whole = { λ x g. m.DataArray (array.GetDataArraysResponse (record x { data_arrays = g })) };
 
-    fn with_entries(&self, _alloc: Global, entries: Named<DataArray>) -> Result<Message, NoMemory>
+    fn with_entries(&self, alloc: Global, entries: Named<DataArray>) -> Result<Message, NoMemory>
         ensures { IfOk result (λ x. x ≡ m.DataArray (array.GetDataArraysResponse (record self.now { data_arrays = entries }))) }
     {
-        Ok(Message::DataArray(DataArrayMessage::GetDataArraysResponse(GetDataArraysResponse {
-            data_arrays: entries,
-        })))
+        Ok(Message::DataArray(Boxed::new(
+            alloc,
+            DataArrayMessage::GetDataArraysResponse(GetDataArraysResponse {
+                data_arrays: entries,
+            }),
+        )?))
     }
 }
 
@@ -50,14 +53,15 @@ impl WithEntries<DataArray> for GetDataSubarraysResponse {
 
     ghost whole = { λ x g. m.DataArray (array.GetDataSubarraysResponse (record x { data_subarrays = g })) };
 
-    fn with_entries(&self, _alloc: Global, entries: Named<DataArray>) -> Result<Message, NoMemory>
+    fn with_entries(&self, alloc: Global, entries: Named<DataArray>) -> Result<Message, NoMemory>
         ensures { IfOk result (λ x. x ≡ m.DataArray (array.GetDataSubarraysResponse (record self.now { data_subarrays = entries }))) }
     {
-        Ok(Message::DataArray(DataArrayMessage::GetDataSubarraysResponse(
-            GetDataSubarraysResponse {
+        Ok(Message::DataArray(Boxed::new(
+            alloc,
+            DataArrayMessage::GetDataSubarraysResponse(GetDataSubarraysResponse {
                 data_subarrays: entries,
-            },
-        )))
+            }),
+        )?))
     }
 }
 
@@ -84,16 +88,17 @@ impl WithEntries<DataArrayMetadata> for GetDataArrayMetadataResponse {
 
     fn with_entries(
         &self,
-        _alloc: Global,
+        alloc: Global,
         entries: Named<DataArrayMetadata>,
     ) -> Result<Message, NoMemory>
         ensures { IfOk result (λ x. x ≡ m.DataArray (array.GetDataArrayMetadataResponse (record self.now { array_metadata = entries }))) }
     {
-        Ok(Message::DataArray(DataArrayMessage::GetDataArrayMetadataResponse(
-            GetDataArrayMetadataResponse {
+        Ok(Message::DataArray(Boxed::new(
+            alloc,
+            DataArrayMessage::GetDataArrayMetadataResponse(GetDataArrayMetadataResponse {
                 array_metadata: entries,
-            },
-        )))
+            }),
+        )?))
     }
 }
 
@@ -118,12 +123,13 @@ impl WithEntries<Text> for PutDataArraysResponse {
 
     ghost whole = { λ x g. m.DataArray (array.PutDataArraysResponse (record x { success = g })) };
 
-    fn with_entries(&self, _alloc: Global, entries: Named<Text>) -> Result<Message, NoMemory>
+    fn with_entries(&self, alloc: Global, entries: Named<Text>) -> Result<Message, NoMemory>
         ensures { IfOk result (λ x. x ≡ m.DataArray (array.PutDataArraysResponse (record self.now { success = entries }))) }
     {
-        Ok(Message::DataArray(DataArrayMessage::PutDataArraysResponse(PutDataArraysResponse {
-            success: entries,
-        })))
+        Ok(Message::DataArray(Boxed::new(
+            alloc,
+            DataArrayMessage::PutDataArraysResponse(PutDataArraysResponse { success: entries }),
+        )?))
     }
 }
 
@@ -148,12 +154,15 @@ impl WithEntries<Text> for PutDataSubarraysResponse {
 
     ghost whole = { λ x g. m.DataArray (array.PutDataSubarraysResponse (record x { success = g })) };
 
-    fn with_entries(&self, _alloc: Global, entries: Named<Text>) -> Result<Message, NoMemory>
+    fn with_entries(&self, alloc: Global, entries: Named<Text>) -> Result<Message, NoMemory>
         ensures { IfOk result (λ x. x ≡ m.DataArray (array.PutDataSubarraysResponse (record self.now { success = entries }))) }
     {
-        Ok(Message::DataArray(DataArrayMessage::PutDataSubarraysResponse(PutDataSubarraysResponse {
-            success: entries,
-        })))
+        Ok(Message::DataArray(Boxed::new(
+            alloc,
+            DataArrayMessage::PutDataSubarraysResponse(PutDataSubarraysResponse {
+                success: entries,
+            }),
+        )?))
     }
 }
 
@@ -178,12 +187,15 @@ impl WithEntries<Text> for PutUninitializedDataArraysResponse {
 
     ghost whole = { λ x g. m.DataArray (array.PutUninitializedDataArraysResponse (record x { success = g })) };
 
-    fn with_entries(&self, _alloc: Global, entries: Named<Text>) -> Result<Message, NoMemory>
+    fn with_entries(&self, alloc: Global, entries: Named<Text>) -> Result<Message, NoMemory>
         ensures { IfOk result (λ x. x ≡ m.DataArray (array.PutUninitializedDataArraysResponse (record self.now { success = entries }))) }
     {
-        Ok(Message::DataArray(DataArrayMessage::PutUninitializedDataArraysResponse(
-            PutUninitializedDataArraysResponse { success: entries },
-        )))
+        Ok(Message::DataArray(Boxed::new(
+            alloc,
+            DataArrayMessage::PutUninitializedDataArraysResponse(
+                PutUninitializedDataArraysResponse { success: entries },
+            ),
+        )?))
     }
 }
 
@@ -225,6 +237,6 @@ pub(crate) fn data_array_parts(
             data_array_put_data_subarrays_response(alloc, message, limit),
         DataArrayMessage::PutUninitializedDataArraysResponse(message) =>
             data_array_put_uninitialized_data_arrays_response(alloc, message, limit),
-        other => one_part(alloc, Message::DataArray(other)),
+        other => one_part(alloc, Message::DataArray(Boxed::new(alloc, other)?)),
     }
 }

@@ -6,7 +6,7 @@ ghost use Rattle.msg_core.specs.declared.dataspace_messages.DataspaceMessage.The
 
 use crate::message::Message;
 use crate::parting::{WithElements, WithEntries, one_part, parts_of_elements, parts_of_entries};
-use etp_values::{List, Named, NoMemory, Text};
+use etp_values::{Boxed, List, Named, NoMemory, Text};
 use msg_core::{
     Dataspace, DataspaceMessage, DeleteDataspacesResponse, GetDataspacesResponse,
     PutDataspacesResponse,
@@ -19,12 +19,15 @@ impl WithElements<Dataspace> for GetDataspacesResponse {
 
     ghost whole = { λ x g. m.Dataspace (d.GetDataspacesResponse (record x { dataspaces = g })) };
 
-    fn with_elements(&self, _alloc: Global, elements: List<Dataspace>) -> Result<Message, NoMemory>
+    fn with_elements(&self, alloc: Global, elements: List<Dataspace>) -> Result<Message, NoMemory>
         ensures { IfOk result (λ x. x ≡ m.Dataspace (d.GetDataspacesResponse (record self.now { dataspaces = elements }))) }
     {
-        Ok(Message::Dataspace(DataspaceMessage::GetDataspacesResponse(GetDataspacesResponse {
-            dataspaces: elements,
-        })))
+        Ok(Message::Dataspace(Boxed::new(
+            alloc,
+            DataspaceMessage::GetDataspacesResponse(GetDataspacesResponse {
+                dataspaces: elements,
+            }),
+        )?))
     }
 }
 
@@ -49,12 +52,13 @@ impl WithEntries<Text> for PutDataspacesResponse {
 
     ghost whole = { λ x g. m.Dataspace (d.PutDataspacesResponse (record x { success = g })) };
 
-    fn with_entries(&self, _alloc: Global, entries: Named<Text>) -> Result<Message, NoMemory>
+    fn with_entries(&self, alloc: Global, entries: Named<Text>) -> Result<Message, NoMemory>
         ensures { IfOk result (λ x. x ≡ m.Dataspace (d.PutDataspacesResponse (record self.now { success = entries }))) }
     {
-        Ok(Message::Dataspace(DataspaceMessage::PutDataspacesResponse(PutDataspacesResponse {
-            success: entries,
-        })))
+        Ok(Message::Dataspace(Boxed::new(
+            alloc,
+            DataspaceMessage::PutDataspacesResponse(PutDataspacesResponse { success: entries }),
+        )?))
     }
 }
 
@@ -79,12 +83,15 @@ impl WithEntries<Text> for DeleteDataspacesResponse {
 
     ghost whole = { λ x g. m.Dataspace (d.DeleteDataspacesResponse (record x { success = g })) };
 
-    fn with_entries(&self, _alloc: Global, entries: Named<Text>) -> Result<Message, NoMemory>
+    fn with_entries(&self, alloc: Global, entries: Named<Text>) -> Result<Message, NoMemory>
         ensures { IfOk result (λ x. x ≡ m.Dataspace (d.DeleteDataspacesResponse (record self.now { success = entries }))) }
     {
-        Ok(Message::Dataspace(DataspaceMessage::DeleteDataspacesResponse(DeleteDataspacesResponse {
-            success: entries,
-        })))
+        Ok(Message::Dataspace(Boxed::new(
+            alloc,
+            DataspaceMessage::DeleteDataspacesResponse(DeleteDataspacesResponse {
+                success: entries,
+            }),
+        )?))
     }
 }
 
@@ -121,6 +128,6 @@ pub(crate) fn dataspace_parts(
         DataspaceMessage::DeleteDataspacesResponse(message) => dataspace_delete_dataspaces_response(
             alloc, message, limit,
         ),
-        other => one_part(alloc, Message::Dataspace(other)),
+        other => one_part(alloc, Message::Dataspace(Boxed::new(alloc, other)?)),
     }
 }

@@ -7,7 +7,7 @@ ghost use Rattle.msg_core.specs.declared.core_messages.CoreMessage.TheVariants a
 use crate::message::Message;
 use crate::parting::{WithEntries, one_part, parts_of_entries};
 use crate::parts::copies::copied_error;
-use etp_values::{List, Named, NoMemory};
+use etp_values::{Boxed, List, Named, NoMemory};
 use msg_core::{CoreMessage, ErrorInfo, ProtocolException};
 use std::alloc::Global;
 
@@ -20,10 +20,13 @@ impl WithEntries<ErrorInfo> for ProtocolException {
     fn with_entries(&self, alloc: Global, entries: Named<ErrorInfo>) -> Result<Message, NoMemory>
         ensures { IfOk result (λ x. x ≡ m.Core (c.ProtocolException (record self.now { errors = entries }))) }
     {
-        Ok(Message::Core(CoreMessage::ProtocolException(ProtocolException {
-            error: copied_error(alloc, &self.error)?,
-            errors: entries,
-        })))
+        Ok(Message::Core(Boxed::new(
+            alloc,
+            CoreMessage::ProtocolException(ProtocolException {
+                error: copied_error(alloc, &self.error)?,
+                errors: entries,
+            }),
+        )?))
     }
 }
 
@@ -53,6 +56,6 @@ pub(crate) fn core_parts(
 {
     match message {
         CoreMessage::ProtocolException(message) => core_protocol_exception(alloc, message, limit),
-        other => one_part(alloc, Message::Core(other)),
+        other => one_part(alloc, Message::Core(Boxed::new(alloc, other)?)),
     }
 }

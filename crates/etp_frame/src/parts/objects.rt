@@ -8,7 +8,7 @@ use crate::grouping::groups;
 use crate::message::Message;
 use crate::parting::WithEntries;
 use crate::sending::{Sent, SentObjects, as_sent, push_with_chunks};
-use etp_values::{List, Named, NoMemory};
+use etp_values::{Boxed, List, Named, NoMemory};
 use msg_store::{DataObject, GetDataObjectsResponse, PutDataObjects, StoreMessage};
 use std::alloc::Global;
 
@@ -18,13 +18,16 @@ impl WithEntries<DataObject> for PutDataObjects {
 
     ghost whole = { λ x g. m.Store (s.PutDataObjects (record x { data_objects = g })) };
 
-    fn with_entries(&self, _alloc: Global, entries: Named<DataObject>) -> Result<Message, NoMemory>
+    fn with_entries(&self, alloc: Global, entries: Named<DataObject>) -> Result<Message, NoMemory>
         ensures { IfOk result (λ x. x ≡ m.Store (s.PutDataObjects (record self.now { data_objects = entries }))) }
     {
-        Ok(Message::Store(StoreMessage::PutDataObjects(PutDataObjects {
-            data_objects: entries,
-            prune_contained_objects: self.prune_contained_objects,
-        })))
+        Ok(Message::Store(Boxed::new(
+            alloc,
+            StoreMessage::PutDataObjects(PutDataObjects {
+                data_objects: entries,
+                prune_contained_objects: self.prune_contained_objects,
+            }),
+        )?))
     }
 }
 
@@ -34,12 +37,15 @@ impl WithEntries<DataObject> for GetDataObjectsResponse {
 
     ghost whole = { λ x g. m.Store (s.GetDataObjectsResponse (record x { data_objects = g })) };
 
-    fn with_entries(&self, _alloc: Global, entries: Named<DataObject>) -> Result<Message, NoMemory>
+    fn with_entries(&self, alloc: Global, entries: Named<DataObject>) -> Result<Message, NoMemory>
         ensures { IfOk result (λ x. x ≡ m.Store (s.GetDataObjectsResponse (record self.now { data_objects = entries }))) }
     {
-        Ok(Message::Store(StoreMessage::GetDataObjectsResponse(GetDataObjectsResponse {
-            data_objects: entries,
-        })))
+        Ok(Message::Store(Boxed::new(
+            alloc,
+            StoreMessage::GetDataObjectsResponse(GetDataObjectsResponse {
+                data_objects: entries,
+            }),
+        )?))
     }
 }
 

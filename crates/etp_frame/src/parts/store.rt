@@ -7,7 +7,7 @@ ghost use Rattle.etp_frame.specs.Splitting.{result_parts, store_parts};
 use crate::message::Message;
 use crate::parting::{WithEntries, one_part, parts_of_entries};
 use crate::parts::objects::{put_parts, reply_parts};
-use etp_values::{List, Named, NoMemory};
+use etp_values::{Boxed, List, Named, NoMemory};
 use msg_store::{
     ArrayOfString, DeleteDataObjectsResponse, PutDataObjectsResponse, PutResponse, StoreMessage,
 };
@@ -19,12 +19,13 @@ impl WithEntries<PutResponse> for PutDataObjectsResponse {
 
     ghost whole = { λ x g. m.Store (s.PutDataObjectsResponse (record x { success = g })) };
 
-    fn with_entries(&self, _alloc: Global, entries: Named<PutResponse>) -> Result<Message, NoMemory>
+    fn with_entries(&self, alloc: Global, entries: Named<PutResponse>) -> Result<Message, NoMemory>
         ensures { IfOk result (λ x. x ≡ m.Store (s.PutDataObjectsResponse (record self.now { success = entries }))) }
     {
-        Ok(Message::Store(StoreMessage::PutDataObjectsResponse(PutDataObjectsResponse {
-            success: entries,
-        })))
+        Ok(Message::Store(Boxed::new(
+            alloc,
+            StoreMessage::PutDataObjectsResponse(PutDataObjectsResponse { success: entries }),
+        )?))
     }
 }
 
@@ -51,14 +52,17 @@ impl WithEntries<ArrayOfString> for DeleteDataObjectsResponse {
 
     fn with_entries(
         &self,
-        _alloc: Global,
+        alloc: Global,
         entries: Named<ArrayOfString>,
     ) -> Result<Message, NoMemory>
         ensures { IfOk result (λ x. x ≡ m.Store (s.DeleteDataObjectsResponse (record self.now { deleted_uris = entries }))) }
     {
-        Ok(Message::Store(StoreMessage::DeleteDataObjectsResponse(DeleteDataObjectsResponse {
-            deleted_uris: entries,
-        })))
+        Ok(Message::Store(Boxed::new(
+            alloc,
+            StoreMessage::DeleteDataObjectsResponse(DeleteDataObjectsResponse {
+                deleted_uris: entries,
+            }),
+        )?))
     }
 }
 
@@ -88,7 +92,7 @@ fn result_parts(alloc: Global, message: StoreMessage, limit: u64) -> Result<List
         StoreMessage::DeleteDataObjectsResponse(message) => store_delete_data_objects_response(
             alloc, message, limit,
         ),
-        other => one_part(alloc, Message::Store(other)),
+        other => one_part(alloc, Message::Store(Boxed::new(alloc, other)?)),
     }
 }
 

@@ -1,4 +1,4 @@
-use Rattle.std.proofs.Common.{Some, None, sym, FitsSigned, w32, rules}
+use Rattle.std.proofs.Common.{◌∙◌, Some, None, sym, ap, FitsSigned, w32, rules}
 use Rattle.std.proofs.lemmas.Int.{to_z-of_z}
 use Rattle.msg_core.specs.Transaction.{transaction_kinds}
 use Rattle.etp_frame.specs.declared.message.Message.TheVariants as m
@@ -10,10 +10,10 @@ returns-then-is_common c =
     let k : FitsSigned w32 c.args.kind = search rules in
     common_read m.Transaction transaction_kinds c.args.kind c.args.from.now.left c.args.from.now.rest.now (to_z-of_z w32 c.args.kind k) c.read_common.result c.read_common.new.from (sym c.if-is_common.ensures) c.read_common.ensures
 
-pub returns-in-Ok-Some : goal.returns-in-Ok-Some
-returns-in-Ok-Some c =
+pub returns-in_ok-boxed-in-Ok-Some : goal.returns-in_ok-boxed-in-Ok-Some
+returns-in_ok-boxed-in-Ok-Some c =
     let k : FitsSigned w32 c.args.kind = search rules in
-    behind_read m.Transaction transaction_kinds c.args.kind c.args.from.now.left c.args.from.now.rest.now (to_z-of_z w32 c.args.kind k) (Some c.in-Ok-Some.message) _ _ (sym c.if-is_common.ensures) c.in-Ok-Some.field-0-is c.in-Ok-Some.ensures
+    behind_read m.Transaction transaction_kinds c.args.kind c.args.from.now.left c.args.from.now.rest.now (to_z-of_z w32 c.args.kind k) _ _ _ (sym c.if-is_common.ensures) (c.in-Ok-Some.field-0-is ∙ ap Some (sym c.in_ok-boxed-in-Ok-Some.ensures.value)) c.in-Ok-Some.ensures
 
 pub returns-in-Ok-None : goal.returns-in-Ok-None
 returns-in-Ok-None c =

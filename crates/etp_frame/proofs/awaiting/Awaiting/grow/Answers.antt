@@ -1,10 +1,10 @@
-use Rattle.std.proofs.Common.{◌≡◌, ◌∙◌, ◌+◌, ◌-◌, ◌++◌, ◌≤◌, ◌<◌, ℕ, ℤ, List, true, false, length, refl, sym, ap, subst, Option, Some, None, FitsSigned, w64, arith, rules}
+use Rattle.std.proofs.Common.{◌≡◌, ◌∙◌, ◌+◌, ◌-◌, ◌++◌, ◌≤◌, ◌<◌, ℕ, ℤ, List, true, false, length, refl, sym, ap, subst, Option, Some, None, IfOk, FitsSigned, w64, arith, rules}
 use Rattle.std.proofs.lemmas.Int.{to_z-of_z}
 use Rattle.std.specs.List.{list_any}
-use Rattle.etp_frame.specs.Joining.{Awaited, awaits, is_other, data_size, data_limit, carried, fed, grows, with_piece}
+use Rattle.etp_frame.specs.Joining.{Awaited, Objects, awaits, is_other, data_size, data_limit, carried, fed, grows, with_piece}
 use Rattle.etp_frame.specs.Kept.{IsKept, awaiting, piece}
 use Rattle.etp_frame.specs.declared.joining.Joined.TheVariants as j
-use Rattle.etp_frame.specs.declared.message.Message.{Message}
+use Rattle.etp_frame.specs.declared.joining.Joined.{Joined}
 use Rattle.etp_frame.proofs.KeptLemmas.{here, kept_more, kept_last, sorted_last, left_last, answers_more, answers_whole, answers_next}
 use Rattle.etp_frame.proofs.awaiting.Awaiting.grow.Goals as goal
 
@@ -51,9 +51,10 @@ returns-then-left-eq1-clause-ok c =
     let ys = c.in-Ok-finished.objects.items in
     let left = left_last i.places.entries i.left i.size i.begun i.pieces.items i.objects.items p c.self.invariant awaited small c.in-Ok.pieces.items ys c.in-Ok-finished.ensures in
     let none : awaiting ys ≡ 0 = omega (arith, left, c.if-left-eq1.true) in
-    ap (λ (m : Message). let none : Option Awaited = None in (j.Whole m, none)) (c.carried.ensures ∙ ap (carried i.carrier) c.from_sorted.ensures)
-    ∙ answers_whole i.correlation i.carrier i.begun i.pieces.items i.objects.items p c.self.invariant.is_begun same c.in-Ok.pieces.items ys is c.in-Ok-finished.ensures c.if-not-chunk.false none
-    ∙ ap (λ (v : Awaited). grows (with_piece v p)) c.self.view_is
+    let whole = ap (λ (os : Objects). let none : Option Awaited = None in (j.Whole (carried i.carrier os), none)) c.from_sorted.ensures
+        ∙ answers_whole i.correlation i.carrier i.begun i.pieces.items i.objects.items p c.self.invariant.is_begun same c.in-Ok.pieces.items ys is c.in-Ok-finished.ensures c.if-not-chunk.false none
+        ∙ ap (λ (v : Awaited). grows (with_piece v p)) c.self.view_is in
+    subst (λ (v : Joined × Option Awaited). IfOk c.brought.result (λ r. r ≡ v)) whole c.brought.ensures.ok
 
 pub overflow_sub-awaiting : goal.overflow_sub-awaiting
 overflow_sub-awaiting c =

@@ -6,10 +6,10 @@ ghost use Rattle.channel_rows.specs.Subscriptions.{subscribe_reply};
 ghost use Rattle.session_rows.specs.Objects.{object_reply};
 ghost use Rattle.session_core.specs.Machine.{given_to, on_arrays_answered, on_loaded, on_noted, on_objects_answered, on_staged_answered, on_told};
 
+use crate::machine::Machine;
+use crate::machine::rows::taken_subs;
 use crate::noting::note_reply;
 use crate::replies::sayings_of;
-use crate::session::Session;
-use crate::session::rows::taken_subs;
 use crate::state::{Pending, Request, StagedPending};
 use array_rows::{ArrayPending, array_reply};
 use channel_rows::{LoadPending, SubscribePending, load_reply, subscribe_reply};
@@ -20,7 +20,7 @@ use std::alloc::Global;
 use store_machine::{Answer, Reply};
 use tx_stage::{Key, Stage};
 
-impl Session {
+impl Machine {
     /// The answer is joined with the request that awaits it; where none does, it says nothing.
     pub(crate) fn give_to(
         &mut self,

@@ -3,16 +3,16 @@ ghost use Rattle.std.specs.Prelude.{◌≡◌, None, IfOk, OnOk};
 ghost use Rattle.session_core.specs.Machine.{refuses, replies_one};
 ghost use Rattle.session_core.specs.Sending.{said};
 
+use crate::machine::Machine;
 use crate::parting::{Parted, parts_of};
 use crate::replies::{refusal, to_request};
-use crate::session::Session;
 use crate::state::{End, Phase, Request, Saying};
 use etp_frame::Message;
 use etp_values::{ErrorCode, List, NoMemory};
 use std::alloc::Global;
 use store_machine::StoreCall;
 
-impl Session {
+impl Machine {
     /// Refuses a message whole, at whose content nobody looks.
     pub(crate) fn turn_away(
         &mut self,

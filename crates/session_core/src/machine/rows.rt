@@ -11,9 +11,9 @@ ghost use Rattle.session_core.specs.State.{subbed};
 ghost use Rattle.session_rows.specs.Transactions.{transaction_request};
 
 use crate::arriving::request_of;
+use crate::machine::{Machine, keep};
 use crate::noting::keys_in;
 use crate::replies::sayings_of;
-use crate::session::{Session, keep};
 use crate::state::{Live, Pending, Request, StagedPending};
 use array_rows::{ArrayOutcome, ArrayPending, array_outcome};
 use channel_rows::{LoadOutcome, SubscribeOutcome, load_outcome, subscribe_outcome};
@@ -30,7 +30,7 @@ use std::alloc::Global;
 use store_machine::StoreCall;
 use subscribe_core::Subs;
 
-impl Session {
+impl Machine {
     pub(crate) fn on_message(
         &mut self,
         alloc: Global,
@@ -44,7 +44,13 @@ impl Session {
     {
         match message {
             Message::Core(message) => {
-                self.on_core(alloc, live, &request_of(header), moment, message)?;
+                self.on_core(
+                    alloc,
+                    live,
+                    &request_of(header),
+                    moment,
+                    message.into_inner(),
+                )?;
                 Ok(None)
             }
             other => self.on_protocol(alloc, live, header, moment, other),
@@ -85,17 +91,30 @@ impl Session {
         let request = request_of(header);
         match message {
             Message::Dataspace(message) => {
-                let outcome = dataspace_outcome(alloc, message, self.stage.is_some())?;
+                let outcome = dataspace_outcome(alloc, message.into_inner(), self.stage.is_some())?;
                 self.on_dataspaces(alloc, request, outcome)
             }
-            Message::Store(message) => self.on_store(alloc, header, moment, message),
+            Message::Store(message) => self.on_store(alloc, header, moment, message.into_inner()),
             Message::DataArray(message) => {
-                let outcome = array_outcome(alloc, &self.stage, moment, message)?;
+                let outcome = array_outcome(alloc, &self.stage, moment, message.into_inner())?;
                 self.on_arrays(alloc, request, outcome)
             }
-            Message::Transaction(message) => self.on_transactions(alloc, request, message),
-            Message::ChannelSubscribe(message) => self.on_subscriptions(alloc, request, message),
-            Message::ChannelDataLoad(message) => self.on_loads(alloc, request, moment, message),
+            Message::Transaction(message) => self.on_transactions(
+                alloc,
+                request,
+                message.into_inner(),
+            ),
+            Message::ChannelSubscribe(message) => self.on_subscriptions(
+                alloc,
+                request,
+                message.into_inner(),
+            ),
+            Message::ChannelDataLoad(message) => self.on_loads(
+                alloc,
+                request,
+                moment,
+                message.into_inner(),
+            ),
             other => self.turn_away(alloc, &request, other, ErrorCode::InvalidMessageType),
         }
     }

@@ -5,17 +5,17 @@ ghost use Rattle.session_core.specs.Arriving.{request_of};
 ghost use Rattle.session_core.specs.Machine.{IsJoinFault, join_code, on_join, on_store, on_whole, request_awaited};
 
 use crate::arriving::request_of;
-use crate::session::Session;
+use crate::machine::Machine;
 use crate::state::Request;
 use etp_frame::{Header, JoinError, Joined, Message};
-use etp_values::{ErrorCode, NoMemory};
+use etp_values::{Boxed, ErrorCode, NoMemory};
 use msg_store::StoreMessage;
 use request_scope::is_read_only;
 use session_rows::object_outcome;
 use std::alloc::Global;
 use store_machine::StoreCall;
 
-impl Session {
+impl Machine {
     /// A message of the Store protocol.
     pub(crate) fn on_store(
         &mut self,
@@ -32,7 +32,7 @@ impl Session {
                 let message = StoreMessage::PutDataObjects(put);
                 if is_read_only(&self.stage) {
                     let request = request_of(header);
-                    let message = Message::Store(message);
+                    let message = Message::Store(Boxed::new(alloc, message)?);
                     return self.turn_away(alloc, &request, message, ErrorCode::RequestDenied);
                 }
                 self.on_join(alloc, header, moment, message)
@@ -40,7 +40,12 @@ impl Session {
             StoreMessage::Chunk(chunk) => {
                 self.on_join(alloc, header, moment, StoreMessage::Chunk(chunk))
             }
-            other => self.on_whole(alloc, request_of(header), moment, Message::Store(other)),
+            other => self.on_whole(
+                alloc,
+                request_of(header),
+                moment,
+                Message::Store(Boxed::new(alloc, other)?),
+            ),
         }
     }
 
@@ -56,7 +61,10 @@ impl Session {
         ensures state { OnOk result (self.new ≡ (on_join header.now moment message self.old).state) }
     {
         let put = put_request(header, self.joiner.awaited());
-        match self.joiner.add(alloc, header, Message::Store(message)) {
+        match self
+            .joiner
+            .add(alloc, header, Message::Store(Boxed::new(alloc, message)?))
+        {
             Ok(Joined::More) => Ok(None),
             Ok(Joined::Whole(message)) => self.on_whole(alloc, put, moment, message),
             Err(error) => {
@@ -86,7 +94,7 @@ impl Session {
                     &self.config.types,
                     &self.stage,
                     moment,
-                    message,
+                    message.into_inner(),
                 )?;
                 self.on_objects(alloc, request, outcome)
             }

@@ -2,15 +2,15 @@
 ghost use Rattle.std.specs.Prelude.{◌≡◌, OnOk};
 ghost use Rattle.session_core.specs.Machine.{on_core, on_ping, on_request_session, opened};
 
-use crate::session::Session;
+use crate::machine::Machine;
 use crate::state::{End, Live, Phase, Request};
 use etp_frame::Message;
-use etp_values::{ErrorCode, List, NoMemory};
+use etp_values::{Boxed, ErrorCode, List, NoMemory};
 use msg_core::{CoreMessage, OpenSession, Pong, RequestSession};
 use session_rows::{Format, Opening, opening_of};
 use std::alloc::Global;
 
-impl Session {
+impl Machine {
     pub(crate) fn on_core(
         &mut self,
         alloc: Global,
@@ -54,7 +54,11 @@ impl Session {
                 let pong = Pong {
                     current_date_time: moment,
                 };
-                self.reply_one(alloc, request, Message::Core(CoreMessage::Pong(pong)))
+                self.reply_one(
+                    alloc,
+                    request,
+                    Message::Core(Boxed::new(alloc, CoreMessage::Pong(pong))?),
+                )
             }
         }
     }
@@ -115,7 +119,7 @@ impl Session {
         self.reply_one(
             alloc,
             request,
-            Message::Core(CoreMessage::OpenSession(reply)),
+            Message::Core(Boxed::new(alloc, CoreMessage::OpenSession(reply))?),
         )
     }
 }

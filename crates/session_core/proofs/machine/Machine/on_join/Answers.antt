@@ -4,7 +4,7 @@ use Rattle.etp_frame.specs.declared.message.Message.TheVariants as message
 use Rattle.session_core.specs.Arriving.{request_of}
 use Rattle.session_core.specs.Machine.{join_code, refuses}
 use Rattle.session_core.proofs.JoiningLemmas.{not_memory, refused}
-use Rattle.session_core.proofs.session.Session.on_join.Goals as goal
+use Rattle.session_core.proofs.machine.Machine.on_join.Goals as goal
 
 -- src/session/joining.rt:48:5
 pub returns-in_ok-refuse-in-Err-clause-call : goal.returns-in_ok-refuse-in-Err-clause-call
