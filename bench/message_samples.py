@@ -196,9 +196,11 @@ def debug_header(header):
 
 
 def debug_message(header, body, value):
+    """The message as an enum of protocols, each of which holds its own enum in a box."""
     common = header["messageType"] in (1000, 1001)
     protocol = "Core" if common else wire.PROTOCOLS[header["protocol"]]
-    return f"{protocol}({body.name}({debug(body, value)}))"
+    inner = f"{body.name}({debug(body, value)})"
+    return f"{protocol}({struct('Boxed', [('inner', inner)])})"
 
 
 # --- the samples ---------------------------------------------------------------------------------------------------------
