@@ -6,23 +6,21 @@ use Rattle.session_core.specs.Machine.{join_code, refuses}
 use Rattle.session_core.proofs.JoiningLemmas.{not_memory, refused}
 use Rattle.session_core.proofs.machine.Machine.on_join.Goals as goal
 
--- src/session/joining.rt:48:5
 pub returns-in_ok-refuse-in-Err-clause-call : goal.returns-in_ok-refuse-in-Err-clause-call
 returns-in_ok-refuse-in-Err-clause-call c =
     let s = c.args.self.now in
     let h = c.args.header.now in
     let e = c.in-Err.error in
-    let why = ap (λ j. joins j h (message.Store c.args.message)) (ap (λ t. t.joiner) (sym c.self.view_is)) ∙ c.in-Err.ensures.answer (not_memory e c.in_ok-code-in-Err.ensures.fault) in
+    let why = ap (λ j. joins j h (message.Store c.args.message)) (ap (λ t. t.joiner) (sym c.self.view_is)) ∙ ap (λ m. joins c.self.inside.joiner h (message.Store m)) (sym c.in_ok-new.ensures) ∙ c.in-Err.ensures.answer (not_memory e c.in_ok-code-in-Err.ensures.fault) in
     sym (ap (λ t. t.call) (refused h c.args.moment c.args.message e s why))
 
--- src/session/joining.rt:48:5
 pub returns-in_ok-refuse-in-Err-clause-state : goal.returns-in_ok-refuse-in-Err-clause-state
 returns-in_ok-refuse-in-Err-clause-state c =
     let s = c.args.self.now in
     let h = c.args.header.now in
     let e = c.in-Err.error in
     let j = c.add.new.self in
-    let why = ap (λ j. joins j h (message.Store c.args.message)) (ap (λ t. t.joiner) (sym c.self.view_is)) ∙ c.in-Err.ensures.answer (not_memory e c.in_ok-code-in-Err.ensures.fault) in
+    let why = ap (λ j. joins j h (message.Store c.args.message)) (ap (λ t. t.joiner) (sym c.self.view_is)) ∙ ap (λ m. joins c.self.inside.joiner h (message.Store m)) (sym c.in_ok-new.ensures) ∙ c.in-Err.ensures.answer (not_memory e c.in_ok-code-in-Err.ensures.fault) in
     c.in_ok-refuse-in-Err.ensures
     ∙ ap (λ t. refuses c.request_of.result c.in_ok-code-in-Err.code (record t { joiner = j })) c.self.view_is
     ∙ ap (λ r. refuses r c.in_ok-code-in-Err.code (record s { joiner = j })) c.request_of.ensures
