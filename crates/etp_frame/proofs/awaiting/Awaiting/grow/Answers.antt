@@ -52,8 +52,8 @@ returns-then-left-eq1-clause-ok c =
     let left = left_last i.places.entries i.left i.size i.begun i.pieces.items i.objects.items p c.self.invariant awaited small c.in-Ok.pieces.items ys c.in-Ok-finished.ensures in
     let none : awaiting ys ≡ 0 = omega (arith, left, c.if-left-eq1.true) in
     let whole = ap (λ (os : Objects). let none : Option Awaited = None in (j.Whole (carried i.carrier os), none)) c.from_sorted.ensures
-        ∙ answers_whole i.correlation i.carrier i.begun i.pieces.items i.objects.items p c.self.invariant.is_begun same c.in-Ok.pieces.items ys is c.in-Ok-finished.ensures c.if-not-chunk.false none
-        ∙ ap (λ (v : Awaited). grows (with_piece v p)) c.self.view_is in
+    ∙ answers_whole i.correlation i.carrier i.begun i.pieces.items i.objects.items p c.self.invariant.is_begun same c.in-Ok.pieces.items ys is c.in-Ok-finished.ensures c.if-not-chunk.false none
+    ∙ ap (λ (v : Awaited). grows (with_piece v p)) c.self.view_is in
     subst (λ (v : Joined × Option Awaited). IfOk c.brought.result (λ r. r ≡ v)) whole c.brought.ensures.ok
 
 pub overflow_sub-awaiting : goal.overflow_sub-awaiting
