@@ -13,10 +13,13 @@ use std::test::Fail;
 const REQUEST: &[u8] =
     b"GET /chat HTTP/1.1\r\nHost: server.example.com\r\nUpgrade: websocket\r\nConnection: Upgrade\r\nSec-WebSocket-Key: dGhlIHNhbXBsZSBub25jZQ==\r\nSec-WebSocket-Version: 13\r\nSec-WebSocket-Protocol: chat, superchat\r\nSec-WebSocket-Protocol: etp12.energistics.org\r\n\r\n";
 
-/// "Hello", masked.
-const HELLO: &[u8] = &[
-    0x82, 0x85, 0x37, 0xfa, 0x21, 0x3d, 0x7f, 0x9f, 0x4d, 0x51, 0x58,
-];
+/// "Hello", masked, in two pieces.
+const HELLO_FRONT: &[u8] = &[0x82, 0x85, 0x37, 0xfa, 0x21, 0x3d, 0x7f];
+
+const HELLO_REST: &[u8] = &[0x9f, 0x4d, 0x51, 0x58];
+
+/// A message has to be masked by a client.
+const UNMASKED: &[u8] = b"\x82\x05Hello";
 
 /// The same as a text.
 const HELLO_TEXT: &[u8] = &[
@@ -35,6 +38,78 @@ const PING: &[u8] = &[
 
 /// A goodbye.
 const GOODBYE: &[u8] = &[0x88, 0x80, 0, 0, 0, 0];
+
+/// What the link sends: "Hello", the pong, and its goodbye.
+const SENT: &[u8] = b"\x82\x05Hello\x8a\x05Hello\x88\x00";
+
+/// What a client or the link does next, and what is to come of it.
+#[derive(Clone, Copy)]
+enum Step {
+    /// The client sends these bytes.
+    Says(&'static [u8]),
+    /// Nothing is there for the link yet.
+    Waits,
+    /// The link gets this message.
+    Gets(&'static [u8]),
+    /// The link is told that the client has ended it.
+    Ends,
+    /// The link is told of a fault.
+    Fails,
+    /// The link sends "Hello", with this answer.
+    Sends(Sent),
+    /// The link is closed.
+    Closes,
+    /// The client reads these bytes.
+    Hears(&'static [u8]),
+    /// The client reads the end.
+    HearsEnd,
+}
+
+/// Messages whole and in parts, a text, a ping, and the client's goodbye.
+const MESSAGES: [Step; 16] = [
+    Step::Says(HELLO_FRONT),
+    Step::Waits,
+    Step::Says(HELLO_REST),
+    Step::Gets(b"Hello"),
+    Step::Says(HELLO_PARTS),
+    Step::Gets(b"Hello"),
+    Step::Says(HELLO_TEXT),
+    Step::Gets(b""),
+    Step::Sends(Sent::Done),
+    Step::Says(PING),
+    Step::Says(GOODBYE),
+    Step::Ends,
+    Step::Ends,
+    Step::Closes,
+    Step::Hears(SENT),
+    Step::HearsEnd,
+];
+
+/// A link that is closed twice says goodbye once.
+const GOODBYES: [Step; 5] = [
+    Step::Says(GOODBYE),
+    Step::Closes,
+    Step::Closes,
+    Step::Hears(b"\x88\x00"),
+    Step::HearsEnd,
+];
+
+const FAULTS: [Step; 5] = [
+    Step::Says(UNMASKED),
+    Step::Fails,
+    Step::Fails,
+    Step::Sends(Sent::Failed),
+    Step::Closes,
+];
+
+/// A door at a port that the system picks.
+fn open_door<'a, R: Abort + Net<Listener = TcpListener, Stream = TcpStream>>(
+    rt: &'a R,
+) -> TcpDoor<'a, R> {
+    let mut door = TcpDoor::new(rt);
+    assert!(rt; door.listen("127.0.0.1:0") == Listened::Done);
+    door
+}
 
 /// A client at the door's port, which has sent these bytes.
 fn client<R: Net<Listener = TcpListener, Stream = TcpStream>>(
@@ -87,6 +162,12 @@ fn hears(rt: &impl Abort, client: &mut TcpStream, expected: &[u8]) -> io::Result
     Ok(())
 }
 
+/// That nothing more comes to a client.
+fn hears_end(rt: &impl Abort, client: &mut TcpStream) -> io::Result<()> {
+    assert!(rt; client.read(&mut [0u8; 1])? == 0);
+    Ok(())
+}
+
 /// That a client's request is answered with the standard's key, and with the subprotocol.
 fn is_answered(rt: &impl Abort, alloc: Global, client: &mut TcpStream) -> Result<(), Fail> {
     let mut head = Vec::new(alloc);
@@ -106,76 +187,103 @@ fn is_answered(rt: &impl Abort, alloc: Global, client: &mut TcpStream) -> Result
     Ok(())
 }
 
+/// That the link is told of the end.
+fn ends(rt: &impl Abort, alloc: Global, link: &mut ServerLink) {
+    match item(alloc, link) {
+        Recv::End => {}
+        other => assert!(rt; false, "{other:?}"),
+    }
+}
+
+/// That the link is told of a fault.
+fn fails(rt: &impl Abort, alloc: Global, link: &mut ServerLink) {
+    match item(alloc, link) {
+        Recv::Failed => {}
+        other => assert!(rt; false, "{other:?}"),
+    }
+}
+
+/// That "Hello" is sent with this answer.
+fn sends(
+    rt: &impl Abort,
+    alloc: Global,
+    link: &mut ServerLink,
+    expected: Sent,
+) -> Result<(), Fail> {
+    let hello = Blob::copy(alloc, b"Hello")?;
+    assert!(rt; link.send(alloc, &hello) == expected);
+    Ok(())
+}
+
+/// What the link does in a step.
+fn step_link(
+    rt: &impl Abort,
+    alloc: Global,
+    link: &mut ServerLink,
+    step: Step,
+) -> Result<(), Fail> {
+    match step {
+        Step::Waits => assert!(rt; matches!(link.recv(alloc), Recv::Idle)),
+        Step::Gets(message) => gets(rt, alloc, link, message),
+        Step::Ends => ends(rt, alloc, link),
+        Step::Fails => fails(rt, alloc, link),
+        Step::Sends(answer) => sends(rt, alloc, link, answer)?,
+        Step::Closes => link.close(),
+        Step::Says(_) | Step::Hears(_) | Step::HearsEnd => {}
+    }
+    Ok(())
+}
+
+/// What the client does in a step.
+fn step_client(rt: &impl Abort, peer: &mut TcpStream, step: Step) -> io::Result<()> {
+    match step {
+        Step::Says(bytes) => peer.write_all(bytes),
+        Step::Hears(bytes) => hears(rt, peer, bytes),
+        Step::HearsEnd => hears_end(rt, peer),
+        _ => Ok(()),
+    }
+}
+
+/// A client of the door, and its link, which go through these steps once the client is answered. The client then leaves.
+fn meet<R: AllocGlobal + Abort + Net<Listener = TcpListener, Stream = TcpStream>>(
+    rt: &R,
+    door: &mut TcpDoor<R>,
+    steps: &[Step],
+) -> Result<ServerLink, Fail> {
+    let mut peer = client(rt, door, REQUEST)?;
+    let mut link = welcomed(rt.alloc(), door)?;
+    is_answered(rt, rt.alloc(), &mut peer)?;
+    for step in steps {
+        step_client(rt, &mut peer, *step)?;
+        step_link(rt, rt.alloc(), &mut link, *step)?;
+    }
+    Ok(link)
+}
+
 #[test]
 fn a_link_carries_messages(rt: HostRuntime) -> Result<(), Fail> {
-    let alloc = rt.alloc();
-    let mut door = TcpDoor::new(&rt);
-    assert!(rt; door.listen("127.0.0.1:0") == Listened::Done);
-    let mut peer = client(&rt, &door, REQUEST)?;
-    let mut link = welcomed(alloc, &mut door)?;
-    is_answered(&rt, alloc, &mut peer)?;
-    peer.write_all(&HELLO[..7])?;
-    assert!(rt; matches!(link.recv(alloc), Recv::Idle));
-    peer.write_all(&HELLO[7..])?;
-    gets(&rt, alloc, &mut link, b"Hello");
-    peer.write_all(HELLO_PARTS)?;
-    gets(&rt, alloc, &mut link, b"Hello");
-    peer.write_all(HELLO_TEXT)?;
-    gets(&rt, alloc, &mut link, b"");
-    let hello = Blob::copy(alloc, b"Hello")?;
-    assert!(rt; link.send(alloc, &hello) == Sent::Done);
-    peer.write_all(PING)?;
-    peer.write_all(GOODBYE)?;
-    assert!(rt; matches!(item(alloc, &mut link), Recv::End));
-    assert!(rt; matches!(item(alloc, &mut link), Recv::End));
-    link.close();
-    hears(&rt, &mut peer, b"\x82\x05Hello\x8a\x05Hello\x88\x00")?;
-    assert!(rt; peer.read(&mut [0u8; 1])? == 0);
+    let mut door = open_door(&rt);
+    let link = meet(&rt, &mut door, &MESSAGES)?;
     door.back(link, 1, 4);
     Ok(())
 }
 
 #[test]
 fn a_door_passes_over_what_is_no_client(rt: HostRuntime) -> Result<(), Fail> {
-    let alloc = rt.alloc();
-    let mut door = TcpDoor::new(&rt);
-    assert!(rt; door.listen("127.0.0.1:0") == Listened::Done);
+    let mut door = open_door(&rt);
     let _silent = client(&rt, &door, b"")?;
     let _browser = client(&rt, &door, b"GET / HTTP/1.1\r\nHost: a\r\n\r\n")?;
-    let mut peer = client(&rt, &door, REQUEST)?;
-    let mut link = welcomed(alloc, &mut door)?;
-    is_answered(&rt, alloc, &mut peer)?;
-    peer.write_all(GOODBYE)?;
-    link.close();
-    link.close();
-    hears(&rt, &mut peer, b"\x88\x00")?;
-    assert!(rt; peer.read(&mut [0u8; 1])? == 0);
+    meet(&rt, &mut door, &GOODBYES)?;
     Ok(())
 }
 
 #[test]
 fn a_link_tells_an_end_from_a_fault(rt: HostRuntime) -> Result<(), Fail> {
-    let alloc = rt.alloc();
-    let mut door = TcpDoor::new(&rt);
-    assert!(rt; door.listen("127.0.0.1:0") == Listened::Done);
-    let mut peer = client(&rt, &door, REQUEST)?;
-    let mut link = welcomed(alloc, &mut door)?;
-    // A frame of a client has to be masked.
-    peer.write_all(b"\x82\x05Hello")?;
-    assert!(rt; matches!(item(alloc, &mut link), Recv::Failed));
-    assert!(rt; matches!(item(alloc, &mut link), Recv::Failed));
-    let hello = Blob::copy(alloc, b"Hello")?;
-    assert!(rt; link.send(alloc, &hello) == Sent::Failed);
-    link.close();
-    let mut peer = client(&rt, &door, REQUEST)?;
-    let mut link = welcomed(alloc, &mut door)?;
-    // A peer that leaves something unread resets the connection.
-    is_answered(&rt, alloc, &mut peer)?;
-    drop(peer);
-    match item(alloc, &mut link) {
-        Recv::End => {}
-        other => assert!(rt; false, "{other:?}"),
-    }
+    let mut door = open_door(&rt);
+    meet(&rt, &mut door, &FAULTS)?;
+    // A client that has read all goes without a goodbye.
+    let mut link = meet(&rt, &mut door, &[])?;
+    ends(&rt, rt.alloc(), &mut link);
     assert!(rt; door.listen("127.0.0.1:no") == Listened::Failed);
     Ok(())
 }
