@@ -1,3 +1,4 @@
+use crate::claims::{equal, holds};
 use channel_points::*;
 use etp_values::{Boxed, ChannelPoint, Copied, DataValue, List, NoMemory, Point, Text};
 use std::alloc::Global;
@@ -25,16 +26,16 @@ fn crossing<T: Send + Sync>(value: T) -> T {
 #[test]
 fn rows_are_found_in_their_blocks(rt: HostRuntime) -> Result<(), Fail> {
     let mut rows = Rows::new(rt.alloc());
-    assert!(rt; rows.is_empty());
+    holds(&rt, rows.is_empty());
     for number in 0..2050u32 {
         rows.reserve()?;
         rows.push_reserved(number);
     }
-    assert_eq!(rt; rows.len(), 2050);
+    equal(&rt, rows.len(), 2050);
     for place in [0usize, 1023, 1024, 2047, 2048, 2049] {
-        assert_eq!(rt; rows.get(place).copied(), Some(place as u32));
+        equal(&rt, rows.get(place).copied(), Some(place as u32));
     }
-    assert_eq!(rt; rows.get(2050), None);
+    equal(&rt, rows.get(2050), None);
     Ok(())
 }
 
@@ -51,10 +52,10 @@ fn two_points(alloc: Global) -> Result<Points, NoMemory> {
 fn points_are_shared(rt: HostRuntime) -> Result<(), Fail> {
     let alloc = rt.alloc();
     let copied = crossing(two_points(alloc)?.copy(alloc)?);
-    assert_eq!(rt; copied.bytes(), 43);
+    equal(&rt, copied.bytes(), 43);
     assert_eq!(rt; copied.len(), 2);
-    assert_eq!(rt; copied.index_at(1), 20);
-    assert!(rt; copied.copy_at(alloc, 1)? == text(alloc, 20, "abc")?);
+    equal(&rt, copied.index_at(1), 20);
+    holds(&rt, copied.copy_at(alloc, 1)? == text(alloc, 20, "abc")?);
     Ok(())
 }
 
@@ -62,9 +63,9 @@ fn points_are_shared(rt: HostRuntime) -> Result<(), Fail> {
 fn boxed_points_are_their_points(rt: HostRuntime) -> Result<(), Fail> {
     let alloc = rt.alloc();
     let boxed = BoxedPoints::new(alloc, two_points(alloc)?)?;
-    assert!(rt; boxed.copy(alloc)? == boxed);
+    holds(&rt, boxed.copy(alloc)? == boxed);
     let listed = Points::of(alloc, boxed.get().to_list(alloc)?.into_vec())?;
-    assert!(rt; listed == two_points(alloc)?);
+    holds(&rt, listed == two_points(alloc)?);
     Ok(())
 }
 
@@ -81,10 +82,10 @@ fn items_keep_their_order(rt: HostRuntime) -> Result<(), Fail> {
     let items = List::from_vec(items);
     let kept = crossing(ChannelPoints::of(alloc, items.copy(alloc)?)?).copy(alloc)?;
     assert_eq!(rt; kept.len(), 3);
-    assert_eq!(rt; kept.channel_at(1), 9);
-    assert_eq!(rt; kept.index_at(2), 12);
-    assert!(rt; kept.copy_at(alloc, 0)? == long(10));
-    assert_eq!(rt; kept.bytes(), 72);
-    assert!(rt; kept.to_list(alloc)? == items);
+    equal(&rt, kept.channel_at(1), 9);
+    equal(&rt, kept.index_at(2), 12);
+    holds(&rt, kept.copy_at(alloc, 0)? == long(10));
+    equal(&rt, kept.bytes(), 72);
+    holds(&rt, kept.to_list(alloc)? == items);
     Ok(())
 }

@@ -1,7 +1,8 @@
 //! Two channels of long integers, `a` with the id 0 and `b` with the id 1.
-ghost use Rattle.std.specs.Prelude.{ℕ, ◌≡◌, IfOk, length};
+ghost use Rattle.std.specs.Prelude.{ℕ, ◌≡◌, ◌<◌, IfOk, OnOk, length};
 ghost use Rattle.channel_store.specs.Store.{IsNewPlace};
 
+use crate::claims::{equal, holds};
 use channel_store::*;
 use etp_values::{
     ChannelPoint, Copied, DataValue, Id16, List, NoMemory, Point, Shared, StoreUri, Text,
@@ -74,10 +75,38 @@ fn check(
     expected: &[i64],
 ) -> Result<(), Fail> {
     let points = store.range(0, from, to)?;
-    assert_eq!(rt; points.len(), expected.len());
+    equal(rt, points.len(), expected.len());
     for (point, index) in points.as_slice().iter().zip(expected) {
-        assert_eq!(rt; point.index, *index);
+        equal(rt, point.index, *index);
     }
+    Ok(())
+}
+
+/// Adds points by channel, index and value, as the changes of the entry at a place.
+fn append(
+    alloc: Global,
+    store: &mut ChannelStore,
+    place: u64,
+    rows: &[(i64, i64, i64)],
+) -> Result<(), Fail>
+    requires { IsNewPlace place store.old }
+    ensures { OnOk result ((later : ℕ) → place < later → IsNewPlace later store.new) }
+{
+    store.append(place, 10, &items(alloc, rows)?)?;
+    Ok(())
+}
+
+/// Takes away what a channel has above an index, as the change of the entry at a place.
+fn truncate(
+    alloc: Global,
+    store: &mut ChannelStore,
+    place: u64,
+    channel: i64,
+    end: i64,
+) -> Result<(), Fail>
+    requires { IsNewPlace place store.old }
+{
+    store.truncate(place, 20, &ids(alloc, &[channel])?, &ids(alloc, &[end])?)?;
     Ok(())
 }
 
@@ -86,13 +115,14 @@ fn check(
 fn appends_all_items_or_none(rt: HostRuntime) -> Result<(), Fail> {
     let alloc = rt.alloc();
     let mut store = two_channels(alloc)?;
-    store.append(0, 10, &items(alloc, &[(0, 100, 1)])?)?;
+    append(alloc, &mut store, 0, &[(0, 100, 1)])?;
     let refused = store.append(1, 20, &items(alloc, &[(1, 50, 2), (0, 100, 3)])?);
+    // The next append stands at the same place, by what the macro says of the error.
     assert_eq!(rt; refused, Err(ChannelError::Order(0)));
-    assert_eq!(rt; store.last_index(1), None);
-    store.append(1, 20, &items(alloc, &[(1, 50, 2), (0, 101, 3)])?)?;
-    assert_eq!(rt; store.last_index(0), Some(101));
-    assert_eq!(rt; store.last_index(1), Some(50));
+    equal(&rt, store.last_index(1), None);
+    append(alloc, &mut store, 1, &[(1, 50, 2), (0, 101, 3)])?;
+    equal(&rt, store.last_index(0), Some(101));
+    equal(&rt, store.last_index(1), Some(50));
     Ok(())
 }
 
@@ -100,10 +130,11 @@ fn appends_all_items_or_none(rt: HostRuntime) -> Result<(), Fail> {
 fn replaces_inside_the_interval(rt: HostRuntime) -> Result<(), Fail> {
     let alloc = rt.alloc();
     let mut store = two_channels(alloc)?;
-    store.append(
+    append(
+        alloc,
+        &mut store,
         0,
-        10,
-        &items(alloc, &[(0, 100, 1), (0, 200, 2), (0, 300, 3)])?,
+        &[(0, 100, 1), (0, 200, 2), (0, 300, 3)],
     )?;
     let more = items(alloc, &[(0, 160, 4), (0, 250, 5)])?;
     store.replace(1, 20, &ids(alloc, &[0])?, 150, 250, &more)?;
@@ -115,8 +146,8 @@ fn replaces_inside_the_interval(rt: HostRuntime) -> Result<(), Fail> {
 fn truncates_above_the_end(rt: HostRuntime) -> Result<(), Fail> {
     let alloc = rt.alloc();
     let mut store = two_channels(alloc)?;
-    store.append(0, 10, &items(alloc, &[(0, 90, 1), (0, 91, 2)])?)?;
-    store.truncate(1, 20, &ids(alloc, &[0])?, &ids(alloc, &[90])?)?;
+    append(alloc, &mut store, 0, &[(0, 90, 1), (0, 91, 2)])?;
+    truncate(alloc, &mut store, 1, 0, 90)?;
     check(&rt, &store, 0, 1000, &[90])
 }
 
@@ -124,7 +155,7 @@ fn truncates_above_the_end(rt: HostRuntime) -> Result<(), Fail> {
 fn keeps_each_change_at_its_place(rt: HostRuntime) -> Result<(), Fail> {
     let alloc = rt.alloc();
     let mut store = two_channels(alloc)?;
-    store.truncate(7, 20, &ids(alloc, &[1])?, &ids(alloc, &[90])?)?;
+    truncate(alloc, &mut store, 7, 1, 90)?;
     let expected = ChannelChange {
         place: 7,
         channel: 1,
@@ -132,10 +163,10 @@ fn keeps_each_change_at_its_place(rt: HostRuntime) -> Result<(), Fail> {
         what: What::Truncate { end: 90 },
     };
     let change = store.change_at(1, 7).ok_or("a change at 7")?;
-    assert!(rt; *change == expected);
-    assert!(rt; change.copy(alloc)? == expected);
-    assert!(rt; store.change_at(1, 6).is_none());
-    assert!(rt; store.change_at(0, 7).is_none());
+    holds(&rt, *change == expected);
+    holds(&rt, change.copy(alloc)? == expected);
+    holds(&rt, store.change_at(1, 6).is_none());
+    holds(&rt, store.change_at(0, 7).is_none());
     Ok(())
 }
 
@@ -143,9 +174,9 @@ fn keeps_each_change_at_its_place(rt: HostRuntime) -> Result<(), Fail> {
 fn finds_channels_by_their_objects(rt: HostRuntime) -> Result<(), Fail> {
     let alloc = rt.alloc();
     let store = two_channels(alloc)?;
-    assert_eq!(rt; store.channel_of(&uri(alloc, "b")?), Some(1));
-    assert_eq!(rt; store.channel_of(&uri(alloc, "c")?), None);
-    assert_eq!(rt; store.last_index(2), None);
+    equal(&rt, store.channel_of(&uri(alloc, "b")?), Some(1));
+    equal(&rt, store.channel_of(&uri(alloc, "c")?), None);
+    equal(&rt, store.last_index(2), None);
     Ok(())
 }
 
@@ -154,13 +185,13 @@ fn refuses_items_of_an_append(rt: HostRuntime) -> Result<(), Fail> {
     let alloc = rt.alloc();
     let mut store = two_channels(alloc)?;
     let unknown = store.append(0, 10, &items(alloc, &[(2, 1, 1)])?);
-    assert_eq!(rt; unknown, Err(ChannelError::NoChannel(2)));
+    equal(&rt, unknown, Err(ChannelError::NoChannel(2)));
     let above = store.append(
         1,
         10,
         &items(alloc, &[(0, MAX_INDEX, 1), (1, MAX_INDEX + 1, 1)])?,
     );
-    assert_eq!(rt; above, Err(ChannelError::Index(1)));
+    equal(&rt, above, Err(ChannelError::Index(1)));
     let mut other = Vec::new(alloc);
     other.push(ChannelPoint {
         channel: 1,
@@ -169,9 +200,10 @@ fn refuses_items_of_an_append(rt: HostRuntime) -> Result<(), Fail> {
             value: DataValue::Int(1),
         },
     })?;
-    assert_eq!(rt;
+    equal(
+        &rt,
         store.append(2, 10, &List::from_vec(other)),
-        Err(ChannelError::Kind(1))
+        Err(ChannelError::Kind(1)),
     );
     Ok(())
 }
@@ -182,9 +214,9 @@ fn refuses_intervals_and_what_lies_outside(rt: HostRuntime) -> Result<(), Fail> 
     let mut store = two_channels(alloc)?;
     let none = items(alloc, &[])?;
     let doubled = store.replace(0, 10, &ids(alloc, &[0, 1, 0])?, 1, 2, &none);
-    assert_eq!(rt; doubled, Err(ChannelError::Doubled(0)));
+    equal(&rt, doubled, Err(ChannelError::Doubled(0)));
     let backwards = store.replace(1, 10, &ids(alloc, &[0])?, 2, 1, &none);
-    assert_eq!(rt; backwards, Err(ChannelError::Interval));
+    equal(&rt, backwards, Err(ChannelError::Interval));
     let outside = store.replace(
         2,
         10,
@@ -193,9 +225,9 @@ fn refuses_intervals_and_what_lies_outside(rt: HostRuntime) -> Result<(), Fail> 
         2,
         &items(alloc, &[(0, 3, 1)])?,
     );
-    assert_eq!(rt; outside, Err(ChannelError::Outside(0)));
+    equal(&rt, outside, Err(ChannelError::Outside(0)));
     let range = store.range(0, 2, 1);
-    assert!(rt; range.is_err());
+    holds(&rt, range.is_err());
     Ok(())
 }
 
@@ -207,7 +239,7 @@ fn crossing<T: Send>(value: T) -> T {
 #[test]
 fn stores_cross_threads(rt: HostRuntime) -> Result<(), Fail> {
     let store = crossing(two_channels(rt.alloc())?);
-    assert_eq!(rt; store.last_index(0), None);
+    equal(&rt, store.last_index(0), None);
     Ok(())
 }
 
@@ -216,9 +248,12 @@ fn hands_out_what_it_appended(rt: HostRuntime) -> Result<(), Fail> {
     let alloc = rt.alloc();
     let mut store = two_channels(alloc)?;
     let one = items(alloc, &[(0, 100, 1), (0, 200, 2)])?;
-    assert!(rt; store.take_append(0, 10, &one)?.to_list(alloc)? == one);
+    holds(&rt, store.take_append(0, 10, &one)?.to_list(alloc)? == one);
     let both = items(alloc, &[(0, 300, 3), (1, 50, 4)])?;
-    assert!(rt; store.take_append(1, 20, &both)?.to_list(alloc)? == both);
+    holds(
+        &rt,
+        store.take_append(1, 20, &both)?.to_list(alloc)? == both,
+    );
     Ok(())
 }
 
@@ -228,7 +263,7 @@ fn hands_out_what_it_put(rt: HostRuntime) -> Result<(), Fail> {
     let mut store = two_channels(alloc)?;
     let inside = items(alloc, &[(0, 150, 5)])?;
     let given = store.take_replace(0, 10, &ids(alloc, &[0])?, 120, 180, &inside)?;
-    assert!(rt; given.to_list(alloc)? == inside);
+    holds(&rt, given.to_list(alloc)? == inside);
     check(&rt, &store, 0, 1000, &[150])
 }
 
@@ -236,38 +271,54 @@ fn hands_out_what_it_put(rt: HostRuntime) -> Result<(), Fail> {
 fn tests_without_a_change(rt: HostRuntime) -> Result<(), Fail> {
     let alloc = rt.alloc();
     let mut store = two_channels(alloc)?;
-    store.append(0, 10, &items(alloc, &[(0, 100, 1)])?)?;
+    append(alloc, &mut store, 0, &[(0, 100, 1)])?;
     let again = items(alloc, &[(0, 100, 1)])?;
-    assert_eq!(rt; store.test_append(&again), Err(ChannelError::Order(0)));
-    assert_eq!(rt;
+    equal(&rt, store.test_append(&again), Err(ChannelError::Order(0)));
+    equal(
+        &rt,
         store.test_replace(&ids(alloc, &[0])?, 100, 200, &again),
-        Ok(())
+        Ok(()),
     );
-    assert_eq!(rt; store.test_cut(&[1], 0, 100), Ok(()));
-    assert_eq!(rt; store.test_cut(&[1], 1, 100), Err(ChannelError::Doubled(1)));
+    equal(&rt, store.test_cut(&[1], 0, 100), Ok(()));
+    equal(
+        &rt,
+        store.test_cut(&[1], 1, 100),
+        Err(ChannelError::Doubled(1)),
+    );
     check(&rt, &store, 0, 1000, &[100])
+}
+
+/// Channel 0 with points at 100 and 200 by the entry at 3, and at 300 by the one at 7.
+fn three_points(alloc: Global) -> Result<ChannelStore, Fail> {
+    let mut store = two_channels(alloc)?;
+    append(alloc, &mut store, 3, &[(0, 100, 1), (0, 200, 2)])?;
+    append(alloc, &mut store, 7, &[(0, 300, 3)])?;
+    Ok(store)
+}
+
+#[test]
+fn finds_indexes_and_places(rt: HostRuntime) -> Result<(), Fail> {
+    let store = three_points(rt.alloc())?;
+    equal(&rt, store.first_index(0), Some(100));
+    equal(&rt, store.index_from_end(0, 2), Some(200));
+    equal(&rt, store.index_from_end(0, 4), None);
+    equal(&rt, store.next_place(0, 4), Some(7));
+    equal(&rt, store.next_place(0, 8), None);
+    Ok(())
 }
 
 /// Each point counts 24.
 #[test]
-fn finds_indexes_places_and_sizes(rt: HostRuntime) -> Result<(), Fail> {
-    let alloc = rt.alloc();
-    let mut store = two_channels(alloc)?;
-    store.append(3, 10, &items(alloc, &[(0, 100, 1), (0, 200, 2)])?)?;
-    store.append(7, 20, &items(alloc, &[(0, 300, 3)])?)?;
-    assert_eq!(rt; store.first_index(0), Some(100));
-    assert_eq!(rt; store.index_from_end(0, 2), Some(200));
-    assert_eq!(rt; store.index_from_end(0, 4), None);
-    assert_eq!(rt; store.next_place(0, 4), Some(7));
-    assert_eq!(rt; store.next_place(0, 8), None);
+fn tells_sizes(rt: HostRuntime) -> Result<(), Fail> {
+    let store = three_points(rt.alloc())?;
     let size = PointSize {
         points: 2,
         bytes: 48,
     };
-    assert_eq!(rt; store.tail_size(0, 101), Ok(size));
-    assert_eq!(rt; store.range_size(0, 100, 200), Ok(size));
-    assert_eq!(rt; store.tail(0, 101)?.len(), 2);
+    equal(&rt, store.tail_size(0, 101), Ok(size));
+    equal(&rt, store.range_size(0, 100, 200), Ok(size));
+    equal(&rt, store.tail(0, 101)?.len(), 2);
     let change = store.change_at(0, 3).ok_or("a change at 3")?;
-    assert_eq!(rt; change_bytes(change), 48);
+    equal(&rt, change_bytes(change), 48);
     Ok(())
 }

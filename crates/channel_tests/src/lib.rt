@@ -1,9 +1,0 @@
-//! Tests of channels and their points.
-#![tactic(auto)]
-
-#[cfg(test)]
-mod channels;
-#[cfg(test)]
-mod copies;
-#[cfg(test)]
-mod points;

@@ -1,5 +1,0 @@
-//! Tests of the index of entries.
-#![tactic(auto)]
-
-#[cfg(test)]
-mod entries;

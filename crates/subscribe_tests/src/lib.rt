@@ -1,5 +1,0 @@
-//! Tests of subscriptions.
-#![tactic(auto)]
-
-#[cfg(test)]
-mod subscriptions;
