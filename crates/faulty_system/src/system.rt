@@ -1,6 +1,7 @@
 //! The system with its faults.
 ghost use Rattle.std.specs.Io.{WritesAtMost};
 
+use etp_capture::kinds;
 use std::alloc::{Allocator, Global};
 use std::env::FillError;
 use std::fmt::Display;
@@ -8,8 +9,14 @@ use std::fs::{File, Metadata, OpenOptions};
 use std::io::{self, BufRead, ErrorKind, Lines};
 use std::rt::{Env, Files};
 
-/// A capture of one poll: the eight bytes that a capture begins with, and the head of a frame of kind 2.
-const POLL: &[u8] = b"ETPCAP01\x02\0\0\0\0\0\0\0\0\0\0\0\0\0\0\0\0";
+/// The kind of the capture's only frame.
+const KIND: u8 = kinds::POLL;
+
+/// A capture of one poll: the eight bytes that a capture begins with, the frame's kind, and its tag, moment and length.
+const POLLED: &[u8] = &[
+    b'E', b'T', b'P', b'C', b'A', b'P', b'0', b'1', KIND, 0, 0, 0, 0, 0, 0, 0, 0, 0, 0, 0, 0, 0, 0,
+    0, 0,
+];
 
 /// Words, the process's memory, an input of one frame, no memory for files, and an output that takes nothing.
 #[derive(Drop)]
@@ -83,7 +90,7 @@ impl<'a> Input for FaultySystem<'a> {
     }
 
     fn reader(&self) -> &'static [u8] {
-        POLL
+        POLLED
     }
 }
 
