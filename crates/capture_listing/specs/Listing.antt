@@ -1,5 +1,5 @@
 -- What showing and checking a capture make of frames: a line for each, and for a check the counts at the end.
-use Rattle.std.specs.Prelude.{◌≡◌, ℕ, ◌+◌, ◌≤◌, Bool, true, false, List, [], ◌∷◌, ◌++◌, length, filter}
+use Rattle.std.specs.Prelude.{ℕ, ◌+◌, ◌≤◌, Bool, true, false, List, [], ◌∷◌, ◌++◌, length, filter}
 use Rattle.etp_capture.specs.declared.frame.Frame.{Frame}
 use Rattle.capture_text.specs.Lines.{shown_line, checked_line, checked_of, counts_line}
 use Rattle.capture_text.specs.declared.counting.Counts.{Counts}

@@ -1,20 +1,19 @@
 -- A run begins, goes on and stops.
-use Rattle.std.proofs.Common.{◌≡◌, ℕ, ◌+◌, ◌≤◌, ◌⊎◌, inl, inr, Bool, true, false, if◌then◌else◌, List, [], ◌∷◌, ◌++◌, length, take, refl, ap, sym, ◌∙◌, subst, arith, Option, None, Some, IfNone, IfSome, Result, Ok, Err, append_assoc, append-nil}
+use Rattle.std.proofs.Common.{◌≡◌, ℕ, ◌+◌, ◌≤◌, inl, inr, true, false, if◌then◌else◌, List, [], ◌∷◌, ◌++◌, length, take, refl, ap, sym, ◌∙◌, subst, arith, Option, None, Some, IfNone, IfSome, Ok, append_assoc, append-nil}
 use Rattle.std.specs.Io.KnownBytes.{Keeps, Appends}
-use Rattle.std.proofs.KnownBytes.{Appends-trans, Appends-kept, Appends-nil, Keeps-refl}
+use Rattle.std.proofs.KnownBytes.{Appends-trans, Appends-kept}
 use Rattle.std.proofs.lemmas.Bool.Decides.{nat_tests}
 use Rattle.etp_outside.specs.Told.{Told}
 use Rattle.etp_outside.specs.Whole.{AppendsFront}
 use Rattle.etp_outside.proofs.ToldLemmas.{told_weaker, told_trans}
 use Rattle.etp_capture.specs.Frames.{magic}
-use Rattle.etp_capture.specs.Found.{Found, Whole, NoMore, Bad, found, next_found}
+use Rattle.etp_capture.specs.Found.{Whole, Bad, found, next_found}
 use Rattle.etp_capture.specs.Capture.{end_at}
-use Rattle.etp_capture.specs.Reader.{Reader, after, Answers, Shows, IsNoFrame, IsOneAtMost, TakesNoFrame, TakesOneAtMost}
+use Rattle.etp_capture.specs.Reader.{Reader, after, Answers, Shows, IsNoFrame, IsOneAtMost}
 use Rattle.etp_capture.specs.declared.frame.Frame.{Frame}
 use Rattle.etp_capture.specs.declared.reader.CaptureError.{CaptureError}
 use Rattle.etp_capture.specs.declared.reader.CaptureError.TheVariants as error
 use Rattle.capture_run.specs.Form.{Plan, Takes, Closes}
-use Rattle.capture_run.specs.Reading.{IsRead}
 use Rattle.capture_run.specs.Running.{Stream, between, stop_for, stop_of, Leaves, all_of, Stops, Runs, Going, Unwritten, Halts, WritesGathered, Finishes}
 use Rattle.capture_run.specs.declared.form.Stop.{Stop}
 use Rattle.capture_run.specs.declared.form.Stop.TheVariants.{End, Fault, Refused, Limit, ReadFault, WriteFault, NoMemory}

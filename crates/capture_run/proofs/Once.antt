@@ -1,12 +1,12 @@
 -- An input makes a run stop in one way.
-use Rattle.std.proofs.Common.{◌≡◌, ℕ, ◌⊎◌, inl, inr, Bool, true, if◌then◌else◌, List, [], ◌∷◌, ◌++◌, ap, ap₂, sym, ◌∙◌, subst, Option, None, Some}
-use Rattle.etp_capture.specs.Found.{Whole, found}
+use Rattle.std.proofs.Common.{◌≡◌, ℕ, inl, inr, true, if◌then◌else◌, List, [], ◌∷◌, ◌++◌, ap, ap₂, sym, ◌∙◌, subst, None, Some}
+use Rattle.etp_capture.specs.Found.{found}
 use Rattle.etp_capture.specs.Capture.{end_at}
 use Rattle.etp_capture.specs.declared.frame.Frame.{Frame}
 use Rattle.etp_capture.proofs.AnswerLemmas.{behind_magic}
 use Rattle.capture_run.specs.Form.{Plan}
 use Rattle.capture_run.specs.Reading.{Front}
-use Rattle.capture_run.specs.Running.{stop_of, Gives}
+use Rattle.capture_run.specs.Running.{stop_of}
 use Rattle.capture_run.specs.Laws.{IsForward, StopsOnce}
 use Rattle.capture_run.specs.declared.form.Stop.{Stop}
 use Rattle.capture_run.specs.declared.form.Stop.TheVariants.{Refused}

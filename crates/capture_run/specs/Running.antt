@@ -1,5 +1,5 @@
 -- A run of a form over a capture: why it stops, what it has read and what it has written then.
-use Rattle.std.specs.Prelude.{◌≡◌, ◌≢◌, ℕ, ◌⊎◌, ◌==◌, pos, Bool, true, List, [], ◌∷◌, ◌++◌, if◌then◌else◌, Option, None, Some}
+use Rattle.std.specs.Prelude.{◌≡◌, ℕ, ◌⊎◌, ◌==◌, pos, true, List, [], ◌∷◌, ◌++◌, if◌then◌else◌, Option, None, Some}
 use Rattle.std.specs.Io.KnownBytes.{Keeps, Appends}
 use Rattle.etp_outside.specs.Told.{Told}
 use Rattle.etp_outside.specs.Whole.{AppendsFront}

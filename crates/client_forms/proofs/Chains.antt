@@ -1,5 +1,5 @@
 -- Pieces of work, one behind another.
-use Rattle.std.proofs.Common.{◌≡◌, ◌≤◌, ℕ, ℤ, List, [], ◌++◌, Some, Result, Ok, Err, arith, inl, inr, refl, ap, sym, subst, ◌∙◌, append_assoc}
+use Rattle.std.proofs.Common.{◌≡◌, ◌≤◌, ℕ, ℤ, List, [], ◌++◌, Some, arith, inl, inr, refl, ap, sym, subst, ◌∙◌, append_assoc}
 use Rattle.std.proofs.lemmas.List.{append-nil}
 use Rattle.std.proofs.KnownBytes.{Appends-trans}
 use mathlib.Core.List.{IsPrefix}
@@ -10,7 +10,7 @@ use Rattle.etp_outside.specs.declared.status.Status.{Status}
 use Rattle.etp_outside.proofs.ToldLemmas.{told_trans}
 use Rattle.client_forms.specs.Ctl.{Course, Place, ends}
 use Rattle.client_forms.specs.Plans.{Rests}
-use Rattle.client_forms.specs.Work.{Outside, Says, Kept, Did, IsAt, moved, Goes, Ends, Fronts, Breaks, Cuts, IsCause, HasFailed, Stops, Works}
+use Rattle.client_forms.specs.Work.{Outside, Says, Kept, Did, IsAt, moved, Goes, Ends, Fronts, Breaks, Cuts, IsCause, HasFailed, Stops}
 use Rattle.client_forms.specs.declared.stop.Cause.{Cause}
 use Rattle.client_forms.specs.declared.stop.Cause.TheVariants as cause
 use Rattle.client_forms.specs.declared.stop.Stop.{Stop}

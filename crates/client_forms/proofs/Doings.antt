@@ -1,12 +1,12 @@
 -- Doing what commands want done, one action behind another.
-use Rattle.std.proofs.Common.{◌≡◌, ◌≤◌, ℕ, ℤ, true, List, [], ◌++◌, Option, Some, Result, Ok, Err, refl, sym, subst, ap, ◌∙◌, append_assoc}
+use Rattle.std.proofs.Common.{◌≡◌, ◌≤◌, ℕ, ℤ, List, [], ◌++◌, Option, Some, Result, Ok, Err, refl, sym, subst, ap, ◌∙◌, append_assoc}
 use Rattle.std.proofs.lemmas.List.{append-nil}
 use mathlib.Core.List.{IsPrefix}
 use Rattle.etp_values.proofs.Prefixes.{prefix_trans}
 use Rattle.etp_outside.specs.declared.status.Status.{Status}
 use Rattle.client_core.specs.State.{State}
 use Rattle.client_forms.specs.Ctl.{Course, Place, Stage, ends}
-use Rattle.client_forms.specs.Plans.{acts, is_wait, standing, wanted, ActsOn, Plan, Plans, PlanStops, Doing}
+use Rattle.client_forms.specs.Plans.{acts, standing, wanted, ActsOn, Plan, Plans, PlanStops, Doing}
 use Rattle.client_forms.specs.Work.{Line, Output, Input, Outside, outside, place, Did, IsAt, moved, Comes, Goes, Ends, Fronts, Breaks, Cuts, Stops}
 use Rattle.client_forms.specs.declared.stop.Stop.{Stop}
 use Rattle.client_forms.specs.declared.stop.Stop.TheVariants as stop

@@ -14,8 +14,7 @@ use Rattle.point_lines.specs.Lines.{lines_in}
 use Rattle.url.specs.Parts.{Parts}
 use Rattle.client_forms.specs.Ctl.{Getting, Loading, Opening, Putting, Watching, ctl}
 use Rattle.client_forms.specs.Jobs.{IsGet, IsPut, stage_of}
-use Rattle.client_forms.specs.Runs.{IsUnread}
-use Rattle.client_forms.specs.Top.{Answers, Fulfils, NotBegun, ReadsAll, Runs, Untouched, World, server_of}
+use Rattle.client_forms.specs.Top.{Answers, Fulfils, ReadsAll, Runs, Untouched, World, server_of}
 
 abbrev pub form_with : Parts → Asked → Form
 form_with u a = record { address = u; command = as_command a }

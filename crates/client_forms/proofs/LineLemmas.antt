@@ -1,14 +1,13 @@
 -- What reading a line leaves of a reader.
-use Rattle.std.proofs.Common.{◌≡◌, ◌≢◌, ◌+◌, ◌<◌, ◌≤◌, ℕ, false, List, [], ◌∷◌, ◌++◌, length, Option, None, Some, Result, Ok, Err, refl, ap, sym, subst, ◌∙◌, append_assoc, arith}
+use Rattle.std.proofs.Common.{◌≡◌, ◌≢◌, ◌+◌, ◌<◌, ◌≤◌, ℕ, false, List, [], ◌∷◌, ◌++◌, length, Option, None, Some, Result, Ok, Err, refl, ap, sym, ◌∙◌, append_assoc, arith}
 use Rattle.std.proofs.lemmas.List.{append-nil, append_cancel_left, length-append}
 use Rattle.client_core.specs.declared.ask.Ask.TheVariants as asked
-use Rattle.etp_outside.specs.declared.status.Status.{Status}
 use Rattle.etp_outside.specs.declared.status.Status.TheVariants as status
 use Rattle.etp_values.specs.declared.point.Point.{Point}
 use Rattle.point_lines.specs.Lines.{HasGiven, HasGivenAll, MeetsLong, Reading, lines_in}
 use Rattle.point_lines.specs.Points.{point_in}
 use Rattle.client_forms.specs.Ctl.{Course, asks, loads_from}
-use Rattle.client_forms.specs.Filling.{Adds, GivesPoint, HasReadAll, HasReadTo, Holds, IsAtLine, ReadsFor, StopsRead, Turns, turned}
+use Rattle.client_forms.specs.Filling.{Adds, HasReadAll, HasReadTo, Holds, IsAtLine, ReadsFor, StopsRead, Turns, turned}
 use Rattle.client_forms.specs.Loading.{of_channel}
 use Rattle.client_forms.specs.declared.batch.Batch.{Batch}
 use Rattle.client_forms.specs.declared.loading.Reader.{Reader}
@@ -16,7 +15,7 @@ use Rattle.client_forms.specs.declared.stop.Cause.TheVariants as cause
 use Rattle.client_forms.specs.declared.stop.Stop.{Stop}
 use Rattle.client_forms.specs.declared.stop.Stop.TheVariants as stop
 use Rattle.client_forms.proofs.Chains.{rose_later}
-use Rattle.client_forms.proofs.FillLemmas.{full_line, has_long, long_line, none_left, others, refused_line, taken_line}
+use Rattle.client_forms.proofs.FillLemmas.{full_line, has_long, long_line, none_left, others, taken_line}
 
 -- ---- what reading on gave
 

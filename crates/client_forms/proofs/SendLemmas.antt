@@ -1,5 +1,5 @@
 -- Messages that are sent one by one.
-use Rattle.std.proofs.Common.{◌≡◌, ℕ, List, [], ◌∷◌, ◌++◌, Option, None, Some, refl, ap, sym, subst, ◌∙◌, append_assoc}
+use Rattle.std.proofs.Common.{◌≡◌, ℕ, List, [], ◌∷◌, ◌++◌, Option, Some, refl, ap, sym, subst, ◌∙◌, append_assoc}
 use Rattle.std.proofs.lemmas.List.{append-nil}
 use Rattle.etp_outside.specs.Talk.{Talk}
 use Rattle.etp_outside.specs.Talk.{Says as SaysOne}
@@ -7,8 +7,7 @@ use Rattle.etp_outside.specs.Told.{Told}
 use Rattle.etp_outside.proofs.ToldLemmas.{told_self, told_trans}
 use Rattle.client_core.specs.State.{State}
 use Rattle.client_core.specs.Asking.{first_of, rest_of}
-use Rattle.client_forms.specs.Ctl.{drained}
-use Rattle.client_forms.specs.Sending.{Sending, SendsFront}
+use Rattle.client_forms.specs.Sending.{Sending}
 use Rattle.client_forms.specs.Work.{Says}
 
 -- a link said nothing

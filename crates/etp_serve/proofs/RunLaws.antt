@@ -1,5 +1,5 @@
 -- What holds of a session's own run by the laws on runs.
-use Rattle.std.proofs.Common.{◌≡◌, ◌≤◌, ◌<◌, ◌+◌, ◌^◌, ℕ, List, [], ◌∷◌, ◌++◌, length, map, refl, subst, ◌∙◌, arith}
+use Rattle.std.proofs.Common.{◌≡◌, ◌≤◌, ◌<◌, ◌+◌, ◌^◌, ℕ, List, [], ◌∷◌, length, map, refl, subst, ◌∙◌, arith}
 use mathlib.Core.List.{IsPrefix}
 use Rattle.server_config.specs.declared.config.ChannelDef.{ChannelDef}
 use Rattle.server_config.specs.declared.config.Config.{Config}
@@ -12,7 +12,7 @@ use Rattle.session_core.specs.Session.{bytes_of}
 use Rattle.session_core.specs.Streams as streams
 use Rattle.session_core.specs.declared.state.Outgoing.{Outgoing}
 use Rattle.etp_serve.specs.Laws.{Laws}
-use Rattle.etp_serve.specs.Served.{EndsInEvent, IsCutInEvent}
+use Rattle.etp_serve.specs.Served.{IsCutInEvent}
 
 -- ---- places that rise from one number on rise from any lower one on
 

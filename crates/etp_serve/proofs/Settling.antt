@@ -22,7 +22,7 @@ use Rattle.etp_serve.specs.Ends.{ended_of}
 use Rattle.etp_serve.specs.Laws.{Laws}
 use Rattle.etp_serve.specs.Steps.{Settles, Breaks, Does, Finishes, Stops}
 use Rattle.etp_serve.specs.declared.ended.Ended.{Ended}
-use Rattle.etp_serve.specs.declared.ended.Ended.TheVariants.{Closed, Refused, IdsSpent, PeerEnd, LinkFault}
+use Rattle.etp_serve.specs.declared.ended.Ended.TheVariants.{PeerEnd, LinkFault}
 use Rattle.etp_serve.specs.declared.steps.Asked.{Asked}
 use Rattle.etp_serve.proofs.Rans.{seen_grows}
 

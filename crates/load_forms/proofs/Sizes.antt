@@ -7,7 +7,7 @@ use Rattle.avro_bin.specs.Number.{plain_number, shortest, unsigned}
 use Rattle.avro_bin.specs.Plain.{plain, plain_all, plain_named, plain_blob, plain_block}
 use Rattle.avro_bin.specs.Value.{Value, Values, VNull, VBoolean, VInt, VLong, VFloat, VDouble, VBytes, VText, VFixed, VEnum, VArray, VMap, VUnion, VFields, Entries, none, more, none_named, more_named, list, pairs}
 use Rattle.etp_capture.specs.Frames.{frame_bytes, frame_limit, magic, IsFrame, IsInRange}
-use Rattle.etp_capture.specs.Capture.{frames_bytes, AreFrames, IsCapture}
+use Rattle.etp_capture.specs.Capture.{frames_bytes, AreFrames}
 use Rattle.etp_capture.specs.declared.frame.Frame.{Frame}
 use Rattle.etp_frame.specs.Header.{header_form}
 use Rattle.etp_frame.specs.Message.{message_body}

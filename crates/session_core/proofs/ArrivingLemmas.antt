@@ -1,5 +1,5 @@
 -- What a message's bytes are read as is what arrives.
-use Rattle.std.specs.Prelude.{ℕ, ℤ, true, List, ◌≡◌, ◌≤◌, length, nat_le, Result, refl}
+use Rattle.std.specs.Prelude.{ℕ, ℤ, List, ◌≡◌, ◌≤◌, length, Result}
 use Rattle.std.proofs.Common.{ap, ◌∙◌, subst, le-leb}
 use Rattle.etp_schema.specs.declared.body.Side.TheVariants.{Client}
 use Rattle.etp_frame.specs.declared.header.Header.{Header}

@@ -43,7 +43,6 @@ use Rattle.etp_frame.specs.declared.message.Message.{Message}
 use Rattle.etp_frame.specs.declared.message.Message.TheVariants as message
 use Rattle.keyed_requests.specs.declared.keys.Decision.{Decision}
 use Rattle.keyed_requests.specs.declared.keys.Decision.TheVariants.{Granted, Refused}
-use Rattle.keyed_requests.specs.declared.sending.Outcome.{Outcome}
 use Rattle.keyed_requests.specs.declared.sending.Outcome.TheVariants.{Replies, Calls}
 use Rattle.keyed_requests.specs.Keyed.{called, checked, granted, kept, sent}
 use Rattle.keyed_requests.specs.Keys.{keys_refusal}

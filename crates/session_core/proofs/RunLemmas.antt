@@ -1,6 +1,6 @@
 -- A run over a longer history, with more places, and with one more event; and what is played on one thread is a run.
 use Rattle.std.specs.Prelude.{ℕ, ℤ, Bool, true, false, List, [], ◌∷◌, ◌++◌, ◌≡◌, ◌+◌, ◌≤◌, Option, Some, None, take, length, refl, fold}
-use Rattle.std.proofs.Common.{ap, sym, ◌∙◌, subst, arith, append_assoc, append-nil}
+use Rattle.std.proofs.Common.{ap, sym, ◌∙◌, subst, append_assoc, append-nil}
 use Rattle.std.proofs.lemmas.List.{take-append-le, take_at}
 use mathlib.Core.List.{IsPrefix}
 use Rattle.server_config.specs.declared.config.Config.{Config}
@@ -10,7 +10,7 @@ use Rattle.store_machine.specs.Answers.{answered, added}
 use Rattle.session_core.specs.declared.state.Outgoing.{Outgoing}
 use Rattle.session_core.specs.State.{State}
 use Rattle.session_core.specs.Arriving.{Event}
-use Rattle.session_core.specs.Run.{takes, hears, drained, moment_of, at_place, Course, tells, own_number, IsHeeded, answered_at, asked, happens_unless, happens, run_from, run, HeedsFrom, Heeds, first_course, first_played, Played, played_call, Step, plays, played, events_of, course_of, AllWithin, RunIsSame, PlayIsRun, RunGoesOn}
+use Rattle.session_core.specs.Run.{takes, hears, drained, moment_of, at_place, Course, tells, own_number, IsHeeded, answered_at, asked, happens_unless, happens, run_from, run, HeedsFrom, first_course, first_played, Played, played_call, Step, plays, played, events_of, course_of, AllWithin, RunIsSame, PlayIsRun, RunGoesOn}
 
 take_longer : (old new : List Entry) (p : ℕ) → IsPrefix old new → p ≤ length old → take p new ≡ take p old
 take_longer old new p pre le = ap (take p) (sym pre.1) ∙ take-append-le p old pre.0 le

@@ -1,5 +1,5 @@
 -- What a session keeps for the call that it makes, and that the store's own answers fit it.
-use Rattle.std.specs.Prelude.{ℕ, ◌≡◌, ◌*◌, List, length, IsSomeAnd, MatchOption}
+use Rattle.std.specs.Prelude.{◌≡◌, ◌*◌, List, length, IsSomeAnd, MatchOption}
 use Rattle.std.specs.Map.{keys_of}
 use Rattle.array_rows.specs.declared.arrays.ArrayPending.{ArrayPending}
 use Rattle.array_rows.specs.declared.arrays.ArrayPending.TheVariants as arrays

@@ -1,9 +1,8 @@
 -- What is said, in parts, with their headers.
-use Rattle.std.specs.Prelude.{◌≡◌, ℕ, ℤ, pos, Bool, true, false, List, [], ◌∷◌, ◌++◌, ◌+◌, ◌-◌, ◌^◌, ◌==◌, min, nat_le, Option, Some, None, if◌then◌else◌}
+use Rattle.std.specs.Prelude.{ℕ, ℤ, pos, Bool, true, false, List, [], ◌∷◌, ◌++◌, ◌+◌, ◌-◌, ◌^◌, ◌==◌, min, nat_le, Option, Some, None, if◌then◌else◌}
 use Rattle.etp_schema.specs.Bodies.{is_protocol}
 use Rattle.msg_core.specs.declared.core_messages.CoreMessage.{CoreMessage}
 use Rattle.msg_core.specs.declared.core_messages.CoreMessage.TheVariants as core
-use Rattle.etp_frame.specs.declared.header.Header.{Header}
 use Rattle.etp_frame.specs.declared.message.Message.{Message}
 use Rattle.etp_frame.specs.declared.message.Message.TheVariants as message
 use Rattle.etp_frame.specs.Message.{message_body, protocol_of, Names}

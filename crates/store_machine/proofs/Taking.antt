@@ -1,5 +1,5 @@
 -- The changes that are taken entry by entry.
-use Rattle.std.specs.Prelude.{ℕ, suc, ◌≡◌, ◌+◌, ◌-◌, ◌≤◌, ◌<◌, ◌&&◌, ◌||◌, nat_le, nat_lt, Bool, true, false, cond, List, [], ◌∷◌, ◌++◌, if◌then◌else◌, length, filter, refl}
+use Rattle.std.specs.Prelude.{ℕ, suc, ◌≡◌, ◌+◌, ◌-◌, ◌≤◌, ◌<◌, ◌&&◌, ◌||◌, nat_le, nat_lt, Bool, true, false, List, [], ◌∷◌, ◌++◌, if◌then◌else◌, length, refl}
 use Rattle.std.proofs.Common.{ap, sym, ◌∙◌, subst, append_assoc, append-nil, arith}
 use Rattle.std.proofs.lemmas.Bool.Decides.{nat_tests}
 use Rattle.std.proofs.lemmas.List.{length-append}
@@ -10,7 +10,7 @@ use Rattle.channel_store.specs.Told.{change_bytes}
 use Rattle.store_machine.specs.declared.news.Followed.{Followed}
 use Rattle.store_machine.specs.declared.news.TheConstants.{MAX_CHANGES, MAX_CHANGE_BYTES}
 use Rattle.store_machine.specs.declared.call.Reply.TheVariants as replied
-use Rattle.store_machine.specs.News.{fits_behind, is_some_due, joined, lag, news_by, taken}
+use Rattle.store_machine.specs.News.{fits_behind, joined, lag, news_by, taken}
 use Rattle.store_machine.specs.Telling.{Takes, TakesOn, due_at, dues_at}
 
 -- ---- entry by entry

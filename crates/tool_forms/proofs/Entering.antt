@@ -5,19 +5,17 @@ use Rattle.std.specs.Prelude.{IfOk}
 use Rattle.etp_values.specs.declared.memory.NoMemory.{NoMemory}
 use Rattle.etp_capture.specs.declared.frame.Frame.{Frame}
 use Rattle.server_config.specs.declared.config.Config.{Config}
-use Rattle.store_machine.specs.Answers.{answered, added}
+use Rattle.store_machine.specs.Answers.{answered}
 use Rattle.store_machine.specs.declared.journal.Entry.{Entry}
 use Rattle.store_machine.specs.declared.call.Answer.{Answer}
 use Rattle.store_machine.specs.declared.call.StoreCall.TheVariants.{Enter}
 use Rattle.session_core.specs.State.{State, first_state}
 use Rattle.session_core.specs.Session.{end_of}
 use Rattle.session_core.specs.declared.state.End.{End}
-use Rattle.session_core.specs.declared.state.Outgoing.{Outgoing}
 use Rattle.tool_forms.specs.Turns.{Turn, Effect, messages, turn, effect_after, effect_open, effect_entered, effect_new, entered_journal, entered_place, place_in, end_frame}
 use Rattle.tool_forms.specs.Plays.{Meets}
 use Rattle.tool_forms.specs.declared.tag.TagState.{TagState}
 use Rattle.tool_forms.specs.declared.tag.TagState.TheVariants.{Ended}
-use Rattle.tool_forms.specs.declared.tag.Ending.{Ending}
 use Rattle.tool_forms.specs.declared.tag.Ending.TheVariants.{Session, PeerEnd, JournalFull}
 use Rattle.tool_forms.specs.declared.tag.OpenSession.{OpenSession}
 

@@ -2,7 +2,6 @@
 use Rattle.std.proofs.Common.{◌≡◌, ℕ, ◌+◌, ◌*◌, ◌^◌, ◌<◌, ◌≤◌, Bool, true, false, not, List, [], ◌∷◌, ◌++◌, length, suc, zero, refl, ap, ap₂, sym, ◌∙◌, subst, arith, Option, None, Some, Result, Ok, Err, IfOk}
 use Rattle.std.proofs.lemmas.Bool.{false≢true}
 use Rattle.etp_capture.specs.declared.frame.Frame.{Frame}
-use Rattle.server_config.specs.declared.config.Config.{Config}
 use Rattle.generator.specs.Channels.{generator_config}
 use Rattle.generator.specs.Generator.{frames, frames_from, next_number}
 use Rattle.load_forms.specs.Summary.{summary_lines}

@@ -1,6 +1,6 @@
 -- The tags fit the journal after each frame.
-use Rattle.std.proofs.Common.{◌≡◌, ◌≢◌, ℕ, ℤ, ◌+◌, ◌<◌, ◌≤◌, Bool, true, false, cond, List, [], ◌∷◌, ◌++◌, length, map, refl, ap, sym, ◌∙◌, subst, arith, append-nil, length-append, None, Some, if◌then◌else◌, eqb, ◌==◌, ◌||◌, nat_eq, pos}
-use Rattle.std.specs.Prelude.{IsSomeAnd, IfSome, is_some}
+use Rattle.std.proofs.Common.{◌≡◌, ◌≢◌, ℕ, ℤ, ◌+◌, Bool, true, false, cond, List, [], ◌∷◌, ◌++◌, length, refl, ap, sym, ◌∙◌, subst, arith, None, Some, if◌then◌else◌, eqb, ◌==◌, ◌||◌, pos}
+use Rattle.std.specs.Prelude.{IfSome, is_some}
 use Rattle.std.specs.declared.option.Option.{Option}
 use Rattle.std.specs.Ordering.{nat_cmp}
 use Rattle.std.specs.BTreeMap.{is_at}
@@ -9,7 +9,7 @@ use Rattle.std.proofs.lemmas.Bool.Decides.{nat_tests}
 use Rattle.etp_capture.specs.declared.frame.Frame.{Frame}
 use Rattle.server_config.specs.declared.config.Config.{Config}
 use Rattle.store_machine.specs.Answers.{answered, added, has_room, wanted}
-use Rattle.store_machine.specs.Laws.{IsCallAt, IsNumber, NumbersStay, EntriesAreTheSessions}
+use Rattle.store_machine.specs.Laws.{IsCallAt, NumbersStay, EntriesAreTheSessions}
 use Rattle.store_machine.specs.Legal.{own, IsNext}
 use Rattle.store_machine.specs.declared.journal.Entry.{Entry}
 use Rattle.store_machine.specs.declared.journal.Act.TheVariants as act
@@ -17,9 +17,9 @@ use Rattle.store_machine.specs.declared.call.StoreCall.{StoreCall}
 use Rattle.store_machine.specs.declared.call.StoreCall.TheVariants as call
 use Rattle.store_machine.specs.declared.call.Reply.{Reply}
 use Rattle.store_machine.specs.declared.call.Reply.TheVariants as reply
-use Rattle.session_core.specs.State.{State, first_state}
+use Rattle.session_core.specs.State.{State}
 use Rattle.session_core.specs.Arriving.{Event}
-use Rattle.session_core.specs.Run.{takes, hears, drained, moment_of, Asks, Remembers, FirstRemembers, TakingRemembers, TakingAsks, HearingRemembers, MoreIsRemembered, DrainedRemembers}
+use Rattle.session_core.specs.Run.{takes, hears, moment_of, Asks, Remembers, FirstRemembers, TakingRemembers, TakingAsks, HearingRemembers, MoreIsRemembered, DrainedRemembers}
 use Rattle.session_core.specs.Session.{end_of}
 use Rattle.session_core.specs.declared.state.End.{End}
 use Rattle.tool_forms.specs.Turns.{event_of, Turn, turned, turn, Effect, effect_after, effect_open, first_open, place_in, entered_journal, entered_place, effect_entered, effect_new, effect_at}

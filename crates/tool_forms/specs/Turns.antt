@@ -1,5 +1,5 @@
 -- What one frame does to its session and the journal.
-use Rattle.std.specs.Prelude.{◌≡◌, ℕ, ◌+◌, ℤ, pos, Bool, true, false, List, [], ◌∷◌, ◌++◌, ◌==◌, nat_eq, if◌then◌else◌, length, map, Option, None, Some}
+use Rattle.std.specs.Prelude.{ℕ, ◌+◌, ℤ, pos, List, [], ◌∷◌, ◌++◌, ◌==◌, if◌then◌else◌, length, map, Option, None, Some}
 use Rattle.std.specs.Int.{w32, to_be_bytes, cast_unsigned}
 use Rattle.etp_values.specs.Code.{number_of}
 use Rattle.etp_capture.specs.Kinds.{kind_in, kind_end, kind_out, kind_ended}

@@ -1,4 +1,4 @@
-use Rattle.std.proofs.Common.{◌≡◌, ℕ, Bool, List, Option, None, Some, Ok, subst, sym}
+use Rattle.std.proofs.Common.{◌≡◌, Bool, List, Option, Ok, subst, sym}
 use Rattle.etp_outside.specs.Told.{Told}
 use Rattle.etp_capture.specs.Capture.{end_at}
 use Rattle.etp_capture.specs.Found.{next_found}

@@ -1,4 +1,4 @@
-use Rattle.std.proofs.Common.{arith, ◌≡◌, ◌+◌, ◌≤◌, ◌∙◌, ℕ, List, ap, sym, subst}
+use Rattle.std.proofs.Common.{arith, ◌≡◌, ◌∙◌, ℕ, List, ap, sym, subst}
 use Rattle.etp_capture.specs.Reader.{Reader}
 use Rattle.capture_run.specs.Form.{Plan}
 use Rattle.capture_run.specs.Running.{Going, Halts, Finishes, between}

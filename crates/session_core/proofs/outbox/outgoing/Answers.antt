@@ -1,4 +1,4 @@
-use Rattle.std.proofs.Common.{rules, ◌≡◌, ◌∙◌, ℤ, w32, pos, subst, sym, to_z, of_z}
+use Rattle.std.proofs.Common.{rules, ◌∙◌, ℤ, w32, subst, sym}
 use Rattle.std.proofs.lemmas.Int.{to_z-of_z}
 use Rattle.etp_frame.specs.Message.{IsOf}
 use Rattle.session_core.proofs.WritableLemmas.{ArePlain, flags_plain, is_of}

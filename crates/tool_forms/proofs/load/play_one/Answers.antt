@@ -1,5 +1,5 @@
 use Rattle.tool_forms.proofs.Loading.{one_counted}
-use Rattle.std.proofs.Common.{List, ap, subst, ◌≡◌, ◌∙◌}
+use Rattle.std.proofs.Common.{List, ap, ◌∙◌}
 use Rattle.etp_capture.specs.declared.frame.Frame.{Frame}
 use Rattle.load_forms.specs.Tally.{plus, tally}
 use Rattle.tool_forms.proofs.load.play_one.Goals as goal

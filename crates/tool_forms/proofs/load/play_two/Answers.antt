@@ -1,4 +1,4 @@
-use Rattle.std.proofs.Common.{ℕ, ◌+◌, Bool, not, arith, subst}
+use Rattle.std.proofs.Common.{◌+◌, Bool, not, arith, subst}
 use Rattle.tool_forms.specs.Loads.{IsAt}
 use Rattle.tool_forms.specs.Play.{happens}
 use Rattle.tool_forms.specs.declared.load.Counted.{Counted}

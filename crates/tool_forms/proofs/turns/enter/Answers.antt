@@ -1,4 +1,4 @@
-use Rattle.std.proofs.Common.{◌≡◌, ◌++◌, ℕ, ℤ, List, length, ap, sym, ◌∙◌, subst, Some, None, rules, pos, w64, to_z, of_z}
+use Rattle.std.proofs.Common.{◌≡◌, ◌++◌, ℤ, List, length, ap, sym, ◌∙◌, subst, Some, None, rules, pos, w64, to_z, of_z}
 use Rattle.std.proofs.lemmas.Int.{to_z-of_z}
 use Rattle.std.specs.Prelude.{IfOk}
 use Rattle.store_machine.specs.declared.call.StoreCall.TheVariants.{Enter}
@@ -10,7 +10,7 @@ use Rattle.session_core.specs.State.{State, first_state}
 use Rattle.session_core.specs.Run.{Remembers}
 use Rattle.tool_forms.specs.declared.tag.OpenSession.{OpenSession}
 use Rattle.tool_forms.specs.Plays.{Meets}
-use Rattle.tool_forms.specs.Turns.{effect_open, entered_journal}
+use Rattle.tool_forms.specs.Turns.{effect_open}
 use Rattle.tool_forms.specs.Sound.{FitsOpen}
 use Rattle.tool_forms.proofs.Entering.{place_is, meets_new, meets_full}
 use Rattle.tool_forms.proofs.Soundness.{enter_next}

@@ -1,4 +1,4 @@
-use Rattle.std.proofs.Common.{◌≡◌, ◌∙◌, Err, None, ap, sym}
+use Rattle.std.proofs.Common.{◌∙◌, ap, sym}
 use Rattle.etp_frame.specs.Joining.{joins}
 use Rattle.etp_frame.specs.declared.message.Message.TheVariants as message
 use Rattle.session_core.specs.Arriving.{request_of}

@@ -1,4 +1,4 @@
-use Rattle.std.proofs.Common.{◌≡◌, ◌∙◌, ◌++◌, List, false, sym, subst}
+use Rattle.std.proofs.Common.{◌≡◌, ◌∙◌, ◌++◌, false, sym, subst}
 use Rattle.std.specs.declared.option.Option.{Option}
 use Rattle.tool_forms.specs.Play.{World, effect, is_refused, has_ended, state_of, world_after}
 use Rattle.tool_forms.specs.Sound.{FitsTag, IsSound}
