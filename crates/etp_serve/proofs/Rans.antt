@@ -93,13 +93,6 @@ added_mine : EntriesAreTheSessions → (config : Config) (h : List Entry) (by nt
 unfolding added
 added_mine mine config h by nth at call is = all_by by nth at (entries_of config h by nth at call) (mine config h by nth at call is)
 
--- what is seen after an answer begins with the journal that it was given at
-pub seen_grows : Laws → (config : Config) (n nth : ℕ) (at : ℤ) (call : StoreCall) (v w : Known) (a : Answer) → (ans : Answers config n nth at call v a w) → IsPrefix ans.log w.seen
-seen_grows laws config n nth at call v w a ans =
-    let more : List Entry = added config ans.log n nth at call in
-    let seen : w.seen ≡ ans.log ++ more = ap (λ (x : Known). x.seen) ans.view ∙ noted_seen ans.log more (record v { missed = ans.missed }) (added_one laws.one config ans.log n nth at call) in
-    subst (IsPrefix ans.log) (sym seen) (prefix_more ans.log more)
-
 -- how many own entries there are
 own_count : (n nth : ℕ) (mine made : List (ℕ × Entry)) → IsEnterAnd n mine made → length mine ≡ nth → nth ≡ own_number made
 own_count n nth mine made is count = let long : length mine ≡ length ((n, is.entry) ∷ made) = ap length is.all in omega (arith, long, count)

@@ -1,5 +1,5 @@
 -- One event: its call, its messages, and how it leaves the session.
-use Rattle.std.proofs.Common.{◌≡◌, ℕ, ℤ, List, [], ◌∷◌, length, None, Some, Ok, Err, refl, ap, sym, ◌∙◌, subst, inl, inr}
+use Rattle.std.proofs.Common.{◌≡◌, ℕ, ℤ, List, [], ◌∷◌, None, Some, Ok, Err, refl, ap, sym, ◌∙◌, subst, inl, inr}
 use Rattle.std.specs.Prelude.{IfNone, IfSome, OnOk, OnErr, Result}
 use Rattle.std.specs.declared.option.Option.{Option}
 use Rattle.std.specs.Option.{option_map}
@@ -7,24 +7,20 @@ use Rattle.server_config.specs.declared.config.Config.{Config}
 use Rattle.store_machine.specs.declared.journal.Entry.{Entry}
 use Rattle.store_machine.specs.declared.call.StoreCall.{StoreCall}
 use Rattle.store_machine.specs.declared.call.Answer.{Answer}
-use Rattle.store_machine.specs.Answers.{answered, added}
-use Rattle.store_machine.specs.Laws.{IsCallAt}
-use Rattle.etp_values.proofs.Prefixes.{prefix_length}
+use Rattle.store_machine.specs.Answers.{added}
 use Rattle.store_hub.specs.Words.{Known}
 use Rattle.store_hub.specs.Notes.{noted, Answers, Refuses}
 use Rattle.etp_outside.specs.Talk.{Talk}
-use Rattle.session_core.specs.Run.{hears, Remembers, Asks}
+use Rattle.session_core.specs.Run.{hears}
 use Rattle.session_core.specs.Session.{end_of}
 use Rattle.session_core.specs.State.{State}
 use Rattle.session_core.specs.declared.state.End.{End}
 use Rattle.session_core.specs.declared.state.End.TheVariants as end
 use Rattle.etp_serve.specs.Ends.{ended_of}
-use Rattle.etp_serve.specs.Laws.{Laws}
 use Rattle.etp_serve.specs.Steps.{Settles, Breaks, Does, Finishes, Stops}
 use Rattle.etp_serve.specs.declared.ended.Ended.{Ended}
 use Rattle.etp_serve.specs.declared.ended.Ended.TheVariants.{PeerEnd, LinkFault}
 use Rattle.etp_serve.specs.declared.steps.Asked.{Asked}
-use Rattle.etp_serve.proofs.Rans.{seen_grows}
 
 -- ---- by cases on what a call gave
 
@@ -54,11 +50,6 @@ answers_met config n nth at call v a w ans =
 pub refuses_met : (n : ℕ) (v w : Known) → Refuses n v w → w.met ≡ v.met
 refuses_met n v w no_room = ap (λ (x : Known). x.met) no_room.view
 
--- what the session may ask, at what it remembers
-pub asks_call : (o : Option StoreCall) (s : State) (h : List Entry) → IfSome o (Asks s) → Remembers (length h) s → IfSome o (IsCallAt h)
-asks_call None s h asks has = tt
-asks_call (Some call) s h asks has = asks h has
-
 module _ (config : Config) (n nth : ℕ) (at : ℤ) (v w : Known) where
   pub settles_none : (o : Option StoreCall) (s : State) → o ≡ None → Settles config n nth at o v v s s
   settles_none o s is = subst (λ (x : Option StoreCall). Settles config n nth at x v v s s) (sym is) (refl, refl)
@@ -71,15 +62,6 @@ module _ (config : Config) (n nth : ℕ) (at : ℤ) (v w : Known) where
 
   pub breaks_refused : (o : Option StoreCall) (call : StoreCall) → o ≡ Some call → Refuses n v w → Breaks config n nth at o v w
   breaks_refused o call is refuses = subst (λ (x : Option StoreCall). Breaks config n nth at x v w) (sym is) (inl refuses)
-
-  -- the session remembers no more than its pass has seen then
-  pub remembers_given : Laws → (call : StoreCall) (s t : State) (a : Answer) → Answers config n nth at call v a w → Remembers (length v.seen) s → t ≡ hears s a → Remembers (length w.seen) t
-  remembers_given laws call s t a answers has now =
-      let log : List Entry = answers.log in
-      let wide : Remembers (length log) s = laws.more (length v.seen) (length log) s (prefix_length v.seen log answers.before) has in
-      let heard : Remembers (length log) (hears s (answered config log call)) = laws.given config log s call wide in
-      let after : Remembers (length w.seen) (hears s (answered config log call)) = laws.more (length log) (length w.seen) (hears s (answered config log call)) (prefix_length log w.seen (seen_grows laws config n nth at call v w a answers)) heard in
-      subst (Remembers (length w.seen)) (ap (hears s) (sym answers.answer) ∙ sym now) after
 
 -- ---- the end
 

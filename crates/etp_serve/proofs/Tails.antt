@@ -1,9 +1,8 @@
 -- What a turn's message and its poll leave, by what carrying them out gave.
-use Rattle.std.proofs.Common.{◌≡◌, ◌≤◌, ℕ, ℤ, pos, List, [], ◌∷◌, ◌++◌, length, None, Some, sym, subst}
+use Rattle.std.proofs.Common.{◌≡◌, ◌≤◌, ℕ, ℤ, pos, List, [], ◌∷◌, ◌++◌, length, None, Some, subst}
 use Rattle.std.specs.Prelude.{IfNone, IfSome}
 use Rattle.std.specs.declared.option.Option.{Option}
 use Rattle.server_config.specs.declared.config.Config.{Config}
-use Rattle.store_machine.specs.declared.call.StoreCall.{StoreCall}
 use Rattle.store_machine.specs.Laws.{IsCallAt}
 use Rattle.turn_book.specs.Lists.{own}
 use Rattle.turn_book.specs.Steps.{hearing}
@@ -12,7 +11,7 @@ use Rattle.etp_outside.specs.Told.{Told}
 use Rattle.etp_outside.specs.Talk.{Talk, Takes}
 use Rattle.etp_outside.specs.declared.link.Item.TheVariants.{Message}
 use Rattle.session_core.specs.Arriving.{Receives, Polls}
-use Rattle.session_core.specs.Run.{takes, Remembers, Asks}
+use Rattle.session_core.specs.Run.{takes}
 use Rattle.session_core.specs.Session.{end_of}
 use Rattle.session_core.specs.State.{State}
 use Rattle.etp_serve.specs.Laws.{Laws}
@@ -20,7 +19,6 @@ use Rattle.etp_serve.specs.Served.{Serves, IsBeforeTurn, IsWithinTurn}
 use Rattle.etp_serve.specs.Steps.{Does, Stops}
 use Rattle.etp_serve.specs.declared.ended.Ended.{Ended}
 use Rattle.etp_serve.specs.declared.steps.Asked.{Asked}
-use Rattle.etp_serve.proofs.Settling.{asks_call}
 use Rattle.etp_serve.proofs.Turns.{message_stops, message_done, poll_stops, poll_done}
 
 module _ (laws : Laws) (config : Config) (n : ℕ) (v w : Known) (s st : State) (a b b' : Option Talk) (c d : Option (List ℤ)) (bytes : List ℕ) (m : ℤ) (asked : Asked) (nth : ℕ)
@@ -37,13 +35,6 @@ module _ (laws : Laws) (config : Config) (n : ℕ) (v w : Known) (s st : State) 
   message_ends None stops = tt
   message_ends (Some end) stops = λ a0 c0 turn.
       message_stops laws config n a0 c0 v s a b c d bytes m turn came told asked nth w b' is calls entries now end (subst (λ (x : State). Stops config n nth asked v w x b b' end) state stops)
-
--- the journal's length that a poll finds changes nothing that the session remembers
-pub heard_remembers : (u v : Known) (f : ℕ) (s : State) → v ≡ hearing f u → Remembers (length u.seen) s → Remembers (length v.seen) s
-heard_remembers u v f s found has = subst (λ (x : Known). Remembers (length x.seen) s) (sym found) has
-
-pub heard_call : (u v : Known) (f : ℕ) (s : State) (o : Option StoreCall) → v ≡ hearing f u → Remembers (length u.seen) s → IfSome o (Asks s) → IfSome o (IsCallAt v.seen)
-heard_call u v f s o found has asks = asks_call o s v.seen asks (heard_remembers u v f s found has)
 
 module _ (laws : Laws) (config : Config) (n k : ℕ) (u v w : Known) (s st : State) (b b' : Option Talk) (f : ℕ) (asked : Asked) (nth : ℕ)
     (number : k ≡ n) (least : length u.seen ≤ f) (found : v ≡ hearing f u) (is : (takes s (Polls f)).call ≡ asked.call) (state : st ≡ (takes s (Polls f)).state)

@@ -1,5 +1,5 @@
 -- The laws of the crates below that the proofs of this one rest on.
-use Rattle.session_core.specs.Run.{RunIsSame, RunGoesOn, FirstRemembers, TakingRemembers, HearingRemembers, MoreIsRemembered, DrainedRemembers}
+use Rattle.session_core.specs.Run.{RunIsSame, RunGoesOn}
 use Rattle.session_core.specs.Serial.{RunIsSerial}
 use Rattle.session_core.specs.Streams.{FrontIsStreamed, RunIsStreamed, RunIsToldAtIdle}
 use Rattle.store_machine.specs.Laws.{EntriesAreTheSessions, CallsAddOne, CallsStay}
@@ -12,12 +12,6 @@ pub record Laws : Type 0 where
   pub streams : RunIsStreamed
   pub idle : RunIsToldAtIdle
   pub fronts : FrontIsStreamed
-  -- what a session remembers of places
-  pub first : FirstRemembers
-  pub taken : TakingRemembers
-  pub given : HearingRemembers
-  pub more : MoreIsRemembered
-  pub drained : DrainedRemembers
   -- the entries of a session's calls
   pub mine : EntriesAreTheSessions
   pub one : CallsAddOne

@@ -2,17 +2,16 @@
 ghost use Rattle.etp_serve.specs.Closing.{EachEntered, ServedInTheEnd};
 ghost use Rattle.etp_serve.specs.Laws.{Laws};
 
-use session_core::{run_streams, runs, serial, steps};
+use session_core::{run_streams, runs, serial};
 use store_machine::{number_laws, room_laws};
 
-/// What holds of runs, of half steps, and of the entries of a session's calls.
+/// What holds of runs, and of the entries of a session's calls.
 pub(crate) fn laws()
     ensures { Laws }
 {
     runs();
     serial();
     run_streams();
-    steps();
     number_laws();
 }
 

@@ -2,7 +2,6 @@
 ghost use Rattle.std.specs.Prelude.{◌≡◌, ◌≤◌, ◌<◌, ◌^◌, ℤ, List, Option, length, IfNone, IfOk, IfSome, Some, true, pos};
 ghost use Rattle.etp_outside.specs.Faults.{Rose};
 ghost use Rattle.etp_outside.specs.Talk.{Talk};
-ghost use Rattle.session_core.specs.Run.{Remembers};
 ghost use Rattle.session_core.specs.State.{first_state};
 ghost use Rattle.store_hub.specs.Passes.{IsFresh, IsPassOf, config_of, known};
 ghost use Rattle.etp_serve.specs.Ends.{HasCause};
@@ -30,10 +29,8 @@ fn receive<L: Link, C: Clock, R: Wait>(
     session: &mut Session,
 ) -> Option<Ended>
     requires own { IsPassOf hub.now pass.old }
-    requires remembers { Remembers (length (known pass.old).seen) session.old }
     ensures own { IsPassOf hub.now pass.new × (pass.new.number ≡ pass.old.number) }
     ensures met { (known pass.new).met ≡ (known pass.old).met }
-    ensures remembers { IfNone result (Remembers (length (known pass.new).seen) session.new) }
     ensures goes { IfNone result ((a0 : Option Talk) (c0 : Option (List ℤ))
         → IsBeforeTurn (config_of hub.now) pass.old.number a0 c0 (known pass.old) session.old (L.talk link.old) (C.told clock.old)
         → IsWithinTurn (config_of hub.now) pass.old.number a0 c0 (known pass.new) session.new (L.talk link.new) (C.told clock.new)) }
@@ -71,10 +68,8 @@ fn poll<L: Link, R: Wait>(
     session: &mut Session,
 ) -> Option<Ended>
     requires own { IsPassOf hub.now pass.old }
-    requires remembers { Remembers (length (known pass.old).seen) session.old }
     ensures own { IsPassOf hub.now pass.new × (pass.new.number ≡ pass.old.number) }
     ensures met { (known pass.new).met ≡ (known pass.old).met }
-    ensures remembers { IfNone result (Remembers (length (known pass.new).seen) session.new) }
     ensures goes { IfNone result ((a0 : Option Talk) (c0 c : Option (List ℤ))
         → IsWithinTurn (config_of hub.now) pass.old.number a0 c0 (known pass.old) session.old (L.talk link.old) c
         → IsBeforeTurn (config_of hub.now) pass.old.number a0 c0 (known pass.new) session.new (L.talk link.new) c) }
@@ -130,8 +125,7 @@ pub fn serve_session<L: Link, C: Clock, G: Gate, R: Wait>(
     ensures cause { HasCause result (L.faults link.old) (L.faults link.new) (L.ended link.new) }
     ensures test { C.passes clock.new ≡ C.passes clock.old }
 {
-    // For the proof alone: what a fresh pass has entered, that a session that begins remembers no place, and that each channel
-    // has an id.
+    // For the proof alone: what a fresh pass has entered, what holds of a run, and that each channel has an id.
     pass_laws();
     laws();
     each_has_id(conf.channels.get().as_slice());

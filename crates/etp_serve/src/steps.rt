@@ -1,14 +1,12 @@
 //! One event of a session: its call to the store, and what it says.
-ghost use Rattle.std.specs.Prelude.{◌≡◌, ◌≤◌, ℕ, length, IfNone, IfSome, OnErr, OnOk, Some, None};
+ghost use Rattle.std.specs.Prelude.{◌≡◌, ◌≤◌, IfNone, IfSome, OnErr, OnOk, Some, None};
 ghost use Rattle.etp_outside.specs.Faults.{Rose};
-ghost use Rattle.session_core.specs.Run.{Remembers};
 ghost use Rattle.session_core.specs.Session.{end_of};
 ghost use Rattle.store_machine.specs.Laws.{IsCallAt};
 ghost use Rattle.store_hub.specs.Passes.{IsPassOf, config_of, known};
 ghost use Rattle.etp_serve.specs.Steps.{Breaks, Does, Drains, Settles, Stops};
 
 use crate::ended::{Ended, own_end};
-use crate::laws::laws;
 use etp_outside::{Link, Sent};
 use etp_values::NoMemory;
 use session_core::Session;
@@ -35,17 +33,13 @@ fn settle<R: Wait>(
 ) -> Result<(), NoMemory>
     requires own { IsPassOf hub.now pass.old }
     requires call { IfSome asked.call (IsCallAt (known pass.old).seen) }
-    requires remembers { Remembers (length (known pass.old).seen) session.old }
     ensures own { IsPassOf hub.now pass.new × (pass.new.number ≡ pass.old.number) }
     ensures met { (known pass.new).met ≡ (known pass.old).met }
     ensures ok { OnOk result (Settles (config_of hub.now) pass.old.number pass.old.entries asked.at asked.call
         (known pass.old) (known pass.new) session.old session.new) }
-    ensures remembers { OnOk result (Remembers (length (known pass.new).seen) session.new) }
     ensures err { OnErr result (Breaks (config_of hub.now) pass.old.number pass.old.entries asked.at asked.call
         (known pass.old) (known pass.new)) }
 {
-    // For the proof alone: what a session remembers.
-    laws();
     let Asked { at, call } = asked;
     let Some(call) = call else {
         return Ok(());
@@ -88,13 +82,11 @@ pub(crate) fn carry_out<L: Link, R: Wait>(
 ) -> Option<Ended>
     requires own { IsPassOf hub.now pass.old }
     requires call { IfSome asked.call (IsCallAt (known pass.old).seen) }
-    requires remembers { Remembers (length (known pass.old).seen) session.old }
     ensures own { IsPassOf hub.now pass.new × (pass.new.number ≡ pass.old.number) }
     ensures met { (known pass.new).met ≡ (known pass.old).met }
     ensures does { IfNone result (Does (config_of hub.now) pass.old.number pass.old.entries asked
         (known pass.old) (known pass.new) session.old session.new (L.talk link.old) (L.talk link.new)) }
     ensures goes { IfNone result (end_of session.new.phase ≡ None) }
-    ensures remembers { IfNone result (Remembers (length (known pass.new).seen) session.new) }
     ensures stops { IfSome result (λ end. Stops (config_of hub.now) pass.old.number pass.old.entries asked
         (known pass.old) (known pass.new) session.old (L.talk link.old) (L.talk link.new) end) }
     ensures kept { L.faults link.old ≤ L.faults link.new }
@@ -102,8 +94,6 @@ pub(crate) fn carry_out<L: Link, R: Wait>(
     ensures peer { result ≡ Some Ended.PeerEnd → ⊥ }
     ensures ended { L.ended link.new ≡ L.ended link.old }
 {
-    // For the proof alone: what a session remembers.
-    laws();
     match settle(rt, alloc, hub, pass, session, asked) {
         Ok(()) => {}
         Err(_) => return Some(Ended::NoMemory),

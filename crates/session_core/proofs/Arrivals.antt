@@ -1,4 +1,4 @@
--- What arrives is what the bytes of an event are read as.
+-- What arrives is what the bytes of an event are read as; for the crates above too.
 use Rattle.std.specs.Prelude.{ℕ, ℤ, Bool, true, false, List, ◌≡◌, Result, Ok, Err, length, nat_le, refl}
 use Rattle.etp_frame.specs.Reading.{read_of}
 use Rattle.etp_frame.specs.declared.error.FrameError.{FrameError}

@@ -1,5 +1,5 @@
 -- The store's answer fits what a session kept for its call.
-use Rattle.std.specs.Prelude.{ℕ, suc, ℤ, pos, Bool, true, false, cond, not, ◌==◌, ◌&&◌, ◌*◌, ◌-◌, List, [], ◌∷◌, ◌≡◌, Option, Some, None, Result, Ok, Err, IsSomeAnd, MatchOption, is_some, ◌+◌, ◌++◌, drop, length, map, min, nat_lt, if◌then◌else◌, refl}
+use Rattle.std.specs.Prelude.{ℕ, suc, ℤ, pos, Bool, true, false, cond, not, ◌==◌, ◌&&◌, ◌*◌, ◌-◌, List, [], ◌∷◌, ◌≡◌, Option, Some, None, Result, Ok, Err, IsSomeAnd, MatchOption, is_some, ◌+◌, drop, length, min, nat_lt, if◌then◌else◌, refl}
 use Rattle.std.specs.List.{flat_map}
 use Rattle.std.specs.Map.{keys_of, values_of}
 use Rattle.std.specs.Option.{option_map}
@@ -85,13 +85,16 @@ use Rattle.session_rows.specs.declared.opening.Opening.{Opening}
 use Rattle.session_rows.specs.declared.objects.ObjectPending.{ObjectPending}
 use Rattle.session_rows.specs.declared.opening.Opening.TheVariants as opens
 use Rattle.session_rows.specs.declared.transactions.TransactionPending.TheVariants as commits
-use Rattle.store_machine.specs.Answers.{answer, answered, commit_reply, has_room, ranges_after, seen_after, sofar_with, starts_after, verdicts, wanted, written}
+use Rattle.store_machine.proofs.CutLemmas.{names-cuts}
+use Rattle.store_machine.proofs.Judging.{names-verdicts}
+use Rattle.store_machine.proofs.Reading.{names-metas}
+use Rattle.store_machine.specs.Answers.{answer, answered, commit_reply, has_room, ranges_after, seen_after, starts_after, verdicts, wanted, written}
 use Rattle.store_machine.specs.Channels.{channels_of, code_of}
 use Rattle.store_machine.specs.Clash.{conflict}
 use Rattle.store_machine.specs.Cuts.{cut_verdicts}
-use Rattle.store_machine.specs.History.{Change, DropSpace, Operate, changes_of, set_space, value_after}
+use Rattle.store_machine.specs.History.{DropSpace, Operate, changes_of, set_space, value_after}
 use Rattle.store_machine.specs.News.{dues, joined, lag, news_after, news_by, taken}
-use Rattle.store_machine.specs.Reads.{meta_under, range_reply, ranged, whole_room}
+use Rattle.store_machine.specs.Reads.{range_reply, ranged, whole_room}
 use Rattle.store_machine.specs.Starts.{begun, room_behind, started}
 use Rattle.store_machine.specs.declared.call.Cutting.{Cutting}
 use Rattle.store_machine.specs.declared.call.RangeAsk.{RangeAsk}
@@ -133,18 +136,6 @@ keys-sent : {A B K : Type 0} (keep : A → K) (send : A → B) (items : List (Li
 keys-sent keep send [] = refl
 keys-sent keep send ((k, Granted a) ∷ xs) = ap (λ keys. k ∷ keys) (keys-sent keep send xs)
 keys-sent keep send ((k, Refused code) ∷ xs) = keys-sent keep send xs
-
-keys-verdicts : {X : Type 0} (change : X → Change) (sofar : List Change) (items : List (List ℕ × X)) → keys_of (verdicts change sofar items) ≡ keys_of items
-keys-verdicts change sofar [] = refl
-keys-verdicts change sofar (x ∷ xs) = ap (λ keys. x.0 ∷ keys) (keys-verdicts change (sofar_with sofar (change x.1)) xs)
-
-keys-metas : (cs : List Channel) (items : List (List ℕ × StoreUri)) → keys_of (map (meta_under cs) items) ≡ keys_of items
-keys-metas cs [] = refl
-keys-metas cs (x ∷ xs) = ap (λ keys. x.0 ∷ keys) (keys-metas cs xs)
-
-keys-cuts : (cs : List Channel) (earlier : List ℤ) (items : List (List ℕ × Cutting)) → keys_of (cut_verdicts cs earlier items) ≡ keys_of items
-keys-cuts cs earlier [] = refl
-keys-cuts cs earlier (x ∷ xs) = ap (λ keys. x.0 ∷ keys) (keys-cuts cs (earlier ++ x.1.channel ∷ []) xs)
 
 keys-started : (cs : List Channel) (room : _) (items : List (List ℕ × StartAsk)) → keys_of (started cs room items) ≡ keys_of items
 keys-started cs room [] = refl
@@ -211,12 +202,12 @@ module _ (config : Config) (h : List Entry) where
 
   put_or_full : (room : Bool) (items : List (List ℕ × Decision (Unit {0}))) (puts : List (List ℕ × SpacePut)) → keys_of puts ≡ keys_of (granted items)
       → FitsDataspaces (keeps.Put items) (cond room (Verdicts (verdicts (set_space (pos 0)) (changes_of h) puts)) JournalFull)
-  put_or_full true items puts same = keys-verdicts (set_space (pos 0)) (changes_of h) puts ∙ same
+  put_or_full true items puts same = names-verdicts (set_space (pos 0)) (changes_of h) puts ∙ same
   put_or_full false items puts same = tt
 
   delete_or_full : (room : Bool) (items : List (List ℕ × Decision (Unit {0}))) (paths : List (List ℕ × List ℕ)) → keys_of paths ≡ keys_of (granted items)
       → FitsDataspaces (keeps.Delete items) (cond room (Verdicts (verdicts DropSpace (changes_of h) paths)) JournalFull)
-  delete_or_full true items paths same = keys-verdicts DropSpace (changes_of h) paths ∙ same
+  delete_or_full true items paths same = names-verdicts DropSpace (changes_of h) paths ∙ same
   delete_or_full false items paths same = tt
 
   put : (items : List (List ℕ × Decision (Unit {0}))) (puts : List (List ℕ × SpacePut)) → keys_of puts ≡ keys_of (granted items) → DataspacesFit (put_called (called put_response items puts))
@@ -249,7 +240,7 @@ module _ (config : Config) (h : List Entry) where
 
   ops_or_full : {K : Type 0} (room : Bool) (items : List (List ℕ × Decision K)) (ops : List (List ℕ × Op)) → keys_of ops ≡ keys_of (granted items)
       → OpsFit items (cond room (Verdicts (verdicts Operate (changes_of h) ops)) JournalFull)
-  ops_or_full true items ops same = keys-verdicts Operate (changes_of h) ops ∙ same
+  ops_or_full true items ops same = names-verdicts Operate (changes_of h) ops ∙ same
   ops_or_full false items ops same = tt
 
   -- ---- Store
@@ -467,11 +458,11 @@ module _ (config : Config) (h : List Entry) where
 
   open_fits : (items : List (List ℕ × Decision (Unit {0}))) (uris : List (List ℕ × StoreUri)) → keys_of uris ≡ keys_of (granted items) → LoadsFit (loads.open_called (called loads.open_response items uris))
   open_fits items [] same = tt
-  open_fits items (x ∷ xs) same = keys-metas (channels_of config h) (x ∷ xs) ∙ same
+  open_fits items (x ∷ xs) same = names-metas (channels_of config h) (x ∷ xs) ∙ same
 
   cut_or_full : (room : Bool) (at : ℤ) (items : List (List ℕ × Decision (Unit {0}))) (cuts : List (List ℕ × Cutting)) → keys_of cuts ≡ keys_of (granted items)
       → FitsLoads (keeps_load.Truncate at items) (cond room (Verdicts (cut_verdicts (channels_of config h) [] cuts)) JournalFull)
-  cut_or_full true at items cuts same = keys-cuts (channels_of config h) [] cuts ∙ same
+  cut_or_full true at items cuts same = names-cuts (channels_of config h) [] cuts ∙ same
   cut_or_full false at items cuts same = tt
 
   truncate_fits : (at : ℤ) (items : List (List ℕ × Decision (Unit {0}))) (cuts : List (List ℕ × Cutting)) → keys_of cuts ≡ keys_of (granted items) → LoadsFit (loads.truncate_called at (called loads.truncate_response items cuts))
@@ -538,7 +529,7 @@ module _ (config : Config) (h : List Entry) where
 
   metadata_fits : (items : List (List ℕ × Decision (Unit {0}))) (uris : List (List ℕ × StoreUri)) → keys_of uris ≡ keys_of (granted items) → SubscriptionsFit (subscribes.metadata_called (called subscribes.metadata_response items uris))
   metadata_fits items [] same = tt
-  metadata_fits items (x ∷ xs) same = keys-metas (channels_of config h) (x ∷ xs) ∙ same
+  metadata_fits items (x ∷ xs) same = names-metas (channels_of config h) (x ∷ xs) ∙ same
 
   subscribe_fits : (items : List (List ℕ × Decision StartAsk)) (asks : List (List ℕ × StartAsk)) → keys_of asks ≡ keys_of (granted items) → SubscriptionsFit (subscribes.subscribe_called (called subscribes.subscribe_response items asks))
   unfolding starts_after

@@ -1,4 +1,4 @@
--- What an event does to what is heard: nothing, more of the streams, or stops.
+-- What an event does to what is heard: nothing, more of the streams, or stops; for the crates above too.
 use Rattle.std.specs.Prelude.{ℕ, ℤ, Bool, true, false, List, [], ◌∷◌, ◌++◌, ◌≡◌, ◌≤◌, Option, Some, None, fold, length, if◌then◌else◌, refl}
 use Rattle.std.specs.List.{AllByRecursion}
 use Rattle.std.specs.Ordering.{int_eq}

@@ -1,4 +1,4 @@
--- A run over a longer history, with more places, and with one more event; and what is played on one thread is a run.
+-- A run over a longer history, with more places, and with one more event; and what is played on one thread is a run; for the crates above too.
 use Rattle.std.specs.Prelude.{ℕ, ℤ, Bool, true, false, List, [], ◌∷◌, ◌++◌, ◌≡◌, ◌+◌, ◌≤◌, Option, Some, None, take, length, refl, fold}
 use Rattle.std.proofs.Common.{ap, sym, ◌∙◌, subst, append_assoc, append-nil}
 use Rattle.std.proofs.lemmas.List.{take-append-le, take_at}

@@ -1,4 +1,4 @@
--- Subscriptions that stand: what is due to them, and where they begin.
+-- Subscriptions that stand: what is due to them, and where they begin; for the crates above too.
 use Rattle.std.specs.Prelude.{ℕ, zero, suc, ℤ, pos, negsuc, Bool, true, false, cond, List, [], ◌∷◌, ◌++◌, ◌≡◌, ◌+◌, ◌<◌, ◌&&◌, ◌||◌, not, nat_le, Option, Some, None, is_some, filter, length, slice_get, if◌then◌else◌, refl}
 use Rattle.std.specs.Ordering.{int_eq}
 use Rattle.std.proofs.Common.{ap, sym, ◌∙◌, arith}

@@ -1,4 +1,4 @@
--- Subscriptions that begin, one granted key after the other.
+-- Subscriptions that begin, one granted key after the other; for the crates above too.
 use Rattle.std.specs.Prelude.{ℕ, ℤ, pos, Bool, true, false, cond, List, [], ◌∷◌, ◌++◌, ◌≡◌, ◌+◌, ◌≤◌, ◌<◌, ◌||◌, nat_le, Option, Some, None, map, take, length, if◌then◌else◌, refl}
 use Rattle.std.specs.List.{list_any, AllByRecursion}
 use Rattle.std.specs.Ordering.{int_eq}

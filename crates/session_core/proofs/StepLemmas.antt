@@ -1,4 +1,4 @@
--- What holds of every half step.
+-- What holds of every half step; for the crates above too.
 use Rattle.std.specs.Prelude.{ℕ, ℤ, Bool, true, false, length, List, ◌≡◌, Option, Some, None, Result, Ok, Err, is_some, nat_lt, if◌then◌else◌, IfSome, IfOk, refl}
 use Rattle.std.specs.Str.{bytes_eq}
 use Rattle.std.proofs.Common.{subst, sym}
@@ -70,7 +70,7 @@ use Rattle.session_core.specs.State.{State}
 use Rattle.session_core.specs.Arriving.{arrived, request_of}
 use Rattle.session_core.specs.Machine.{taken, acknowledged, by_phase, by_event, no_call, on_arrays, on_dataspaces, on_join, on_joined, on_loads_by, on_message, on_objects, on_poll, on_protocol, on_received, on_row, on_store, on_subscriptions_by, on_transactions_by, on_whole, protocol_refusal, put_request, refuses, accepting, given_to}
 use Rattle.session_core.proofs.ChannelCalls.{CallsOfChannels, channels_ask, of_load_message, of_subscribe_message}
-use Rattle.session_core.specs.Run.{takes, hears, Remembers, Asks, FirstRemembers, TakingRemembers, TakingAsks, HearingRemembers, MoreIsRemembered, DrainedRemembers, AnswersAreLast}
+use Rattle.session_core.specs.Run.{takes, hears, Asks, TakingAsks, AnswersAreLast}
 
 -- ---- the calls of a session, at any history
 module _ (h : List Entry) where
@@ -308,40 +308,24 @@ module _ (h : List Entry) where
   of_phase (phase.Live live) a s = of_event live a s
   of_phase (phase.Ended e) a s = tt
 
--- what holds of a call at each history is what a state asks
-asks_of : (s : State) (o : Option StoreCall) → ((h : List Entry) → IfSome o (IsCallAt h)) → IfSome o (Asks s)
-asks_of s None all = tt
-asks_of s (Some call) all = λ h remembered. all h
+-- for the crates above: what a session may ask, at one history
+pub asks_call : (o : Option StoreCall) (h : List Entry) → IfSome o Asks → IfSome o (IsCallAt h)
+asks_call None h asks = tt
+asks_call (Some call) h asks = asks h
+
+-- a call of which that holds at each history is one that a session may make
+asks_of : (o : Option StoreCall) → ((h : List Entry) → IfSome o (IsCallAt h)) → IfSome o Asks
+asks_of None all = tt
+asks_of (Some call) all = all
 
 pub taking_asks : TakingAsks
 unfolding takes
-taking_asks s e = asks_of s (taken s e).call (λ h. of_phase h s.phase (arrived s.last_id e) s)
+taking_asks s e = asks_of (taken s e).call (λ h. of_phase h s.phase (arrived s.last_id e) s)
 
 -- the same of what comes of an event at first sight
-pub phase_asks : (s : State) (p : Phase) (a : Arrived) (r : Result (Option StoreCall) NoMemory) → IfOk r (λ call. call ≡ (by_phase p a s).call) → IfOk r (λ call. IfSome call (Asks s))
-phase_asks s p a (Ok call) is = subst (λ (o : Option StoreCall). IfSome o (Asks s)) (sym is) (asks_of s (by_phase p a s).call (λ h. of_phase h p a s))
+pub phase_asks : (s : State) (p : Phase) (a : Arrived) (r : Result (Option StoreCall) NoMemory) → IfOk r (λ call. call ≡ (by_phase p a s).call) → IfOk r (λ call. IfSome call Asks)
+phase_asks s p a (Ok call) is = subst (λ (o : Option StoreCall). IfSome o Asks) (sym is) (asks_of (by_phase p a s).call (λ h. of_phase h p a s))
 phase_asks s p a (Err why) is = tt
-
--- ---- what is remembered
-pub first_remembers : FirstRemembers
-unfolding Remembers
-first_remembers config n len first_id = tt
-
-pub taking_remembers : TakingRemembers
-unfolding Remembers
-taking_remembers len s e remembered = tt
-
-pub hearing_remembers : HearingRemembers
-unfolding Remembers
-hearing_remembers config h s call remembered = tt
-
-pub more_is_remembered : MoreIsRemembered
-unfolding Remembers
-more_is_remembered len more s longer remembered = tt
-
-pub drained_remembers : DrainedRemembers
-unfolding Remembers
-drained_remembers len s remembered = tt
 
 -- ---- the answer
 by_pending : (p : Option Pending) (a : Answer) (s : State) → s.pending ≡ None → (given_to p a s).pending ≡ None

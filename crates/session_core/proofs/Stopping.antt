@@ -1,4 +1,4 @@
--- What is heard where subscriptions are stopped.
+-- What is heard where subscriptions are stopped; for the crates above too.
 use Rattle.std.specs.Prelude.{ℕ, ℤ, Bool, true, false, List, [], ◌∷◌, ◌++◌, ◌≡◌, ◌+◌, ◌<◌, ◌^◌, Option, Some, None, is_some, fold, if◌then◌else◌, refl}
 use Rattle.std.specs.BTreeMap.{insert_entry}
 use Rattle.std.specs.Cmp.Lexicographic.{slice_cmp}

@@ -1,4 +1,4 @@
--- The messages of subscriptions, and polls.
+-- The messages of subscriptions, and polls; for the crates above too.
 use Rattle.std.specs.Prelude.{ℕ, ℤ, pos, Bool, true, false, cond, List, [], ◌∷◌, ◌++◌, ◌≡◌, ◌+◌, ◌≤◌, ◌<◌, ◌^◌, min, nat_lt, not, Option, Some, None, map, take, drop, length, if◌then◌else◌, refl}
 use Rattle.std.specs.List.{AllByRecursion}
 use Rattle.std.specs.Ordering.{int_eq}

@@ -1,4 +1,4 @@
--- What is heard of the notices that tell changes.
+-- What is heard of the notices that tell changes; for the crates above too.
 use Rattle.std.specs.Prelude.{ℕ, ℤ, Bool, true, false, cond, List, [], ◌∷◌, ◌++◌, ◌≡◌, ◌||◌, Option, Some, None, filter, int_lt, map, if◌then◌else◌, refl}
 use Rattle.std.specs.Int.{int_max}
 use Rattle.std.specs.List.{flat_map, AllByRecursion}

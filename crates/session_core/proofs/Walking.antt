@@ -1,4 +1,4 @@
--- Each event, by what it is: most say nothing of any subscription.
+-- Each event, by what it is: most say nothing of any subscription; for the crates above too.
 use Rattle.std.specs.Prelude.{ℕ, ℤ, Bool, true, false, List, [], ◌∷◌, ◌≤◌, ◌&&◌, is_some, Option, Some, None, Result, Ok, Err, take, length, if◌then◌else◌, refl}
 use Rattle.std.proofs.Common.{arith}
 use Rattle.array_rows.specs.Arrays.{ArrayOutcome, ArraysAnswered, array_outcome, array_reply}

@@ -1,5 +1,5 @@
 -- The machine of a session: an event and the store's answer to its call are one step, in two halves.
-use Rattle.std.specs.Prelude.{ℤ, pos, Bool, true, false, not, ◌&&◌, List, [], ◌∷◌, Option, Some, None, Result, Ok, Err, is_some, option_map, if◌then◌else◌}
+use Rattle.std.specs.Prelude.{ℤ, pos, Bool, true, false, ◌&&◌, List, [], ◌∷◌, Option, Some, None, Result, Ok, Err, is_some, option_map, if◌then◌else◌}
 use Rattle.std.specs.List.{list_any}
 use Rattle.std.specs.Ordering.{int_eq}
 use Rattle.array_rows.specs.Arrays.{ArrayOutcome, ArraysAnswered, array_outcome, array_reply}

@@ -22,13 +22,9 @@ takes s e = taken s e
 unfoldable pub hears : State → Answer → State
 hears s a = given s a
 
--- no place that the state remembers is past a history of this length. No call depends on one, so nothing is asked of them yet
-unfoldable pub Remembers : ℕ → State → Type 0
-Remembers len s = Unit {0}
-
--- a call that a session in this state may make at each history that is as long as what the state remembers
-abbrev pub Asks : State → StoreCall → Type 0
-Asks s call = (h : List Entry) → Remembers (length h) s → IsCallAt h call
+-- a call that a session may make, whatever the history is
+abbrev pub Asks : StoreCall → Type 0
+Asks call = (h : List Entry) → IsCallAt h call
 
 -- the state once all is sent
 abbrev pub drained : State → State
@@ -199,29 +195,9 @@ RunGoesOn = (config : Config) (n : ℕ) (old new : List Entry) (places more : Li
 
 -- ---- the laws of a step
 
--- a session that begins remembers nothing
-abbrev pub FirstRemembers : Type 0
-FirstRemembers = (config : Config) (n len : ℕ) (first_id : ℤ) → Remembers len (first_state config n first_id)
-
--- an event adds nothing to what is remembered
-abbrev pub TakingRemembers : Type 0
-TakingRemembers = (len : ℕ) (s : State) (e : Event) → Remembers len s → Remembers len (takes s e).state
-
 -- each call of an event is one that the session may make
 abbrev pub TakingAsks : Type 0
-TakingAsks = (s : State) (e : Event) → IfSome (takes s e).call (Asks s)
-
--- an answer adds no more than the history that it was given at
-abbrev pub HearingRemembers : Type 0
-HearingRemembers = (config : Config) (h : List Entry) (s : State) (call : StoreCall) → Remembers (length h) s → Remembers (length h) (hears s (answered config h call))
-
--- a longer history has all that is remembered
-abbrev pub MoreIsRemembered : Type 0
-MoreIsRemembered = (len more : ℕ) (s : State) → len ≤ more → Remembers len s → Remembers more s
-
--- sending changes nothing of it
-abbrev pub DrainedRemembers : Type 0
-DrainedRemembers = (len : ℕ) (s : State) → Remembers len s → Remembers len (drained s)
+TakingAsks = (s : State) (e : Event) → IfSome (takes s e).call Asks
 
 -- once the answer is given, no request awaits one
 abbrev pub AnswersAreLast : Type 0

@@ -1,5 +1,5 @@
 //! Laws of the machine.
-ghost use Rattle.session_core.specs.Run.{FirstRemembers, TakingRemembers, TakingAsks, HearingRemembers, MoreIsRemembered, DrainedRemembers, AnswersAreLast};
+ghost use Rattle.session_core.specs.Run.{TakingAsks, AnswersAreLast};
 ghost use Rattle.session_core.specs.Run.{PlayIsRun, RunGoesOn, RunIsSame};
 ghost use Rattle.session_core.specs.Fitting.{AnswersFit};
 ghost use Rattle.session_core.specs.Serial.{CommittedIsSerial, RunIsSerial};
@@ -8,15 +8,10 @@ ghost use Rattle.session_core.specs.Streams.{FrontIsStreamed, RunIsStreamed, Run
 use store_machine::{conflict_laws, news_laws, state_laws};
 use tx_stage::look_laws;
 
-/// A session remembers no place past the history that it was told of; each call that it makes is one that a session may make
-/// at a history with all these places, never the one by which it is entered; and no request is left when its answer was given.
+/// Each call that an event makes is one that a session may make at any history, never the one by which it is entered; and no
+/// request is left when its answer was given.
 pub fn steps()
-    ensures first { FirstRemembers }
-    ensures taken { TakingRemembers }
     ensures asks { TakingAsks }
-    ensures given { HearingRemembers }
-    ensures more { MoreIsRemembered }
-    ensures drained { DrainedRemembers }
     ensures answers { AnswersAreLast }
 {}
 

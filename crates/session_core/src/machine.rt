@@ -132,7 +132,7 @@ impl Machine {
     ) -> Result<Option<StoreCall>, NoMemory>
         ensures call { IfOk result (λ call. call ≡ (takes self.old (Receives bytes.now now)).call) }
         ensures state { OnOk result (self.new ≡ (takes self.old (Receives bytes.now now)).state) }
-        ensures asks { IfOk result (λ call. IfSome call (Asks self.old)) }
+        ensures asks { IfOk result (λ call. IfSome call Asks) }
     {
         let arrived = arrived_message(alloc, self.last_id, bytes, now)?;
         self.by_phase(alloc, arrived)
@@ -144,7 +144,7 @@ impl Machine {
     pub(crate) fn poll(&mut self, alloc: Global, front: u64) -> Result<Option<StoreCall>, NoMemory>
         ensures call { IfOk result (λ call. call ≡ (takes self.old (Polls front)).call) }
         ensures state { OnOk result (self.new ≡ (takes self.old (Polls front)).state) }
-        ensures asks { IfOk result (λ call. IfSome call (Asks self.old)) }
+        ensures asks { IfOk result (λ call. IfSome call Asks) }
     {
         self.by_phase(alloc, Arrived::Polled(front))
     }

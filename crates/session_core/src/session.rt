@@ -69,7 +69,7 @@ impl Session {
     ) -> Result<Option<StoreCall>, NoMemory>
         ensures call { IfOk result (λ call. call ≡ (takes self.old (Receives bytes.now now)).call) }
         ensures state { OnOk result (self.new ≡ (takes self.old (Receives bytes.now now)).state) }
-        ensures asks { IfOk result (λ call. IfSome call (Asks self.old)) }
+        ensures asks { IfOk result (λ call. IfSome call Asks) }
     {
         self.machine.get_mut().take(alloc, bytes, now)
     }
@@ -79,7 +79,7 @@ impl Session {
     pub fn poll(&mut self, alloc: Global, front: u64) -> Result<Option<StoreCall>, NoMemory>
         ensures call { IfOk result (λ call. call ≡ (takes self.old (Polls front)).call) }
         ensures state { OnOk result (self.new ≡ (takes self.old (Polls front)).state) }
-        ensures asks { IfOk result (λ call. IfSome call (Asks self.old)) }
+        ensures asks { IfOk result (λ call. IfSome call Asks) }
     {
         self.machine.get_mut().poll(alloc, front)
     }

@@ -37,9 +37,6 @@ grows_trans n h i j a b = record {
   by = By-append n a.more b.more a.by b.by;
 }
 
-pub grows_length : (n : ℕ) (h h' : List Entry) → Grows n h h' → length h ≤ length h'
-grows_length n h h' a = let same = ap length a.is in omega (arith, same, length-append h a.more)
-
 -- ---- the entry of entering
 
 pub entry_last : (h : List Entry) (e : Entry) (P : Entry → Type 0) → P e → IsSomeAnd (slice_get (h ++ e ∷ []) (length h)) P

@@ -21,7 +21,8 @@ use Rattle.tool_forms.specs.Sound.{FitsOpen, FitsTag}
 use Rattle.tool_forms.specs.declared.tag.OpenSession.{OpenSession}
 use Rattle.tool_forms.specs.declared.tag.TagState.{TagState}
 use Rattle.tool_forms.specs.declared.tag.TagState.TheVariants.{Ended, Open}
-use Rattle.tool_forms.proofs.Soundness.{Laws, asked_at, enter_next, first_fits}
+use Rattle.session_core.proofs.StepLemmas.{asks_call}
+use Rattle.tool_forms.proofs.Soundness.{Laws, enter_next, first_fits}
 
 after_legal : (c : Config) (f : Frame) (t : Turn) (o : Option End) → Legal c t.journal → Legal c (effect_after f t o).journal
 after_legal c f t None legal = legal
@@ -44,7 +45,7 @@ module _ (laws : Laws) (may : NextMayAsk) (keep : CallsKeepLegal) where
   open_legal : (c : Config) (h : List Entry) (s : OpenSession) (f : Frame) → FitsOpen h s → Legal c h → Legal c (effect_open c h s f).journal
   open_legal c h s f fits legal =
       let e : Event = event_of h f in
-      let asks : IfSome (takes s.session e).call (IsCallAt h) = asked_at h s.session (takes s.session e).call fits.remembers (laws.asks s.session e) in
+      let asks : IfSome (takes s.session e).call (IsCallAt h) = asks_call (takes s.session e).call h (laws.asks s.session e) in
       kind_legal c (f.kind == 3) _ _ legal
       (after_legal c f (turn c h s f) (end_of (turn c h s f).session.session.phase) (turned_legal c h (moment_of e) s (takes s.session e).state (takes s.session e).call asks fits.next legal))
 

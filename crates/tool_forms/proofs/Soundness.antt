@@ -1,5 +1,5 @@
 -- The tags fit the journal after each frame.
-use Rattle.std.proofs.Common.{◌≡◌, ◌≢◌, ℕ, ℤ, ◌+◌, Bool, true, false, cond, List, [], ◌∷◌, ◌++◌, length, refl, ap, sym, ◌∙◌, subst, arith, None, Some, if◌then◌else◌, eqb, ◌==◌, ◌||◌, pos}
+use Rattle.std.proofs.Common.{◌≡◌, ◌≢◌, ℕ, ℤ, ◌+◌, Bool, true, false, cond, List, [], ◌∷◌, ◌++◌, length, refl, ap, sym, ◌∙◌, subst, arith, None, Some, if◌then◌else◌, eqb, ◌==◌, ◌||◌}
 use Rattle.std.specs.Prelude.{IfSome, is_some}
 use Rattle.std.specs.declared.option.Option.{Option}
 use Rattle.std.specs.Ordering.{nat_cmp}
@@ -19,7 +19,7 @@ use Rattle.store_machine.specs.declared.call.Reply.{Reply}
 use Rattle.store_machine.specs.declared.call.Reply.TheVariants as reply
 use Rattle.session_core.specs.State.{State}
 use Rattle.session_core.specs.Arriving.{Event}
-use Rattle.session_core.specs.Run.{takes, hears, moment_of, Asks, Remembers, FirstRemembers, TakingRemembers, TakingAsks, HearingRemembers, MoreIsRemembered, DrainedRemembers}
+use Rattle.session_core.specs.Run.{takes, moment_of, TakingAsks}
 use Rattle.session_core.specs.Session.{end_of}
 use Rattle.session_core.specs.declared.state.End.{End}
 use Rattle.tool_forms.specs.Turns.{event_of, Turn, turned, turn, Effect, effect_after, effect_open, first_open, place_in, entered_journal, entered_place, effect_entered, effect_new, effect_at}
@@ -27,21 +27,17 @@ use Rattle.tool_forms.specs.Play.{World, state_of, with_tag, has_ended, world_af
 use Rattle.tool_forms.specs.Plays.{Meets}
 use Rattle.tool_forms.specs.Sound.{FitsOpen, FitsTag, IsSound}
 use Rattle.tool_forms.specs.declared.tag.TagState.{TagState}
+use Rattle.session_core.proofs.StepLemmas.{asks_call}
 use Rattle.tool_forms.specs.declared.tag.TagState.TheVariants.{Ended, Open}
 use Rattle.tool_forms.specs.declared.tag.OpenSession.{OpenSession}
-use Rattle.tool_forms.proofs.Growth.{By, by_of, Grows, grows_none, grows_trans, grows_length, entry_last, entry_within, own_more, own_all, next_kept, next_more}
+use Rattle.tool_forms.proofs.Growth.{By, by_of, Grows, grows_none, grows_trans, entry_last, entry_within, own_more, own_all, next_kept, next_more}
 use Rattle.tool_forms.proofs.Tags.{put_twice, at_same, at_self, IsPut}
 
 -- the laws of the store's numbers and of a session's steps that are needed here
 pub record Laws : Type 0 where
   pub stay : NumbersStay
   pub own_entries : EntriesAreTheSessions
-  pub first : FirstRemembers
-  pub taken : TakingRemembers
   pub asks : TakingAsks
-  pub given : HearingRemembers
-  pub more : MoreIsRemembered
-  pub sent : DrainedRemembers
 
 -- a tag's state after a frame is that of the same session, and fits
 abbrev pub TagFits : ℕ → List Entry → TagState → Type 0
@@ -109,41 +105,31 @@ number_in h None = length h
 number_in h (Some (Open s)) = s.number
 number_in h (Some Ended) = length h
 
--- what a session asks is a call that it may make at the journal
-pub asked_at : (h : List Entry) (s : State) (o : Option StoreCall) → Remembers (length h) s → IfSome o (Asks s) → IfSome o (IsCallAt h)
-asked_at h s None remembers asks = tt
-asked_at h s (Some x) remembers asks = asks h remembers
-
 -- ---- what a frame leaves
 
 module _ (laws : Laws) where
-  turned_fits : (c : Config) (h : List Entry) (at : ℤ) (s : OpenSession) (st : State) (o : Option StoreCall) → IfSome o (IsCallAt h) → Remembers (length h) st → IsNext h s.number s.entries
+  turned_fits : (c : Config) (h : List Entry) (at : ℤ) (s : OpenSession) (st : State) (o : Option StoreCall) → IfSome o (IsCallAt h) → IsNext h s.number s.entries
       → TurnFits s.number h (turned c h at s st o)
-  turned_fits c h at s st None is remembers next = record { grows = grows_none s.number h; number = refl; fits = record { next = next; remembers = remembers } }
-  turned_fits c h at s st (Some x) is remembers next =
+  turned_fits c h at s st None is next = record { grows = grows_none s.number h; number = refl; fits = record { next = next } }
+  turned_fits c h at s st (Some x) is next =
       let es : List Entry = added c h s.number s.entries at x in
       let by : By s.number es = by_added laws.own_entries c h s.number s.entries at x is in
-      let grows : Grows s.number h (h ++ es) = record { more = es; is = refl; by = by } in
       record {
-        grows = grows;
+        grows = record { more = es; is = refl; by = by };
         number = refl;
-        fits = record {
-          next = next_more laws.stay s.number s.entries h es by next;
-          remembers = laws.more (length h) (length (h ++ es)) (hears st (answered c h x)) (grows_length s.number h (h ++ es) grows) (laws.given c h st x remembers);
-        };
+        fits = record { next = next_more laws.stay s.number s.entries h es by next };
       }
 
   turn_fits : (c : Config) (h : List Entry) (s : OpenSession) (f : Frame) → FitsOpen h s → TurnFits s.number h (turn c h s f)
   turn_fits c h s f fits =
       let e : Event = event_of h f in
       turned_fits c h (moment_of e) s (takes s.session e).state (takes s.session e).call
-      (asked_at h s.session (takes s.session e).call fits.remembers (laws.asks s.session e))
-      (laws.taken (length h) s.session e fits.remembers) fits.next
+      (asks_call (takes s.session e).call h (laws.asks s.session e)) fits.next
 
   after_fits : (n : ℕ) (h : List Entry) (f : Frame) (t : Turn) (o : Option End) → TurnFits n h t → EffectFits n h (effect_after f t o)
   after_fits n h f t None fits = record {
     grows = fits.grows;
-    tag = (fits.number, record { next = fits.fits.next; remembers = laws.sent (length t.journal) t.session.session fits.fits.remembers });
+    tag = (fits.number, record { next = fits.fits.next });
   }
   after_fits n h f t (Some e) fits = record { grows = fits.grows; tag = tt }
 
@@ -153,7 +139,7 @@ module _ (laws : Laws) where
       (after_fits s.number h f (turn c h s f) (end_of (turn c h s f).session.session.phase) (turn_fits c h s f fits))
 
   pub first_fits : (c : Config) (h : List Entry) (n : ℕ) → IsNext h n 1 → FitsOpen h (first_open c n)
-  first_fits c h n next = record { next = next; remembers = laws.first c n (length h) (pos 1) }
+  first_fits c h n next = record { next = next }
 
   entered_fits : (c : Config) (h : List Entry) (f : Frame) (b : Bool) → own (length h) h ≡ [] → EffectFits (length h) h (entered_by c h f b)
   entered_fits c h f true fresh =
@@ -204,7 +190,6 @@ fits_kept laws w tag q h (Some (Open r)) sound grows at differ fits =
     let n : ℕ = number_in w.journal (state_of tag w.tags) in
     record {
       next = next_kept laws.stay n r.number r.entries w.journal h grows (numbers_differ w tag q r (state_of tag w.tags) sound refl at differ) fits.next;
-      remembers = laws.more (length w.journal) (length h) r.session (grows_length n w.journal h grows) fits.remembers;
     }
 
 pub number_put : (n : ℕ) (h : List Entry) (state : TagState) (s : OpenSession) → TagFits n h state → Some state ≡ Some (Open s) → s.number ≡ n

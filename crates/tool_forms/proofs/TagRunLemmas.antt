@@ -24,7 +24,7 @@ use Rattle.store_machine.specs.declared.call.StoreCall.{StoreCall}
 use Rattle.store_machine.specs.declared.call.StoreCall.TheVariants.{Enter}
 use Rattle.session_core.specs.Arriving.{Event, Receives, Polls}
 use Rattle.session_core.specs.State.{State}
-use Rattle.session_core.specs.Run.{Remembers, takes, hears, drained, moment_of, at_place, Course, own_number, IsHeeded, asked, run, AllWithin, RunIsSame, RunGoesOn}
+use Rattle.session_core.specs.Run.{takes, hears, drained, moment_of, at_place, Course, own_number, IsHeeded, asked, run, AllWithin, RunIsSame, RunGoesOn}
 use Rattle.session_core.specs.Session.{bytes_of, end_of}
 use Rattle.session_core.specs.declared.state.Outgoing.{Outgoing}
 use Rattle.session_core.specs.declared.state.End.{End}
@@ -40,7 +40,8 @@ use Rattle.tool_forms.specs.declared.tag.Ending.TheVariants.{Session, PeerEnd, J
 use Rattle.tool_forms.proofs.Growth.{Grows, entry_within}
 use Rattle.tool_forms.proofs.LegalLemmas.{at_legal}
 use Rattle.tool_forms.proofs.OwnLemmas.{IsApart, IsBelow, OwnStays, entered-wrote, fall-higher, fall-turned, other_apart, own_apart, own_stays, values-placed, wrote-longer, wrote-more}
-use Rattle.tool_forms.proofs.Soundness.{Laws, TagFits, asked_at, by_added, effect_fits, number_in, sound_put}
+use Rattle.session_core.proofs.StepLemmas.{asks_call}
+use Rattle.tool_forms.proofs.Soundness.{Laws, TagFits, by_added, effect_fits, number_in, sound_put}
 use Rattle.tool_forms.proofs.Tags.{put_found, at_other, at_self}
 
 -- ---- what goes to a tag
@@ -415,10 +416,10 @@ module _ (same : RunIsSame) (next : RunGoesOn) (one : CallsAddOne) (laws : Laws)
       )
 
   -- a frame of an open session
-  open_fits : (c : Config) (h : List Entry) (tag : ℕ) (f : Frame) (ms es : List (List ℕ)) (r : TagRun) (s : OpenSession) → (f.tag == tag) ≡ true → Remembers (length h) s.session → Goes c h ms r s → es ≡ [] → end_of s.session.phase ≡ None
+  open_fits : (c : Config) (h : List Entry) (tag : ℕ) (f : Frame) (ms es : List (List ℕ)) (r : TagRun) (s : OpenSession) → (f.tag == tag) ≡ true → Goes c h ms r s → es ≡ [] → end_of s.session.phase ≡ None
       → let e = effect_open c h s f in Fits c e.journal (ms ++ payloads_to 17 tag e.answers) (es ++ payloads_to 19 tag e.answers) (Some (run_with c h s f r)) (Some e.tag)
-  open_fits c h tag f ms es r s is remembers goes none going =
-      let asks : IfSome (takes s.session (event_of h f)).call (IsCallAt h) = asked_at h s.session (takes s.session (event_of h f)).call remembers (laws.asks s.session (event_of h f)) in
+  open_fits c h tag f ms es r s is goes none going =
+      let asks : IfSome (takes s.session (event_of h f)).call (IsCallAt h) = asks_call (takes s.session (event_of h f)).call h (laws.asks s.session (event_of h f)) in
       kind_fits c tag ms es (f.kind == 3) (record { journal = h; tag = Ended; answers = end_frame f PeerEnd ∷ [] }) (effect_after f (turn c h s f) (end_of (turn c h s f).session.session.phase))
       r (grown r (event_of h f) (turn c h s f).marks)
       (peer_ended c h tag f ms es r s is goes none going)
@@ -455,7 +456,7 @@ module _ (same : RunIsSame) (next : RunGoesOn) (one : CallsAddOne) (laws : Laws)
   at_fits c h tag f ms es (Some r) None is fresh sound fits = absurd fits
   at_fits c h tag f ms es (Some r) (Some Ended) is fresh sound fits =
       (subst (λ l. IsRun c h l r) (sym (append-nil ms)) fits.0, subst (λ l. IsEnd (end_of (run_of c h r).state.phase) l) (sym (append-nil es)) fits.1)
-  at_fits c h tag f ms es (Some r) (Some (Open s)) is fresh sound fits = open_fits c h tag f ms es r s is sound.remembers fits.0 fits.1 fits.2
+  at_fits c h tag f ms es (Some r) (Some (Open s)) is fresh sound fits = open_fits c h tag f ms es r s is fits.0 fits.1 fits.2
 
   -- ---- a play
 

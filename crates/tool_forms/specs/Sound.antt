@@ -1,17 +1,15 @@
 -- The tags of a run fit its journal.
-use Rattle.std.specs.Prelude.{◌≡◌, ℕ, List, Option, None, Some, length}
+use Rattle.std.specs.Prelude.{◌≡◌, ℕ, List, Option, None, Some}
 use Rattle.store_machine.specs.Legal.{IsNext}
 use Rattle.store_machine.specs.declared.journal.Entry.{Entry}
-use Rattle.session_core.specs.Run.{Remembers}
 use Rattle.tool_forms.specs.Play.{World, state_of}
 use Rattle.tool_forms.specs.declared.tag.TagState.{TagState}
 use Rattle.tool_forms.specs.declared.tag.TagState.TheVariants.{Ended, Open}
 use Rattle.tool_forms.specs.declared.tag.OpenSession.{OpenSession}
 
--- an open session knows how many entries are its own, and remembers no place past the journal
+-- an open session knows how many entries are its own
 pub record FitsOpen (h : List Entry) (s : OpenSession) : Type 0 where
   pub next : IsNext h s.number s.entries
-  pub remembers : Remembers (length h) s.session
 
 -- a tag's session does so while it is open
 abbrev pub FitsTag : List Entry → Option TagState → Type 0

@@ -4,7 +4,7 @@ ghost use Rattle.std.specs.Int.{w32, to_be_bytes, cast_unsigned};
 ghost use Rattle.store_machine.specs.Answers.{answered, added};
 ghost use Rattle.store_machine.specs.Legal.{IsNext, MayAsk, own};
 ghost use Rattle.store_machine.specs.declared.journal.Entry.{Entry};
-ghost use Rattle.session_core.specs.Run.{takes, hears, drained, moment_of, Asks, Remembers};
+ghost use Rattle.session_core.specs.Run.{takes, hears, drained, moment_of, Asks};
 ghost use Rattle.session_core.specs.Session.{end_of};
 ghost use Rattle.tool_forms.specs.Turns.{event_of, turn, effect_after, effect_open, effect_new, effect_at, place_in, messages, end_frame, answering, ending_bytes, session_end_bytes};
 ghost use Rattle.tool_forms.specs.Plays.{Meets};
@@ -14,7 +14,7 @@ use crate::tag::{Ending, OpenSession, TagState};
 use etp_capture::{Frame, kinds};
 use etp_values::{Blob, Boxed, Copied, NoMemory};
 use server_config::Config;
-use session_core::{End, Session, steps};
+use session_core::{End, Session};
 use std::alloc::Global;
 use store_machine::{Answer, Reply, Store, StoreCall, number_laws};
 
@@ -53,8 +53,6 @@ fn enter(
     ensures config { store.new.config ≡ store.old.config }
     ensures effect { IfOk result (λ state. Meets (effect_new config.now store.old.journal frame.now) state store.new.journal answers.old.items answers.new.items) }
 {
-    // For the proof alone: a session that begins remembers no place.
-    steps();
     let answer = ask(alloc, store, 0, 0, frame.moment, StoreCall::Enter)?;
     let Some(number) = place_in(answer.reply) else {
         push_end(alloc, answers, frame, Ending::JournalFull)?;
@@ -177,7 +175,7 @@ fn take_event(
 ) -> Result<Option<StoreCall>, NoMemory>
     ensures call { IfOk result (λ call. (h : List Entry) → length h ≡ front → call ≡ (takes session.old (event_of h frame.now)).call) }
     ensures state { OnOk result ((h : List Entry) → length h ≡ front → session.new ≡ (takes session.old (event_of h frame.now)).state) }
-    ensures asks { IfOk result (λ call. IfSome call (Asks session.old)) }
+    ensures asks { IfOk result (λ call. IfSome call Asks) }
 {
     if frame.kind == kinds::IN {
         return session.take(alloc, frame.bytes.as_bytes(), frame.moment);

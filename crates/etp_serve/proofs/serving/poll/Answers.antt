@@ -1,10 +1,9 @@
-use Rattle.std.proofs.Common.{length, pos, ap, sym, ◌∙◌, subst, refl}
-use Rattle.session_core.specs.Arriving.{Polls}
-use Rattle.session_core.specs.Run.{Remembers}
+use Rattle.std.proofs.Common.{pos, ap, sym, ◌∙◌, refl}
 use Rattle.store_hub.specs.Passes.{known, config_of}
 use Rattle.store_hub.specs.Words.{Known}
+use Rattle.session_core.proofs.StepLemmas.{asks_call}
 use Rattle.etp_serve.proofs.Turns.{poll_fails}
-use Rattle.etp_serve.proofs.Tails.{poll_goes, poll_ends, heard_remembers, heard_call}
+use Rattle.etp_serve.proofs.Tails.{poll_goes, poll_ends}
 use Rattle.etp_serve.proofs.serving.poll.Goals as goal
 
 pub returns-in_default-clause-stops : goal.returns-in_default-clause-stops
@@ -13,19 +12,14 @@ returns-in_default-clause-stops g c = λ a0 c0 d turn.
 
 pub carry_out-requires-clause-call : goal.carry_out-requires-clause-call
 carry_out-requires-clause-call g c = λ κs w.
-    heard_call (known c.args.pass.now) (known c.news-front.new.pass) c.news-front.result c.args.session.now c.in-Ok.call c.news-front.ensures.view c.requires.remembers c.in-Ok.ensures.asks
-
-pub carry_out-requires-clause-remembers : goal.carry_out-requires-clause-remembers
-carry_out-requires-clause-remembers g c = λ κs w.
-    subst (Remembers (length (known c.news-front.new.pass).seen)) (sym c.in-Ok.ensures.state)
-    (c.laws.ensures.taken (length (known c.news-front.new.pass).seen) c.args.session.now (Polls c.news-front.result) (heard_remembers (known c.args.pass.now) (known c.news-front.new.pass) c.news-front.result c.args.session.now c.news-front.ensures.view c.requires.remembers))
+    asks_call c.in-Ok.call (known c.news-front.new.pass).seen c.in-Ok.ensures.asks
 
 pub returns-clause-goes : goal.returns-clause-goes
 returns-clause-goes g c =
     poll_goes c.laws.ensures (config_of c.args.hub.now) c.args.pass.now.number c.news-front.new.pass.number (known c.args.pass.now) (known c.news-front.new.pass) (known c.carry_out.new.pass) c.args.session.now c.poll.new.self
     (g.L.Link.talk c.args.link.now) (g.L.Link.talk c.carry_out.new.link) c.news-front.result (record { at = pos 0; call = c.in-Ok.call }) c.news-front.new.pass.entries
     c.news-front.ensures.own.1 c.news-front.ensures.least c.news-front.ensures.view (sym c.in-Ok.ensures.call) c.in-Ok.ensures.state
-    (heard_call (known c.args.pass.now) (known c.news-front.new.pass) c.news-front.result c.args.session.now c.in-Ok.call c.news-front.ensures.view c.requires.remembers c.in-Ok.ensures.asks)
+    (asks_call c.in-Ok.call (known c.news-front.new.pass).seen c.in-Ok.ensures.asks)
     c.news-front.new.pass.kept.2 refl c.carry_out.new.session c.carry_out.result c.carry_out.ensures.does c.carry_out.ensures.goes
 
 pub returns-clause-stops : goal.returns-clause-stops
@@ -33,7 +27,7 @@ returns-clause-stops g c =
     poll_ends c.laws.ensures (config_of c.args.hub.now) c.args.pass.now.number c.news-front.new.pass.number (known c.args.pass.now) (known c.news-front.new.pass) (known c.carry_out.new.pass) c.args.session.now c.poll.new.self
     (g.L.Link.talk c.args.link.now) (g.L.Link.talk c.carry_out.new.link) c.news-front.result (record { at = pos 0; call = c.in-Ok.call }) c.news-front.new.pass.entries
     c.news-front.ensures.own.1 c.news-front.ensures.least c.news-front.ensures.view (sym c.in-Ok.ensures.call) c.in-Ok.ensures.state
-    (heard_call (known c.args.pass.now) (known c.news-front.new.pass) c.news-front.result c.args.session.now c.in-Ok.call c.news-front.ensures.view c.requires.remembers c.in-Ok.ensures.asks)
+    (asks_call c.in-Ok.call (known c.news-front.new.pass).seen c.in-Ok.ensures.asks)
     c.news-front.new.pass.kept.2 refl c.carry_out.result c.carry_out.ensures.stops
 
 pub returns-in_default-clause-met : goal.returns-in_default-clause-met

@@ -1,12 +1,12 @@
-use Rattle.std.proofs.Common.{◌≡◌, ℕ, ℤ, List, length, ap, sym, ◌∙◌, subst, refl, w64, to_z, of_z, rules, FitsSigned}
+use Rattle.std.proofs.Common.{◌≡◌, ℕ, ℤ, List, ap, sym, ◌∙◌, refl, w64, to_z, of_z, rules, FitsSigned}
 use Rattle.std.proofs.lemmas.Int.{to_z-of_z}
 use Rattle.store_hub.specs.Passes.{known, config_of}
 use Rattle.session_core.specs.Arriving.{Event, Receives}
-use Rattle.session_core.specs.Run.{takes, Remembers}
+use Rattle.session_core.specs.Run.{takes}
 use Rattle.session_core.specs.State.{State}
 use Rattle.etp_serve.specs.declared.ended.Ended.TheVariants.{PeerEnd, LinkFault, NoMemory}
 use Rattle.etp_serve.proofs.Causes.{or_true, rose_later}
-use Rattle.etp_serve.proofs.Settling.{asks_call}
+use Rattle.session_core.proofs.StepLemmas.{asks_call}
 use Rattle.etp_serve.proofs.Turns.{run_stops, run_idle, message_fails}
 use Rattle.etp_serve.proofs.Tails.{message_goes, message_ends}
 use Rattle.etp_serve.proofs.serving.receive.Goals as goal
@@ -33,11 +33,7 @@ returns-in_default-clause-stops g c = λ a0 c0 turn.
     (g.C.Clock.told c.now-now.new.self) c.in-Got.bytes c.now-now.result turn c.in-Got.ensures.talk c.now-now.ensures.told
 
 pub carry_out-requires-clause-call : goal.carry_out-requires-clause-call
-carry_out-requires-clause-call g c = λ κs w. asks_call c.in-Ok.call c.args.session.now (known c.args.pass.now).seen c.in-Ok.ensures.asks c.requires.remembers
-
-pub carry_out-requires-clause-remembers : goal.carry_out-requires-clause-remembers
-carry_out-requires-clause-remembers g c = λ κs w.
-    subst (Remembers (length (known c.args.pass.now).seen)) (sym c.in-Ok.ensures.state) (c.laws.ensures.taken (length (known c.args.pass.now).seen) c.args.session.now _ c.requires.remembers)
+carry_out-requires-clause-call g c = λ κs w. asks_call c.in-Ok.call (known c.args.pass.now).seen c.in-Ok.ensures.asks
 
 pub returns-clause-goes : goal.returns-clause-goes
 returns-clause-goes g c =
@@ -50,7 +46,7 @@ returns-clause-goes g c =
     let state : c.take.new.self ≡ (takes s e).state = c.in-Ok.ensures.state ∙ ap (λ (x : Event). (takes s x).state) same in
     message_goes c.laws.ensures (config_of c.args.hub.now) c.args.pass.now.number (known c.args.pass.now) (known c.carry_out.new.pass) s c.take.new.self (g.L.Link.talk c.args.link.now) (g.L.Link.talk c.recv.new.self) (g.L.Link.talk c.carry_out.new.link)
     (g.C.Clock.told c.args.clock.now) (g.C.Clock.told c.now-now.new.self) c.in-Got.bytes m (record { at = to_z w64 (of_z w64 m); call = c.in-Ok.call }) c.args.pass.now.entries c.in-Got.ensures.talk c.now-now.ensures.told is state
-    (asks_call c.in-Ok.call s (known c.args.pass.now).seen c.in-Ok.ensures.asks c.requires.remembers) c.args.pass.now.kept.2 (to_z-of_z w64 m fits) c.carry_out.new.session c.carry_out.result c.carry_out.ensures.does c.carry_out.ensures.goes
+    (asks_call c.in-Ok.call (known c.args.pass.now).seen c.in-Ok.ensures.asks) c.args.pass.now.kept.2 (to_z-of_z w64 m fits) c.carry_out.new.session c.carry_out.result c.carry_out.ensures.does c.carry_out.ensures.goes
 
 pub returns-clause-stops : goal.returns-clause-stops
 returns-clause-stops g c =
@@ -63,7 +59,7 @@ returns-clause-stops g c =
     let state : c.take.new.self ≡ (takes s e).state = c.in-Ok.ensures.state ∙ ap (λ (x : Event). (takes s x).state) same in
     message_ends c.laws.ensures (config_of c.args.hub.now) c.args.pass.now.number (known c.args.pass.now) (known c.carry_out.new.pass) s c.take.new.self (g.L.Link.talk c.args.link.now) (g.L.Link.talk c.recv.new.self) (g.L.Link.talk c.carry_out.new.link)
     (g.C.Clock.told c.args.clock.now) (g.C.Clock.told c.now-now.new.self) c.in-Got.bytes m (record { at = to_z w64 (of_z w64 m); call = c.in-Ok.call }) c.args.pass.now.entries c.in-Got.ensures.talk c.now-now.ensures.told is state
-    (asks_call c.in-Ok.call s (known c.args.pass.now).seen c.in-Ok.ensures.asks c.requires.remembers) c.args.pass.now.kept.2 (to_z-of_z w64 m fits) c.carry_out.result c.carry_out.ensures.stops
+    (asks_call c.in-Ok.call (known c.args.pass.now).seen c.in-Ok.ensures.asks) c.args.pass.now.kept.2 (to_z-of_z w64 m fits) c.carry_out.result c.carry_out.ensures.stops
 
 pub returns-in-End-clause-ended : goal.returns-in-End-clause-ended
 returns-in-End-clause-ended g c = λ is. c.in-End.ensures.ended ∙ or_true (g.L.Link.ended c.args.link.now)

@@ -1,6 +1,5 @@
-use Rattle.std.proofs.Common.{◌≡◌, ℕ, length, pos, arith, ap, sym, ◌∙◌, subst, refl}
+use Rattle.std.proofs.Common.{◌≡◌, ℕ, pos, arith, ap, sym, ◌∙◌, subst, refl}
 use Rattle.server_config.specs.declared.config.Config.{Config}
-use Rattle.session_core.specs.Run.{Remembers}
 use Rattle.session_core.specs.State.{State, first_state}
 use Rattle.session_core.specs.Streams.{HasIds}
 use Rattle.store_hub.specs.Passes.{known, config_of}
@@ -38,7 +37,6 @@ loop-init g c =
       own = c.requires.own;
       number = refl;
       met = refl;
-      remembers = subst (Remembers (length (known pass).seen)) (sym new) (c.laws.ensures.first config pass.number (length (known pass).seen) (pos 1));
       run = subst (λ (s : State). IsBeforeTurn config pass.number a told (known pass) s a told) (sym new)
           (run_start c.laws.ensures config pass.number ids (known pass) entered.0 a told c.requires.fresh.0 c.requires.fresh.1 entered.1 entered.2);
       kept = omega arith;
@@ -107,7 +105,6 @@ loop-preserved g c =
       own = c.poll.ensures.own.0;
       number = c.poll.ensures.own.1 ∙ (m ∙ n);
       met = c.poll.ensures.met ∙ (c.receive.ensures.met ∙ c.loop.invariant.met);
-      remembers = c.in_default-poll.ensures.remembers;
       run = subst (λ (k : ℕ). IsBeforeTurn config k a told (known c.poll.new.pass) c.poll.new.session (g.L.Link.talk c.poll.new.link) (g.C.Clock.told c.receive.new.clock)) (m ∙ n)
           (c.in_default-poll.ensures.goes a told (g.C.Clock.told c.receive.new.clock)
           (subst (λ (k : ℕ). IsWithinTurn config k a told (known c.receive.new.pass) c.receive.new.session (g.L.Link.talk c.receive.new.link) (g.C.Clock.told c.receive.new.clock)) (sym m)

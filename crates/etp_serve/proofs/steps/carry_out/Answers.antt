@@ -1,5 +1,4 @@
-use Rattle.std.proofs.Common.{length, refl, subst, sym, inl, inr}
-use Rattle.session_core.specs.Run.{Remembers}
+use Rattle.std.proofs.Common.{refl, inl, inr}
 use Rattle.session_core.specs.Session.{end_of}
 use Rattle.store_hub.specs.Passes.{known, config_of}
 use Rattle.etp_serve.specs.Steps.{Does}
@@ -18,11 +17,6 @@ returns-in-Done-clause-does g c =
 
 pub returns-in-Done-clause-goes : goal.returns-in-Done-clause-goes
 returns-in-Done-clause-goes g c = goes_by (end_of c.drain.new.session.phase) c.own_end.result c.own_end.ensures
-
-pub returns-in-Done-clause-remembers : goal.returns-in-Done-clause-remembers
-returns-in-Done-clause-remembers g c =
-    if_none_all c.own_end.result (Remembers (length (known c.settle.new.pass).seen) c.drain.new.session)
-    (subst (Remembers (length (known c.settle.new.pass).seen)) (sym c.in-Done.ensures.talk.0) (c.laws.ensures.drained (length (known c.settle.new.pass).seen) c.settle.new.session c.in-Ok.ensures.remembers))
 
 pub returns-in-Done-clause-stops : goal.returns-in-Done-clause-stops
 returns-in-Done-clause-stops g c =

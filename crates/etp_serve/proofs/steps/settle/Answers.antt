@@ -1,4 +1,4 @@
-use Rattle.std.proofs.Common.{◌≡◌, ℤ, length, subst, w64, to_z, of_z, rules, FitsSigned}
+use Rattle.std.proofs.Common.{◌≡◌, ℤ, subst, w64, to_z, of_z, rules, FitsSigned}
 use Rattle.std.specs.Prelude.{IfSome}
 use Rattle.std.specs.declared.option.Option.{Option}
 use Rattle.std.proofs.lemmas.Int.{to_z-of_z}
@@ -6,9 +6,9 @@ use Rattle.store_machine.specs.Laws.{IsCallAt}
 use Rattle.store_machine.specs.declared.call.StoreCall.{StoreCall}
 use Rattle.store_hub.specs.Notes.{Answers}
 use Rattle.store_hub.specs.Passes.{known, config_of}
-use Rattle.session_core.specs.Run.{hears, Remembers}
+use Rattle.session_core.specs.Run.{hears}
 use Rattle.etp_serve.specs.Steps.{Settles, Breaks}
-use Rattle.etp_serve.proofs.Settling.{on_ok, on_err_all, settles_none, settles_some, breaks_answered, breaks_refused, remembers_given, answers_met, refuses_met}
+use Rattle.etp_serve.proofs.Settling.{on_ok, on_err_all, settles_none, settles_some, breaks_answered, breaks_refused, answers_met, refuses_met}
 use Rattle.etp_serve.proofs.steps.settle.Goals as goal
 
 pub ask-requires-clause-call : goal.ask-requires-clause-call
@@ -28,13 +28,6 @@ returns-in-Ok-clause-ok g c =
     subst (λ (m : ℤ). Answers config pass.number pass.entries m c.in-Some.call (known pass) c.in-Ok.answer (known c.ask.new.pass)) (to_z-of_z w64 at fits) c.in-Ok.ensures.ok in
     on_ok c.give.result (c.give.new.self ≡ hears c.args.session.now c.in-Ok.answer) (Settles config pass.number pass.entries at c.args.asked.call (known pass) (known c.ask.new.pass) c.args.session.now c.give.new.self)
     (λ now. settles_some config pass.number pass.entries at (known pass) (known c.ask.new.pass) c.args.asked.call c.in-Some.call c.args.session.now c.give.new.self c.in-Ok.answer c.in-Some.is answers now) c.give.ensures
-
-pub returns-in-Ok-clause-remembers : goal.returns-in-Ok-clause-remembers
-returns-in-Ok-clause-remembers g c =
-    let config = config_of c.args.hub.now in
-    let pass = c.args.pass.now in
-    on_ok c.give.result (c.give.new.self ≡ hears c.args.session.now c.in-Ok.answer) (Remembers (length (known c.ask.new.pass).seen) c.give.new.self)
-    (λ now. remembers_given config pass.number pass.entries (to_z w64 (of_z w64 c.args.asked.at)) (known pass) (known c.ask.new.pass) c.laws.ensures c.in-Some.call c.args.session.now c.give.new.self c.in-Ok.answer c.in-Ok.ensures.ok c.requires.remembers now) c.give.ensures
 
 pub returns-in-Ok-clause-err : goal.returns-in-Ok-clause-err
 returns-in-Ok-clause-err g c =

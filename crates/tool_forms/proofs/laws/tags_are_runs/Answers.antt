@@ -5,15 +5,9 @@ use Rattle.tool_forms.proofs.laws.tags_are_runs.Goals as goal
 pub returns : goal.returns
 returns c =
     let numbers = c.number_laws.ensures in
-    let steps = c.steps.ensures in
     let laws : Laws = record {
       stay = numbers.stay;
       own_entries = numbers.own;
-      first = steps.first;
-      taken = steps.taken;
-      asks = steps.asks;
-      given = steps.given;
-      more = steps.more;
-      sent = steps.drained;
+      asks = c.steps.ensures.asks;
     } in
     play_is_runs c.runs.ensures.same c.runs.ensures.next numbers.one laws numbers.fresh numbers.may c.growth_laws.ensures.legal

@@ -1,4 +1,4 @@
-use Rattle.std.proofs.Common.{◌≡◌, ◌++◌, ℤ, List, length, ap, sym, ◌∙◌, subst, Some, None, rules, pos, w64, to_z, of_z}
+use Rattle.std.proofs.Common.{◌≡◌, ◌++◌, ℤ, List, ap, sym, ◌∙◌, subst, Some, None, rules, pos, w64, to_z, of_z}
 use Rattle.std.proofs.lemmas.Int.{to_z-of_z}
 use Rattle.std.specs.Prelude.{IfOk}
 use Rattle.store_machine.specs.declared.call.StoreCall.TheVariants.{Enter}
@@ -6,8 +6,7 @@ use Rattle.store_machine.specs.Answers.{added}
 use Rattle.store_machine.specs.Legal.{IsNext}
 use Rattle.store_machine.specs.declared.journal.Entry.{Entry}
 use Rattle.server_config.specs.declared.config.Config.{Config}
-use Rattle.session_core.specs.State.{State, first_state}
-use Rattle.session_core.specs.Run.{Remembers}
+use Rattle.session_core.specs.State.{first_state}
 use Rattle.tool_forms.specs.declared.tag.OpenSession.{OpenSession}
 use Rattle.tool_forms.specs.Plays.{Meets}
 use Rattle.tool_forms.specs.Turns.{effect_open}
@@ -24,7 +23,6 @@ play_open-requires c =
     let place = place_is store.config store.config store.journal c.in_ok-answer.answer c.place_in.result (Some c.in-Some.number) (λ i. store.config) c.in_ok-answer.ensures.answer c.place_in.ensures c.in-Some.is in
     let fits : FitsOpen c.ask.new.store.journal (record { number = c.in-Some.number; entries = 1; session = c.in_ok-session.session }) = record {
       next = subst (λ (h : List Entry). IsNext h c.in-Some.number 1) (sym grown) (enter_next store.config store.journal c.args.frame.now c.in-Some.number c.requires.fresh place);
-      remembers = subst (λ (s : State). Remembers (length c.ask.new.store.journal) s) (sym c.in_ok-session.ensures) (c.steps.ensures.first c.in_ok-session_config.session_config c.in-Some.number (length c.ask.new.store.journal) (pos 1));
     } in
     subst (λ (o : OpenSession). FitsOpen c.ask.new.store.journal o) (sym c.in_ok-open_session.ensures) fits
 

@@ -15,5 +15,5 @@ overflow_add-open_session c =
 
 pub ask-requires : goal.ask-requires
 ask-requires c =
-    let asks : Asks c.args.open_session.now.session c.in-Some.call = subst (λ (o : Option StoreCall). IfSome o (Asks c.args.open_session.now.session)) c.in-Some.is c.in_ok-call.ensures.asks in
-    c.number_laws.ensures.may c.args.store.now.journal c.args.open_session.now.number c.args.open_session.now.entries c.in-Some.call c.requires.next (asks c.args.store.now.journal c.requires.remembers)
+    let asks : Asks c.in-Some.call = subst (λ (o : Option StoreCall). IfSome o Asks) c.in-Some.is c.in_ok-call.ensures.asks in
+    c.number_laws.ensures.may c.args.store.now.journal c.args.open_session.now.number c.args.open_session.now.entries c.in-Some.call c.requires.next (asks c.args.store.now.journal)

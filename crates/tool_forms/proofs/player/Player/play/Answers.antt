@@ -36,17 +36,11 @@ returns-clause-sound c =
     let sound : IsSound w = subst IsSound view c.requires in
     let here : has_ended (state_of f.tag w.tags) ≡ false = sym c.has_ended.ensures ∙ c.if-has_ended.false in
     let numbers = c.number_laws.ensures in
-    let steps = c.steps.ensures in
     let fresh = numbers.fresh c.self.inside.store.config c.self.inside.store.journal c.entries-entries.ensures.legal in
     let laws : Laws = record {
       stay = numbers.stay;
       own_entries = numbers.own;
-      first = steps.first;
-      taken = steps.taken;
-      asks = steps.asks;
-      given = steps.given;
-      more = steps.more;
-      sent = steps.drained;
+      asks = c.steps.ensures.asks;
     } in
     sound_played laws w f c.in_ok-state.state c.play_at.new.store.journal c.in_ok-state-2.state c.insert.new.self.entries c.insert-2.new.self.entries c.args.answers.now.items c.play_at.new.answers.items
     sound fresh here c.in_ok-state.ensures.old c.in_ok-state-2.ensures.effect c.in_ok-state.ensures.updates.0 c.in_ok-insert.ensures.updates.0
