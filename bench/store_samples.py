@@ -4,6 +4,7 @@
 `cases` prints the lines, and `answer` what each gives. A line begins a store, prints its journal, or is a call of a session at
 a moment; the items of a call stand behind a colon, with semicolons between them:
 
+    limits                             the greatest numbers of the profile, by their names
     store JOURNAL TYPES KINDS          a store whose journal takes so many entries, with channels of these kinds
     journal                            each entry of the journal
     BY AT enter                        lets a session in
@@ -35,6 +36,11 @@ FAR = 2 ** 62
 JOURNAL_BYTES = 536870912
 PAYLOAD = 67108864
 POINTS = 1048576
+PROFILE = [
+    ("index", FAR), ("rank", 8), ("elements", 4194304), ("element bytes", 33554432), ("operations", 4096), ("touched keys", 16384),
+    ("staged bytes", 67108864), ("payload", PAYLOAD), ("journal bytes", JOURNAL_BYTES), ("changes", 256), ("change bytes", 67108864),
+    ("points", POINTS), ("point bytes", 67108864),
+]
 ELEMENT_BYTES = {"boolean": 1, "int": 4, "long": 8, "float": 4, "double": 8, "bytes": 1}
 KINDS = ["boolean", "int", "long", "float", "double", "string", "bytes"]
 LETTERS = dict(zip("bilfdsx", KINDS))
@@ -621,6 +627,8 @@ class Player:
         if word == "store":
             self.store = Store(*words)
             return ["new store"]
+        if word == "limits":
+            return ["%s %d" % limit for limit in PROFILE]
         return self.store.entries() if word == "journal" else self.store.call(line)
 
 
@@ -1117,7 +1125,7 @@ def drawn():
 
 
 def main():
-    lines = [line for part in (LIMITS, ORDER, COMMITS) for line in part.splitlines()] + drawn()
+    lines = ["limits"] + [line for part in (LIMITS, ORDER, COMMITS) for line in part.splitlines()] + drawn()
     if sys.argv[1:] == ["cases"]:
         print("\n".join(lines))
     elif sys.argv[1:] == ["answer"]:

@@ -10,6 +10,7 @@ mod elements;
 mod entries;
 mod items;
 mod keys;
+mod limits;
 mod looks;
 mod operations;
 mod replies;
@@ -23,6 +24,7 @@ use calls::call_of;
 use configuration::config_of;
 use entries::print_journal;
 use etp_values::NoMemory;
+use limits::print_limits;
 use replies::print_answer;
 use sessions::ask;
 use std::alloc::Global;
@@ -97,6 +99,7 @@ fn print_words(rt: &HostRuntime, store: &mut Store, words: &[&str], items: &str)
     match words {
         ["store", journal, types, kinds] => print_new(rt, store, journal, types, kinds),
         ["journal"] => print_journal(rt, store),
+        ["limits"] => print_limits(rt),
         [by, at, "enter"] => print_enter(rt, store, session(by), number(at)),
         [by, at, call @ ..] => print_call(rt, store, session(by), number(at), call, items),
         _ => println!(rt; "no call"),
