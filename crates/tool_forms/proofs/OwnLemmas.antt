@@ -25,7 +25,8 @@ use Rattle.tool_forms.specs.declared.tag.OpenSession.{OpenSession}
 use Rattle.tool_forms.specs.declared.tag.TagState.{TagState}
 use Rattle.tool_forms.specs.declared.tag.TagState.TheVariants.{Ended, Open}
 use Rattle.tool_forms.proofs.Growth.{By, Grows, entry_last, own_all, own_kept, own_more}
-use Rattle.tool_forms.proofs.Soundness.{TagFits, by_test, entering, let_in, number_below, number_in, number_put, open_next}
+use Rattle.etp_values.proofs.Bools.{by_test}
+use Rattle.tool_forms.proofs.Soundness.{TagFits, entering, let_in, number_below, number_in, number_put, open_next}
 use Rattle.tool_forms.proofs.Tags.{at_same, put_found}
 
 -- ---- places

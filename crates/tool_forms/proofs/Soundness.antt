@@ -27,6 +27,7 @@ use Rattle.tool_forms.specs.Play.{World, state_of, with_tag, has_ended, world_af
 use Rattle.tool_forms.specs.Plays.{Meets}
 use Rattle.tool_forms.specs.Sound.{FitsOpen, FitsTag, IsSound}
 use Rattle.tool_forms.specs.declared.tag.TagState.{TagState}
+use Rattle.etp_values.proofs.Bools.{by_test}
 use Rattle.session_core.proofs.StepLemmas.{asks_call}
 use Rattle.tool_forms.specs.declared.tag.TagState.TheVariants.{Ended, Open}
 use Rattle.tool_forms.specs.declared.tag.OpenSession.{OpenSession}
@@ -174,10 +175,6 @@ numbers_differ w tag other r (Some Ended) sound at there differ = number_below w
 
 pub tags_differ : (tag q : ℕ) → is_at (nat_cmp tag) q ≡ false → tag ≡ q → ⊥
 tags_differ tag q other same = false≢true (sym other ∙ subst (λ (k : ℕ). is_at (nat_cmp tag) k ≡ true) same (at_self tag))
-
-pub by_test : {P : Type 0} (b : Bool) → (b ≡ true → P) → (b ≡ false → P) → P
-by_test true yes_p no_p = yes_p refl
-by_test false yes_p no_p = no_p refl
 
 fits_put : (n : ℕ) (h : List Entry) (state : TagState) → TagFits n h state → FitsTag h (Some state)
 fits_put n h Ended fits = tt
