@@ -1,5 +1,5 @@
 -- What a play is to one tag is a run.
-use Rattle.std.proofs.Common.{◌≡◌, ◌≢◌, ℕ, suc, ℤ, ◌+◌, ◌<◌, ◌≤◌, ◌==◌, ◌&&◌, ◌||◌, Bool, true, false, cond, List, [], ◌∷◌, ◌++◌, length, map, filter, fold, take, None, Some, if◌then◌else◌, refl, ap, sym, ◌∙◌, subst, arith, append-nil, length-append, eq-eqb, inl, inr, pos}
+use Rattle.std.proofs.Common.{◌≡◌, ◌≢◌, ℕ, suc, ℤ, ◌+◌, ◌<◌, ◌≤◌, ◌==◌, ◌&&◌, ◌||◌, Bool, true, false, cond, List, [], ◌∷◌, ◌++◌, length, map, filter, fold, take, None, Some, if◌then◌else◌, refl, ap, sym, ◌∙◌, subst, arith, append-nil, length-append, eq-eqb, inl, inr}
 use Rattle.std.specs.Prelude.{IfSome, slice_get}
 use Rattle.std.specs.Map.{values_of}
 use Rattle.std.specs.declared.option.Option.{Option}
@@ -440,7 +440,7 @@ module _ (same : RunIsSame) (next : RunGoesOn) (one : CallsAddOne) (laws : Laws)
       → let e = effect_entered c h f o in Fits c e.journal (payloads_to 17 tag e.answers) (payloads_to 19 tag e.answers) (run_entered c h f o) (Some e.tag)
   entered_fits c h tag f None is within wrote = (refl, own_end tag f JournalFull is)
   entered_fits c h tag f (Some n) is within wrote =
-      open_fits c h tag f [] [] (first_run n) (first_open c n) is (laws.first c n (length h) (pos 1)) (first_goes c h n (within n refl) (wrote n refl)) refl refl
+      open_fits c h tag f [] [] (first_run n) (first_open c n) is (first_goes c h n (within n refl) (wrote n refl)) refl refl
 
   -- a frame of this tag
   at_fits : (c : Config) (h : List Entry) (tag : ℕ) (f : Frame) (ms es : List (List ℕ)) (r : Option TagRun) (o : Option TagState) → (f.tag == tag) ≡ true → own (length h) h ≡ [] → FitsTag h o → Fits c h ms es r o
