@@ -1,9 +1,10 @@
-//! Prints what a program tells of each status on standard error.
+//! Prints each exit status that a program can end with, and what it tells of it on standard error.
 #![tactic(auto)]
 
 use etp_outside::{Status, StdSink, Written};
-use program_status::tell;
+use program_status::{finish, tell};
 use std::io;
+use std::process::ExitCode;
 
 /// How the program is called.
 const USAGE: &[u8] = b"\nhow it is called\n";
@@ -42,7 +43,9 @@ fn main(rt: HostRuntime) -> io::Result<()> {
         Status::Stopped,
     ] {
         let number = status.number();
-        println!(rt; "{number}")?;
+        if finish(rt.alloc(), status, USAGE, rt.stderr()) == ExitCode::from(number) {
+            println!(rt; "{number}")?;
+        }
         match tell(rt.alloc(), status, USAGE, &mut out) {
             Ok(Written::Done) => {}
             Ok(Written::Failed) | Err(_) => println!(rt; "not told")?,
