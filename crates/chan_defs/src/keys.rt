@@ -4,7 +4,7 @@ ghost use Rattle.toml.specs.View.{table_view, view, items_view};
 ghost use Rattle.toml.specs.Data.{get_member};
 ghost use Rattle.chan_defs.specs.Keys.{text_at, instance_of, name_of, is_name as is_name_text, within as number_within, number_at, filters_of, types_of, tables_in, tables_of, kind_of, is_unit as is_unit_text, unit_of};
 
-use etp_values::{Id16, List, NoMemory, Text, is_type_filter};
+use etp_values::{Id16, List, NoMemory, Shared, Text, is_type_filter};
 use server_config::ValueKind;
 use std::alloc::Global;
 use toml::{Table, Value};
@@ -104,7 +104,7 @@ fn filters(alloc: Global, array: &Vec<Value>) -> Result<Option<List<Text>>, NoMe
 }
 
 /// The accepted types of objects: none where there is no list, and then all are accepted.
-pub fn types(alloc: Global, table: &Table) -> Result<Option<Option<List<Text>>>, NoMemory>
+pub fn types(alloc: Global, table: &Table) -> Result<Option<Option<Shared<List<Text>>>>, NoMemory>
     ensures { IfOk result (λ r. r ≡ types_of (table_view table.now)) }
 {
     let Some(found) = value(table, "types") else {
@@ -114,7 +114,7 @@ pub fn types(alloc: Global, table: &Table) -> Result<Option<Option<List<Text>>>,
         return Ok(None);
     };
     match filters(alloc, array) {
-        Ok(Some(list)) => Ok(Some(Some(list))),
+        Ok(Some(list)) => Ok(Some(Some(Shared::new(alloc, list)?))),
         Ok(None) => Ok(None),
         Err(NoMemory) => Err(NoMemory),
     }

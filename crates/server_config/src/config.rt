@@ -23,15 +23,15 @@ pub struct ChannelDef {
     pub uom: Text,
 }
 
-/// A server's configuration. `types` is none where objects of all types are accepted.
+/// A server's configuration. `types` is none where objects of all types are accepted. The copies of a configuration have the
+/// types and the channels in common.
 #[derive(Debug, Drop)]
 pub struct Config {
     pub instance: Id16,
     pub name: Text,
     pub lag: u64,
     pub journal: u64,
-    pub types: Option<List<Text>>,
-    /// The channels, which copies of a configuration have in common.
+    pub types: Option<Shared<List<Text>>>,
     pub channels: Shared<List<ChannelDef>>,
 }
 

@@ -14,7 +14,7 @@ use crate::objects::checking::session_format;
 use crate::objects::deleting::{delete_outcome, delete_reply, staged_delete_reply};
 use crate::objects::getting::{get_outcome, get_reply};
 use crate::objects::putting::{put_outcome, put_reply, staged_put_reply};
-use etp_values::{ErrorCode, List, Named, NoMemory, StoreUri, Text};
+use etp_values::{ErrorCode, List, Named, NoMemory, Shared, StoreUri, Text};
 use keyed_requests::{Decision, Outcome, Sending, keys_refusal, refusal_alone, refused_outcome};
 use msg_store::StoreMessage;
 use object_store::ObjectRecord;
@@ -85,7 +85,7 @@ fn change_refusal<T>(stage: &Option<Stage>, prune: bool, items: &Named<T>) -> Op
 pub fn object_outcome(
     alloc: Global,
     formats: &List<Format>,
-    types: &Option<List<Text>>,
+    types: &Option<Shared<List<Text>>>,
     stage: &Option<Stage>,
     moment: i64,
     message: StoreMessage,

@@ -1,5 +1,5 @@
 //! How a session is opened: what is accepted of a RequestSession, and its reply.
-ghost use Rattle.std.specs.Prelude.{◌≡◌, IfOk, OnOk, [], ◌∷◌, map};
+ghost use Rattle.std.specs.Prelude.{◌≡◌, IfOk, OnOk, map};
 ghost use Rattle.std.specs.List.{list_any};
 ghost use Rattle.std.specs.Ordering.{int_eq};
 ghost use Rattle.session_rows.specs.Once.{with_new};
@@ -7,7 +7,7 @@ ghost use Rattle.session_rows.specs.Opening.{accepted_protocols, capabilities, d
 
 use crate::formats::{Format, format_texts, formats_of};
 use etp_schema::protocols;
-use etp_values::{Copied, DataValue, ErrorCode, Id16, List, Named, NoMemory, Text};
+use etp_values::{Copied, DataValue, ErrorCode, Id16, List, Named, NoMemory, Shared, Text};
 use msg_core::{OpenSession, RequestSession, SupportedDataObject, SupportedProtocol, Version};
 use server_config::Config;
 use std::alloc::Global;
@@ -123,13 +123,13 @@ fn all_supported(alloc: Global, protocols: &[i32]) -> Result<List<SupportedProto
 
 fn data_objects(
     alloc: Global,
-    types: &Option<List<Text>>,
+    types: &Option<Shared<List<Text>>>,
 ) -> Result<List<SupportedDataObject>, NoMemory>
     ensures { IfOk result (λ l. l ≡ data_objects types.now) }
 {
     match types {
         None => Ok(List::new(alloc)),
-        Some(types) => objects_of(alloc, types.as_slice()),
+        Some(types) => objects_of(alloc, types.get().as_slice()),
     }
 }
 

@@ -43,11 +43,11 @@ fn channels(alloc: Global, kinds: &str) -> Result<List<ChannelDef>, NoMemory> {
 }
 
 /// The accepted types: `any` are all, and `none` is the empty list.
-fn types(alloc: Global, word: &str) -> Result<Option<List<Text>>, NoMemory> {
+fn types(alloc: Global, word: &str) -> Result<Option<Shared<List<Text>>>, NoMemory> {
     match word {
         "any" => Ok(None),
-        "none" => Ok(Some(List::new(alloc))),
-        _ => Ok(Some(texts(alloc, word, ',')?)),
+        "none" => Ok(Some(Shared::new(alloc, List::new(alloc))?)),
+        _ => Ok(Some(Shared::new(alloc, texts(alloc, word, ',')?)?)),
     }
 }
 

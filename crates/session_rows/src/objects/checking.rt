@@ -2,11 +2,11 @@
 ghost use Rattle.std.specs.Prelude.{◌≡◌, ◌||◌, IfOk, nat_lt};
 ghost use Rattle.std.specs.List.{list_any};
 ghost use Rattle.std.specs.Str.{bytes_eq};
-ghost use Rattle.session_rows.specs.ObjectChecks.{checked_object, extras_size, in_space, is_kept, keeps_name, named_object, object_record, put_at, put_in_format, session_format, status_place, takes_type};
+ghost use Rattle.session_rows.specs.ObjectChecks.{checked_object, extras_size, in_space, is_kept, keeps_name, named_object, object_record, put_in_format, session_format, status_place, takes_type};
 
 use crate::formats::{Format, among};
 use etp_schema::{ActiveStatusKind, measure_of};
-use etp_values::{ErrorCode, List, NoMemory, ObjectName, StoreUri, Text};
+use etp_values::{ErrorCode, List, NoMemory, ObjectName, Shared, StoreUri, Text};
 use keyed_requests::{Decision, object_uri};
 use msg_store::{DataObject, Resource};
 use object_store::ObjectRecord;
@@ -45,12 +45,16 @@ fn in_space(stage: &Option<Stage>, named: Decision<StoreUri>) -> Decision<StoreU
 
 /// Whether objects of this URI's type are kept: where `types` is none all are, else those that a filter takes by their type or
 /// by their type's domain.
-fn is_kept(alloc: Global, types: &Option<List<Text>>, uri: &StoreUri) -> Result<bool, NoMemory>
+fn is_kept(
+    alloc: Global,
+    types: &Option<Shared<List<Text>>>,
+    uri: &StoreUri,
+) -> Result<bool, NoMemory>
     ensures { IfOk result (λ kept. kept ≡ is_kept types.now uri.now) }
 {
     match types {
         None => Ok(true),
-        Some(filters) => keeps_name(alloc, filters.as_slice(), &uri.object),
+        Some(filters) => keeps_name(alloc, filters.get().as_slice(), &uri.object),
     }
 }
 
@@ -186,7 +190,7 @@ fn put_in_format(
 pub(crate) fn checked_object(
     alloc: Global,
     formats: &List<Format>,
-    types: &Option<List<Text>>,
+    types: &Option<Shared<List<Text>>>,
     stage: &Option<Stage>,
     object: DataObject,
 ) -> Result<Decision<ObjectRecord>, NoMemory>

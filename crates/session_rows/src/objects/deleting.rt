@@ -1,10 +1,10 @@
 //! DeleteDataObjects.
-ghost use Rattle.std.specs.Prelude.{◌≡◌, ◌∷◌, [], IfOk, OnOk};
+ghost use Rattle.std.specs.Prelude.{◌≡◌, IfOk, OnOk};
 ghost use Rattle.keyed_requests.specs.Keyed.{checked, finished, request_outcome, request_reply};
 ghost use Rattle.keyed_requests.specs.Plain.{nothing};
 ghost use Rattle.request_scope.specs.Reply.{scoped_reply};
 ghost use Rattle.session_rows.specs.ObjectChecks.{named_object};
-ghost use Rattle.session_rows.specs.Objects.{delete_called, delete_decided, delete_inside, delete_one, delete_outcome, delete_outside, delete_response, granted_unless, remove_object, removed, staged_delete, staged_delete_called};
+ghost use Rattle.session_rows.specs.Objects.{delete_called, delete_decided, delete_inside, delete_one, delete_outcome, delete_outside, delete_response, remove_object, removed, staged_delete, staged_delete_called};
 ghost use Rattle.tx_stage.specs.declared.look.Want.TheVariants as want;
 
 use crate::objects::checking::named_object;

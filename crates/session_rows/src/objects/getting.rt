@@ -1,12 +1,9 @@
 //! GetDataObjects.
 ghost use Rattle.std.specs.Prelude.{◌≡◌, IfOk, OnOk, Some};
-ghost use Rattle.std.specs.Str.{bytes_eq};
 ghost use Rattle.keyed_requests.specs.Keyed.{checked, request_outcome};
-ghost use Rattle.keyed_requests.specs.Plain.{nothing};
 ghost use Rattle.request_scope.specs.Reply.{scoped_reply};
-ghost use Rattle.session_rows.specs.Formats.{format_text};
 ghost use Rattle.session_rows.specs.ObjectChecks.{named_object};
-ghost use Rattle.session_rows.specs.Objects.{get_called, get_counted, get_given, get_one, get_outcome, get_response, object_of, object_seen, object_there, status_of};
+ghost use Rattle.session_rows.specs.Objects.{get_called, get_given, get_one, get_outcome, get_response, object_of, object_seen, object_there, status_of};
 ghost use Rattle.tx_stage.specs.declared.look.Want.TheVariants as want;
 
 use crate::formats::Format;

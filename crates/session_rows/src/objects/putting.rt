@@ -1,7 +1,7 @@
 //! PutDataObjects.
 ghost use Rattle.std.specs.Prelude.{◌≡◌, IfOk, OnOk};
 ghost use Rattle.keyed_requests.specs.Keyed.{checked, request_outcome};
-ghost use Rattle.keyed_requests.specs.Plain.{plain_outcome, plain_reply};
+ghost use Rattle.keyed_requests.specs.Plain.{plain_reply};
 ghost use Rattle.request_scope.specs.Finding.{found_refusal, putting};
 ghost use Rattle.request_scope.specs.Reply.{scoped_reply};
 ghost use Rattle.session_rows.specs.ObjectChecks.{checked_object};
@@ -10,7 +10,7 @@ ghost use Rattle.session_rows.specs.Objects.{granted_unless, none_contained, put
 use crate::formats::Format;
 use crate::objects::checking::checked_object;
 use crate::objects::{ObjectOutcome, ObjectPending};
-use etp_values::{Copied, ErrorCode, List, Named, NoMemory, Text};
+use etp_values::{Copied, ErrorCode, List, Named, NoMemory, Shared, Text};
 use keyed_requests::{
     Decision, Findings, KeyedReply, KeyedRequest, Outcome, Plain, PlainReply, PlainRequest,
     Sending, joined_values, request_outcome, request_reply,
@@ -26,7 +26,7 @@ use tx_stage::{Key, Op, OpWhat, Stage};
 #[derive(Drop)]
 struct PutObjects<'a> {
     formats: &'a List<Format>,
-    types: &'a Option<List<Text>>,
+    types: &'a Option<Shared<List<Text>>>,
     stage: &'a Option<Stage>,
     moment: i64,
 }
@@ -126,7 +126,7 @@ fn none_contained(alloc: Global) -> PutResponse
 #[derive(Drop)]
 struct StagedPut<'a> {
     formats: &'a List<Format>,
-    types: &'a Option<List<Text>>,
+    types: &'a Option<Shared<List<Text>>>,
     stage: &'a Option<Stage>,
 }
 
@@ -289,7 +289,7 @@ fn staged_put_called(
 fn put_outside(
     alloc: Global,
     formats: &List<Format>,
-    types: &Option<List<Text>>,
+    types: &Option<Shared<List<Text>>>,
     stage: &Option<Stage>,
     moment: i64,
     objects: Named<DataObject>,
@@ -310,7 +310,7 @@ fn put_outside(
 fn put_inside(
     alloc: Global,
     formats: &List<Format>,
-    types: &Option<List<Text>>,
+    types: &Option<Shared<List<Text>>>,
     stage: &Option<Stage>,
     moment: i64,
     objects: Named<DataObject>,
@@ -331,7 +331,7 @@ fn put_inside(
 pub(crate) fn put_outcome(
     alloc: Global,
     formats: &List<Format>,
-    types: &Option<List<Text>>,
+    types: &Option<Shared<List<Text>>>,
     stage: &Option<Stage>,
     moment: i64,
     objects: Named<DataObject>,
