@@ -1,4 +1,4 @@
--- Sums over lists, elements by their places, and rising numbers.
+-- Sums over lists, elements by their places, and rising numbers; for the crates above too.
 use Rattle.std.proofs.Common.{◌≡◌, ◌≢◌, ◌⊎◌, ℕ, zero, suc, ◌+◌, ◌≤◌, ◌<◌, eq-eqb, ne_eqb, List, [], ◌∷◌, ◌++◌, length, Some, refl, ap, sym, subst, inl, inr, ⊎_elim, arith, zero-add}
 use mathlib.Core.Option.{some, some-injective, some-ne-none}
 use lib.ListN.{get_elem?}

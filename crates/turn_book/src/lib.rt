@@ -10,14 +10,14 @@
 #![tactic(auto)]
 
 mod book;
-mod law;
+mod laws;
 mod rule;
 mod seat;
 mod turn;
 mod view;
 
 pub use book::Book;
-pub use law::turn_is_with_one;
+pub use laws::turn_is_with_one;
 pub use seat::Seat;
 pub use turn::TurnBook;
 pub use view::{Met, View};
