@@ -130,6 +130,7 @@ patch_outcome stage at arrays = if is_some stage then staged_patch_outcome stage
 
 -- ---- what comes of a message
 
+-- what a request on arrays comes to, before it is answered: with the staged transaction, if one is open, and the time
 abbrev pub array_outcome : Option Transaction → ℤ → DataArrayMessage → ArrayOutcome
 array_outcome stage at (message.GetDataArrays m) = unless_refused (keys_refusal m.data_arrays) (get_outcome stage m.data_arrays)
 array_outcome stage at (message.GetDataSubarrays m) = unless_refused (keys_refusal m.data_subarrays) (slice_outcome stage m.data_subarrays)

@@ -1,5 +1,5 @@
 //! What the requests that change arrays have in common.
-ghost use Rattle.std.specs.Prelude.{◌≡◌, IfOk, OnOk, [], ◌∷◌};
+ghost use Rattle.std.specs.Prelude.{◌≡◌, IfOk, OnOk, []};
 ghost use Rattle.array_rows.specs.Arrays.{joined_called, ops_called};
 ghost use Rattle.array_rows.specs.Changing.{change_response, decided, patch_array, put_wants, set_array, staged_put};
 ghost use Rattle.array_rows.specs.declared.arrays.ArrayPending.TheVariants as pending;

@@ -13,7 +13,6 @@ mod naming;
 mod patching;
 mod putting;
 mod reading;
-mod refusals;
 mod sizes;
 mod slicing;
 

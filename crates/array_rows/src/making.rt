@@ -2,7 +2,6 @@
 ghost use Rattle.std.specs.Prelude.{◌≡◌, ◌≤◌, [], IfOk, OnOk, replicate};
 ghost use Rattle.array_rows.specs.Arrays.{make_outcome, staged_make_outcome, unstaged_make_outcome};
 ghost use Rattle.array_rows.specs.Changing.{checked_made, is_preferred, made_of, made_record, made_within, put_wants, set_array, zero_size, zeros};
-ghost use Rattle.array_store.specs.Refusals.{dims_of};
 ghost use Rattle.keyed_requests.specs.Plain.{nothing};
 ghost use Rattle.msg_store.specs.ArrayTypes.{logical_type_place};
 

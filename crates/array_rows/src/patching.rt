@@ -15,7 +15,6 @@ use crate::changing::{
 };
 use crate::naming::named_array;
 use crate::reading::{array_seen, seen_reply};
-use crate::refusals::refused;
 use array_store::{ArrayRecord, array_bytes, write_patch};
 use etp_values::{AnyArray, Copied, ErrorCode, List, Named, NoMemory, Text};
 use keyed_requests::{
@@ -26,7 +25,7 @@ use msg_store::{DataArrayMessage, PutDataSubarraysType};
 use request_scope::{Answered, Scope};
 use std::alloc::Global;
 use store_machine::{Looked, StoreCall, Want};
-use tx_stage::{Op, Stage};
+use tx_stage::{Op, Stage, memory_or_code};
 
 /// A patch of a named array.
 fn checked_patch(
@@ -175,7 +174,7 @@ fn write_fault(
     match write_patch(alloc, array, starts, counts, values) {
         Ok(()) => Ok(None),
         Err(error) => {
-            let code = refused(error)?;
+            let code = memory_or_code(error)?;
             Ok(Some(code))
         }
     }

@@ -1,8 +1,8 @@
 //! PutDataArrays.
-ghost use Rattle.std.specs.Prelude.{◌≡◌, IfOk, OnOk};
+ghost use Rattle.std.specs.Prelude.{◌≡◌, IfOk};
 ghost use Rattle.array_rows.specs.Arrays.{put_outcome, staged_put_outcome, unstaged_put_outcome};
 ghost use Rattle.array_store.specs.Refusals.{record_refusal};
-ghost use Rattle.array_rows.specs.Changing.{checked_put, op_of, plain_meaning, put_at, put_record, put_unless, put_wants, set_array};
+ghost use Rattle.array_rows.specs.Changing.{checked_put, op_of, plain_meaning, put_record, put_unless, put_wants, set_array};
 
 use crate::arrays::ArrayOutcome;
 use crate::changing::{

@@ -10,7 +10,6 @@ ghost use Rattle.tx_stage.specs.declared.look.Want.TheVariants as want;
 use crate::arrays::{ArrayOutcome, ArrayPending};
 use crate::naming::{Region, named_region};
 use crate::reading::{array_seen, seen_reply};
-use crate::refusals::refused;
 use crate::sizes::fitting;
 use array_store::{ArrayRecord, read_slice};
 use etp_values::{AnyArray, Copied, ErrorCode, List, Named, NoMemory, Text};
@@ -21,7 +20,7 @@ use msg_store::{DataArray, DataArrayMessage, GetDataSubarraysResponse, GetDataSu
 use request_scope::{Answered, Scope};
 use std::alloc::Global;
 use store_machine::{Looked, StoreCall, Want};
-use tx_stage::Stage;
+use tx_stage::{Stage, memory_or_code};
 
 /// The first half without a transaction: the store cuts the regions out.
 #[derive(Drop)]
@@ -150,7 +149,7 @@ fn slice_seen(
     }
 }
 
-/// The first half in a transaction: whole arrays are looked at.
+/// The first half while a transaction is open, which looks at whole arrays.
 #[derive(Drop)]
 struct StagedSlices<'a> {
     stage: &'a Option<Stage>,
@@ -248,7 +247,7 @@ fn cut_out(
     match read_slice(alloc, array, &region.starts, &region.counts) {
         Ok(values) => Ok(Decision::Granted(values)),
         Err(error) => {
-            let code = refused(error)?;
+            let code = memory_or_code(error)?;
             Ok(Decision::Refused(code))
         }
     }

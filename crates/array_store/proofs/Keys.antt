@@ -1,4 +1,4 @@
--- The test by which the table finds a key is `same_key`, and what a look-up finds after a change.
+-- The test by which the table finds a key is `same_key`, and what a look-up finds after a change; for the crates above too.
 use Rattle.std.specs.Prelude.{ℤ, List, Bool, true, false, cond, ◌≡◌, refl, Option, Some, None}
 use Rattle.std.proofs.Common.{ap, sym, ◌∙◌}
 use Rattle.std.specs.Option.{option_map}
@@ -7,9 +7,9 @@ use Rattle.std.specs.Cmp.Lexicographic.{nat_list_eq_equiv}
 use Rattle.std.specs.Str.{bytes_eq}
 use Rattle.std.specs.Map.{lookup}
 use Rattle.std.proofs.lemmas.Slice.Eq.{bytes_eq-Decides}
+use Rattle.std.proofs.lemmas.Bool.{and_parts}
 use Rattle.etp_values.specs.declared.data.AnyArray.{AnyArray}
 use Rattle.etp_values.specs.SameUri.{same_uri, same_uri-equiv, same_uri-is}
-use Rattle.etp_values.proofs.Bools.{both_true}
 use Rattle.etp_values.proofs.Lookups.{found_set}
 use Rattle.array_store.specs.declared.key.ArrayKey.{ArrayKey}
 use Rattle.array_store.specs.declared.record.ArrayRecord.{ArrayRecord}
@@ -25,7 +25,7 @@ same_key-equiv = and_equiv (on_equiv (λ k. k.uri) same_uri-equiv) (on_equiv (λ
 -- keys that are the same are equal
 pub same_key-is : (a b : ArrayKey) → same_key a b ≡ true → a ≡ b
 same_key-is a b h =
-    let parts = both_true (same_uri a.uri b.uri) (bytes_eq a.path b.path) h in
+    let parts = and_parts (same_uri a.uri b.uri) (bytes_eq a.path b.path) h in
     let uri = same_uri-is a.uri b.uri parts.0 in
     let path = (bytes_eq-Decides a.path b.path).0 parts.1 in
     (λ j. record { uri = uri j; path = path j })

@@ -1,10 +1,9 @@
 -- The steps of reading and writing a region, one dimension after the other.
-use Rattle.std.proofs.Common.{Result, Ok, Err, OnOk, ℕ, suc, ◌+◌, ◌*◌, ◌-◌, ◌/◌, ◌≤◌, ◌<◌, ℤ, pos, negsuc, Bool, true, false, ◌&&◌, List, [], ◌∷◌, ◌++◌, length, take, drop, ◌≡◌, refl, sym, ap, ◌∙◌, subst, arith, append_assoc, length-append, length-take, length-drop}
+use Rattle.std.proofs.Common.{Result, Ok, Err, OnOk, ℕ, suc, ◌+◌, ◌*◌, ◌-◌, ◌/◌, ◌≤◌, ◌<◌, ℤ, pos, negsuc, true, false, List, [], ◌∷◌, ◌++◌, length, take, drop, ◌≡◌, refl, sym, ap, ◌∙◌, subst, arith, append_assoc, length-append, length-take, length-drop}
 use Rattle.std.proofs.Math.Nat.{mul-div_cancel_left, mul-le-mul_right}
-use Rattle.std.proofs.lemmas.Bool.{false≢true}
+use Rattle.std.proofs.lemmas.Bool.{false≢true, and_parts}
 use Rattle.std.proofs.lemmas.Bool.Decides.{nat_tests}
 use Rattle.std.proofs.lemmas.List.{take_all, take_at, drop_at, take-append-drop, append-nil, drop-drop, nil_from_length, length-map}
-use Rattle.etp_values.proofs.Bools.{both_true}
 use Rattle.array_store.specs.Shape.{size, sizes, volume}
 use Rattle.array_store.specs.Region.{is_span, is_region, IsOuter, sliced, patched}
 use Rattle.array_store.proofs.Rows.{rows_read, rows_written, rows_read-one, rows_written-one}
@@ -25,7 +24,7 @@ region-within [] (s ∷ ss) cs h = absurd (false≢true h)
 region-within (d ∷ ds) [] cs h = absurd (false≢true h)
 region-within (d ∷ ds) (s ∷ ss) [] h = absurd (false≢true h)
 region-within (d ∷ ds) (s ∷ ss) (c ∷ cs) h =
-    let parts = both_true (is_span d s c) (is_region ds ss cs) h in
+    let parts = and_parts (is_span d s c) (is_region ds ss cs) h in
     (span-sizes d s c parts.0, region-within ds ss cs parts.1)
 
 -- ---- the last dimension: one run

@@ -72,6 +72,7 @@ patch_refusal r ss cs values = first_refusal (region_refusal r.dims ss cs) (firs
 abbrev pub slice_refusal : ArrayRecord → List ℤ → List ℤ → Option ArrayError
 slice_refusal r ss cs = first_refusal (record_refusal r) (region_refusal r.dims ss cs)
 
+-- why a part of an array is not written: the array itself, or else the part
 abbrev pub write_refusal : ArrayRecord → List ℤ → List ℤ → AnyArray → Option ArrayError
 write_refusal r ss cs values = first_refusal (record_refusal r) (patch_refusal r ss cs values)
 

@@ -1,5 +1,5 @@
--- Reading on without a value, as a loop does.
-use Rattle.std.proofs.Common.{◌≡◌, ℕ, zero, suc, ◌-◌, ◌+◌, ◌≤◌, ◌<◌, true, false, cond, List, [], ◌∷◌, map, drop, Result, Ok, Err, refl, sym, ap, ◌∙◌, arith, length, get_or}
+-- Reading on without a value, as a loop does; for the crates above too.
+use Rattle.std.proofs.Common.{◌≡◌, ℕ, suc, ◌-◌, ◌+◌, ◌≤◌, ◌<◌, true, false, cond, List, map, drop, Result, Ok, Err, refl, sym, ap, ◌∙◌, length, get_or}
 use Rattle.std.proofs.lemmas.List.{drop_all, drop_more}
 use Rattle.std.specs.Ordering.{nat_cmp}
 use Rattle.std.specs.Cmp.Lexicographic.{slice_cmp}

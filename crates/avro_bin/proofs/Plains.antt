@@ -1,4 +1,4 @@
--- How arrays and maps are written.
+-- How arrays and maps are written; for the crates above too.
 use Rattle.std.proofs.Common.{◌≡◌, ◌∙◌, ◌+◌, ℕ, zero, suc, ◌<◌, ◌^◌, List, [], ◌∷◌, ◌++◌, length, map, refl, ap, arith, pos}
 use Rattle.avro_bin.specs.Number.{plain_number}
 use Rattle.std.proofs.lemmas.List.{length-append}

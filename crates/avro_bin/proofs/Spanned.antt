@@ -1,5 +1,5 @@
 -- What reading without a value says of reading.
-use Rattle.std.proofs.Common.{◌≡◌, ℕ, ◌-◌, List, Ok, Err, length, refl, ap, ◌∙◌}
+use Rattle.std.proofs.Common.{◌≡◌, ℕ, ◌-◌, List, Ok, Err, length, ap}
 use Rattle.avro_bin.specs.declared.fault.Why.{Why}
 use Rattle.avro_bin.specs.Value.{Value}
 use Rattle.avro_bin.specs.Schema.{Schema}

@@ -1,4 +1,4 @@
--- Reading on, as a loop does.
+-- Reading on, as a loop does; for the crates above too.
 use Rattle.std.proofs.Common.{◌≡◌, ℕ, zero, suc, ◌-◌, ◌+◌, ◌≤◌, ◌<◌, Bool, true, false, List, [], ◌∷◌, ◌++◌, map, drop, Ok, Err, refl, sym, ap, ◌∙◌, arith, length, ℤ, pos, negsuc, FitsSigned, w64, of_z, get_or, add-one, drop-cons, ltb, cond, inl, inr, Option, Some}
 use Rattle.std.proofs.lemmas.List.{drop_all}
 use Rattle.std.specs.List.{AllByRecursion}

@@ -4,8 +4,7 @@ use Rattle.std.specs.Ordering.{nat_cmp}
 use Rattle.std.specs.Cmp.Lexicographic.{slice_cmp}
 use Rattle.std.specs.BTreeMap.{insert_entry}
 use Rattle.avro_bin.specs.declared.fault.Why.TheVariants as why
-use Rattle.avro_bin.specs.Value.{Value}
-use Rattle.avro_bin.specs.Schema.{Schema, Schemas, none, more}
+use Rattle.avro_bin.specs.Schema.{Schemas, none, more}
 use Rattle.avro_bin.specs.Reading.{Read, ◌>>=◌, Got, text_at, has, value_at}
 
 -- what was read, seen by f

@@ -1,4 +1,5 @@
--- The one spelling that is written: shortest numbers, at most one block, a positive count, names in byte order.
+-- The spelling that a writer chooses: no number longer than it must be, one block with a positive count for all items,
+-- names in the order of their bytes.
 use Rattle.std.specs.Prelude.{◌≡◌, ℕ, zero, suc, pos, Result, Ok, Err, List, [], ◌∷◌, ◌++◌, length, if◌then◌else◌}
 use Rattle.std.specs.Io.{StartsWith}
 use Rattle.std.specs.Int.{to_le_bytes, w32, w64}

@@ -5,26 +5,39 @@ ghost use Rattle.avro_bin.specs.declared.fault.Fault.TheVariants.{Memory};
 
 use etp_values::NoMemory;
 use std::alloc::{AllocError, AllocFailed};
+use thiserror::Error;
 
 /// What is wrong with the bytes, as the variant of `Refusal` of the same name says.
-#[derive(Clone, Copy, Debug, PartialEq, Eq)]
+#[derive(Clone, Copy, Debug, PartialEq, Eq, Error)]
 pub enum Why {
+    #[error("the input ends inside the item")]
     Short,
+    #[error("ten bytes do not end the number")]
     Number,
+    #[error("the int passes 32 bits")]
     Range,
+    #[error("the boolean is neither 0 nor 1")]
     Bool,
+    #[error("the union or enum has no such branch or symbol")]
     Branch,
+    #[error("the text is not UTF-8")]
     Utf8,
+    #[error("the length is negative")]
     Length,
+    #[error("the items of the block do not fill its size")]
     BlockSize,
+    #[error("the map has the name already")]
     DoubleKey,
+    #[error("the value is one node too many")]
     Limit,
 }
 
 /// Want of memory, or what is wrong and how many bytes are left where the refused item begins.
-#[derive(Clone, Copy, Debug, PartialEq, Eq)]
+#[derive(Clone, Copy, Debug, PartialEq, Eq, Error)]
 pub enum Fault {
+    #[error("memory was refused")]
     Memory,
+    #[error("{0}, with {1} bytes left")]
     At(Why, usize),
 }
 

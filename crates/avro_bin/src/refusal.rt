@@ -5,9 +5,8 @@ ghost use Rattle.avro_bin.specs.Refusing.{refusal};
 use crate::fault::Why;
 use thiserror::Error;
 
-/// Why bytes were refused, with the offset of the first byte of the refused item. The refused item of a text, of bytes,
-/// of a name and of a block is the number that it begins with: its length, its count or its size. Where several things
-/// are wrong, the first in reading order is answered.
+/// Why bytes were refused, and where: the offset at which the refused item begins. In a text, bytes, a name and a block
+/// that is the offset of the length, count or size before it. Of several faults the one that a reader meets first counts.
 #[derive(Clone, Copy, Debug, PartialEq, Eq, Drop, Error)]
 pub enum Refusal {
     /// The input ends inside the item.

@@ -21,7 +21,7 @@ use Rattle.client_core.specs.declared.state.Phase.TheVariants as phase
 use Rattle.client_parts.specs.Changes.{subscribe_changes}
 use Rattle.client_parts.specs.Joining.{merged, subscribe_joined}
 use Rattle.etp_frame.specs.Header.{final_part, has_flag}
-use Rattle.etp_frame.specs.Joining.{Awaited, Objects, awaits_any, carried, came, chunk_came, data_limit, data_size, grows, is_double, joins, refused, shares_blob, store_came, unless_refused, with_piece}
+use Rattle.etp_frame.specs.Joining.{Awaited, Objects, awaits_any, carried, came, chunk_came, data_limit, data_size, grows, is_double, joins, chunk_refusal, shares_blob, store_came, unless_refused, with_piece}
 use Rattle.etp_frame.specs.declared.awaiting.Carrier.{Carrier}
 use Rattle.etp_frame.specs.declared.awaiting.Carrier.TheVariants as carrier
 use Rattle.etp_frame.specs.declared.header.Header.{Header}
@@ -323,7 +323,7 @@ unless_aside (Some cause) w = tt
 
 chunk_aside : (w : Option Awaited) (correlation : ℤ) (c : Chunk) → AsideJoined (chunk_came w correlation c)
 chunk_aside None correlation c = tt
-chunk_aside (Some w) correlation c = unless_aside (refused w correlation c) (with_piece w c)
+chunk_aside (Some w) correlation c = unless_aside (chunk_refusal w correlation c) (with_piece w c)
 
 store_aside : (w : Option Awaited) (h : Header) (x : StoreMessage) → AsideJoined (store_came w h x)
 store_aside w h (store.PutDataObjects x) = came_aside w h.id (carrier.Put x.prune_contained_objects) x.data_objects

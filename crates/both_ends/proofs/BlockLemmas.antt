@@ -4,6 +4,7 @@ use Rattle.std.specs.List.{AllByRecursion, find, list_any}
 use Rattle.std.specs.Ordering.{int_eq}
 use Rattle.std.proofs.lemmas.Bool.{false≢true}
 use Rattle.std.proofs.lemmas.Option.{none-some, same_Some}
+use Rattle.etp_values.proofs.Ints.{int_eq_is, int_eq_self}
 use Rattle.channel_rows.specs.Notices.{interval_of, notice_of}
 use Rattle.channel_rows.specs.Points.{items_of}
 use Rattle.channel_store.specs.declared.change.ChannelChange.{ChannelChange}
@@ -55,11 +56,9 @@ use Rattle.both_ends.specs.News.{news_parts}
 use Rattle.both_ends.specs.Notices.{HasNews, NoticesAreChanges, change_msg, with_change}
 use Rattle.both_ends.proofs.AsideLemmas.{AsideKept, IsApart, IsAsideHeader, is_aside, all_filter, is_empty, is_stop, no_key, no_more, subscribe_aside, subscribe_stops}
 use Rattle.both_ends.proofs.BeginLemmas.{begun_with, reply_of}
-use Rattle.both_ends.proofs.CopyLemmas.{int_eq_is}
 use Rattle.both_ends.proofs.FollowLemmas.{AreHeld, AreAside, Carries, Flows, Follows, Handed, IsAsideSent, Awaits, Steps, ask_follows, block_goes, bytes_read, carries_more, carries_none, carries_one, lives_before, told_more}
 use Rattle.both_ends.proofs.HearLemmas.{hear_all, hear_sent, heads_heard, notice_heard, with_told}
 use Rattle.both_ends.proofs.NewsLemmas.{IsUnder, all_sent, header_at, heads, heads_messages, heads_of_parts, id_after, is_none, kind_in, last_id, live_follows, message_of, notice_some, notice_under, numbered_one, protocol_in, reach_behind, reach_rest, sent_notice}
-use Rattle.both_ends.proofs.NoticeLemmas.{int_eq_self}
 use Rattle.both_ends.proofs.PutLemmas.{Agrees, all_at, IsKnown, Rising, channel_named, more_asks, put_later}
 
 -- ---- tests

@@ -2,8 +2,8 @@
 use Rattle.std.proofs.Common.{◌≡◌, ◌≤◌, ℕ, ℤ, zero, suc, Bool, true, false, List, [], ◌∷◌, ◌++◌, Option, Some, None, fold, length, max, take, option_map, if◌then◌else◌, refl, sym, ap, ◌∙◌, arith, inl, inr, append-nil}
 use Rattle.std.specs.Ordering.{int_eq}
 use Rattle.std.proofs.lemmas.Bool.{cases_lt}
-use Rattle.std.proofs.lemmas.Int.{ints}
 use Rattle.std.proofs.lemmas.List.{drop_all, take_all}
+use Rattle.etp_values.proofs.Ints.{int_eq_is}
 use Rattle.server_config.specs.declared.config.Config.{Config}
 use Rattle.channel_store.specs.Channels.{whats_of}
 use Rattle.channel_store.specs.Points.{copy, past}
@@ -49,9 +49,6 @@ copied law config id start m (suc k) h legal = elim (cases_lt m (length (take (s
 ]
 
 -- ---- the subscription of a channel
-
-pub int_eq_is : (a b : ℤ) → int_eq a b ≡ true → a ≡ b
-int_eq_is a b h = grind (arith, ints)
 
 abbrev channel_or : ℤ → Option Sub → ℤ
 channel_or channel None = channel

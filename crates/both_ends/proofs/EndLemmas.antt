@@ -4,6 +4,8 @@ use Rattle.std.specs.List.{AllByRecursion, flat_map}
 use Rattle.std.specs.Ordering.{int_eq}
 use Rattle.std.proofs.lemmas.Bool.{false≢true}
 use Rattle.std.proofs.lemmas.Option.{none-some}
+use Rattle.std.proofs.lemmas.List.{map-append}
+use Rattle.etp_values.proofs.Ints.{int_eq_is, int_eq_self}
 use Rattle.server_config.specs.declared.config.Config.{Config}
 use Rattle.channel_rows.specs.Notices.{stop_response}
 use Rattle.channel_store.specs.declared.change.ChannelChange.{ChannelChange}
@@ -37,7 +39,7 @@ use Rattle.msg_core.specs.Core.{error_info_form}
 use Rattle.msg_core.specs.declared.core_messages.ErrorInfo.{ErrorInfo}
 use Rattle.session_core.specs.Arriving.{Event, Receives, Polls, arrived, request_of}
 use Rattle.session_core.specs.Machine.{by_phase, unread}
-use Rattle.session_core.specs.Replies.{error_info, refused_keys}
+use Rattle.session_core.specs.Replies.{error_info, refused_message}
 use Rattle.session_core.specs.Run.{Course, asked, first_course, happens, happens_unless, moment_of, run, run_from, takes}
 use Rattle.session_core.specs.Sending.{ended, numbered, outgoing, parts_of}
 use Rattle.session_core.specs.Streams.{HasIds, Rises, RunIsStreamed, RunIsToldAtIdle, heard, is_spent_course, is_spent_phase, owed_to, silence}
@@ -61,12 +63,11 @@ use Rattle.both_ends.specs.Notices.{HasNews, NoticesAreChanges}
 use Rattle.both_ends.proofs.AsideLemmas.{is_aside}
 use Rattle.both_ends.proofs.BeginLemmas.{reply_of}
 use Rattle.both_ends.proofs.BlockLemmas.{all_ended, asides_sent, grant_carries, granted, news_carry, parts_quiet, quiet_sent, some_reply}
-use Rattle.both_ends.proofs.CopyLemmas.{handed_has_points, int_eq_is, idle_has_points}
+use Rattle.both_ends.proofs.CopyLemmas.{handed_has_points, idle_has_points}
 use Rattle.both_ends.proofs.FollowLemmas.{Carries, Delivers, Flows, Follows, IsMinor, asides_carry, carries_more, carries_none, silents_carry, stops_carry}
 use Rattle.both_ends.proofs.HearLemmas.{all_heard, hear_sent, more_heard}
 use Rattle.both_ends.proofs.NewsLemmas.{all_sent, as_sent, is_none, numbered_one}
-use Rattle.both_ends.proofs.NoticeLemmas.{int_eq_self}
-use Rattle.both_ends.proofs.PutLemmas.{IsModest, AreModest, Rising, all_append, all_at, map_more, begun_known, channel_named, out_puts, put_bytes, puts_modest, rising_puts}
+use Rattle.both_ends.proofs.PutLemmas.{IsModest, AreModest, Rising, all_append, all_at, begun_known, channel_named, out_puts, put_bytes, puts_modest, rising_puts}
 
 -- ---- lists
 
@@ -94,7 +95,7 @@ all_each P Q f [] all = tt
 all_each P Q f (x ∷ xs) all = (f x all.0, all_each P Q f xs all.1)
 
 sent_more : (xs ys : List Outgoing) → all_sent (xs ++ ys) ≡ all_sent xs ++ all_sent ys
-sent_more xs ys = map_more as_sent xs ys
+sent_more xs ys = map-append as_sent xs ys
 
 -- ---- what is read
 
@@ -286,7 +287,7 @@ module _ (law : NoticesAreChanges) (all : List Put) (rising : Rising 2 all) (mod
   refused_carries told v w h asked x key code changes sent y only are =
       let subs : ℤ → Bool = standing w.subs in
       let same : standing v.subs ≡ standing w.subs = λ i c. refused_standing v w key x code only c i in
-      let m : Message = refused_keys ((key, code) ∷ []) in
+      let m : Message = refused_message ((key, code) ∷ []) in
       let ps : List Part = parts_of y.limit y.number y.blobs (first_in (Begins h asked ((key, Refused code) ∷ []) changes)) in
       let quiet : AllByRecursion (λ (p : Part). speaks p.message ≡ false) ps =
       all_append (λ (p : Part). speaks p.message ≡ false) (ended to.Request (parts y.limit y.number y.blobs m)) []

@@ -2,7 +2,7 @@
 use Rattle.std.proofs.Common.{◌≡◌, ◌+◌, ◌%◌, ℕ, ℤ, pos, Bool, true, false, ◌&&◌, ◌||◌, int_lt, int_rem, nat_le, List, [], ◌∷◌, ◌++◌, None, Result, Ok, Err, map, if◌then◌else◌, refl, sym, ap, subst, ◌∙◌, arith}
 use Rattle.std.specs.List.{AllByRecursion}
 use Rattle.std.specs.Ordering.{int_eq}
-use Rattle.std.proofs.lemmas.Bool.{false≢true}
+use Rattle.std.proofs.lemmas.Bool.{false≢true, and_parts}
 use Rattle.std.proofs.lemmas.Int.{ints}
 use Rattle.channel_rows.specs.Notices.{interval_of, notice_of}
 use Rattle.channel_rows.specs.Points.{items_of}
@@ -72,12 +72,8 @@ odd_next id odd = let e : (id + 2) % 2 ≡ id % 2 = omega arith in ap (λ z. int
 fresh_next : (id : ℕ) → Odd id → is_fresh (pos id) (pos (id + 2)) ≡ true
 fresh_next id odd = let below : int_lt (pos id) (pos (id + 2)) ≡ true = grind (arith, ints) in (λ i. below i && int_eq (int_rem (pos (id + 2)) (pos 2)) (pos 1)) ∙ odd_next id odd
 
-and_right : (a b : Bool) → (a && b) ≡ true → b ≡ true
-and_right true b h = h
-and_right false b h = absurd (false≢true h)
-
 fresh_odd : (last : ℤ) (id : ℕ) → is_fresh last (pos id) ≡ true → Odd id
-fresh_odd last id h = and_right (int_lt last (pos id)) (int_eq (int_rem (pos id) (pos 2)) (pos 1)) h
+fresh_odd last id h = (and_parts (int_lt last (pos id)) (int_eq (int_rem (pos id) (pos 2)) (pos 1)) h).1
 
 -- the id behind those of a part and further ones, and the last of these
 abbrev pub id_after : ℕ → List Message → ℕ

@@ -1,8 +1,8 @@
 -- The change that a client reads in a notice is the one of which it was made.
-use Rattle.std.proofs.Common.{◌≡◌, ℕ, ℤ, pos, true, false, ◌&&◌, ◌||◌, List, [], ◌∷◌, ◌++◌, Option, Some, None, fold, map, option_map, if◌then◌else◌, filter, refl, sym, ap, subst, ◌∙◌, arith, append-nil, append_assoc}
+use Rattle.std.proofs.Common.{◌≡◌, ℕ, ℤ, pos, true, false, ◌&&◌, ◌||◌, List, [], ◌∷◌, ◌++◌, Option, Some, None, fold, map, option_map, if◌then◌else◌, filter, refl, sym, ap, subst, ◌∙◌, append-nil, append_assoc}
 use Rattle.std.specs.List.{list_all}
 use Rattle.std.specs.Ordering.{int_eq}
-use Rattle.std.proofs.lemmas.Int.{ints}
+use Rattle.etp_values.proofs.Ints.{int_eq_self}
 use Rattle.channel_rows.specs.Notices.{interval_of, notice_of}
 use Rattle.channel_rows.specs.Points.{items_of}
 use Rattle.channel_store.specs.declared.change.What.{What}
@@ -25,9 +25,6 @@ use Rattle.etp_frame.specs.declared.message.Message.TheVariants as message
 use Rattle.etp_values.specs.declared.point.ChannelPoint.{ChannelPoint}
 use Rattle.etp_values.specs.declared.point.Point.{Point}
 use Rattle.both_ends.specs.Notices.{HasNews, IsNotice, NoticesAreChanges, ReadNoticesAreChanges, change_msg, with_change}
-
-pub int_eq_self : (a : ℤ) → int_eq a a ≡ true
-int_eq_self a = grind (arith, ints)
 
 -- ---- points of one channel
 

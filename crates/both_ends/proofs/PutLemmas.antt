@@ -5,6 +5,8 @@ use Rattle.std.specs.Prelude.{◌==◌}
 use Rattle.std.specs.Ordering.{int_eq}
 use Rattle.std.proofs.lemmas.Bool.{false≢true}
 use Rattle.std.proofs.lemmas.Option.{none-some, same_Some}
+use Rattle.std.proofs.lemmas.List.{map-append}
+use Rattle.etp_values.proofs.Ints.{int_eq_is}
 use lib.Signed.{mag}
 use Rattle.client_core.specs.Asking.{asked, asked_by, begun, closed_if, due_of, is_close, is_spent, limit, numbered, pieces, sends_message}
 use Rattle.client_core.specs.Laws.{Asks, Event, Takes, stepped}
@@ -24,7 +26,6 @@ use Rattle.msg_channel.specs.declared.channel_subscribe_messages.ChannelSubscrib
 use Rattle.msg_channel.specs.declared.channel_subscribe_messages.ChannelSubscribeMessage.TheVariants as subscribe
 use Rattle.msg_store.specs.declared.store_messages.StoreMessage.TheVariants as store
 use Rattle.both_ends.specs.Ends.{Put, event_puts, put_header, puts, puts_by, puts_from, puts_of}
-use Rattle.both_ends.proofs.CopyLemmas.{int_eq_is}
 
 -- ---- ids rise
 
@@ -75,10 +76,6 @@ numbered_puts : (first id : ℕ) (ms : List Message) → numbered first id ms �
 numbered_puts first id [] = refl
 numbered_puts first id (m ∷ ms) = ap (λ l. put_bytes (record { first = first; id = id; last = length ms == 0; message = m }) ∷ l) (numbered_puts first (id + 2) ms)
 
-pub map_more : {A B : Type 0} (f : A → B) (xs ys : List A) → map f (xs ++ ys) ≡ map f xs ++ map f ys
-map_more f [] ys = refl
-map_more f (x ∷ xs) ys = ap (λ l. f x ∷ l) (map_more f xs ys)
-
 closed_out : (b : Bool) (s : State) → (closed_if b s).out ≡ s.out
 closed_out true s = refl
 closed_out false s = refl
@@ -100,14 +97,14 @@ out_from s (Asks a moment ∷ es) = by (not (is_open s.heard.phase) || is_spent 
         rest u
         ∙ ap (λ l. l ++ map put_bytes (puts_from u es)) (closed_out (is_close a) t ∙ ap (λ l. s.out ++ l) (numbered_puts s.next s.next ms))
         ∙ append_assoc s.out (map put_bytes (puts_of s.next s.next ms)) (map put_bytes (puts_from u es))
-        ∙ ap (λ l. s.out ++ l) (sym (map_more put_bytes (puts_of s.next s.next ms) (puts_from u es)))
+        ∙ ap (λ l. s.out ++ l) (sym (map-append put_bytes (puts_of s.next s.next ms) (puts_from u es)))
 
 pub out_puts : (moment : ℤ) (es : List Event) → (fold stepped (begun moment) es).out ≡ map put_bytes (puts moment es)
 unfolding begun
 out_puts moment es =
     out_from (begun moment) es
     ∙ ap (λ l. l ++ map put_bytes (puts_from (begun moment) es)) (numbered_puts 2 2 (pieces first_state (request_message moment)))
-    ∙ sym (map_more put_bytes (puts_of 2 2 (pieces first_state (request_message moment))) (puts_from (begun moment) es))
+    ∙ sym (map-append put_bytes (puts_of 2 2 (pieces first_state (request_message moment))) (puts_from (begun moment) es))
 
 puts_more : (s : State) (es fs : List Event) → puts_from s (es ++ fs) ≡ puts_from s es ++ puts_from (fold stepped s es) fs
 puts_more s [] fs = refl

@@ -1,5 +1,5 @@
 //! Lines for the frames of a capture.
-ghost use Rattle.std.specs.Prelude.{◌≡◌, ◌≤◌, [], List, ℕ};
+ghost use Rattle.std.specs.Prelude.{◌≡◌, ◌≤◌, []};
 ghost use Rattle.etp_capture.specs.Frames.{capture_limit};
 ghost use Rattle.capture_listing.specs.Listing.{show_plan, check_plan, counts_of, with_one, IsSmall};
 

@@ -1,4 +1,4 @@
--- Pieces that are written one behind the other.
+-- Pieces that are written one behind the other; for the crates above too.
 use Rattle.std.proofs.Common.{◌≡◌, ◌∙◌, ℕ, List, ◌++◌, Result, Ok, Err, ap, append_assoc}
 use Rattle.std.proofs.Transfers.{starts_with_trans, starts_with_of_append}
 use Rattle.avro_bin.specs.Plain.{Writes}

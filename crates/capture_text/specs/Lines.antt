@@ -87,6 +87,7 @@ line_of offset None = []
 line_of offset (Some (Ok x)) = []
 line_of offset (Some (Err e)) = decimal offset ++ codes " " ++ fault_text e ++ codes "\n"
 
+-- the line of a frame that `check` shows
 abbrev pub checked_line : ℕ → Frame → List ℕ
 checked_line offset f = line_of offset (reading_of f)
 
@@ -96,6 +97,7 @@ found_of None = NoMessage
 found_of (Some (Ok x)) = Taken
 found_of (Some (Err e)) = Refused
 
+-- what `check` finds of a frame
 abbrev pub checked_of : Frame → Checked
 checked_of f = found_of (reading_of f)
 

@@ -82,8 +82,8 @@ close_response ids = message.ChannelsClosed (record { reason = codes "closed"; i
 abbrev pub close_one : List Bool → ℤ → List Bool × Decision ℤ
 close_one opens channel = if is_open opens channel then (closed opens channel, Granted channel) else (opens, Refused NotFound)
 
-abbrev pub closing : List Bool → List (List ℕ × ℤ) → Loading
-closing opens ids = leaves (checked_state close_one opens ids) (Replies (request_reply close_response (checked close_one opens ids)))
+abbrev pub close_outcome : List Bool → List (List ℕ × ℤ) → Loading
+close_outcome opens ids = leaves (checked_state close_one opens ids) (Replies (request_reply close_response (checked close_one opens ids)))
 
 -- a request that is refused as a whole leaves the channels
 abbrev pub unless_leaving : Option ErrorCode → List Bool → Loading → Loading
@@ -143,9 +143,10 @@ truncate_decided at found = truncate_verdict at found.1
 
 -- ---- what comes of a message
 
+-- what a message of the load comes to, with the channels that are open and the time
 abbrev pub load_outcome : List Bool → ℤ → ChannelDataLoadMessage → Loading
 load_outcome opens at (message.OpenChannels m) = leaves opens (unless_refused (keys_refusal m.uris) (open_outcome m.uris))
-load_outcome opens at (message.CloseChannels m) = unless_leaving (keys_refusal m.id) opens (closing opens m.id)
+load_outcome opens at (message.CloseChannels m) = unless_leaving (keys_refusal m.id) opens (close_outcome opens m.id)
 load_outcome opens at (message.LoadChannelData m) = leaves opens (load_called (loaded opens None m.payload))
 load_outcome opens at (message.ReplaceRange m) = leaves opens (replace_outcome opens at m)
 load_outcome opens at (message.TruncateChannels m) = leaves opens (unless_refused (keys_refusal m.channels) (truncate_outcome opens at m.channels))
@@ -177,6 +178,7 @@ abbrev pub metas_reply : List ChannelDef → List Bool → LoadPending → List 
 metas_reply defs opens (pending.Open items) metas = says (finished_state (open_one defs) 1 opens items metas) (request_reply open_response (finished (open_one defs) 1 opens items metas))
 metas_reply defs opens _ metas = says opens []
 
+-- what the session says to the store's answer, and which channels are open then
 abbrev pub load_reply : List ChannelDef → List Bool → LoadPending → Reply → Loaded
 load_reply defs opens kept answer.Written = says opens (written_reply kept)
 load_reply defs opens kept (answer.Verdicts verdicts) = says opens (verdicts_reply kept verdicts)

@@ -122,8 +122,8 @@ abbrev pub subscribe_called : Outcome (List (List ℕ × StartAsk)) (List (List 
 subscribe_called (Replies sendings) = Replies sendings
 subscribe_called (Calls items kept) = Calls (call.Subscribe items) (pending.Subscribe kept)
 
-abbrev pub subscribe_outcome : List Sub → List (List ℕ × ChannelSubscribeInfo) → SubscribeOutcome
-subscribe_outcome subs items = subscribe_called (request_outcome (λ a. a) (λ a. a) subscribe_response (checked (subscribe_one subs) none_named items))
+abbrev pub begin_outcome : List Sub → List (List ℕ × ChannelSubscribeInfo) → SubscribeOutcome
+begin_outcome subs items = subscribe_called (request_outcome (λ a. a) (λ a. a) subscribe_response (checked (subscribe_one subs) none_named items))
 
 -- the points that a subscription starts with, where there are some
 abbrev pub first_notices : ℤ → List Point → List ChannelSubscribeMessage
@@ -154,8 +154,8 @@ beginning subs = record { subs = subs; notices = [] }
 abbrev pub stop_one : Subbed → ℤ → Subbed × Decision ℤ
 stop_one v channel = if has_sub channel v.subs then (without channel v, Granted channel) else (without channel v, Refused NotFound)
 
-abbrev pub stopping : Subbed → List (List ℕ × ℤ) → Subscribing
-stopping v ids = leaves (checked_state stop_one v ids) (Replies (request_reply (stop_response Unsubscribed) (checked stop_one v ids)))
+abbrev pub stop_outcome : Subbed → List (List ℕ × ℤ) → Subscribing
+stop_outcome v ids = leaves (checked_state stop_one v ids) (Replies (request_reply (stop_response Unsubscribed) (checked stop_one v ids)))
 
 -- a request that is refused as a whole leaves the subscriptions
 abbrev pub unless_leaving : Option ErrorCode → Subbed → Subscribing → Subscribing
@@ -195,18 +195,19 @@ ranges_outcome infos = unless_refused (ranges_refusal infos) (Calls (call.Range 
 
 -- ---- what comes of a message
 
-abbrev pub subscribe_request : Subbed → ChannelSubscribeMessage → Subscribing
-subscribe_request v (message.GetChannelMetadata m) = leaves v (unless_refused (keys_refusal m.uris) (metadata_outcome m.uris))
-subscribe_request v (message.SubscribeChannels m) = leaves v (unless_refused (keys_refusal m.channels) (subscribe_outcome v.subs m.channels))
-subscribe_request v (message.UnsubscribeChannels m) = unless_leaving (keys_refusal m.channel_ids) v (stopping v m.channel_ids)
-subscribe_request v (message.GetRanges m) = leaves v (ranges_outcome m.channel_ranges)
-subscribe_request v (message.GetChannelMetadataResponse m) = leaves v (Replies (refusal_alone InvalidMessageType))
-subscribe_request v (message.ChannelData m) = leaves v (Replies (refusal_alone InvalidMessageType))
-subscribe_request v (message.RangeReplaced m) = leaves v (Replies (refusal_alone InvalidMessageType))
-subscribe_request v (message.SubscriptionsStopped m) = leaves v (Replies (refusal_alone InvalidMessageType))
-subscribe_request v (message.GetRangesResponse m) = leaves v (Replies (refusal_alone InvalidMessageType))
-subscribe_request v (message.SubscribeChannelsResponse m) = leaves v (Replies (refusal_alone InvalidMessageType))
-subscribe_request v (message.ChannelsTruncated m) = leaves v (Replies (refusal_alone InvalidMessageType))
+-- what a message on subscriptions comes to, and which subscriptions there are then
+abbrev pub subscribe_outcome : Subbed → ChannelSubscribeMessage → Subscribing
+subscribe_outcome v (message.GetChannelMetadata m) = leaves v (unless_refused (keys_refusal m.uris) (metadata_outcome m.uris))
+subscribe_outcome v (message.SubscribeChannels m) = leaves v (unless_refused (keys_refusal m.channels) (begin_outcome v.subs m.channels))
+subscribe_outcome v (message.UnsubscribeChannels m) = unless_leaving (keys_refusal m.channel_ids) v (stop_outcome v m.channel_ids)
+subscribe_outcome v (message.GetRanges m) = leaves v (ranges_outcome m.channel_ranges)
+subscribe_outcome v (message.GetChannelMetadataResponse m) = leaves v (Replies (refusal_alone InvalidMessageType))
+subscribe_outcome v (message.ChannelData m) = leaves v (Replies (refusal_alone InvalidMessageType))
+subscribe_outcome v (message.RangeReplaced m) = leaves v (Replies (refusal_alone InvalidMessageType))
+subscribe_outcome v (message.SubscriptionsStopped m) = leaves v (Replies (refusal_alone InvalidMessageType))
+subscribe_outcome v (message.GetRangesResponse m) = leaves v (Replies (refusal_alone InvalidMessageType))
+subscribe_outcome v (message.SubscribeChannelsResponse m) = leaves v (Replies (refusal_alone InvalidMessageType))
+subscribe_outcome v (message.ChannelsTruncated m) = leaves v (Replies (refusal_alone InvalidMessageType))
 
 -- ---- a poll
 
@@ -215,6 +216,7 @@ abbrev pub news_from : List Sub → ℕ → Option ℕ → Option StoreCall
 news_from subs front None = None
 news_from subs front (Some cursor) = if nat_lt cursor front then Some (call.News cursor subs) else None
 
+-- the call for news that a poll makes, if it makes one
 abbrev pub news_call : Subbed → ℕ → Option StoreCall
 news_call v front = news_from v.subs front (asked_from v)
 

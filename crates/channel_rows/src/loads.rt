@@ -62,12 +62,12 @@ pub fn load_outcome(
         ChannelDataLoadMessage::TruncateChannels(request) => {
             truncate_request(alloc, opens, moment, request.channels)
         }
-        other => refused_message(alloc, other),
+        other => refuse_message(alloc, other),
     }
 }
 
 /// A message that no client sends is refused.
-fn refused_message(alloc: Global, message: ChannelDataLoadMessage) -> Result<LoadOutcome, NoMemory>
+fn refuse_message(alloc: Global, message: ChannelDataLoadMessage) -> Result<LoadOutcome, NoMemory>
     ensures { IfOk result (λ o. o ≡ Outcome.Replies (refusal_alone ErrorCode.InvalidMessageType)) }
 {
     drop(message);

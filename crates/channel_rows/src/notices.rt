@@ -1,5 +1,5 @@
 //! What a session tells its client of channels unasked.
-ghost use Rattle.std.specs.Prelude.{◌≡◌, ◌++◌, ◌∷◌, [], map, IfOk, OnOk};
+ghost use Rattle.std.specs.Prelude.{◌≡◌, ◌++◌, [], map, IfOk, OnOk};
 ghost use Rattle.std.specs.List.{flat_map};
 ghost use Rattle.channel_store.specs.declared.change.What.TheVariants as what;
 ghost use Rattle.subscribe_core.specs.Views.{shown, told};

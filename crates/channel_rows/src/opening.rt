@@ -5,7 +5,7 @@ ghost use Rattle.keyed_requests.specs.Keys.{keys_refusal};
 ghost use Rattle.keyed_requests.specs.Plain.{nothing};
 ghost use Rattle.keyed_requests.specs.Sending.{unless_refused};
 ghost use Rattle.keyed_requests.specs.Uris.{object_uri};
-ghost use Rattle.channel_rows.specs.Loads.{close_one, close_response, closing, open_called, open_one, open_outcome, open_response, opened_as, unless_leaving};
+ghost use Rattle.channel_rows.specs.Loads.{close_one, close_outcome, close_response, open_called, open_one, open_outcome, open_response, opened_as, unless_leaving};
 
 use crate::loads::{LoadOutcome, LoadPending};
 use crate::metadata::metadata_by;
@@ -225,9 +225,9 @@ pub(crate) fn close_request(
     opens: &mut Opens,
     ids: Named<i64>,
 ) -> Result<LoadOutcome, NoMemory>
-    ensures outcome { let closed = unless_leaving (keys_refusal ids) opens.old (closing opens.old ids) in
+    ensures outcome { let closed = unless_leaving (keys_refusal ids) opens.old (close_outcome opens.old ids) in
         IfOk result (λ o. o ≡ closed.outcome) }
-    ensures state { let closed = unless_leaving (keys_refusal ids) opens.old (closing opens.old ids) in
+    ensures state { let closed = unless_leaving (keys_refusal ids) opens.old (close_outcome opens.old ids) in
         OnOk result (opens.new ≡ closed.opens) }
 {
     match keys_refusal(&ids) {
@@ -239,8 +239,8 @@ pub(crate) fn close_request(
 /// What comes of one whose keys pass the limits.
 #[tactic(auto, using(keyed_requests::proofs::Cases::by_response))]
 fn close_outcome(alloc: Global, opens: &mut Opens, ids: Named<i64>) -> Result<LoadOutcome, NoMemory>
-    ensures outcome { IfOk result (λ o. o ≡ (closing opens.old ids).outcome) }
-    ensures state { OnOk result (opens.new ≡ (closing opens.old ids).opens) }
+    ensures outcome { IfOk result (λ o. o ≡ (close_outcome opens.old ids).outcome) }
+    ensures state { OnOk result (opens.new ≡ (close_outcome opens.old ids).opens) }
 {
     let decided = check_all(alloc, &CloseChannels, opens, ids)?;
     let sorted = sort_all(alloc, decided)?;

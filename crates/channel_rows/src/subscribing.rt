@@ -6,7 +6,7 @@ ghost use Rattle.keyed_requests.specs.Keyed.{finished, finished_state, request_r
 ghost use Rattle.keyed_requests.specs.Keys.{keys_refusal};
 ghost use Rattle.keyed_requests.specs.Sending.{unless_refused};
 ghost use Rattle.subscribe_core.specs.Subscriptions.{has_sub};
-ghost use Rattle.channel_rows.specs.Subscriptions.{begin_one, beginning, begins, first_notices, is_full, is_taken, names, none_named, start_at, subscribe_called, subscribe_one, subscribe_outcome, subscribe_response, subscribe_with};
+ghost use Rattle.channel_rows.specs.Subscriptions.{begin_one, beginning, begins, first_notices, is_full, is_taken, names, start_at, subscribe_called, subscribe_one, begin_outcome, subscribe_response, subscribe_with};
 ghost use Rattle.keyed_requests.specs.declared.sending.Sending.TheVariants.{Notice};
 
 use crate::notices::append_notice;
@@ -297,7 +297,7 @@ pub(crate) fn begin_request(
     subs: &List<Sub>,
     items: Named<ChannelSubscribeInfo>,
 ) -> Result<SubscribeOutcome, NoMemory>
-    ensures { let begun = subscribe_outcome subs.now items in
+    ensures { let begun = begin_outcome subs.now items in
         IfOk result (λ o. o ≡ unless_refused (keys_refusal items) begun) }
 {
     match keys_refusal(&items) {
@@ -312,7 +312,7 @@ fn begin_outcome(
     subs: &List<Sub>,
     items: Named<ChannelSubscribeInfo>,
 ) -> Result<SubscribeOutcome, NoMemory>
-    ensures { IfOk result (λ o. o ≡ subscribe_outcome subs.now items) }
+    ensures { IfOk result (λ o. o ≡ begin_outcome subs.now items) }
 {
     let mut naming = Naming {
         named: List::new(alloc),

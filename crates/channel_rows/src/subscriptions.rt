@@ -4,7 +4,7 @@ ghost use Rattle.keyed_requests.specs.Keys.{keys_refusal};
 ghost use Rattle.keyed_requests.specs.Plain.{plain_reply};
 ghost use Rattle.keyed_requests.specs.Sending.{refusal_alone, unless_refused};
 ghost use Rattle.keyed_requests.specs.Uris.{object_uri};
-ghost use Rattle.channel_rows.specs.Subscriptions.{metadata_called, metadata_found, metadata_outcome, metadata_response, metas_reply, news_call, news_reply, points_reply, started_reply, subscribe_reply, subscribe_request};
+ghost use Rattle.channel_rows.specs.Subscriptions.{metadata_called, metadata_found, metadata_outcome, metadata_response, metas_reply, news_call, news_reply, points_reply, started_reply, subscribe_reply, subscribe_outcome};
 
 use crate::items::channel_items;
 use crate::metadata::metadata_by;
@@ -142,8 +142,8 @@ pub fn subscribe_outcome(
     subs: &mut Subs,
     message: ChannelSubscribeMessage,
 ) -> Result<SubscribeOutcome, NoMemory>
-    ensures outcome { IfOk result (λ o. o ≡ (subscribe_request subs.old message).outcome) }
-    ensures subs { OnOk result (subs.new ≡ (subscribe_request subs.old message).subs) }
+    ensures outcome { IfOk result (λ o. o ≡ (subscribe_outcome subs.old message).outcome) }
+    ensures subs { OnOk result (subs.new ≡ (subscribe_outcome subs.old message).subs) }
 {
     match message {
         ChannelSubscribeMessage::GetChannelMetadata(request) => {
@@ -158,12 +158,12 @@ pub fn subscribe_outcome(
         ChannelSubscribeMessage::GetRanges(request) => {
             ranges_outcome(alloc, request.channel_ranges)
         }
-        other => refused_message(alloc, other),
+        other => refuse_message(alloc, other),
     }
 }
 
 /// A message that no client sends is refused.
-fn refused_message(
+fn refuse_message(
     alloc: Global,
     message: ChannelSubscribeMessage,
 ) -> Result<SubscribeOutcome, NoMemory>

@@ -2,7 +2,7 @@
 ghost use Rattle.std.specs.Prelude.{◌≡◌, IfOk, OnOk};
 ghost use Rattle.keyed_requests.specs.Keys.{keys_refusal};
 ghost use Rattle.keyed_requests.specs.Plain.{nothing};
-ghost use Rattle.channel_rows.specs.Subscriptions.{stop_one, stopping, unless_leaving};
+ghost use Rattle.channel_rows.specs.Subscriptions.{stop_one, stop_outcome, unless_leaving};
 
 use crate::notices::stop_response;
 use crate::subscriptions::SubscribeOutcome;
@@ -58,9 +58,9 @@ pub(crate) fn stop_request(
     subs: &mut Subs,
     ids: Named<i64>,
 ) -> Result<SubscribeOutcome, NoMemory>
-    ensures outcome { let stopped = unless_leaving (keys_refusal ids) subs.old (stopping subs.old ids) in
+    ensures outcome { let stopped = unless_leaving (keys_refusal ids) subs.old (stop_outcome subs.old ids) in
         IfOk result (λ o. o ≡ stopped.outcome) }
-    ensures subs { let stopped = unless_leaving (keys_refusal ids) subs.old (stopping subs.old ids) in
+    ensures subs { let stopped = unless_leaving (keys_refusal ids) subs.old (stop_outcome subs.old ids) in
         OnOk result (subs.new ≡ stopped.subs) }
 {
     match keys_refusal(&ids) {
@@ -76,8 +76,8 @@ fn stop_outcome(
     subs: &mut Subs,
     ids: Named<i64>,
 ) -> Result<SubscribeOutcome, NoMemory>
-    ensures outcome { IfOk result (λ o. o ≡ (stopping subs.old ids).outcome) }
-    ensures subs { OnOk result (subs.new ≡ (stopping subs.old ids).subs) }
+    ensures outcome { IfOk result (λ o. o ≡ (stop_outcome subs.old ids).outcome) }
+    ensures subs { OnOk result (subs.new ≡ (stop_outcome subs.old ids).subs) }
 {
     let decided = check_all(alloc, &UnsubscribeChannels, subs, ids)?;
     let sorted = sort_all(alloc, decided)?;

@@ -1,22 +1,22 @@
 -- What an accepted call leaves of the points: in order, and those of a replacement in its interval.
 use Rattle.std.proofs.Common.{refl, ℕ, zero, suc, ◌≡◌, ◌+◌, Bool, true, false, cond, List, [], ◌∷◌, ◌++◌, ap, sym, ◌∙◌, arith, subst, add-zero, append-nil, append_assoc, Option, Some, None}
-use Rattle.std.specs.Prelude.{ℤ, pos, slice_get, ◌&&◌}
+use Rattle.std.specs.Prelude.{ℤ, pos, slice_get}
 use Rattle.std.specs.List.{AllByRecursion}
+use Rattle.std.proofs.lemmas.Bool.{and_parts}
 use Rattle.std.proofs.lemmas.Int.{ints}
-use Rattle.etp_values.proofs.Bools.{both_true}
 use Rattle.etp_values.specs.declared.point.Point.{Point}
 use Rattle.etp_values.specs.declared.point.ChannelPoint.{ChannelPoint}
 use Rattle.channel_points.proofs.Ordered.{all-map}
 use Rattle.channel_store.specs.declared.change.What.{What}
-use Rattle.channel_store.specs.declared.change.What.TheVariants.{Append, Replace, Truncate}
+use Rattle.channel_store.specs.declared.change.What.TheVariants.{Replace, Truncate}
 use Rattle.channel_store.specs.declared.error.ChannelError.{ChannelError}
 use Rattle.channel_store.specs.declared.error.ChannelError.TheVariants.{Order}
 use Rattle.channel_store.specs.Channels.{Channel}
 use Rattle.channel_store.specs.Laws.{AllRise, AppendsRise, ReplacesRise, ReplacesWithin, TruncatesRise, LiesWithin}
-use Rattle.channel_store.specs.Points.{Rises, at_most, is_within, after, follows, put_below, outside}
-use Rattle.channel_store.specs.Refusals.{channel_at, int_eq, is_listed, points_at, points_in, points_of, first_refusal, item_refusal, inside_refusal, disorder, append_refusal, channels_refusal, interval_refusal, replace_refusal, or_else}
+use Rattle.channel_store.specs.Points.{Rises, at_most, is_within, after, follows}
+use Rattle.channel_store.specs.Refusals.{channel_at, int_eq, is_listed, points_at, points_in, points_of, first_refusal, item_refusal, inside_refusal, disorder, channels_refusal, interval_refusal, replace_refusal, or_else}
 use Rattle.channel_store.specs.Rows.{Fits}
-use Rattle.channel_store.specs.Store.{by_number, happens, changed, append_some, appended, replaced, truncated}
+use Rattle.channel_store.specs.Store.{by_number, happens, append_some, appended, replaced, truncated}
 use Rattle.channel_store.proofs.Ended.{first-none, none-refused, inside-facts}
 use Rattle.channel_store.proofs.PointLemmas.{rises-after, rises-follows}
 use Rattle.channel_store.proofs.Staged.{points_of-own, points_of-other}
@@ -117,7 +117,7 @@ replaces-rise cs ids from to items place at none all =
     all
 
 within-end : (from to x : ℤ) → is_within from to x ≡ true → at_most x to ≡ true
-within-end from to x h = (both_true (at_most from x) (at_most x to) h).1
+within-end from to x h = (and_parts (at_most from x) (at_most x to) h).1
 
 pub replaces-within : ReplacesWithin
 replaces-within cs ids from to items none id = by (is_listed ids id)

@@ -1,8 +1,8 @@
--- How a call ends: which refusal it has, and what it leaves.
+-- How a call ends: which refusal it has, and what it leaves; for the crates above too.
 use Rattle.std.proofs.Common.{refl, ℕ, suc, ◌≡◌, ◌<◌, Bool, true, false, cond, not, ◌||◌, List, [], ◌∷◌, ◌++◌, length, map, ap, sym, ◌∙◌, arith, subst, zero-add, append-nil, append_assoc, Option, Some, None, Ok, Err, option_map}
 use Rattle.std.specs.Prelude.{ℤ, pos, negsuc, Result, MatchResult, is_some, zip}
 use Rattle.std.specs.List.{AllByRecursion}
-use Rattle.std.proofs.lemmas.Bool.{false≢true}
+use Rattle.std.proofs.lemmas.Bool.{false≢true, or_parts}
 use Rattle.etp_values.specs.declared.point.ChannelPoint.{ChannelPoint}
 use Rattle.channel_store.specs.declared.error.ChannelError.{ChannelError}
 use Rattle.channel_store.specs.declared.error.ChannelError.TheVariants.{NoChannel, Index, Kind, Doubled, Outside, NoMemory}
@@ -20,7 +20,7 @@ use Rattle.channel_store.specs.Store.{by_number, happens, changed, append_some, 
 use Rattle.channel_store.specs.Sweeps.{EndsAs, shown_of, IsIdle, row_at, next_rows, steps, append_item, add_item, opened, open_channel, open_cut, unless_refused, shown_in, is_staged, item_refusal_in, inside_refusal_in, staged_by, outcome, all_done, ids_of, AllDue}
 use Rattle.channel_points.proofs.Ordered.{all-map, all-push}
 use Rattle.channel_store.proofs.Numbered.{by_number-same, by_number-map, get-by_number, get-none, by_number-after, map-by_number}
-use Rattle.channel_store.proofs.Staged.{int_eq-refl, step_at-ok, step_at-err, step_at-absent, append-steps, open-steps, add-steps, IsInside}
+use Rattle.channel_store.proofs.Staged.{step_at-ok, step_at-err, step_at-absent, append-steps, open-steps, add-steps, IsInside, int_eq-refl}
 
 -- ---- truncate
 
@@ -157,7 +157,7 @@ item-known : (o : Option Channel) (i : ChannelPoint) → item_refusal o i ≡ No
 item-known None i h = cc
 item-known (Some c) i h = refl
 
-unless-holds : (b : Bool) (e : ChannelError) → unless b e ≡ None → b ≡ true
+pub unless-holds : (b : Bool) (e : ChannelError) → unless b e ≡ None → b ≡ true
 unless-holds true e h = refl
 unless-holds false e h = cc
 
@@ -263,14 +263,10 @@ done-all place at ids what cs rows e h =
     ∙ by_number-same _ _ 0 cs (λ k x l. done-here place (pos k) at x (what (pos k)) (is_listed ids (pos k)) (h (pos k)))
     ∙ sym (map-by_number plain (λ k c. happens place (pos k) at c (what (pos k))) 0 cs)
 
-either-false : (a b : Bool) → (a || b) ≡ false → (a ≡ false) × (b ≡ false)
-either-false true b h = absurd (false≢true (sym h))
-either-false false b h = (refl, h)
-
 points_of-none : (j : ℤ) (items : List ChannelPoint) → is_listed (ids_of items) j ≡ false → points_of j items ≡ []
 points_of-none j [] h = refl
 points_of-none j (i ∷ is) h =
-    let parts = either-false (int_eq j i.channel) (is_listed (ids_of is) j) h in
+    let parts = or_parts (int_eq j i.channel) (is_listed (ids_of is) j) h in
     ap (λ b. cond b (i.point ∷ points_of j is) (points_of j is)) parts.0 ∙ points_of-none j is parts.1
 
 pub appended-none : (items : List ChannelPoint) (j : ℤ) → is_listed (ids_of items) j ≡ false → appended items j ≡ None

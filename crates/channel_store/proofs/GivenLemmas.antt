@@ -2,20 +2,20 @@
 use Rattle.std.proofs.Common.{refl, ℕ, zero, suc, ◌≡◌, ◌<◌, Bool, true, false, cond, List, [], ◌∷◌, map, length, get_or, ap, sym, ◌∙◌, arith, subst, Option, Some, None, Ok, Err, option_map}
 use Rattle.std.specs.Prelude.{ℤ, slice_set, Result, OnOk}
 use Rattle.std.specs.List.{AllByRecursion}
+use Rattle.channel_store.proofs.Staged.{int_eq-refl}
 use Rattle.etp_values.specs.declared.point.Point.{Point}
 use Rattle.etp_values.specs.declared.point.ChannelPoint.{ChannelPoint}
 use Rattle.channel_points.specs.Handles.{of_channel}
 use Rattle.channel_store.specs.declared.change.What.{What}
-use Rattle.channel_store.specs.declared.change.What.TheVariants.{Append, Replace}
+use Rattle.channel_store.specs.declared.change.What.TheVariants.{Replace}
 use Rattle.channel_store.specs.declared.error.ChannelError.{ChannelError}
 use Rattle.channel_store.specs.Channels.{Channel}
 use Rattle.channel_store.specs.Rows.{Row, Becomes}
 use Rattle.channel_store.specs.Refusals.{channel_at, int_eq, is_listed, points_of, Refuses, verdict}
 use Rattle.channel_store.specs.Store.{append_some, appended, replaced}
-use Rattle.channel_store.specs.Sweeps.{Tells, row_at, staged_by, told_at, outcome}
+use Rattle.channel_store.specs.Sweeps.{Tells, row_at, staged_by, outcome}
 use Rattle.channel_store.specs.Told.{IfGiven, told_by}
 use Rattle.channel_store.proofs.Ended.{row_at-staged, outcome-ok, outcome-err}
-use Rattle.channel_store.proofs.Staged.{int_eq-refl}
 
 pub set-same : (rows : List Row) (k : ℕ) (r new : Row) → k < length rows → r ≡ get_or rows k r → new ≡ r → slice_set rows k new ≡ rows
 set-same [] k r new h at e = absurd (omega arith)

@@ -3,7 +3,7 @@ use Rattle.std.proofs.Common.{refl, ℕ, zero, suc, ◌≡◌, ◌<◌, ◌≤�
 use Rattle.std.specs.Prelude.{ℤ, pos, negsuc, slice_get, slice_set, Result, nat_lt, int_lt, zip}
 use Rattle.std.proofs.Math.IntN.{nat_abs}
 use Rattle.std.proofs.lemmas.Int.{ints}
-use Rattle.std.proofs.lemmas.List.{take_all}
+use Rattle.std.proofs.lemmas.List.{take_all, drop_all, drop_more}
 use Rattle.std.proofs.lemmas.Option.{slice_get_past}
 use Rattle.std.proofs.lemmas.Bool.{false≢true}
 use Rattle.std.proofs.lemmas.Bool.Decides.{nat_tests}
@@ -18,7 +18,7 @@ use Rattle.channel_store.specs.Sweeps.{shown_of, place_in, row_at, step_row, ste
 use Rattle.channel_store.proofs.Ended.{verdict-ok, verdict-err}
 use Rattle.channel_points.proofs.Ordered.{all-at}
 use Rattle.channel_store.proofs.Numbered.{by_number-same, by_number-modify, step_row-set, step_row-fails, step_row-beyond, shown-set, modify-set, modify-beyond}
-use Rattle.channel_store.proofs.Staged.{int_eq-refl, apart, apart_neg}
+use Rattle.channel_store.proofs.Staged.{apart, apart_neg, int_eq-refl}
 
 -- ---- the place of an id
 
@@ -137,13 +137,8 @@ cleared-next (suc n) (x ∷ xs) r within at = ap (λ l. cleared x ∷ l) (cleare
 
 -- ---- one step after the other
 
-drop-at : {X : Type 0} (xs : List X) (k : ℕ) (x : X) → k < length xs → x ≡ get_or xs k x → drop k xs ≡ x ∷ drop (suc k) xs
-drop-at [] k x h e = absurd (omega arith)
-drop-at (y ∷ ys) zero x h e = ap (λ q. q ∷ ys) (sym e)
-drop-at (y ∷ ys) (suc k) x h e = drop-at ys k x (omega arith) e
-
 pub drop-here : {X : Type 0} (xs : List X) (k : ℕ) (x : X) → k < length xs → x ≡ get_or xs k x → drop k xs ≡ x ∷ drop (k + 1) xs
-drop-here xs k x h e = drop-at xs k x h e ∙ ap (λ n. x ∷ drop n xs) (sym (add-one k))
+drop-here xs k x h e = drop_more xs k x h ∙ ap (λ y. y ∷ drop (k + 1) xs) (sym e)
 
 pub steps-next : {X : Type 0} (f : List Row → X → Result (List Row) ChannelError) (rows new : List Row) (xs : List X) (k : ℕ) (x : X) → k < length xs → x ≡ get_or xs k x → f rows x ≡ Ok new → steps f new (drop (k + 1) xs) ≡ steps f rows (drop k xs)
 steps-next f rows new xs k x h e ok = sym (ap (steps f rows) (drop-here xs k x h e) ∙ ap (λ r. next_rows r (λ rs. steps f rs (drop (k + 1) xs))) ok)
@@ -163,17 +158,11 @@ pub becomes-there : (end : Result (Unit {0}) ChannelError) (rows : List Row) (id
 becomes-there (Ok u) rows id k f r new h at e = step-there rows id k f r new h at e
 becomes-there (Err why) rows id k f r new h at e = λ m. step-fails rows id k f r why h at (e m)
 
-drop-all : {X : Type 0} (xs : List X) (k : ℕ) → length xs ≤ k → drop k xs ≡ []
-drop-all [] zero h = refl
-drop-all [] (suc k) h = refl
-drop-all (x ∷ xs) zero h = absurd (omega arith)
-drop-all (x ∷ xs) (suc k) h = drop-all xs k (omega arith)
-
 pub drop-end : {X : Type 0} (xs : List X) (k : ℕ) → length xs ≤ k → drop k xs ≡ []
-drop-end xs k h = drop-all xs k h
+drop-end xs k h = drop_all k xs h
 
 pub steps-end : {X : Type 0} (f : List Row → X → Result (List Row) ChannelError) (rows : List Row) (xs : List X) (k : ℕ) → length xs ≤ k → steps f rows (drop k xs) ≡ Ok rows
-steps-end f rows xs k h = ap (steps f rows) (drop-all xs k h)
+steps-end f rows xs k h = ap (steps f rows) (drop-end xs k h)
 
 -- ---- the cast of an id
 
@@ -224,7 +213,7 @@ pub refusal-stop : {X : Type 0} (f : X → Option ChannelError) (xs : List X) (k
 refusal-stop f xs k x why h e err = sym (ap (first_refusal f) (drop-here xs k x h e) ∙ ap (λ o. or_else o (first_refusal f (drop (k + 1) xs))) (verdict-err (f x) why err))
 
 pub refusal-end : {X : Type 0} (f : X → Option ChannelError) (xs : List X) (k : ℕ) → length xs ≤ k → None ≡ first_refusal f (drop k xs)
-refusal-end f xs k h = sym (ap (first_refusal f) (drop-all xs k h))
+refusal-end f xs k h = sym (ap (first_refusal f) (drop-end xs k h))
 
 -- ---- lists of numbers, and a slice that is a whole list
 
@@ -239,7 +228,7 @@ zip-at xs ys k d same h =
     ∙ ap (λ n. (get_or xs k d, get_or ys k d) ∷ drop n (zip xs ys)) (sym (add-one k))
 
 pub zip-end : (xs ys : List ℤ) (k : ℕ) → length xs ≤ k → drop k (zip xs ys) ≡ []
-zip-end [] ys k h = drop-all [] k (omega arith)
+zip-end [] ys k h = drop-end [] k (omega arith)
 zip-end (x ∷ xs) ys zero h = absurd (omega arith)
 zip-end (x ∷ xs) [] (suc k) h = refl
 zip-end (x ∷ xs) (y ∷ ys) (suc k) h = zip-end xs ys k (omega arith)
@@ -257,4 +246,4 @@ length-plain (r ∷ rs) = ap suc (length-plain rs)
 pub whole-part : (n : ℕ) (new items : List Row) → new ≡ map plain (shown_of items) → n ≡ length items → take n (new ++ drop (length new) items) ≡ new
 whole-part n new items e size =
     let same : length new ≡ length items = ap length e ∙ length-plain items in
-    (λ j. take n (new ++ drop-all items (length new) (omega arith) j)) ∙ ap (take n) (append-nil new) ∙ take_all n new (omega arith)
+    (λ j. take n (new ++ drop-end items (length new) (omega arith) j)) ∙ ap (take n) (append-nil new) ∙ take_all n new (omega arith)

@@ -1,5 +1,5 @@
 -- What is about to happen to a channel, and what is then.
-use Rattle.std.proofs.Common.{ℕ, ◌≡◌, ◌<◌, ◌≤◌, ◌+◌, List, [], length, Option, Some, option_map, refl, ap, sym, ◌∙◌, arith, append-nil, subst, vec_len}
+use Rattle.std.proofs.Common.{ℕ, ◌≡◌, ◌<◌, ◌≤◌, List, [], length, Option, Some, option_map, refl, ap, sym, ◌∙◌, arith, append-nil, subst, vec_len}
 use Rattle.etp_values.specs.declared.point.Point.{Point}
 use Rattle.channel_store.specs.declared.draft.Draft.{Draft}
 use Rattle.channel_store.specs.Channels.{Channel, IsPastAll}

@@ -1,4 +1,4 @@
-//! The points and the changes of the configured channels.
+//! What is measured: the points of each configured channel, and how they came to be.
 //!
 //! A [`ChannelStore`] has the channels of a configuration; a channel's id is its place there. Each has its points in the order of
 //! their indexes, and its changes in order, each with the place of its entry in the journal. [`What`] says what a change did: it

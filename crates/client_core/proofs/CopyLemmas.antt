@@ -2,10 +2,10 @@
 use Rattle.std.specs.Prelude.{◌≡◌, ℤ, Bool, true, false, not, List, [], ◌∷◌, ◌++◌, Option, Some, None, option_map, filter, fold, cond, refl, if◌then◌else◌}
 use Rattle.std.specs.List.{find, flat_map, list_any}
 use Rattle.std.specs.Ordering.{int_eq}
-use Rattle.std.proofs.Common.{ap, sym, ◌∙◌, arith}
-use Rattle.std.proofs.lemmas.Int.{ints}
+use Rattle.std.proofs.Common.{ap, sym, ◌∙◌}
 use Rattle.std.proofs.lemmas.Bool.{false≢true}
 use Rattle.std.proofs.lemmas.List.Sums.{fold-append}
+use Rattle.etp_values.proofs.Ints.{int_eq_is, int_eq_self}
 use Rattle.etp_values.specs.declared.point.Point.{Point}
 use Rattle.channel_store.specs.Points.{after, copy}
 use Rattle.channel_store.specs.declared.change.What.{What}
@@ -14,12 +14,6 @@ use Rattle.client_core.specs.Answers.{subscribed}
 use Rattle.client_core.specs.Laws.{change_of}
 use Rattle.client_core.specs.Notices.{copy_in, follow_all, followed, follows, stop, stopped}
 use Rattle.client_core.specs.declared.state.Channel.{Channel}
-
-int_eq_is : (a b : ℤ) → int_eq a b ≡ true → a ≡ b
-int_eq_is a b h = grind (arith, ints)
-
-int_eq_self : (a : ℤ) → int_eq a a ≡ true
-int_eq_self a = grind (arith, ints)
 
 -- ---- one channel more or less
 

@@ -52,5 +52,6 @@ stopped ids cs = map (stop ids) cs
 abbrev pub copy_in : ℤ → List Channel → Option (List Point)
 copy_in channel cs = option_map (λ f. f.copy) (find (λ f. int_eq f.id channel) cs)
 
+-- the copy that the client has of a channel, if it was subscribed
 abbrev pub copy_of : ℤ → State → Option (List Point)
 copy_of channel s = copy_in channel s.heard.channels

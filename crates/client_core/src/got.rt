@@ -37,7 +37,7 @@ pub enum ClientError {
     /// The session is not open yet, or has ended, or the ask's ids would pass the greatest.
     #[error("the session is not open, or has ended, or the ids are spent")]
     State,
-    /// The order of parts or chunks is broken.
+    /// A part or a chunk does not fit what came before it, or the data pass their limit.
     #[error("parts or chunks are out of order: {0}")]
     Join(JoinError),
     /// The server refuses the ask of this id.

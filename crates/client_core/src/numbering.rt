@@ -1,5 +1,5 @@
 //! Messages with their ids, as bytes.
-ghost use Rattle.std.specs.Prelude.{◌≡◌, ◌≤◌, ◌<◌, ◌+◌, ◌*◌, ◌^◌, pos, not, length, IfOk};
+ghost use Rattle.std.specs.Prelude.{◌≡◌, ◌≤◌, ◌<◌, ◌+◌, ◌*◌, ◌^◌, length, IfOk};
 ghost use Rattle.client_core.specs.Asking.{correlation_of, flags_of, header_of, is_chunk, is_chunk_message, is_spent, max_id, numbered};
 ghost use Rattle.etp_frame.specs.Message.{Names};
 ghost use Rattle.etp_frame.specs.Wire.{IsPlain, message_bytes};

@@ -1,10 +1,10 @@
 -- Pieces of work, one behind another.
-use Rattle.std.proofs.Common.{◌≡◌, ◌≤◌, ℕ, ℤ, List, [], ◌++◌, Some, arith, inl, inr, refl, ap, sym, subst, ◌∙◌, append_assoc}
+use Rattle.std.proofs.Common.{◌≡◌, ℕ, ℤ, List, [], ◌++◌, Some, arith, inl, inr, refl, ap, sym, subst, ◌∙◌, append_assoc}
 use Rattle.std.proofs.lemmas.List.{append-nil}
 use Rattle.std.proofs.KnownBytes.{Appends-trans}
+use Rattle.etp_outside.proofs.FaultLemmas.{rose_later}
 use mathlib.Core.List.{IsPrefix}
 use Rattle.etp_values.proofs.Prefixes.{prefix_trans}
-use Rattle.etp_outside.specs.Faults.{Rose}
 use Rattle.etp_outside.specs.Talk.{Talk}
 use Rattle.etp_outside.specs.declared.status.Status.{Status}
 use Rattle.etp_outside.proofs.ToldLemmas.{told_trans}
@@ -25,7 +25,7 @@ said_both ms ns x y z p q = record {
   to = q.to ∙ p.to;
 }
 
-told_both : (ms ns xs ys zs : List ℤ) → ys ≡ xs ++ ms → zs ≡ ys ++ ns → zs ≡ xs ++ (ms ++ ns)
+pub told_both : (ms ns xs ys zs : List ℤ) → ys ≡ xs ++ ms → zs ≡ ys ++ ns → zs ≡ xs ++ (ms ++ ns)
 told_both ms ns xs ys zs p q = q ∙ ap (λ l. l ++ ns) p ∙ append_assoc xs ms ns
 
 pub kept_both : (x y z : Outside) → Kept x y → Kept y z → Kept x z
@@ -40,9 +40,6 @@ did_both m1 m2 s1 s2 b1 b2 x y z p q = record {
 }
 
 -- ---- causes
-
-pub rose_later : (before mid now : ℕ) → before ≤ mid → Rose mid now → Rose before now
-rose_later before mid now less rose = omega (arith, less, rose)
 
 pub cause_later : (e : Cause) (x y z : Outside) → Kept x y → IsCause e y z → IsCause e x z
 cause_later cause.Link x y z k h = rose_later x.line.faults y.line.faults z.line.faults k.line h

@@ -2,6 +2,7 @@
 use Rattle.std.proofs.Common.{◌≡◌, ◌≤◌, ◌<◌, ◌||◌, ℕ, ℤ, Bool, List, [], ◌++◌, Option, None, Some, arith, inl, inr, refl, ap, sym, subst, ◌∙◌, append-nil, IsSome, ◌⊎◌}
 use Rattle.std.proofs.lemmas.Bool.{false≢true}
 use Rattle.std.proofs.KnownBytes.{Appends-nil}
+use Rattle.etp_outside.proofs.FaultLemmas.{rose_later}
 use mathlib.Core.List.{IsPrefix}
 use Rattle.etp_values.proofs.Prefixes.{prefix_self}
 use Rattle.channel_store.specs.declared.copy.ChangeMsg.{ChangeMsg}
@@ -22,7 +23,6 @@ use Rattle.client_forms.specs.Work.{HasFailed, Input, IsLate, IsOwn, IsWhy, Line
 use Rattle.client_forms.specs.declared.stop.Cause.TheVariants as cause
 use Rattle.client_forms.specs.declared.stop.Stop.{Stop}
 use Rattle.client_forms.specs.declared.stop.Stop.TheVariants as stop
-use Rattle.client_forms.proofs.Chains.{rose_later}
 use Rattle.client_forms.proofs.Running.{or_true}
 
 -- ---- the link that came back

@@ -1,6 +1,7 @@
 -- What reading a line leaves of a reader.
 use Rattle.std.proofs.Common.{◌≡◌, ◌≢◌, ◌+◌, ◌<◌, ◌≤◌, ℕ, false, List, [], ◌∷◌, ◌++◌, length, Option, None, Some, Result, Ok, Err, refl, ap, sym, ◌∙◌, append_assoc, arith}
 use Rattle.std.proofs.lemmas.List.{append-nil, append_cancel_left, length-append}
+use Rattle.etp_outside.proofs.FaultLemmas.{rose_later}
 use Rattle.client_core.specs.declared.ask.Ask.TheVariants as asked
 use Rattle.etp_outside.specs.declared.status.Status.TheVariants as status
 use Rattle.etp_values.specs.declared.point.Point.{Point}
@@ -14,7 +15,6 @@ use Rattle.client_forms.specs.declared.loading.Reader.{Reader}
 use Rattle.client_forms.specs.declared.stop.Cause.TheVariants as cause
 use Rattle.client_forms.specs.declared.stop.Stop.{Stop}
 use Rattle.client_forms.specs.declared.stop.Stop.TheVariants as stop
-use Rattle.client_forms.proofs.Chains.{rose_later}
 use Rattle.client_forms.proofs.FillLemmas.{full_line, has_long, long_line, none_left, others, taken_line}
 
 -- ---- what reading on gave

@@ -3,6 +3,8 @@ use Rattle.std.proofs.Common.{◌≡◌, ◌≤◌, ◌||◌, ℕ, ℤ, Bool, tr
 use Rattle.std.proofs.lemmas.List.{append-nil}
 use Rattle.std.proofs.lemmas.List.Sums.{fold-append}
 use Rattle.std.proofs.KnownBytes.{Appends-nil, Appends-trans}
+use Rattle.client_forms.proofs.Chains.{told_both}
+use Rattle.etp_outside.proofs.FaultLemmas.{rose_later}
 use mathlib.Core.List.{IsPrefix}
 use Rattle.etp_values.proofs.Prefixes.{prefix_self}
 use Rattle.channel_store.specs.declared.copy.ChangeMsg.{ChangeMsg}
@@ -23,7 +25,6 @@ use Rattle.client_forms.specs.declared.stop.Cause.{Cause}
 use Rattle.client_forms.specs.declared.stop.Cause.TheVariants as cause
 use Rattle.client_forms.specs.declared.stop.Stop.{Stop}
 use Rattle.client_forms.specs.declared.stop.Stop.TheVariants as stop
-use Rattle.client_forms.proofs.Chains.{rose_later}
 use Rattle.client_forms.proofs.Refits.{did_nothing}
 use Rattle.client_forms.proofs.SendLemmas.{quiet}
 use Rattle.client_forms.proofs.Works.{no_less}
@@ -37,12 +38,9 @@ talks_both is js ms ns x y z p q = record {
   to = q.to ∙ p.to;
 }
 
-moments_both : (ms ns xs ys zs : List ℤ) → ys ≡ xs ++ ms → zs ≡ ys ++ ns → zs ≡ xs ++ (ms ++ ns)
-moments_both ms ns xs ys zs p q = q ∙ ap (λ l. l ++ ns) p ∙ append_assoc xs ms ns
-
 pub came_both : (m1 m2 : List ℤ) (i1 i2 : List Item) (s1 s2 : List (List ℕ)) (b1 b2 : List ℕ) (x y z : Outside) → Came m1 i1 s1 b1 x y → Came m2 i2 s2 b2 y z → Came (m1 ++ m2) (i1 ++ i2) (s1 ++ s2) (b1 ++ b2) x z
 came_both m1 m2 i1 i2 s1 s2 b1 b2 x y z p q = record {
-  told = told_trans x.told y.told z.told (λ a b. b ≡ a ++ m1) (λ a b. b ≡ a ++ m2) (λ a b. b ≡ a ++ (m1 ++ m2)) (moments_both m1 m2) p.told q.told;
+  told = told_trans x.told y.told z.told (λ a b. b ≡ a ++ m1) (λ a b. b ≡ a ++ m2) (λ a b. b ≡ a ++ (m1 ++ m2)) (told_both m1 m2) p.told q.told;
   talked = told_trans x.line.talk y.line.talk z.line.talk (Talks i1 s1) (Talks i2 s2) (Talks (i1 ++ i2) (s1 ++ s2)) (talks_both i1 i2 s1 s2) p.talked q.talked;
   wrote = Appends-trans x.output.held y.output.held z.output.held b1 b2 p.wrote q.wrote;
   line = omega (arith, p.line, q.line);

@@ -1,5 +1,6 @@
 -- Why commands stop, whatever the objects outside tell.
 use Rattle.std.proofs.Common.{◌≡◌, ◌≤◌, ℕ, ℤ, Bool, true, false, not, List, [], ◌++◌, Option, Result, Ok, Err, IfErr, arith, refl, ap}
+use Rattle.etp_outside.proofs.FaultLemmas.{rose_later}
 use Rattle.etp_outside.specs.declared.status.Status.{Status}
 use Rattle.etp_outside.specs.declared.status.Status.TheVariants as status
 use Rattle.client_forms.specs.Ctl.{Course, Place, breaks, fresh, is_opening, writes}
@@ -12,7 +13,6 @@ use Rattle.client_forms.specs.declared.stop.Cause.{Cause}
 use Rattle.client_forms.specs.declared.stop.Cause.TheVariants as cause
 use Rattle.client_forms.specs.declared.stop.Stop.{Stop}
 use Rattle.client_forms.specs.declared.stop.Stop.TheVariants as stop
-use Rattle.client_forms.proofs.Chains.{rose_later}
 use Rattle.client_forms.proofs.OwnLemmas.{AreOwn, asks_own, breaks_own, closes_own, none_own}
 use Rattle.client_forms.proofs.Works.{no_less}
 

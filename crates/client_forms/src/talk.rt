@@ -1,6 +1,5 @@
 //! What every command does over its link: it asks, sends what the client has to send, writes, and closes the session.
-ghost use Rattle.std.specs.Prelude.{◌≡◌, ◌≤◌, List, Err};
-ghost use Rattle.etp_outside.specs.Faults.{Rose};
+ghost use Rattle.std.specs.Prelude.{◌≡◌, ◌≤◌, Err};
 ghost use Rattle.etp_outside.specs.declared.status.Status.TheVariants.{Done};
 ghost use Rattle.client_forms.specs.Ctl.{Stage, asks, closes, unclosed, writes};
 ghost use Rattle.client_forms.specs.Sending.{SendCause, SendsAll, closed_by, refused_by, sent_by, short_by, unclosed_by, unsent_by};

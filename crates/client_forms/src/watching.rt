@@ -1,11 +1,10 @@
 //! `watch`: the changes of a channel, and the views that show them.
-ghost use Rattle.std.specs.Prelude.{◌≡◌, ◌++◌, ◌∷◌, ◌==◌, [], ℕ, ℤ, List, IfErr, IfOk, OnOk, if◌then◌else◌};
+ghost use Rattle.std.specs.Prelude.{◌≡◌, ◌==◌, IfOk, if◌then◌else◌};
 ghost use Rattle.channel_store.specs.declared.copy.ChangeMsg.{ChangeMsg};
 ghost use Rattle.client_core.specs.declared.ask.Ask.TheVariants as asked;
 ghost use Rattle.client_forms.specs.Ctl.{from_first};
 ghost use Rattle.client_forms.specs.Plans.{GivesAction, Waits};
-ghost use Rattle.client_forms.specs.Shown.{seen_on};
-ghost use Rattle.client_forms.specs.Watches.{IsFed, IsWatch};
+ghost use Rattle.client_forms.specs.Watches.{IsWatch};
 ghost use Rattle.client_forms.specs.declared.action.Action.TheVariants as action;
 ghost use Rattle.watch_views.specs.Boards.{lines_of, reading};
 

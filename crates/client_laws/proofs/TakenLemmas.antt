@@ -3,8 +3,9 @@
 use Rattle.std.proofs.Common.{◌≡◌, ℕ, ℤ, pos, Bool, true, false, not, ◌&&◌, ◌||◌, int_lt, int_rem, List, [], ◌∷◌, Option, Some, None, Ok, fold, map, if◌then◌else◌, refl, sym, ap, subst, ◌∙◌, arith}
 use Rattle.std.specs.List.{AllByRecursion}
 use Rattle.std.specs.Ordering.{int_eq}
-use Rattle.std.proofs.lemmas.Bool.{false≢true}
+use Rattle.std.proofs.lemmas.Bool.{false≢true, and_parts}
 use Rattle.std.proofs.lemmas.Int.{ints}
+use Rattle.etp_values.proofs.Ints.{int_eq_self}
 use Rattle.etp_schema.specs.declared.body.Side.TheVariants.{Server}
 use Rattle.etp_frame.specs.Header.{final_part, has_flag}
 use Rattle.etp_frame.specs.Reading.{read_of}
@@ -25,19 +26,8 @@ use Rattle.client_laws.specs.Parts.{AreOfParts, AreRead, IsFree, Sent, at_last, 
 
 -- ---- numbers and tests
 
-int_eq_self : (a : ℤ) → int_eq a a ≡ true
-int_eq_self a = grind (arith, ints)
-
 same_int : (a b : ℤ) → a ≡ b → int_eq a b ≡ true
 same_int a b is = ap (λ z. int_eq a z) (sym is) ∙ int_eq_self a
-
-and_left : (a b : Bool) → (a && b) ≡ true → a ≡ true
-and_left true b h = refl
-and_left false b h = h
-
-and_right : (a b : Bool) → (a && b) ≡ true → b ≡ true
-and_right true b h = h
-and_right false b h = absurd (false≢true h)
 
 or_true : (b : Bool) → not (b || true) ≡ false
 or_true true = refl
@@ -48,8 +38,8 @@ int_lt_trans a b c x y = grind (arith, ints)
 
 fresh_on : (a b c : ℤ) → is_fresh a b ≡ true → is_fresh b c ≡ true → is_fresh a c ≡ true
 fresh_on a b c x y =
-    (λ i. int_lt_trans a b c (and_left (int_lt a b) (int_eq (int_rem b (pos 2)) (pos 1)) x) (and_left (int_lt b c) (int_eq (int_rem c (pos 2)) (pos 1)) y) i && int_eq (int_rem c (pos 2)) (pos 1))
-    ∙ and_right (int_lt b c) (int_eq (int_rem c (pos 2)) (pos 1)) y
+    (λ i. int_lt_trans a b c (and_parts (int_lt a b) (int_eq (int_rem b (pos 2)) (pos 1)) x).0 (and_parts (int_lt b c) (int_eq (int_rem c (pos 2)) (pos 1)) y).0 i && int_eq (int_rem c (pos 2)) (pos 1))
+    ∙ (and_parts (int_lt b c) (int_eq (int_rem c (pos 2)) (pos 1)) y).1
 
 -- ---- a part
 
@@ -169,7 +159,7 @@ free_part None h x m p free correlation alike = (refl, refl)
 free_part (Some k) h x m p free correlation alike =
     let exception : is_exception p ≡ true = alike ∙ free.1 in
     let same : int_eq x.correlation k.header.correlation ≡ true =
-    ap (λ z. int_eq z k.header.correlation) correlation ∙ and_left (int_eq h.correlation k.header.correlation) (is_exception m || (int_eq h.protocol k.header.protocol && int_eq h.kind k.header.kind)) free.0 in
+    ap (λ z. int_eq z k.header.correlation) correlation ∙ (and_parts (int_eq h.correlation k.header.correlation) (is_exception m || (int_eq h.protocol k.header.protocol && int_eq h.kind k.header.kind)) free.0).0 in
     ((λ i. not (same i && (exception i || (int_eq x.protocol k.header.protocol && int_eq x.kind k.header.kind)))), behind_answer k.message p free.2 exception)
 
 -- ---- the whole message

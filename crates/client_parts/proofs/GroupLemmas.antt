@@ -3,9 +3,10 @@ use Rattle.std.specs.Prelude.{◌≡◌, ◌<◌, ◌≤◌, ◌+◌, ℕ, ℤ, 
 use Rattle.std.specs.List.{list_all, list_any}
 use Rattle.std.specs.Option.{unwrap_or}
 use Rattle.std.specs.Ordering.{int_eq}
-use Rattle.std.proofs.Common.{add-one, ap, append-nil, append_assoc, arith, drop-cons, get_or, sym, ◌∙◌}
-use Rattle.std.proofs.lemmas.Int.{ints}
+use Rattle.std.proofs.Common.{add-one, ap, append-nil, append_assoc, drop-cons, get_or, sym, ◌∙◌}
 use Rattle.std.proofs.lemmas.List.{drop_all}
+use Rattle.std.proofs.lemmas.Bool.{or_right}
+use Rattle.etp_values.proofs.Ints.{int_eq_self}
 use Rattle.etp_values.specs.declared.point.ChannelPoint.{ChannelPoint}
 use Rattle.etp_values.specs.declared.point.Point.{Point}
 use Rattle.channel_store.specs.declared.copy.ChangeMsg.{ChangeMsg}
@@ -15,9 +16,6 @@ use Rattle.client_parts.specs.Grouping.{group}
 
 abbrev among : List ℤ → ℤ → Bool
 among channels q = list_any (λ c. int_eq c q) channels
-
-int_eq_self : (a : ℤ) → int_eq a a ≡ true
-int_eq_self a = grind (arith, ints)
 
 here : (ids : List ℤ) (n : ℕ) → n < length ids → drop n ids ≡ get_or ids n (pos 0) ∷ drop (n + 1) ids
 here ids n within = drop-cons ids n (pos 0) within ∙ ap (λ k. get_or ids n (pos 0) ∷ drop k ids) (sym (add-one n))
@@ -47,10 +45,6 @@ points_done q items o whole end so_far = by o ∙ ap (λ l. option_map (λ ps. p
     by (Some ps) = ap Some (sym (append-nil ps))
 
 -- ---- a change for each channel
-
-or_right : (a b : Bool) → b ≡ true → (a || b) ≡ true
-or_right true b h = refl
-or_right false b h = h
 
 all_from : (f g : ℤ → ChangeMsg) (cs : List ℤ) → ((q : ℤ) → among cs q ≡ true → f q ≡ g q) → map f cs ≡ map g cs
 all_from f g [] same = refl

@@ -1,4 +1,4 @@
--- Names that come behind all that there are: putting them in adds them at the end.
+-- Names that come behind all that there are: putting them in adds them at the end; for the crates above too.
 use Rattle.std.proofs.Common.{◌≡◌, ℕ, ◌+◌, ◌-◌, ◌<◌, ◌≤◌, ◌==◌, zero, suc, Bool, true, false, List, [], ◌∷◌, ◌++◌, length, get_or, refl, sym, ap, subst, ◌∙◌, arith, inl, inr, append_assoc}
 use Rattle.std.specs.declared.cmp.Ordering.{Ordering}
 use Rattle.std.specs.declared.cmp.Ordering.TheVariants.{Less, Equal, Greater}
@@ -97,7 +97,7 @@ put_last : {A : Type 0} (held : List (List ℕ × A)) (x : List ℕ × A) → Al
 put_last [] x all = refl
 put_last (e ∷ held) x all = rw all.0 (ap (λ l. e ∷ l) (put_last held x all.1))
 
-put_behind : {A : Type 0} (held xs : List (List ℕ × A)) → Ordered (keys_of (held ++ xs)) → with_all held xs ≡ held ++ xs
+pub put_behind : {A : Type 0} (held xs : List (List ℕ × A)) → Ordered (keys_of (held ++ xs)) → with_all held xs ≡ held ++ xs
 put_behind held [] o = sym (append-nil held)
 put_behind held (x ∷ xs) o =
     let whole = append_assoc held (x ∷ []) xs in

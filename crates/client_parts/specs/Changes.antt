@@ -104,6 +104,8 @@ truncations ts = if list_all (λ t. is_long t.new_end_index) ts then Some (map t
 
 -- ---- notices
 
+-- the changes that a notice on subscriptions tells; none of another message, or where an index or a point can't stand in a
+-- channel
 abbrev pub subscribe_changes : ChannelSubscribeMessage → Option (List ChangeMsg)
 subscribe_changes (subscribe.ChannelData x) = option_map (λ ps. map appended (runs ps)) (points_of x.payload)
 subscribe_changes (subscribe.RangeReplaced x) = range_changes x

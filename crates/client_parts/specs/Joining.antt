@@ -28,14 +28,17 @@ abbrev pub core_joined : CoreMessage → CoreMessage → CoreMessage
 core_joined (core.ProtocolException x) (core.ProtocolException y) = core.ProtocolException (record x { errors = merged x.errors y.errors })
 core_joined x y = y
 
+-- one part of a message on dataspaces behind another
 abbrev pub dataspace_joined : DataspaceMessage → DataspaceMessage → DataspaceMessage
 dataspace_joined (dataspace.PutDataspacesResponse x) (dataspace.PutDataspacesResponse y) = dataspace.PutDataspacesResponse (record x { success = merged x.success y.success })
 dataspace_joined x y = y
 
+-- one part of a message on objects behind another
 abbrev pub store_joined : StoreMessage → StoreMessage → StoreMessage
 store_joined (store.PutDataObjectsResponse x) (store.PutDataObjectsResponse y) = store.PutDataObjectsResponse (record x { success = merged x.success y.success })
 store_joined x y = y
 
+-- one part of a message on subscriptions behind another
 abbrev pub subscribe_joined : ChannelSubscribeMessage → ChannelSubscribeMessage → ChannelSubscribeMessage
 subscribe_joined (subscribe.GetChannelMetadataResponse x) (subscribe.GetChannelMetadataResponse y) = subscribe.GetChannelMetadataResponse (record x { metadata = merged x.metadata y.metadata })
 subscribe_joined (subscribe.SubscribeChannelsResponse x) (subscribe.SubscribeChannelsResponse y) = subscribe.SubscribeChannelsResponse (record x { success = merged x.success y.success })
@@ -45,6 +48,7 @@ subscribe_joined (subscribe.RangeReplaced x) (subscribe.RangeReplaced y) = subsc
 subscribe_joined (subscribe.ChannelsTruncated x) (subscribe.ChannelsTruncated y) = subscribe.ChannelsTruncated (record x { channels = x.channels ++ y.channels })
 subscribe_joined x y = y
 
+-- one part of a message on the load behind another
 abbrev pub load_joined : ChannelDataLoadMessage → ChannelDataLoadMessage → ChannelDataLoadMessage
 load_joined (load.OpenChannelsResponse x) (load.OpenChannelsResponse y) = load.OpenChannelsResponse (record x { channels = merged x.channels y.channels })
 load_joined x y = y

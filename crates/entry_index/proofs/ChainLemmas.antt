@@ -7,7 +7,7 @@ use Rattle.std.proofs.lemmas.List.{get_or_append_left, length-append}
 use Rattle.std.proofs.lemmas.List.Folds.{find-append}
 use Rattle.std.proofs.lemmas.List.Sums.{fold_push}
 use Rattle.std.proofs.Math.Seq.{get_or-append_seam}
-use Rattle.std.proofs.lemmas.Option.{same_Some, slice_get-get_or}
+use Rattle.std.proofs.lemmas.Option.{same_Some, slice_get-get_or, slice_get_within}
 use Rattle.entry_index.specs.declared.chains.Step.{Step}
 use Rattle.entry_index.specs.Chains.{chain, last_of}
 use Rattle.entry_index.specs.Steps.{chains_of, with_step, IsChained}
@@ -80,11 +80,6 @@ slice-push [] x (suc n) y at = absurd cc
 slice-push (z ∷ zs) x zero y at = inl at
 slice-push (z ∷ zs) x (suc n) y at = ⊎_elim (λ h. inl h) (λ h. inr (ap suc h.0, h.1)) (slice-push zs x n y at)
 
-slice-short : {X : Type 0} (xs : List X) (n : ℕ) (y : X) → slice_get xs n ≡ Some y → n < length xs
-slice-short [] n y at = absurd cc
-slice-short (z ∷ zs) zero y at = omega arith
-slice-short (z ∷ zs) (suc n) y at = omega (arith, slice-short zs n y at)
-
 pub chained-push : (steps : List Step) (s : Step) → IsChained steps → s.before ≤ length steps → AllByRecursion (λ p. p ≤ s.place) (chain (chains_of steps) s.before) → IsChained (steps ++ s ∷ [])
 chained-push steps s old before rises = record {
   goes_on = λ n t at.
@@ -92,7 +87,7 @@ chained-push steps s old before rises = record {
       let kept = λ (m : ℕ) (h : m ≤ length steps). chain-push (chains_of steps) c m (subst (λ l. m ≤ l) (sym (length-chains steps)) h) in
       let same : (m : ℕ) → m ≤ length steps → chain (chains_of (steps ++ s ∷ [])) m ≡ chain (chains_of steps) m = λ m h. ap (λ cs. chain cs m) (chains-push steps s) ∙ kept m h in
       ⊎_elim
-      (λ h. let told = old.goes_on n t h in (told.0, subst (AllByRecursion (λ p. p ≤ t.place)) (sym (same t.before (omega (arith, told.0, slice-short steps n t h)))) told.1))
+      (λ h. let told = old.goes_on n t h in (told.0, subst (AllByRecursion (λ p. p ≤ t.place)) (sym (same t.before (omega (arith, told.0, slice_get_within steps n t h)))) told.1))
       (λ h. subst (λ u. (u.before ≤ n) × AllByRecursion (λ p. p ≤ u.place) (chain (chains_of (steps ++ s ∷ [])) u.before)) h.1
       (subst (λ m. s.before ≤ m) (sym h.0) before, subst (AllByRecursion (λ p. p ≤ s.place)) (sym (same s.before before)) rises))
       (slice-push steps s n t at);

@@ -9,6 +9,9 @@ use crate::kinds;
 use crate::reader::{CAPTURE_LIMIT, CaptureError};
 use etp_values::Blob;
 
+/// How many bytes a frame has before its payload.
+pub const HEAD_LEN: usize = 17;
+
 /// The greatest length of a frame's payload.
 const FRAME_LIMIT: u32 = 33_554_432;
 
@@ -70,7 +73,7 @@ pub(crate) fn head_fault(head: &[u8; 17], at: u64, got: usize) -> Result<(), Cap
     if at + got as u64 > CAPTURE_LIMIT {
         return Err(CaptureError::Limit);
     }
-    if got < 17 {
+    if got < HEAD_LEN {
         return Err(CaptureError::Cut(at));
     }
     if !is_length(head[0], length_of(head)) {

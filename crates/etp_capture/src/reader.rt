@@ -9,7 +9,7 @@ ghost use Rattle.etp_capture.specs.Reader.{Answers, HeadOf, BodyOf, MagicOf, Beg
 ghost use Rattle.etp_capture.specs.declared.reader.CaptureError.TheVariants.{Magic, ReadFault, NoMemory};
 
 use crate::frame::{Frame, MAGIC};
-use crate::head::{frame_with, head_fault, length_of};
+use crate::head::{HEAD_LEN, frame_with, head_fault, length_of};
 use etp_outside::{Filled, Source, fill};
 use etp_values::Blob;
 use std::alloc::Global;
@@ -117,7 +117,7 @@ impl CaptureReader {
     }
 
     /// The next frame, or `None` where the input ended behind the magic or a whole frame. It reads the magic first, unless
-    /// that was read before, and takes no byte past the frame that it answers.
+    /// that was read before, and leaves the source right behind what it answers.
     pub fn next<S: Source>(
         &mut self,
         alloc: Global,
@@ -140,7 +140,7 @@ impl CaptureReader {
                 Ok(None)
             }
             Ok(Some(frame)) => {
-                self.at = self.at.max(8) + 17 + frame.bytes.as_bytes().len() as u64;
+                self.at = self.at.max(8) + HEAD_LEN as u64 + frame.bytes.as_bytes().len() as u64;
                 Ok(Some(frame))
             }
             Err(e) => Err(self.fail(e)),
@@ -224,7 +224,7 @@ fn read_head<S: Source>(source: &mut S, at: u64) -> Result<Option<[u8; 17]>, Cap
     ensures cause { result ≡ Err ReadFault → Rose (S.faults source.old) (S.faults source.new) }
     ensures none { result ≢ Err NoMemory }
 {
-    let want = ((CAPTURE_LIMIT - at) as usize + 1).min(17);
+    let want = ((CAPTURE_LIMIT - at) as usize + 1).min(HEAD_LEN);
     let mut head = [0u8; 17];
     let got = match read_up(source, &mut head[..want]) {
         Some(got) => got,
@@ -254,7 +254,7 @@ fn read_body<S: Source>(
     ensures cause { result ≡ Err ReadFault → Rose (S.faults source.old) (S.faults source.new) }
 {
     let length = length_of(head) as usize;
-    let room = (CAPTURE_LIMIT - at) as usize - 17;
+    let room = (CAPTURE_LIMIT - at) as usize - HEAD_LEN;
     let want = length.min(room + 1);
     let Ok(mut bytes) = vec![in alloc; 0u8; want] else {
         return Err(CaptureError::NoMemory);

@@ -1,6 +1,6 @@
 -- Which object a chunk goes to.
-use Rattle.std.proofs.Common.{◌≡◌, ◌∙◌, ◌++◌, ℕ, Bool, true, false, cond, ◌||◌, List, [], ◌∷◌, Option, Some, None, is_some, refl, sym, ap}
-use Rattle.std.proofs.lemmas.Bool.{false≢true}
+use Rattle.std.proofs.Common.{◌≡◌, ◌∙◌, ◌++◌, ℕ, Bool, true, false, cond, List, [], ◌∷◌, Option, Some, None, is_some, refl, sym, ap}
+use Rattle.std.proofs.lemmas.Bool.{false≢true, or_parts}
 use Rattle.std.proofs.lemmas.Slice.Eq.{bytes_eq-Decides}
 use Rattle.std.specs.List.{list_any}
 use Rattle.std.specs.Str.{bytes_eq}
@@ -10,10 +10,6 @@ use Rattle.etp_frame.specs.Joining.{Objects, is_blob, awaits, awaits_any, grown,
 
 abbrev pub Object : Type 0
 Object = List ℕ × DataObject
-
-pub neither : (a b : Bool) → (a || b) ≡ false → (a ≡ false) × (b ≡ false)
-neither true b h = absurd (false≢true (sym h))
-neither false b h = (refl, h)
 
 -- an object with a chunk
 abbrev pub with_data : Object → Chunk → Object
@@ -36,5 +32,5 @@ self_blob id = (bytes_eq-Decides id id).1 refl
 pub fed_past : (c : Chunk) (front : Objects) (x : Object) (later : Objects) → list_any awaits_any front ≡ false → awaits c.blob_id x ≡ true → fed (front ++ x ∷ later) c ≡ front ++ with_data x c ∷ later
 fed_past c [] x later free at = fed_here c x later at
 fed_past c (y ∷ ys) x later free at =
-    let p = neither (awaits_any y) (list_any awaits_any ys) free in
+    let p = or_parts (awaits_any y) (list_any awaits_any ys) free in
     fed_later c y (ys ++ x ∷ later) (none_awaited y.1.blob_id c.blob_id p.0) ∙ ap (λ (l : Objects). y ∷ l) (fed_past c ys x later p.1 at)

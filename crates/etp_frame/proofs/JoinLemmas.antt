@@ -1,13 +1,13 @@
 -- A joiner puts a message together of its parts.
 use Rattle.std.proofs.Common.{◌≡◌, ◌∙◌, ◌++◌, ℤ, Bool, true, false, cond, ◌||◌, List, [], ◌∷◌, Option, Some, None, Result, Ok, Err, is_some, nat_lt, refl, sym, ap, subst}
-use Rattle.std.proofs.lemmas.Bool.{false≢true}
+use Rattle.std.proofs.lemmas.Bool.{false≢true, or_parts}
 use Rattle.std.specs.List.{list_any}
 use Rattle.msg_store.specs.declared.store_messages.StoreMessage.{StoreMessage}
 use Rattle.msg_store.specs.declared.store_messages.StoreMessage.TheVariants as s
 use Rattle.msg_store.specs.declared.store_messages.Chunk.{Chunk}
 use Rattle.etp_frame.specs.declared.awaiting.Carrier.{Carrier}
 use Rattle.etp_frame.specs.declared.awaiting.Carrier.TheVariants as carrier
-use Rattle.etp_frame.specs.Joining.{Objects, Awaited, awaits_any, is_double, shares_blob, data_size, data_limit, fed, carried, grows, came, refused, with_piece, unless_refused, joins}
+use Rattle.etp_frame.specs.Joining.{Objects, Awaited, awaits_any, is_double, shares_blob, data_size, data_limit, fed, carried, grows, came, chunk_refusal, with_piece, unless_refused, joins}
 use Rattle.etp_frame.specs.JoinLaws.{awaited_behind, awaited_after, brings_objects, chunks_among, JoinsWhole, WholeAtOnce}
 use Rattle.etp_frame.specs.Whole.{whole_from, joined}
 use Rattle.etp_frame.specs.declared.header.Header.{Header}
@@ -17,7 +17,6 @@ use Rattle.etp_frame.specs.declared.joining.JoinError.{JoinError}
 use Rattle.etp_frame.specs.declared.joining.JoinError.TheVariants as e
 use Rattle.etp_frame.specs.declared.message.Message.{Message}
 use Rattle.etp_frame.specs.declared.message.Message.TheVariants as m
-use Rattle.etp_frame.proofs.PieceLemmas.{neither}
 
 abbrev Answer : Type 0
 Answer = Result (Joined × Option Awaited) JoinError
@@ -62,16 +61,16 @@ piece_at : (w : Awaited) (r : Option JoinError) → IsWhole (so_far w) (unless_r
 piece_at w None = grows_whole w
 piece_at w (Some cause) = tt
 
-piece_whole : (w : Awaited) (correlation : ℤ) (c : Chunk) → IsWhole (joined (so_far w) (m.Store (s.Chunk c))) (unless_refused (refused w correlation c) (with_piece w c))
+piece_whole : (w : Awaited) (correlation : ℤ) (c : Chunk) → IsWhole (joined (so_far w) (m.Store (s.Chunk c))) (unless_refused (chunk_refusal w correlation c) (with_piece w c))
 piece_whole w correlation c =
-    subst (λ (x : Message). IsWhole x (unless_refused (refused w correlation c) (with_piece w c))) (sym (carried_joined w.carrier w.objects c)) (piece_at (with_piece w c) (refused w correlation c))
+    subst (λ (x : Message). IsWhole x (unless_refused (chunk_refusal w correlation c) (with_piece w c))) (sym (carried_joined w.carrier w.objects c)) (piece_at (with_piece w c) (chunk_refusal w correlation c))
 
 -- ---- one that awaits nothing
 
 none_stays : (xs : List (Header × Message)) → list_any (λ y. brings_objects y.1) xs ≡ false → awaited_after None xs ≡ None
 none_stays [] h = refl
 none_stays (x ∷ xs) h =
-    let p = neither (brings_objects x.1) (list_any (λ y. brings_objects y.1) xs) h in
+    let p = or_parts (brings_objects x.1) (list_any (λ y. brings_objects y.1) xs) h in
     ap (λ (w : Option Awaited). awaited_after w xs) (at x.0 x.1 p.0) ∙ none_stays xs p.1
   where
     at_store : (h : Header) (x : StoreMessage) → brings_objects (m.Store x) ≡ false → awaited_behind (joins None h (m.Store x)) ≡ None
@@ -114,7 +113,7 @@ run_store : (k : Header) (c : Chunk) (x : Message) (left : Option Awaited) (w : 
     → list_any (λ z. brings_objects z.1) ys ≡ false → Runs k c x left ys → Last k c x left (awaited_after (Some w) ((h, m.Store y) ∷ ys)) → x ≡ whole_from (so_far w) (chunks_among ((h, m.Store y) ∷ ys) ++ m.Store (s.Chunk c) ∷ [])
 run_store k c x left w h (s.PutDataObjects y) ys b rest more last = absurd (false≢true (sym b))
 run_store k c x left w h (s.GetDataObjectsResponse y) ys b rest more last = absurd (false≢true (sym b))
-run_store k c x left w h (s.Chunk y) ys b rest more last = run_piece k c x left w y ys rest more (unless_refused (refused w h.correlation y) (with_piece w y)) (piece_whole w h.correlation y) last
+run_store k c x left w h (s.Chunk y) ys b rest more last = run_piece k c x left w y ys rest more (unless_refused (chunk_refusal w h.correlation y) (with_piece w y)) (piece_whole w h.correlation y) last
 run_store k c x left w h y ys b rest more last = more w last
 
 run_one : (k : Header) (c : Chunk) (x : Message) (left : Option Awaited) (w : Awaited) (h : Header) (y : Message) (ys : List (Header × Message)) → brings_objects y ≡ false → list_any (λ z. brings_objects z.1) ys ≡ false
@@ -123,9 +122,9 @@ run_one k c x left w h (m.Store y) ys b rest more last = run_store k c x left w 
 run_one k c x left w h y ys b rest more last = more w last
 
 run : (k : Header) (c : Chunk) (x : Message) (left : Option Awaited) (xs : List (Header × Message)) → list_any (λ y. brings_objects y.1) xs ≡ false → Runs k c x left xs
-run k c x left [] h w last = whole_is x (joined (so_far w) (m.Store (s.Chunk c))) left (unless_refused (refused w k.correlation c) (with_piece w c)) (piece_whole w k.correlation c) last
+run k c x left [] h w last = whole_is x (joined (so_far w) (m.Store (s.Chunk c))) left (unless_refused (chunk_refusal w k.correlation c) (with_piece w c)) (piece_whole w k.correlation c) last
 run k c x left (y ∷ ys) h w last =
-    let p = neither (brings_objects y.1) (list_any (λ z. brings_objects z.1) ys) h in
+    let p = or_parts (brings_objects y.1) (list_any (λ z. brings_objects z.1) ys) h in
     run_one k c x left w y.0 y.1 ys p.0 p.1 (run k c x left ys p.1) last
 
 from_first : (k : Header) (c : Chunk) (x first : Message) (left : Option Awaited) (xs : List (Header × Message)) → list_any (λ y. brings_objects y.1) xs ≡ false → (r : Answer) → IsWhole first r

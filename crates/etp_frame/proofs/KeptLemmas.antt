@@ -16,7 +16,7 @@ use Rattle.etp_frame.specs.declared.awaiting.Carrier.{Carrier}
 use Rattle.etp_frame.specs.declared.joining.Joined.TheVariants as j
 use Rattle.etp_frame.specs.declared.joining.JoinError.{JoinError}
 use Rattle.etp_frame.specs.declared.joining.JoinError.TheVariants as e
-use Rattle.etp_frame.specs.Joining.{Objects, Awaited, awaits, awaits_any, is_double, data_size, data_limit, fed, is_other, carried, grows, refused, with_piece}
+use Rattle.etp_frame.specs.Joining.{Objects, Awaited, awaits, awaits_any, is_double, data_size, data_limit, fed, is_other, carried, grows, chunk_refusal, with_piece}
 use Rattle.etp_frame.specs.Kept.{piece, last_piece, gathered, awaiting, FindsEach, IsBegun, IsKept}
 use Rattle.etp_frame.proofs.PieceLemmas.{fed_again, awaits_fed, awaits_any_fed, keys_fed, size_fed, awaiting_fed, none_awaits, one_awaits, any_if_one, single_fed}
 use Rattle.etp_frame.proofs.PlaceLemmas.{finds_each_fed}
@@ -157,22 +157,22 @@ module _ (w : Awaited) (correlation : ℤ) (c : Chunk) where
   abbrev long : Bool
   long = nat_lt data_limit (data_size w.objects + length c.payload)
 
-  pub refused_blob : list_any (awaits c.blob_id) w.objects ≡ false → Some e.WrongBlob ≡ refused w correlation c
+  pub refused_blob : list_any (awaits c.blob_id) w.objects ≡ false → Some e.WrongBlob ≡ chunk_refusal w correlation c
   refused_blob h = sym (ap (λ (t : Bool). refusing t (is_other w.begun c.blob_id) long) (both_false (int_eq correlation w.correlation) (list_any (awaits c.blob_id) w.objects) h))
 
   module _ (same : correlation ≡ w.correlation) (awaited : list_any (awaits c.blob_id) w.objects ≡ true) where
     known : wrong ≡ false
     known = both_true (int_eq correlation w.correlation) (list_any (awaits c.blob_id) w.objects) (ap (int_eq correlation) (sym same) ∙ int_eq_equiv.refl correlation) awaited
 
-    pub refused_other : is_other w.begun c.blob_id ≡ true → Some e.Interleaved ≡ refused w correlation c
+    pub refused_other : is_other w.begun c.blob_id ≡ true → Some e.Interleaved ≡ chunk_refusal w correlation c
     refused_other h = sym (ap (λ (t : Bool). refusing t (is_other w.begun c.blob_id) long) known ∙ ap (λ (t : Bool). refusing false t long) h)
 
-    pub refused_long : is_other w.begun c.blob_id ≡ false → data_limit < data_size w.objects + length c.payload → Some e.TooLong ≡ refused w correlation c
+    pub refused_long : is_other w.begun c.blob_id ≡ false → data_limit < data_size w.objects + length c.payload → Some e.TooLong ≡ chunk_refusal w correlation c
     refused_long h past =
         let t : long ≡ true = grind (arith, nat_tests) in
         sym (ap (λ (t : Bool). refusing t (is_other w.begun c.blob_id) long) known ∙ ap (λ (t : Bool). refusing false t long) h ∙ ap (refusing false false) t)
 
-    pub refused_not : is_other w.begun c.blob_id ≡ false → data_size w.objects + length c.payload ≤ data_limit → None ≡ refused w correlation c
+    pub refused_not : is_other w.begun c.blob_id ≡ false → data_size w.objects + length c.payload ≤ data_limit → None ≡ chunk_refusal w correlation c
     refused_not h within =
         let t : long ≡ false = grind (arith, nat_tests) in
         sym (ap (λ (t : Bool). refusing t (is_other w.begun c.blob_id) long) known ∙ ap (λ (t : Bool). refusing false t long) h ∙ ap (refusing false false) t)

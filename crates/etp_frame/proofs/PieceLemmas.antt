@@ -1,6 +1,6 @@
 -- What a piece of a blob does to the objects of a message.
 use Rattle.std.proofs.Common.{◌≡◌, ◌∙◌, ◌++◌, ◌+◌, ◌<◌, ℕ, suc, Bool, true, false, cond, ◌&&◌, ◌||◌, List, [], ◌∷◌, length, Option, Some, None, is_some, nat_lt, refl, sym, ap, subst, append_assoc, arith}
-use Rattle.std.proofs.lemmas.Bool.{false≢true}
+use Rattle.std.proofs.lemmas.Bool.{false≢true, or_parts}
 use Rattle.std.proofs.lemmas.List.{length-append}
 use Rattle.std.proofs.lemmas.Bool.Decides.{nat_tests}
 use Rattle.std.specs.List.{list_any}
@@ -16,13 +16,6 @@ Object = List ℕ × DataObject
 -- an object with a piece
 abbrev pub with_data : Object → Chunk → Object
 with_data x c = (x.0, grown x.1 c)
-
-either : (a b : Bool) → (a || b) ≡ false → (a ≡ false) × (b ≡ false)
-either true b h = absurd (false≢true (sym h))
-either false b h = (refl, h)
-
-pub neither : (a b : Bool) → (a || b) ≡ false → (a ≡ false) × (b ≡ false)
-neither = either
 
 pub rest_or : (a b : Bool) → a ≡ false → (a || b) ≡ true → b ≡ true
 rest_or true b h any = absurd (false≢true (sym h))
@@ -171,9 +164,9 @@ one_awaits (x ∷ xs) h = one_at x.1.blob_id (awaiting xs) (list_any awaits_any 
 
 single_at : (id b : List ℕ) (x : Object) (xs : Objects) (t : Bool) → awaits id x ≡ t → list_any is_double (x ∷ xs) ≡ false
     → (list_any is_double xs ≡ false → list_any is_double (fed xs (last_piece id b)) ≡ false) → list_any is_double (fed (x ∷ xs) (last_piece id b)) ≡ false
-single_at id b x xs true h none more = ap (list_any is_double) (fed_here (last_piece id b) x xs h) ∙ (either (is_double x) (list_any is_double xs) none).1
+single_at id b x xs true h none more = ap (list_any is_double) (fed_here (last_piece id b) x xs h) ∙ (or_parts (is_double x) (list_any is_double xs) none).1
 single_at id b x xs false h none more =
-    let p = either (is_double x) (list_any is_double xs) none in
+    let p = or_parts (is_double x) (list_any is_double xs) none in
     ap (list_any is_double) (fed_later (last_piece id b) x xs h) ∙ ap (λ (t : Bool). t || list_any is_double (fed xs (last_piece id b))) p.0 ∙ more p.1
 
 pub single_fed : (id b : List ℕ) (xs : Objects) → list_any is_double xs ≡ false → list_any is_double (fed xs (last_piece id b)) ≡ false

@@ -1,6 +1,6 @@
 -- Where the objects stand that await blobs.
 use Rattle.std.proofs.Common.{◌≡◌, ◌∙◌, ◌++◌, ◌+◌, ◌-◌, ◌<◌, ◌≤◌, ℕ, zero, suc, Bool, true, false, cond, ◌||◌, List, [], ◌∷◌, length, get_or, drop, drop-cons, slice_set, Option, Some, None, is_some, is_none, refl, sym, ap, subst, arith}
-use Rattle.std.proofs.lemmas.Bool.{false≢true}
+use Rattle.std.proofs.lemmas.Bool.{false≢true, or_parts, or_right}
 use Rattle.std.proofs.lemmas.Map.Text.{is_eq-slice_cmp}
 use Rattle.std.proofs.lemmas.Slice.Eq.{bytes_eq-Decides}
 use Rattle.std.specs.BTreeMap.{is_at}
@@ -11,7 +11,7 @@ use Rattle.std.specs.Str.{bytes_eq}
 use Rattle.msg_store.specs.declared.store_messages.Chunk.{Chunk}
 use Rattle.etp_frame.specs.Joining.{Objects, is_blob, awaits, is_double, is_awaited, shares_blob, fed}
 use Rattle.etp_frame.specs.Kept.{last_piece, place_from, any_but, awaits_at, filled_at, Finds, FindsEach, AddsPlace, place_at}
-use Rattle.etp_frame.proofs.PieceLemmas.{Object, neither, fed_here, fed_later, length_fed, no_data}
+use Rattle.etp_frame.proofs.PieceLemmas.{Object, fed_here, fed_later, length_fed, no_data}
 
 -- ---- one place
 
@@ -24,19 +24,19 @@ pub any_at_place : (k : ℕ) (id : List ℕ) (xs : Objects) → any_but k id xs 
 any_at_place k id [] h = refl
 any_at_place zero id (x ∷ xs) h = or_false (awaits id x) (list_any (awaits id) xs) h
 any_at_place (suc k) id (x ∷ xs) h =
-    let p = neither (awaits id x) (any_but k id xs) h in
+    let p = or_parts (awaits id x) (any_but k id xs) h in
     ap (λ (t : Bool). t || list_any (awaits id) xs) p.0 ∙ any_at_place k id xs p.1
 
 -- the last piece goes to the object at the place
 pub fed_filled : (k : ℕ) (id bytes : List ℕ) (xs : Objects) → any_but k id xs ≡ false → awaits_at k id xs ≡ true → list_any is_double xs ≡ false → fed xs (last_piece id bytes) ≡ filled_at k bytes xs
 fed_filled k id bytes [] h at none = refl
 fed_filled zero id bytes (x ∷ xs) h at none =
-    let p = neither (is_double x) (list_any is_double xs) none in
+    let p = or_parts (is_double x) (list_any is_double xs) none in
     fed_here (last_piece id bytes) x xs at
     ∙ ap (λ (front : List ℕ). (x.0, record x.1 { blob_id = None; payload = front ++ bytes }) ∷ xs) (no_data x.1.blob_id id x.1.payload at p.0)
 fed_filled (suc k) id bytes (x ∷ xs) h at none =
-    let p = neither (awaits id x) (any_but k id xs) h in
-    let d = neither (is_double x) (list_any is_double xs) none in
+    let p = or_parts (awaits id x) (any_but k id xs) h in
+    let d = or_parts (is_double x) (list_any is_double xs) none in
     fed_later (last_piece id bytes) x xs p.0 ∙ ap (λ (l : Objects). x ∷ l) (fed_filled k id bytes xs p.1 at d.1)
 
 -- ---- a table of places serves on behind a piece
@@ -48,10 +48,10 @@ grown_less false own q h = h
 none_at : (c : Chunk) (q : List ℕ) (x : Object) (xs : Objects) (t : Bool) → awaits c.blob_id x ≡ t → list_any (awaits q) (x ∷ xs) ≡ false
     → (list_any (awaits q) xs ≡ false → list_any (awaits q) (fed xs c) ≡ false) → list_any (awaits q) (fed (x ∷ xs) c) ≡ false
 none_at c q x xs true h none more =
-    let p = neither (awaits q x) (list_any (awaits q) xs) none in
+    let p = or_parts (awaits q x) (list_any (awaits q) xs) none in
     ap (list_any (awaits q)) (fed_here c x xs h) ∙ ap (λ (t : Bool). t || list_any (awaits q) xs) (grown_less c.last x.1.blob_id q p.0) ∙ p.1
 none_at c q x xs false h none more =
-    let p = neither (awaits q x) (list_any (awaits q) xs) none in
+    let p = or_parts (awaits q x) (list_any (awaits q) xs) none in
     ap (list_any (awaits q)) (fed_later c x xs h) ∙ ap (λ (t : Bool). t || list_any (awaits q) (fed xs c)) p.0 ∙ more p.1
 
 none_fed : (c : Chunk) (q : List ℕ) (xs : Objects) → list_any (awaits q) xs ≡ false → list_any (awaits q) (fed xs c) ≡ false
@@ -64,10 +64,10 @@ but_first c q x xs false h none = ap (any_but 0 q) (fed_later c x xs h) ∙ none
 
 but_later : (c : Chunk) (k : ℕ) (q : List ℕ) (x : Object) (xs : Objects) (t : Bool) → awaits c.blob_id x ≡ t → any_but (suc k) q (x ∷ xs) ≡ false → (any_but k q xs ≡ false → any_but k q (fed xs c) ≡ false) → any_but (suc k) q (fed (x ∷ xs) c) ≡ false
 but_later c k q x xs true h none more =
-    let p = neither (awaits q x) (any_but k q xs) none in
+    let p = or_parts (awaits q x) (any_but k q xs) none in
     ap (any_but (suc k) q) (fed_here c x xs h) ∙ ap (λ (t : Bool). t || any_but k q xs) (grown_less c.last x.1.blob_id q p.0) ∙ p.1
 but_later c k q x xs false h none more =
-    let p = neither (awaits q x) (any_but k q xs) none in
+    let p = or_parts (awaits q x) (any_but k q xs) none in
     ap (any_but (suc k) q) (fed_later c x xs h) ∙ ap (λ (t : Bool). t || any_but k q (fed xs c)) p.0 ∙ more p.1
 
 but_fed : (c : Chunk) (k : ℕ) (q : List ℕ) (xs : Objects) → any_but k q xs ≡ false → any_but k q (fed xs c) ≡ false
@@ -123,14 +123,10 @@ place_shared added (Some id) k x xs old with_it is p a new =
     let held : list_any (awaits id) xs ≡ true = sym (some_place (suc k) id xs) ∙ ap is_some (sym (p.exact id)) ∙ held_if (place_at old id) (sym a.0 ∙ new) in
     sym (ap (λ (o : Option (List ℕ)). is_awaited o xs || shares_blob xs) is) ∙ ap (λ (t : Bool). t || shares_blob xs) held
 
-or_true : (a b : Bool) → b ≡ true → (a || b) ≡ true
-or_true true b h = refl
-or_true false b h = h
-
 pub shares_drop : (k : ℕ) (xs : Objects) → shares_blob (drop k xs) ≡ true → shares_blob xs ≡ true
 shares_drop zero xs h = h
 shares_drop (suc k) [] h = h
-shares_drop (suc k) (x ∷ xs) h = or_true (is_awaited x.1.blob_id xs) (shares_blob xs) (shares_drop k xs h)
+shares_drop (suc k) (x ∷ xs) h = or_right (is_awaited x.1.blob_id xs) (shares_blob xs) (shares_drop k xs h)
 
 -- ---- where no two objects await one blob, a place leaves no other object
 
@@ -145,7 +141,7 @@ Behind k (Some n) id xs = (d : ℕ) × (n ≡ k + d) × (d < length xs) × (any_
 
 behind_at : (k : ℕ) (id : List ℕ) (x : Object) (xs : Objects) (t : Bool) (found : Option ℕ) → awaits id x ≡ t → shares_blob (x ∷ xs) ≡ false → Behind (suc k) found id xs → Behind k (cond t (Some k) found) id (x ∷ xs)
 behind_at k id x xs true found h none more =
-    let p = neither (is_awaited x.1.blob_id xs) (shares_blob xs) none in
+    let p = or_parts (is_awaited x.1.blob_id xs) (shares_blob xs) none in
     (0, omega arith, omega arith, same_blob x.1.blob_id id xs h p.0)
 behind_at k id x xs false None h none more = ap (λ (t : Bool). t || list_any (awaits id) xs) h ∙ more
 behind_at k id x xs false (Some n) h none more =
@@ -154,7 +150,7 @@ behind_at k id x xs false (Some n) h none more =
 behind : (k : ℕ) (id : List ℕ) (xs : Objects) → shares_blob xs ≡ false → Behind k (place_from k id xs) id xs
 behind k id [] none = refl
 behind k id (x ∷ xs) none =
-    let p = neither (is_awaited x.1.blob_id xs) (shares_blob xs) none in
+    let p = or_parts (is_awaited x.1.blob_id xs) (shares_blob xs) none in
     behind_at k id x xs (awaits id x) (place_from (suc k) id xs) refl none (behind (suc k) id xs p.1)
 
 found_first : (found : Option ℕ) (id : List ℕ) (xs : Objects) → Behind 0 found id xs → Finds found id xs
@@ -195,7 +191,7 @@ found_place entries id xs k h is = subst (λ (f : Option ℕ). Finds f id xs) is
 pub fed_none : (c : Chunk) (xs : Objects) → list_any (awaits c.blob_id) xs ≡ false → fed xs c ≡ xs
 fed_none c [] h = refl
 fed_none c (x ∷ xs) h =
-    let p = neither (awaits c.blob_id x) (list_any (awaits c.blob_id) xs) h in
+    let p = or_parts (awaits c.blob_id x) (list_any (awaits c.blob_id) xs) h in
     fed_later c x xs p.0 ∙ ap (λ (l : Objects). x ∷ l) (fed_none c xs p.1)
 
 -- ---- a table is made from the last object on

@@ -9,7 +9,7 @@ use Rattle.avro_bin.specs.declared.refusal.Refusal.{Refusal}
 use Rattle.avro_bin.specs.declared.refusal.Refusal.TheVariants as r
 use Rattle.avro_bin.specs.Value.{Value}
 use Rattle.avro_bin.specs.Refusing.{refusal}
-use Rattle.avro_bin.specs.Laws.{read_value}
+use Rattle.avro_bin.specs.Laws.{read_value, node_limit}
 use Rattle.avro_bin.specs.Reading.{Read, Fails, value_at}
 use Rattle.avro_bin.specs.Along.{along, seen}
 use Rattle.avro_bin.proofs.AlongLemmas.{along_twice}
@@ -27,7 +27,7 @@ use Rattle.msg_core.specs.declared.core_messages.CoreMessage.TheVariants as c
 use Rattle.etp_frame.specs.Header.{header_form}
 use Rattle.etp_frame.specs.Message.{under, common_kinds, typed_kind}
 use Rattle.etp_frame.specs.Parts.{IsFront, GivesMessage, as_header_error, as_body_error}
-use Rattle.etp_frame.specs.Reading.{node_limit, as_header, header_in, as_body, body_in, shifted, read_of}
+use Rattle.etp_frame.specs.Reading.{as_header, header_in, as_body, body_in, shifted, read_of}
 use Rattle.etp_frame.specs.declared.header.Header.{Header}
 use Rattle.etp_frame.specs.declared.message.Message.{Message}
 use Rattle.etp_frame.specs.declared.message.Message.TheVariants as m

@@ -1,6 +1,6 @@
 -- The parts of a message of which a list or a map grows, and of one with objects, are the message.
 use Rattle.std.proofs.Common.{◌≡◌, ◌∙◌, ◌++◌, ℕ, zero, suc, Bool, true, false, cond, ◌||◌, List, [], ◌∷◌, map, take, drop, Option, Some, None, is_some, refl, sym, ap, append_assoc, append-nil, take-append-drop}
-use Rattle.std.proofs.lemmas.Bool.{false≢true}
+use Rattle.std.proofs.lemmas.Bool.{false≢true, or_parts}
 use Rattle.std.specs.List.{list_any, flat_map}
 use Rattle.msg_store.specs.declared.store_messages.Chunk.{Chunk}
 use Rattle.msg_store.specs.declared.store_messages.StoreMessage.TheVariants as s
@@ -11,7 +11,7 @@ use Rattle.etp_frame.specs.declared.message.Message.TheVariants as m
 use Rattle.etp_frame.specs.Chunking.{in_place, in_chunks, chunk, chunk_size, chunks_from, is_long, blob_id, next_blob, as_sent, sent_amount, with_chunks, chunk_messages}
 use Rattle.etp_frame.specs.Grouping.{Amount, groups_from, groups}
 use Rattle.etp_frame.specs.declared.sending.Sent.{Sent}
-use Rattle.etp_frame.proofs.FedLemmas.{Object, neither, self_blob, fed_past}
+use Rattle.etp_frame.proofs.FedLemmas.{Object, self_blob, fed_past}
 use Rattle.etp_frame.proofs.GroupLemmas.{by_room, of_groups}
 
 -- ---- a message whose items are in groups
@@ -92,7 +92,7 @@ sent_at limit number k x xs false still long short = (restored_place x still, sh
 pub sent_restored : (limit number k : ℕ) (xs : Objects) → list_any awaits_any xs ≡ false → RestoresAll (as_sent limit number k xs) xs
 sent_restored limit number k [] free = tt
 sent_restored limit number k (x ∷ xs) free =
-    let p = neither (awaits_any x) (list_any awaits_any xs) free in
+    let p = or_parts (awaits_any x) (list_any awaits_any xs) free in
     sent_at limit number k x xs (is_long limit x.1.payload) p.0 (sent_restored limit number (next_blob k) xs p.1) (sent_restored limit number k xs p.1)
 
 -- ---- all chunks of some objects
@@ -103,7 +103,7 @@ objects_of xs = map (λ (x : Sent). x.object) xs
 none_more : (front : Objects) (y : Object) → list_any awaits_any front ≡ false → awaits_any y ≡ false → list_any awaits_any (front ++ y ∷ []) ≡ false
 none_more [] y free done = ap (λ (t : Bool). t || false) done
 none_more (x ∷ xs) y free done =
-    let p = neither (awaits_any x) (list_any awaits_any xs) free in
+    let p = or_parts (awaits_any x) (list_any awaits_any xs) free in
     ap (λ (t : Bool). t || list_any awaits_any (xs ++ y ∷ [])) p.0 ∙ none_more xs y p.1 done
 
 none_all : (xs : List Sent) (ys front : Objects) → RestoresAll xs ys → list_any awaits_any front ≡ false → list_any awaits_any (front ++ ys) ≡ false

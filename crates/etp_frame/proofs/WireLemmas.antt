@@ -8,7 +8,7 @@ use Rattle.avro_bin.specs.Schema.{Schema}
 use Rattle.avro_bin.specs.Grammar.{Spells}
 use Rattle.avro_bin.specs.Plain.{plain}
 use Rattle.avro_bin.specs.Shape.{HasSchema}
-use Rattle.avro_bin.specs.Laws.{IsRead, IsBytes, counted, read_value}
+use Rattle.avro_bin.specs.Laws.{IsRead, IsBytes, counted, read_value, node_limit}
 use Rattle.avro_bin.specs.declared.refusal.Refusal.{Refusal}
 use Rattle.avro_bin.proofs.Whole.{reads, reads_exactly}
 use Rattle.avro_bin.proofs.Typed.{has_schema}
@@ -19,7 +19,7 @@ use Rattle.etp_schema.specs.Shapes.{shape_at}
 use Rattle.etp_schema.specs.declared.body.Side.{Side}
 use Rattle.etp_frame.specs.Header.{header_form, has_flag, extended, compressed}
 use Rattle.etp_frame.specs.Message.{message_body, Names, typed_kind}
-use Rattle.etp_frame.specs.Reading.{node_limit, as_header, header_in, admitted, as_body, body_in, tree_of, read_of}
+use Rattle.etp_frame.specs.Reading.{as_header, header_in, admitted, as_body, body_in, tree_of, read_of}
 use Rattle.etp_frame.specs.Wire.{IsPlain, Sends, IsMessage, message_bytes}
 use Rattle.etp_frame.specs.Laws.{ReadsExactly, OneReading, TreeIsBody, Fits, WrittenIsRead}
 use Rattle.etp_frame.specs.declared.header.Header.{Header}

@@ -103,8 +103,8 @@ is_other None id = false
 is_other (Some begun) id = not (bytes_eq begun id)
 
 -- why a chunk is refused while a message awaits data
-abbrev pub refused : Awaited → ℤ → Chunk → Option JoinError
-refused w correlation c =
+abbrev pub chunk_refusal : Awaited → ℤ → Chunk → Option JoinError
+chunk_refusal w correlation c =
     if not (int_eq correlation w.correlation && list_any (awaits c.blob_id) w.objects) then Some e.WrongBlob
     else if is_other w.begun c.blob_id then Some e.Interleaved
     else if nat_lt data_limit (data_size w.objects + length c.payload) then Some e.TooLong
@@ -121,7 +121,7 @@ unless_refused (Some cause) w = Err cause
 -- a chunk came
 abbrev pub chunk_came : Option Awaited → ℤ → Chunk → Result (Joined × Option Awaited) JoinError
 chunk_came None correlation c = Err e.NoBlob
-chunk_came (Some w) correlation c = unless_refused (refused w correlation c) (with_piece w c)
+chunk_came (Some w) correlation c = unless_refused (chunk_refusal w correlation c) (with_piece w c)
 
 -- a message of the Store protocol came
 abbrev pub store_came : Option Awaited → Header → StoreMessage → Result (Joined × Option Awaited) JoinError

@@ -2,13 +2,13 @@
 use Rattle.std.specs.Prelude.{◌≡◌, ◌↔◌, ◌≤◌, List, ℕ, ℤ, Some, Ok, Err}
 use Rattle.avro_bin.specs.Value.{nodes}
 use Rattle.avro_bin.specs.Shape.{HasSchema, FitsTree}
-use Rattle.avro_bin.specs.Laws.{IsBytes}
+use Rattle.avro_bin.specs.Laws.{IsBytes, node_limit}
 use Rattle.etp_schema.specs.Bodies.{BodyRow, row_of}
 use Rattle.etp_schema.specs.Family.{Kind}
 use Rattle.etp_schema.specs.declared.body.Side.{Side}
 use Rattle.etp_frame.specs.Header.{header_form}
 use Rattle.etp_frame.specs.Message.{message_body, Names, typed_kind}
-use Rattle.etp_frame.specs.Reading.{node_limit, tree_of, read_of}
+use Rattle.etp_frame.specs.Reading.{tree_of, read_of}
 use Rattle.etp_frame.specs.Wire.{IsPlain, Sends, IsMessage, message_bytes}
 use Rattle.etp_frame.specs.declared.header.Header.{Header}
 use Rattle.etp_frame.specs.declared.message.Message.{Message}

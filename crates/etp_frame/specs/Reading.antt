@@ -2,7 +2,7 @@
 use Rattle.std.specs.Prelude.{ℕ, ◌+◌, List, length, drop, ◌==◌, if◌then◌else◌, Option, Some, None, Result, Ok, Err}
 use Rattle.avro_bin.specs.Value.{Value}
 use Rattle.avro_bin.specs.Schema.{Schema}
-use Rattle.avro_bin.specs.Laws.{read_value}
+use Rattle.avro_bin.specs.Laws.{read_value, node_limit}
 use Rattle.avro_bin.specs.declared.refusal.Refusal.{Refusal}
 use Rattle.avro_bin.specs.declared.refusal.Refusal.TheVariants as r
 use Rattle.etp_schema.specs.Bodies.{is_protocol, body_place}
@@ -20,10 +20,6 @@ infixl 10 ◌>>=◌
 abbrev pub ◌>>=◌ : {A B : Type 0} → Result A FrameError → (A → Result B FrameError) → Result B FrameError
 (Ok x) >>= next = next x
 (Err e) >>= next = Err e
-
--- how many nodes a header or a body may have
-abbrev pub node_limit : ℕ
-node_limit = 8388608
 
 -- the header that was read, where one was
 abbrev pub header_of_error : FrameError → Option Header

@@ -100,6 +100,7 @@ store_blobs limit (s.PutDataObjects x) = long_objects limit x.data_objects
 store_blobs limit (s.GetDataObjectsResponse x) = long_objects limit x.data_objects
 store_blobs limit x = 0
 
+-- how many objects of a message have their data sent in chunks, where messages have at most so many bytes
 abbrev pub blobs_in : ℕ → Message → ℕ
 blobs_in limit (m.Store x) = store_blobs limit x
 blobs_in limit x = 0

@@ -1,5 +1,6 @@
 -- The wire form of a message, and its one written spelling.
 use Rattle.std.specs.Prelude.{◌≡◌, ◌≤◌, ℕ, ◌++◌, false, List, Some}
+use Rattle.avro_bin.specs.Laws.{node_limit}
 use Rattle.avro_bin.specs.Value.{nodes}
 use Rattle.avro_bin.specs.Grammar.{Spells}
 use Rattle.avro_bin.specs.Plain.{plain}
@@ -7,7 +8,6 @@ use Rattle.etp_schema.specs.Bodies.{body_schema}
 use Rattle.etp_schema.specs.declared.body.Side.{Side}
 use Rattle.etp_frame.specs.Header.{header_form, has_flag, extended, compressed}
 use Rattle.etp_frame.specs.Message.{message_body, Names}
-use Rattle.etp_frame.specs.Reading.{node_limit}
 use Rattle.etp_frame.specs.declared.header.Header.{Header}
 use Rattle.etp_frame.specs.declared.message.Message.{Message}
 

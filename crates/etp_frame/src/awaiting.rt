@@ -2,7 +2,7 @@
 ghost use Rattle.std.specs.Prelude.{◌≡◌, ◌<◌, ◌≤◌, ◌+◌, ◌++◌, Ok, IfOk, IfErr, Some, None, true, false, length, nat_lt, if◌then◌else◌};
 ghost use Rattle.std.specs.List.{list_any};
 ghost use Rattle.etp_values.specs.Gives.{Gives};
-ghost use Rattle.etp_frame.specs.Joining.{came, chunk_came, carried, refused, grows, with_piece, is_double, is_blob, is_other, awaits, data_size, data_limit, fed};
+ghost use Rattle.etp_frame.specs.Joining.{came, chunk_came, carried, chunk_refusal, grows, with_piece, is_double, is_blob, is_other, awaits, data_size, data_limit, fed};
 ghost use Rattle.etp_frame.specs.Kept.{FindsEach, IsPlace, PlacesOf, AddsPlace, last_piece, filled_at, awaiting};
 ghost use Rattle.etp_frame.specs.declared.joining.JoinError.TheVariants as e;
 ghost use Rattle.etp_frame.specs.declared.joining.Joined.TheVariants as j;
@@ -62,7 +62,7 @@ impl Awaiting {
 
     /// Why a chunk is refused, if it is.
     fn refusal(&self, correlation: i64, chunk: &Chunk) -> Option<JoinError>
-        ensures { result ≡ refused self.now correlation chunk.now }
+        ensures { result ≡ chunk_refusal self.now correlation chunk.now }
     {
         if correlation != self.correlation {
             return Some(JoinError::WrongBlob);

@@ -27,7 +27,7 @@ pub enum Joined {
 /// chunk `NoBlob`, `WrongBlob`, `Interleaved` and `TooLong`.
 #[derive(Clone, Copy, Debug, PartialEq, Eq, Drop, Error)]
 pub enum JoinError {
-    /// A chunk comes while no message awaits one.
+    /// A chunk that no message waits for.
     #[error("a chunk comes while no message awaits one")]
     NoBlob,
     /// An object has both data and a blob's identity, two objects have the same blob, or a chunk's blob or correlation is not

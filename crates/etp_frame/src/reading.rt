@@ -1,14 +1,14 @@
 //! Reading whole messages.
 ghost use Rattle.std.specs.Prelude.{◌≡◌, ◌≢◌, ◌<◌, ◌≤◌, ◌+◌, ◌-◌, ◌^◌, ◌==◌, if◌then◌else◌, length, Some, Ok, Err, IfOk, IfErr};
 ghost use Rattle.etp_values.specs.Gives.{Gives};
-ghost use Rattle.avro_bin.specs.Laws.{read_value};
+ghost use Rattle.avro_bin.specs.Laws.{read_value, node_limit};
 ghost use Rattle.avro_bin.specs.Refusing.{refusal};
 ghost use Rattle.avro_bin.specs.Value.{nodes};
 ghost use Rattle.avro_bin.specs.Shape.{HasSchema};
 ghost use Rattle.avro_bin.specs.View.{value_of};
 ghost use Rattle.etp_schema.specs.Bodies.{body_place};
 ghost use Rattle.etp_schema.specs.Shapes.{shape_at, table_size};
-ghost use Rattle.etp_frame.specs.Reading.{node_limit, tree_of, read_of, header_in, admitted, as_body, body_in};
+ghost use Rattle.etp_frame.specs.Reading.{tree_of, read_of, header_in, admitted, as_body, body_in};
 ghost use Rattle.etp_schema.specs.Family.{Kind};
 ghost use Rattle.etp_frame.specs.Message.{typed_kind};
 ghost use Rattle.etp_frame.specs.Parts.{offset_in, as_header_error, as_body_error, GivesValue, GivesMessage, GivesTree, IsFront};

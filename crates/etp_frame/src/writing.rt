@@ -3,7 +3,7 @@ ghost use Rattle.std.specs.Prelude.{◌≡◌, ◌≤◌, IfOk};
 ghost use Rattle.avro_bin.specs.Value.{nodes};
 ghost use Rattle.etp_schema.specs.declared.body.Side.{Side};
 ghost use Rattle.etp_frame.specs.Message.{message_body, Names};
-ghost use Rattle.etp_frame.specs.Reading.{node_limit};
+ghost use Rattle.avro_bin.specs.Laws.{node_limit};
 ghost use Rattle.etp_frame.specs.Wire.{IsPlain, Sends, IsMessage, message_bytes};
 
 use crate::header::Header;

@@ -1,3 +1,4 @@
+pub mod FaultLemmas
 pub mod Parts
 pub mod ToldLemmas
 pub mod Decimals

@@ -1,10 +1,10 @@
 -- Counts of faults.
 use Rattle.std.specs.Prelude.{ℕ, ◌+◌, ◌-◌, ◌^◌, ◌≤◌, min}
 
--- one more, where a count at the greatest `u64` stays there
+-- the count after one more fault, which ends at `u64::MAX`
 abbrev pub next_count : ℕ → ℕ
 next_count n = min (n + 1) (2 ^ 64 - 1)
 
--- a count rose, or stands at the greatest `u64`
+-- a count rose, or is at its end
 abbrev pub Rose : ℕ → ℕ → Type 0
 Rose before now = next_count before ≤ now

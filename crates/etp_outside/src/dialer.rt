@@ -25,7 +25,7 @@ pub trait Dialer {
     /// A link that was dialed.
     type Link: Link;
 
-    /// How often it failed, or took back a link that had failed. A count at the greatest `u64` stays there.
+    /// How often it failed, or took back a link that had failed. The count ends at `u64::MAX`.
     ghost faults: { Self → ℕ };
 
     /// Whether it took back a link whose peer had ended it.

@@ -25,7 +25,7 @@ pub trait Host {
     /// What the file of a name has, where the host tells it.
     ghost content: { Self → List ℕ → Option (List ℕ) };
 
-    /// How often the host failed, or took back a file that had failed. A count at the greatest `u64` stays there.
+    /// How often the host failed, or took back a file that had failed. The count ends at `u64::MAX`.
     ghost faults: { Self → ℕ };
 
     /// Opens the file of this name, to be read from its first byte. The file has not failed yet.

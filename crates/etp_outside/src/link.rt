@@ -56,7 +56,7 @@ pub trait Link: Drop + Send {
     /// What is to come, and what was taken and sent so far, where the link tells it.
     ghost talk: { Self → Option Talk };
 
-    /// How often it failed. A count at the greatest `u64` stays there.
+    /// How often it failed. The count ends at `u64::MAX`.
     ghost faults: { Self → ℕ };
 
     /// Whether it has said that the peer ended it.

@@ -35,7 +35,7 @@ pub trait Listener {
     /// A link that was accepted.
     type Link: Link;
 
-    /// How often it failed. A count at the greatest `u64` stays there.
+    /// How often it failed. The count ends at `u64::MAX`.
     ghost faults: { Self → ℕ };
 
     /// How many links it gave.

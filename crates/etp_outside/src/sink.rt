@@ -18,7 +18,7 @@ pub trait Sink {
     /// The bytes that it holds, where it tells them.
     ghost held: { Self → Option (List ℕ) };
 
-    /// How often it failed. A count at the greatest `u64` stays there.
+    /// How often it failed. The count ends at `u64::MAX`.
     ghost faults: { Self → ℕ };
 
     /// Takes some of the first bytes of `piece`, at least one unless it is empty. A sink that can take none has failed.

@@ -20,7 +20,7 @@ pub trait Source {
     /// The bytes that are left to be read, where the source tells them.
     ghost left: { Self → Option (List ℕ) };
 
-    /// How often it failed. A count at the greatest `u64` stays there.
+    /// How often it failed. The count ends at `u64::MAX`.
     ghost faults: { Self → ℕ };
 
     /// Reads some of the next bytes to the front of `buf`, at least one unless the input has ended.

@@ -1,4 +1,4 @@
--- A body that a row names has the schema of its place.
+-- A body that a row names has the schema of its place; for the crates above too.
 use Rattle.std.specs.Prelude.{◌&&◌}
 use Rattle.std.proofs.Common.{◌≡◌, ◌<◌, ◌∙◌, ℕ, ℤ, Bool, true, false, List, [], ◌∷◌, Option, Some, None, map, refl, sym, ap, subst, ltb, cond, get_or, arith, if◌then◌else◌}
 use Rattle.std.specs.List.{AllByRecursion}

@@ -1,4 +1,4 @@
--- What parts of trees are.
+-- What parts of trees are; for the crates above too.
 use Rattle.std.proofs.Common.{ℕ, List, [], ◌∷◌, Some, None, Result, Ok, Err, map, arith}
 use Rattle.std.specs.Prelude.{OnOk}
 use Rattle.std.specs.List.{AllByRecursion}

@@ -1,4 +1,4 @@
--- Pieces that are written one behind the other. For the crates above.
+-- Pieces that are written one behind the other.
 use Rattle.std.proofs.Common.{◌≡◌, ℕ, List, ◌++◌}
 use Rattle.std.specs.Io.{StartsWith}
 use Rattle.std.proofs.Transfers.{starts_with_trans, starts_with_of_append}

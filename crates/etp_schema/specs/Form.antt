@@ -14,7 +14,7 @@ use Rattle.avro_bin.specs.Schema as s
 use Rattle.avro_bin.specs.Shape.{HasSchema, FieldsHave, BranchHas}
 use Rattle.avro_bin.specs.declared.fault.Why.TheVariants as why
 use Rattle.std.specs.Int.{w32, w64}
-use Rattle.avro_bin.specs.Reading.{Read, Got, Row as Values_so_far, Names, ◌>>=◌, places, count, with, listed, mapped, in_branch, element_at, entry_at, pushed, value_at, fields_at, branch_at, blocks_at, boolean_at, int_at, number_at, fixed_number_at, blob_at, text_at, bytes_at, place_at}
+use Rattle.avro_bin.specs.Reading.{Read, Got, Row as Values_so_far, Names, ◌>>=◌, places, count, with, in_branch, element_at, entry_at, pushed, value_at, fields_at, branch_at, blocks_at, boolean_at, int_at, number_at, fixed_number_at, blob_at, text_at, bytes_at, place_at}
 use Rattle.avro_bin.specs.Along.{along, seen, push_at, put_at}
 use Rattle.avro_bin.proofs.AlongLemmas.{along_twice, along_same, then_along, blocks_along, push_along, put_along, listed_is, mapped_is, in_branch_is, fields_front}
 

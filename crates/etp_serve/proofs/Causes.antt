@@ -1,5 +1,6 @@
 -- What a link shows of an end.
-use Rattle.std.proofs.Common.{◌≡◌, ◌≤◌, ◌||◌, ℕ, Bool, true, false, Some, refl, arith}
+use Rattle.std.proofs.Common.{◌≡◌, ◌≤◌, ◌||◌, ℕ, Bool, true, false, Some, refl}
+use Rattle.etp_outside.proofs.FaultLemmas.{rose_later}
 use Rattle.etp_outside.specs.Faults.{Rose}
 use Rattle.etp_serve.specs.Ends.{HasCause}
 use Rattle.etp_serve.specs.declared.ended.Ended.{Ended}
@@ -8,10 +9,6 @@ use Rattle.etp_serve.specs.declared.ended.Ended.TheVariants.{Closed, Refused, Id
 pub or_true : (b : Bool) → (b || true) ≡ true
 or_true true = refl
 or_true false = refl
-
--- a count that rose later rose since
-pub rose_later : (before mid now : ℕ) → before ≤ mid → Rose mid now → Rose before now
-rose_later before mid now kept rose = omega (arith, kept, rose)
 
 -- what the link shows of an end, by what the call that gave it says
 pub cause_by : (end : Ended) (before mid now : ℕ) (over : Bool) → before ≤ mid → (Some end ≡ Some LinkFault → Rose mid now) → (Some end ≡ Some PeerEnd → over ≡ true) → HasCause end before now over

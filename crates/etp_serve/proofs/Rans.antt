@@ -3,6 +3,7 @@ use Rattle.std.proofs.Common.{◌≡◌, ◌≤◌, ◌<◌, ◌+◌, ◌==◌, 
 use Rattle.std.proofs.lemmas.List.{append-nil, take_at}
 use Rattle.std.specs.declared.option.Option.{Option}
 use Rattle.std.specs.List.{AllByRecursion}
+use Rattle.store_hub.proofs.Reading.{noted_seen}
 use mathlib.Core.List.{IsPrefix}
 use Rattle.etp_values.proofs.Prefixes.{prefix_self, prefix_trans, prefix_length}
 use Rattle.server_config.specs.declared.config.Config.{Config}
@@ -40,11 +41,6 @@ take_log : (log new : List Entry) → IsPrefix log new → take (length log) new
 take_log log new pre = ap (take (length log)) (sym pre.1) ∙ take_at log pre.0 (length log) refl
 
 -- ---- what an answer leaves in what the pass knows
-
-noted_seen : (log es : List Entry) (v : Known) → OneOrNone es → (noted log es v).seen ≡ log ++ es
-noted_seen log [] v one = sym (append-nil log)
-noted_seen log (e ∷ []) v one = refl
-noted_seen log (e ∷ d ∷ es) v one = absurd one
 
 noted_places : (log es : List Entry) (v : Known) → (noted log es v).places ≡ v.places ++ length log ∷ []
 noted_places log [] v = refl

@@ -1,6 +1,6 @@
 -- Reading and writing the hyphenated text of an identifier.
 use Rattle.std.proofs.Common.{◌≡◌, ◌≢◌, ◌<◌, ◌+◌, ◌*◌, ℕ, List, length, get_or, Bool, true, false, ◌&&◌, nat_eq, Option, Some, None, unwrap_or, if◌then◌else◌, refl, sym, ap, ◌∙◌, inl, inr, arith, true≢false, slice_index, ◌==◌, ◌||◌, ◌⊎◌}
-use Rattle.std.proofs.lemmas.Bool.{cases_Bool, eqb-true}
+use Rattle.std.proofs.lemmas.Bool.{cases_Bool, eqb-true, and_parts}
 use Rattle.std.proofs.lemmas.Bool.Decides.{nat_tests}
 use Rattle.std.specs.List.{list_all}
 use Rattle.uuid.specs.Text.{parsed, parsed_hyphenated, parsed_simple, hyphenated_text, lower, digits_of, has_hyphens, is_hex_digit, byte_of_digits, by_index, value_of, hyphen_place, digit_place, is_hyphen_place}
@@ -8,7 +8,6 @@ use Rattle.uuid.proofs.TextLemmas.{by_index_length, by_index_at}
 use Rattle.std.proofs.lemmas.List.Folds.{list_all_at}
 use Rattle.uuid.proofs.RoundTrips.{parses_hyphenated_text}
 use Rattle.etp_values.specs.IdText.{IsId, id_of, id_text}
-use Rattle.etp_values.proofs.Bools.{both_true}
 
 at_36 : (s : List ℕ) → length s ≡ 36 → parsed s ≡ parsed_hyphenated s
 at_36 s len = rw len refl
@@ -58,11 +57,11 @@ hyphenated_says : (s u : List ℕ) → parsed_hyphenated s ≡ Some u → IsHyph
 hyphenated_says s u e =
     let outer = if_some ((length s == 36) && has_hyphens s) (parsed_simple (digits_of s)) u e in
     let inner = if_some ((length (digits_of s) == 32) && list_all is_hex_digit (digits_of s)) (Some (by_index 16 (byte_of_digits (digits_of s)))) u outer.1 in
-    let form = both_true (length s == 36) (has_hyphens s) outer.0 in
+    let form = and_parts (length s == 36) (has_hyphens s) outer.0 in
     record {
       long = eqb-true (length s) 36 form.0;
       hyphens = form.1;
-      digits = (both_true (length (digits_of s) == 32) (list_all is_hex_digit (digits_of s)) inner.0).1;
+      digits = (and_parts (length (digits_of s) == 32) (list_all is_hex_digit (digits_of s)) inner.0).1;
       bytes = ap (λ o. unwrap_or o u) inner.1;
     }
 
@@ -100,9 +99,9 @@ either_true false b e = inr e
 -- the hyphens are no closing parentheses
 hyphen_at : (s : List ℕ) (k : ℕ) → has_hyphens s ≡ true → is_hyphen_place k ≡ true → get_or s k 0 ≡ 45
 hyphen_at s k h place =
-    let last = both_true _ (slice_index s 23 == 45) h in
-    let third = both_true _ (slice_index s 18 == 45) last.0 in
-    let first = both_true (slice_index s 8 == 45) (slice_index s 13 == 45) third.0 in
+    let last = and_parts _ (slice_index s 23 == 45) h in
+    let third = and_parts _ (slice_index s 18 == 45) last.0 in
+    let first = and_parts (slice_index s 8 == 45) (slice_index s 13 == 45) third.0 in
     elim (either_true ((k == 8) || (k == 13) || (k == 18)) (k == 23) place) [
       | inr e ↦ ap (slice_index s) (eqb-true k 23 e) ∙ eqb-true (slice_index s 23) 45 last.1
       | inl more ↦ elim (either_true ((k == 8) || (k == 13)) (k == 18) more) [

@@ -1,6 +1,7 @@
 pub mod Bools
 pub mod Each
 pub mod IdTextLemmas
+pub mod Ints
 pub mod Lookups
 pub mod Names
 pub mod Prefixes

@@ -1,6 +1,6 @@
 -- A text says a URI exactly where it is one of the URI's texts.
 use Rattle.std.proofs.Common.{◌≡◌, ◌≢◌, ◌≤◌, ◌<◌, ◌-◌, ℕ, List, [], ◌∷◌, ◌++◌, length, get_or, take, drop, append_assoc, append-nil, length-append, codes, Bool, true, false, ◌&&◌, nat_eq, nat_lt, nat_le, Option, Some, None, IfSome, IfOk, not, lit≤, option_map, option_and_then, unwrap_or, Result, Ok, Err, if◌then◌else◌, refl, sym, ap, subst, ◌∙◌, inl, inr, arith, true≢false, ◌⊎◌}
-use Rattle.std.proofs.lemmas.Bool.{cases_Bool, eqb-true}
+use Rattle.std.proofs.lemmas.Bool.{cases_Bool, eqb-true, and_parts}
 use Rattle.std.proofs.lemmas.Bool.Decides.{nat_tests}
 use Rattle.std.proofs.lemmas.List.{take-append-drop}
 use Rattle.std.specs.List.{list_all, list_any, common_prefix_len}
@@ -12,7 +12,6 @@ use Rattle.etp_values.specs.declared.uri.ObjectName.{ObjectName}
 use Rattle.etp_values.specs.declared.uri.StoreUri.{StoreUri}
 use Rattle.etp_values.specs.declared.uri.UriError.{UriError}
 use Rattle.etp_values.specs.declared.uri.UriError.TheVariants.{TooLong, Prefix, NoMemory}
-use Rattle.etp_values.proofs.Bools.{both_true}
 use Rattle.etp_values.proofs.IdTextLemmas.{if_some, id_of_says, id_of-id_text, length-id_text}
 use Rattle.etp_values.proofs.UriParts.{Lacks, Lacks-from_places, after_found, after_says, parted_at, parted_says, unquoted_doubled, unquoted_says}
 
@@ -25,11 +24,11 @@ ok_is r x y e f = ap (λ q. result_unwrap_or q x) (sym e ∙ f)
 Lacks-from_test : (test : ℕ → Bool) (mark : ℕ) (s : List ℕ) → test mark ≡ false → list_all test s ≡ true → Lacks mark s
 Lacks-from_test test mark [] fails all = tt
 Lacks-from_test test mark (c ∷ cs) fails all =
-    let step = both_true (test c) (list_all test cs) all in
+    let step = and_parts (test c) (list_all test cs) all in
     (go (cases_Bool (nat_eq c mark)), Lacks-from_test test mark cs fails step.1)
   where
     go : (nat_eq c mark ≡ true) ⊎ (nat_eq c mark ≡ false) → nat_eq c mark ≡ false
-    go (inl same) = absurd (true≢false (sym (both_true (test c) (list_all test cs) all).0 ∙ ap test (eqb-true c mark same) ∙ fails))
+    go (inl same) = absurd (true≢false (sym (and_parts (test c) (list_all test cs) all).0 ∙ ap test (eqb-true c mark same) ∙ fails))
     go (inr other) = other
 
 Lacks-append : (mark : ℕ) (a b : List ℕ) → Lacks mark a → Lacks mark b → Lacks mark (a ++ b)
@@ -40,8 +39,8 @@ Lacks-append mark (c ∷ a) b h k = (h.0, Lacks-append mark a b h.1 k)
 domain_lacks : (mark : ℕ) (d : List ℕ) → is_lower mark ≡ false → is_digit mark ≡ false → is_domain d ≡ true → Lacks mark d
 domain_lacks mark d no_letter no_digit e =
     let n = length d - 2 in
-    let outer = both_true (nat_le 3 (length d) && list_all is_lower (take n d)) (list_all is_digit (drop n d)) e in
-    let letters = (both_true (nat_le 3 (length d)) (list_all is_lower (take n d)) outer.0).1 in
+    let outer = and_parts (nat_le 3 (length d) && list_all is_lower (take n d)) (list_all is_digit (drop n d)) e in
+    let letters = (and_parts (nat_le 3 (length d)) (list_all is_lower (take n d)) outer.0).1 in
     subst (Lacks mark) (take-append-drop n d)
     (Lacks-append mark (take n d) (drop n d) (Lacks-from_test is_lower mark (take n d) no_letter letters) (Lacks-from_test is_digit mark (drop n d) no_digit outer.1))
 
@@ -51,7 +50,7 @@ word_of_letter c e = rw e refl
 type_lacks : (s : List ℕ) → is_type_name s ≡ true → Lacks 40 s
 type_lacks [] e = tt
 type_lacks (c ∷ cs) e =
-    let step = both_true (is_letter c) (list_all is_word cs) e in
+    let step = and_parts (is_letter c) (list_all is_word cs) e in
     let first : list_all is_word (c ∷ []) ≡ true = rw (word_of_letter c step.0) refl in
     Lacks-append 40 (c ∷ []) cs (Lacks-from_test is_word 40 (c ∷ []) refl first) (Lacks-from_test is_word 40 cs refl step.1)
 
@@ -229,7 +228,7 @@ pub record SaysBody (u : StoreUri) (s : List ℕ) : Type 0 where
   pub text : IsTextOf u (codes "eml:///" ++ s)
 
 is_path-long : (path : List ℕ) → is_path path ≡ true → (1 ≤ length path) × (length path ≤ 256)
-is_path-long path e = let step = both_true (nat_le 1 (length path)) (nat_le (length path) 256) e in (grind (arith, nat_tests), grind (arith, nat_tests))
+is_path-long path e = let step = and_parts (nat_le 1 (length path)) (nat_le (length path) 256) e in (grind (arith, nat_tests), grind (arith, nat_tests))
 
 is_path-short : (c : ℕ) (cs : List ℕ) → length (c ∷ cs) ≤ 256 → is_path (c ∷ cs) ≡ true
 is_path-short c cs h = grind (arith, nat_tests)

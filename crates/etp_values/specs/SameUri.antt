@@ -1,7 +1,7 @@
 -- Which URIs are the same. The derived comparisons compute to these tests, so a table with URIs for keys finds by them.
 use Rattle.std.specs.Prelude.{ℕ, Bool, true, false, List, ◌≡◌, ◌&&◌, Option, Some, None, refl}
 use Rattle.std.proofs.Common.{ap}
-use Rattle.std.proofs.lemmas.Bool.{false≢true}
+use Rattle.std.proofs.lemmas.Bool.{false≢true, and_parts}
 use Rattle.std.proofs.lemmas.Slice.Eq.{bytes_eq-Decides}
 use Rattle.std.specs.Cmp.{IsEquivalence, and_equiv, on_equiv}
 use Rattle.std.specs.Cmp.Lexicographic.{nat_list_eq_equiv, options_equiv}
@@ -29,14 +29,10 @@ same_uri-equiv = and_equiv (on_equiv (λ u. u.space) nat_list_eq_equiv) (on_equi
 text_is : (x y : List ℕ) → bytes_eq x y ≡ true → x ≡ y
 text_is x y h = (bytes_eq-Decides x y).0 h
 
-both : (a b : Bool) → (a && b) ≡ true → (a ≡ true) × (b ≡ true)
-both true b h = (refl, h)
-both false b h = absurd (false≢true h)
-
 pub same_name-is : (a b : ObjectName) → same_name a b ≡ true → a ≡ b
 same_name-is a b h =
-    let outer = both (bytes_eq a.domain b.domain) (bytes_eq a.name b.name && bytes_eq a.id b.id) h in
-    let inner = both (bytes_eq a.name b.name) (bytes_eq a.id b.id) outer.1 in
+    let outer = and_parts (bytes_eq a.domain b.domain) (bytes_eq a.name b.name && bytes_eq a.id b.id) h in
+    let inner = and_parts (bytes_eq a.name b.name) (bytes_eq a.id b.id) outer.1 in
     let domain = text_is a.domain b.domain outer.0 in
     let name = text_is a.name b.name inner.0 in
     let id = text_is a.id b.id inner.1 in
@@ -50,7 +46,7 @@ object_is (Some a) (Some b) h = ap Some (same_name-is a b h)
 
 pub same_uri-is : (u v : StoreUri) → same_uri u v ≡ true → u ≡ v
 same_uri-is u v h =
-    let parts = both (bytes_eq u.space v.space) (option_eq same_name u.object v.object) h in
+    let parts = and_parts (bytes_eq u.space v.space) (option_eq same_name u.object v.object) h in
     let space = text_is u.space v.space parts.0 in
     let object = object_is u.object v.object parts.1 in
     (λ j. record { space = space j; object = object j })

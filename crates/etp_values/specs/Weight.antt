@@ -1,5 +1,5 @@
--- What values count towards the limits of a journal: 8 for each null, boolean, number and list in them, and 8 plus its
--- length for each text or run of bytes.
+-- The weight of values against the limits of a journal, in bytes: a text or bytes weigh 8 more than their length, and
+-- whatever else there is in them, a list too, weighs 8.
 use Rattle.std.specs.Prelude.{ℕ, ◌+◌, ◌-◌, ◌^◌, min, List, [], ◌∷◌, length}
 use Rattle.etp_values.specs.declared.data.AnyArray.{AnyArray}
 use Rattle.etp_values.specs.declared.data.AnyArray.TheVariants as any

@@ -1,10 +1,9 @@
 -- A text that is gathered and written in parts, for the crates above too.
-use Rattle.std.proofs.Common.{◌≡◌, ◌≤◌, arith, List, ℕ, [], ◌++◌, take, drop, ap, sym, ◌∙◌, subst, refl, append_assoc}
+use Rattle.std.proofs.Common.{◌≡◌, List, ℕ, [], ◌++◌, take, drop, ap, sym, ◌∙◌, subst, refl, append_assoc}
 use Rattle.std.proofs.lemmas.List.{append-nil, take-append-drop}
 use Rattle.std.proofs.KnownBytes.{Appends-nil, Appends-trans}
 use Rattle.std.specs.Io.KnownBytes.{Appends}
 use Rattle.std.specs.declared.option.Option.{Option}
-use Rattle.etp_outside.specs.Faults.{Rose}
 use Rattle.etp_outside.specs.Whole.{AppendsFront}
 use Rattle.gathered_text.specs.Writing.{AppendsSome, Going}
 
@@ -54,7 +53,3 @@ going_end text gathered h k l g more =
 -- another rest that is the same
 pub going_as : (text gathered rest other : List ℕ) (h k : Option (List ℕ)) → other ≡ rest → Going text gathered rest h k → Going text gathered other h k
 going_as text gathered rest other h k is g = subst (λ r. Going text gathered r h k) (sym is) g
-
--- a fault that came later
-pub rose_later : (before mid now : ℕ) → before ≤ mid → Rose mid now → Rose before now
-rose_later before mid now kept rose = omega (arith, kept, rose)

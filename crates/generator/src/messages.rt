@@ -1,5 +1,5 @@
 //! The messages of the load.
-ghost use Rattle.std.specs.Prelude.{◌≡◌, ◌<◌, ◌+◌, ◌*◌, ◌/◌, ◌%◌, ◌^◌, ◌∷◌, [], pos, codes, IfOk};
+ghost use Rattle.std.specs.Prelude.{◌≡◌, ◌<◌, ◌+◌, ◌/◌, ◌%◌, ◌∷◌, [], pos, codes, IfOk};
 ghost use Rattle.etp_frame.specs.Message.{channel_subscribe_number, channel_data_load_number};
 ghost use Rattle.generator.specs.Generator.{wanted, request_session, open_channel, subscribe_channel, point, append_point, ping, replace_range, next_number, later_message, message_at};
 

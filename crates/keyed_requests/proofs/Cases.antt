@@ -4,10 +4,10 @@ use Rattle.etp_values.specs.declared.code.ErrorCode.{ErrorCode}
 use Rattle.std.proofs.Common.{ap, arith}
 use Rattle.std.proofs.lemmas.Bool.{false≢true, true≢false}
 use Rattle.std.proofs.lemmas.Bool.Decides.{nat_tests}
-use Rattle.keyed_requests.specs.Keyed.{replies, response_unless_refused}
+use Rattle.keyed_requests.specs.Keyed.{keyed_replies, response_unless_refused}
 use Rattle.keyed_requests.specs.declared.sending.Sending.TheVariants.{Reply, RefusedKeys}
 
-pub both_sent : {R M : Type 0} (response : List (List ℕ × R) → M) (granted : List (List ℕ × R)) (refused : List (List ℕ × ErrorCode)) → length granted ≢ 0 → length refused ≢ 0 → replies response granted refused ≡ Reply (response granted) ∷ RefusedKeys refused ∷ []
+pub both_sent : {R M : Type 0} (response : List (List ℕ × R) → M) (granted : List (List ℕ × R)) (refused : List (List ℕ × ErrorCode)) → length granted ≢ 0 → length refused ≢ 0 → keyed_replies response granted refused ≡ Reply (response granted) ∷ RefusedKeys refused ∷ []
 both_sent response [] refused g r = absurd (g refl)
 both_sent response (x ∷ xs) [] g r = absurd (r refl)
 both_sent response (x ∷ xs) (y ∷ ys) g r = refl
@@ -20,7 +20,7 @@ not_zero n true e = absurd (zero_is n e)
     zero_is n h = grind (arith, nat_tests)
 
 -- a response that was made of the granted keys makes the reply
-pub by_response : {R M : Type 0} (response : List (List ℕ × R) → M) (granted : List (List ℕ × R)) (refused : List (List ℕ × ErrorCode)) → response_unless_refused (not (length granted == 0)) (response granted) refused ≡ replies response granted refused
+pub by_response : {R M : Type 0} (response : List (List ℕ × R) → M) (granted : List (List ℕ × R)) (refused : List (List ℕ × ErrorCode)) → response_unless_refused (not (length granted == 0)) (response granted) refused ≡ keyed_replies response granted refused
 by_response response [] [] = refl
 by_response response [] (y ∷ ys) = refl
 by_response response (x ∷ xs) [] = refl

@@ -85,11 +85,11 @@ abbrev pub refused_keys : {B : Type 0} → List (List ℕ × Decision B) → Lis
 refused_keys items = flat_map (λ x. refused_one x.0 x.1) items
 
 -- the response with the granted keys, and then the refused ones; with no key at all, the empty response
-abbrev pub replies : {R M : Type 0} → (List (List ℕ × R) → M) → List (List ℕ × R) → List (List ℕ × ErrorCode) → List (Sending M)
-replies response [] [] = Reply (response []) ∷ []
-replies response [] (r ∷ rs) = RefusedKeys (r ∷ rs) ∷ []
-replies response (g ∷ gs) [] = Reply (response (g ∷ gs)) ∷ []
-replies response (g ∷ gs) (r ∷ rs) = Reply (response (g ∷ gs)) ∷ RefusedKeys (r ∷ rs) ∷ []
+abbrev pub keyed_replies : {R M : Type 0} → (List (List ℕ × R) → M) → List (List ℕ × R) → List (List ℕ × ErrorCode) → List (Sending M)
+keyed_replies response [] [] = Reply (response []) ∷ []
+keyed_replies response [] (r ∷ rs) = RefusedKeys (r ∷ rs) ∷ []
+keyed_replies response (g ∷ gs) [] = Reply (response (g ∷ gs)) ∷ []
+keyed_replies response (g ∷ gs) (r ∷ rs) = Reply (response (g ∷ gs)) ∷ RefusedKeys (r ∷ rs) ∷ []
 
 -- the same of a response that was made of the granted keys, if any key was granted
 abbrev pub response_unless_refused : {M : Type 0} → Bool → M → List (List ℕ × ErrorCode) → List (Sending M)
@@ -99,11 +99,11 @@ response_unless_refused true response (r ∷ rs) = Reply response ∷ RefusedKey
 
 -- the reply to a request of which this was decided
 abbrev pub request_reply : {R M : Type 0} → (List (List ℕ × R) → M) → List (List ℕ × Decision R) → List (Sending M)
-request_reply response items = replies response (granted items) (refused_keys items)
+request_reply response items = keyed_replies response (granted items) (refused_keys items)
 
 -- the reply to a request of which no key was granted
 abbrev pub unasked : {K R M : Type 0} → (List (List ℕ × R) → M) → List (List ℕ × Decision K) → List (Sending M)
-unasked response items = replies response [] (refused_keys items)
+unasked response items = keyed_replies response [] (refused_keys items)
 
 -- ---- what comes of a request: with no key granted nothing is called for
 

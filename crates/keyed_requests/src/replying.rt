@@ -1,6 +1,6 @@
 //! The second half of a request: its granted keys are finished, and its reply is made.
 ghost use Rattle.std.specs.Prelude.{◌≡◌, [], ◌∷◌, ◌++◌, IfOk, OnOk, take, drop};
-ghost use Rattle.keyed_requests.specs.Keyed.{finished, finished_one, finished_state, granted, granted_one, refused_keys, refused_one, request_reply, replies, response_unless_refused, unasked, width_of};
+ghost use Rattle.keyed_requests.specs.Keyed.{finished, finished_one, finished_state, granted, granted_one, refused_keys, refused_one, request_reply, keyed_replies, response_unless_refused, unasked, width_of};
 
 use crate::keys::Decision;
 use crate::request::{Findings, KeyedReply};
@@ -138,7 +138,7 @@ fn reply_with<A: KeyedReply>(
 where
     A::Given: Drop,
     A::Message: Drop,
-    ensures { IfOk result (λ l. l ≡ replies (A.response reply.now) granted refused) }
+    ensures { IfOk result (λ l. l ≡ keyed_replies (A.response reply.now) granted refused) }
 {
     if refused.len() == 0 {
         return reply_alone(alloc, reply.response(granted));

@@ -1,4 +1,4 @@
--- The frames that were counted, those that are left, and the room for more, for the crates above too.
+-- The frames that were counted, those that are left, and the room for more.
 use Rattle.std.proofs.Common.{◌≡◌, ◌==◌, Bool, true, false, ℕ, ◌+◌, ◌*◌, ◌^◌, ◌<◌, ◌≤◌, List, [], ◌∷◌, length, drop, suc, ap, subst, sym, ◌∙◌, arith, if◌then◌else◌}
 use Rattle.std.proofs.lemmas.List.{drop_all}
 use Rattle.etp_capture.specs.Kinds.{kind_out}

@@ -11,7 +11,7 @@ use Rattle.point_lines.specs.Marks.{IsPlace}
 use Rattle.point_lines.specs.Reads.{Gathers}
 use Rattle.point_lines.specs.declared.lines.Advance.{Advance}
 use Rattle.point_lines.specs.declared.lines.Advance.TheVariants as advance
-use Rattle.point_lines.proofs.MarkLemmas.{parted_grown}
+use Rattle.point_lines.proofs.MarkLemmas.{parted_grown, unmapped}
 
 -- ---- the first line
 
@@ -39,10 +39,6 @@ whole (b ∷ bs) = (b ∷ bs) ∷ []
 front_of_whole : (b : ℕ) (bs : List ℕ) → in_front b (whole bs) ≡ (b ∷ bs) ∷ []
 front_of_whole b [] = refl
 front_of_whole b (c ∷ cs) = refl
-
-unmapped : (b : ℕ) (o : Option (List ℕ × List ℕ)) → option_map (put_before b) o ≡ None → o ≡ None
-unmapped b None h = refl
-unmapped b (Some p) h = cc
 
 last_step : (b : ℕ) (bs : List ℕ) (t : Bool) → (parted 10 bs ≡ None → lines_in bs ≡ whole bs) → (if t then Some ([], bs) else option_map (put_before b) (parted 10 bs)) ≡ None → (if t then [] ∷ lines_in bs else in_front b (lines_in bs)) ≡ (b ∷ bs) ∷ []
 last_step b bs true rest h = cc

@@ -20,7 +20,7 @@ behind_more : (b : ℕ) (xs : List ℕ) (o : Option (List ℕ × List ℕ)) → 
 behind_more b xs None = refl
 behind_more b xs (Some p) = refl
 
-unmapped : (b : ℕ) (o : Option (List ℕ × List ℕ)) → option_map (put_before b) o ≡ None → o ≡ None
+pub unmapped : (b : ℕ) (o : Option (List ℕ × List ℕ)) → option_map (put_before b) o ≡ None → o ≡ None
 unmapped b None h = refl
 unmapped b (Some p) h = cc
 
@@ -79,18 +79,14 @@ place_next mark bytes i within other clear =
     ap (parted mark) (take_more bytes i 0 within) ∙ parted_join mark (take i bytes) (get_or bytes i 0 ∷ []) clear
     ∙ ap (behind (take i bytes)) (none_yet mark (get_or bytes i 0) (get_or bytes i 0 == mark) (ne_eqb (get_or bytes i 0) mark other))
 
--- the part from a place on, of a list as it is sliced
-tail : (bytes : List ℕ) (seen : ℕ) → slice_range bytes seen (length bytes) ≡ drop seen bytes
-tail bytes seen = take_rest bytes seen
-
 pub behind_none : (mark : ℕ) (bytes : List ℕ) (seen : ℕ) → parted mark (take seen bytes) ≡ None → parted mark (slice_range bytes seen (length bytes)) ≡ None → parted mark bytes ≡ None
 behind_none mark bytes seen clear h =
     ap (parted mark) (sym (take-append-drop seen bytes)) ∙ parted_join mark (take seen bytes) (drop seen bytes) clear
-    ∙ ap (behind (take seen bytes)) (ap (parted mark) (sym (tail bytes seen)) ∙ h)
+    ∙ ap (behind (take seen bytes)) (ap (parted mark) (sym (take_rest bytes seen)) ∙ h)
 
 pub behind_some : (mark : ℕ) (bytes : List ℕ) (seen i : ℕ) → parted mark (take seen bytes) ≡ None → seen ≤ length bytes → IsPlace mark (slice_range bytes seen (length bytes)) (Some i) → IsPlace mark bytes (Some (seen + i))
 behind_some mark bytes seen i clear within h =
-    let part = tail bytes seen in
+    let part = take_rest bytes seen in
     let place : IsPlace mark (drop seen bytes) (Some i) = subst (λ l. IsPlace mark l (Some i)) part h in
     let long : length (drop seen bytes) ≡ length bytes - seen = length-drop seen bytes in
     let far : seen + suc i ≡ suc (seen + i) = omega arith in (
@@ -104,4 +100,4 @@ behind_some mark bytes seen i clear within h =
 -- the parts round a mark, as they are sliced
 pub parts_sliced : (mark : ℕ) (bytes : List ℕ) (i : ℕ) → IsPlace mark bytes (Some i) → Some (take i bytes, slice_range bytes (i + 1) (length bytes)) ≡ parted mark bytes
 parts_sliced mark bytes i place =
-    ap (λ l. Some (take i bytes, l)) (tail bytes (i + 1) ∙ ap (λ n. drop n bytes) (add-one i)) ∙ sym place.1
+    ap (λ l. Some (take i bytes, l)) (take_rest bytes (i + 1) ∙ ap (λ n. drop n bytes) (add-one i)) ∙ sym place.1

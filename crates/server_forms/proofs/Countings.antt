@@ -1,25 +1,12 @@
 -- Entries that are counted one after the other.
-use Rattle.std.proofs.Common.{◌≡◌, ◌≤◌, ◌<◌, ◌+◌, ◌-◌, ◌^◌, ◌==◌, ℕ, Bool, true, false, cond, List, [], ◌∷◌, ◌++◌, length, take, drop, Some, ap, refl, ◌∙◌, arith, min, get_or}
+use Rattle.std.proofs.Common.{◌≡◌, ◌≤◌, ◌<◌, ◌+◌, ◌-◌, ◌^◌, ◌==◌, ℕ, Bool, true, false, cond, List, [], ◌∷◌, ◌++◌, length, take, drop, Some, ap, ◌∙◌, arith, min, get_or}
 use Rattle.std.proofs.Math.Nat.{min-eq_left}
 use Rattle.std.proofs.lemmas.List.{append-nil, drop_all, take_all}
 use Rattle.std.specs.Prelude.{slice_get, if◌then◌else◌}
-use Rattle.store_machine.proofs.Numbers.{own-step}
+use Rattle.store_machine.proofs.Numbers.{own-step, own_few}
 use Rattle.store_machine.specs.Legal.{own}
 use Rattle.store_machine.specs.declared.journal.Entry.{Entry}
 use Rattle.server_forms.specs.Counts.{CountsSoFar}
-
-one_at_most : (b : Bool) (e : Entry) → length (cond b (e ∷ []) []) ≤ 1
-one_at_most true e = omega arith
-one_at_most false e = omega arith
-
--- no more entries stand under a place than there are
-own_few : (place : ℕ) (journal : List Entry) → length (own place journal) ≤ length journal
-own_few place [] = omega arith
-own_few place (e ∷ es) =
-    let step = own-step place (e ∷ es) 0 e refl in
-    let one = one_at_most (e.by == place) e in
-    let rest = own_few place es in
-    omega (arith, step, one, rest)
 
 next_count : (b : Bool) (e : Entry) (was now rest all most : ℕ) → now ≡ (if b then min (was + 1) (2 ^ 64 - 1) else was) → was + (length (cond b (e ∷ []) []) + rest) ≡ all → all ≤ most → most < 2 ^ 64 → now + rest ≡ all
 next_count true e was now rest all most is sum few fits =

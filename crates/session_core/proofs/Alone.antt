@@ -19,7 +19,6 @@ use Rattle.subscribe_core.specs.Subscriptions.{Subbed}
 use Rattle.tx_stage.specs.Laws.{LooksAtOwnKeys}
 use Rattle.tx_stage.specs.Looks.{key_of}
 use Rattle.tx_stage.specs.Staging.{Transaction}
-use Rattle.tx_stage.specs.declared.look.TheConstants.{MAX_PAYLOAD}
 use Rattle.tx_stage.specs.declared.look.Want.{Want}
 use Rattle.tx_stage.specs.declared.touch.Touch.{Touch}
 use Rattle.session_core.specs.declared.state.End.{End}
@@ -112,7 +111,7 @@ committed config h x is = commit-free (has_room config h (wanted config h (call.
 
 pub looks-same : LooksAtOwnKeys → (h k : List Entry) (ws : List Want) → AllByRecursion (λ w. value_after (key_of w) h ≡ value_after (key_of w) k) ws → seen_after h ws ≡ seen_after k ws
 unfolding seen_after
-looks-same law h k ws all = law (λ key. value_after key h) (λ key. value_after key k) MAX_PAYLOAD ws all
+looks-same law h k ws all = law (λ key. value_after key h) (λ key. value_after key k) 67108864 ws all
 
 -- ---- the law, event by event
 

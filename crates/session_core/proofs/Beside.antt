@@ -224,7 +224,7 @@ module _ (h : Header) (moment : ℤ) (x : Transaction) (s : State) (is : s.stage
   of_row (message.Store m) named = absurd (staged-named h 4 named refl outside)
   of_row (message.DataArray m) named = absurd (staged-named h 9 named refl outside)
   of_row (message.Transaction m) named = of_transactions (request_of h) x s is ready idle m
-  of_row (message.ChannelSubscribe m) named = let l = subscribes.subscribe_request s.subs m in Goes (subscribes_by (request_of h) l.outcome (record s { subs = l.subs }) ready idle)
+  of_row (message.ChannelSubscribe m) named = let l = subscribes.subscribe_outcome s.subs m in Goes (subscribes_by (request_of h) l.outcome (record s { subs = l.subs }) ready idle)
   of_row (message.ChannelDataLoad m) named = let l = loads.load_outcome s.opens moment m in Goes (loads_by (request_of h) l.outcome (record s { opens = l.opens }) ready idle)
   of_row (message.Core m) named = Goes (refused (request_of h) InvalidMessageType s ready idle)
 

@@ -88,7 +88,7 @@ leaving None opens l asks = asks
 
 pub of_load_message : (opens : List Bool) (at : ℤ) (m : ChannelDataLoadMessage) → CallsOfChannels (loads.load_outcome opens at m).outcome
 of_load_message opens at (load.OpenChannels m) = unless _ _ (open_uris m.uris)
-of_load_message opens at (load.CloseChannels m) = leaving (keys_refusal m.id) opens (loads.closing opens m.id) tt
+of_load_message opens at (load.CloseChannels m) = leaving (keys_refusal m.id) opens (loads.close_outcome opens m.id) tt
 of_load_message opens at (load.LoadChannelData m) = load_points _
 of_load_message opens at (load.ReplaceRange m) = replace_range (length m.channel_ids == 0) (not (are_open opens m.channel_ids)) opens at m
 of_load_message opens at (load.TruncateChannels m) = unless _ _ (truncate_items opens at m.channels)
@@ -113,17 +113,17 @@ stopping None v l asks = asks
 metadata_uris : (uris : List (List ℕ × List ℕ)) → CallsOfChannels (subscribes.metadata_outcome uris)
 metadata_uris uris = channel_metadata _
 
-subscribe_items : (subs : List Sub) (items : List (List ℕ × ChannelSubscribeInfo)) → CallsOfChannels (subscribes.subscribe_outcome subs items)
+subscribe_items : (subs : List Sub) (items : List (List ℕ × ChannelSubscribeInfo)) → CallsOfChannels (subscribes.begin_outcome subs items)
 subscribe_items subs items = subscribe_channels _
 
 get_ranges : (why : Option ErrorCode) (asks : List RangeAsk) → CallsOfChannels {P = SubscribePending} {M = ChannelSubscribeMessage} (unless_refused why (Calls (call.Range asks) keeps_subscription.Ranges))
 get_ranges (Some code) asks = tt
 get_ranges None asks = tt
 
-pub of_subscribe_message : (v : Subbed) (m : ChannelSubscribeMessage) → CallsOfChannels (subscribes.subscribe_request v m).outcome
+pub of_subscribe_message : (v : Subbed) (m : ChannelSubscribeMessage) → CallsOfChannels (subscribes.subscribe_outcome v m).outcome
 of_subscribe_message v (subscribe.GetChannelMetadata m) = unless _ _ (metadata_uris m.uris)
 of_subscribe_message v (subscribe.SubscribeChannels m) = unless _ _ (subscribe_items v.subs m.channels)
-of_subscribe_message v (subscribe.UnsubscribeChannels m) = stopping (keys_refusal m.channel_ids) v (subscribes.stopping v m.channel_ids) tt
+of_subscribe_message v (subscribe.UnsubscribeChannels m) = stopping (keys_refusal m.channel_ids) v (subscribes.stop_outcome v m.channel_ids) tt
 of_subscribe_message v (subscribe.GetRanges m) = get_ranges (subscribes.ranges_refusal m.channel_ranges) (subscribes.asks_of m.channel_ranges)
 of_subscribe_message v (subscribe.GetChannelMetadataResponse m) = tt
 of_subscribe_message v (subscribe.ChannelData m) = tt

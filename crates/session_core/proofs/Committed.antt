@@ -1,7 +1,7 @@
 -- A committed transaction is answered as its session alone is at the place of the commit, from any state in which it begins.
 use Rattle.std.specs.Prelude.{ℕ, ℤ, ◌+◌, ◌-◌, ◌^◌, ◌≤◌, ◌&&◌, ◌≡◌, Bool, true, false, pos, List, [], ◌∷◌, ◌++◌, Option, Some, None, Result, Ok, Err, refl, take, length, nat_le, int_lt}
 use Rattle.std.proofs.Common.{ap, sym, ◌∙◌, subst, arith}
-use Rattle.std.proofs.lemmas.Bool.{false≢true}
+use Rattle.std.proofs.lemmas.Bool.{false≢true, and_parts}
 use Rattle.server_config.specs.declared.config.Config.{Config}
 use Rattle.etp_frame.specs.Joining.{Awaited}
 use Rattle.etp_frame.specs.declared.header.Header.{Header}
@@ -36,6 +36,7 @@ use Rattle.etp_values.specs.declared.code.ErrorCode.TheVariants as code
 use Rattle.session_core.proofs.Alone.{Induction, Lawful, Later, at, course, ended-fails, short-fails}
 use Rattle.std.specs.Prelude.{IfOk, int_rem}
 use Rattle.std.specs.Ordering.{int_eq}
+use Rattle.store_machine.proofs.Following.{int_lt_trans}
 use Rattle.etp_frame.specs.Reading.{read_of}
 use Rattle.etp_frame.specs.declared.error.FrameError.{FrameError}
 use Rattle.etp_frame.specs.declared.error.FrameError.TheVariants as frame
@@ -44,7 +45,7 @@ use Rattle.session_core.specs.Arriving.{Receives, Polls, arrived_as, arrived_by,
 use Rattle.session_core.specs.Serial.{Begins, CommittedIsSerial}
 use Rattle.session_core.proofs.Alone.{committed}
 use Rattle.session_core.proofs.Beside.{beside-trans, heard_beside}
-use Rattle.session_core.proofs.Named.{int_lt_trans, read_is_named}
+use Rattle.session_core.proofs.Named.{read_is_named}
 use Rattle.session_core.proofs.Requesting.{request_both}
 
 -- ---- ids
@@ -55,10 +56,6 @@ follows-later a b id later is = by (int_lt b id) refl is
     by : (t : Bool) → int_lt b id ≡ t → (t && int_eq (int_rem id (pos 2)) (pos 0)) ≡ true → follows a id ≡ true
     by true lt even = ap (λ t. t && int_eq (int_rem id (pos 2)) (pos 0)) (later id lt) ∙ even
     by false lt even = absurd (false≢true even)
-
-both_true : (a b : Bool) → (a && b) ≡ true → a ≡ true
-both_true true b is = refl
-both_true false b is = absurd (false≢true is)
 
 -- what was accepted in the run is accepted alone
 abbrev pub is_accepted : Arrived → Bool
@@ -85,7 +82,7 @@ later-trans a b id later lt = λ i above. later i (int_lt_trans b id i lt above)
 
 stands_if : (la ls : ℤ) (r : Request) (a : Arrived) (t : Bool) → is_accepted a ≡ true → id_in ls a ≡ r.id → Later la ls → follows ls r.id ≡ t → Stands la ls (unless_stale t r a) (unless_stale (follows la r.id) r a)
 stands_if la ls r a true acc id later is =
-    ((λ x. ap (λ t. unless_stale t r a) (follows-later la ls r.id later is)), subst (Later la) (sym id) (later-trans la ls r.id later (both_true (int_lt ls r.id) (int_eq (int_rem r.id (pos 2)) (pos 0)) is)))
+    ((λ x. ap (λ t. unless_stale t r a) (follows-later la ls r.id later is)), subst (Later la) (sym id) (later-trans la ls r.id later (and_parts (int_lt ls r.id) (int_eq (int_rem r.id (pos 2)) (pos 0)) is).0))
 stands_if la ls r a false acc id later is = ((λ x. absurd (false≢true x)), later)
 
 stands_error : (la ls : ℤ) (e : FrameError) → Later la ls → Stands la ls (error_event ls e) (error_event la e)

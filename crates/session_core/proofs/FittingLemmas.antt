@@ -112,7 +112,6 @@ use Rattle.tx_stage.specs.Staging.{Transaction}
 use Rattle.tx_stage.specs.declared.key.Key.{Key}
 use Rattle.tx_stage.specs.declared.look.Want.{Want}
 use Rattle.tx_stage.specs.declared.look.Want.TheVariants as want
-use Rattle.tx_stage.specs.declared.look.TheConstants.{MAX_PAYLOAD}
 use Rattle.tx_stage.specs.declared.op.Op.{Op}
 use Rattle.tx_stage.specs.declared.value.Value.{Value}
 use Rattle.session_core.specs.declared.state.Request.{Request}
@@ -164,7 +163,7 @@ looks-within-length state room (w ∷ ws) = ap suc (looks-within-length state (r
 
 looks-length : (h : List Entry) (ws : List Want) → length (seen_after h ws) ≡ length ws
 unfolding seen_after
-looks-length h ws = looks-within-length (λ key. value_after key h) MAX_PAYLOAD ws
+looks-length h ws = looks-within-length (λ key. value_after key h) 67108864 ws
 
 -- ---- a message of Core leaves what is kept
 
@@ -508,7 +507,7 @@ module _ (config : Config) (h : List Entry) where
   load_message opens at (load.OpenChannels m) =
       let items = checked (λ s uri. (s, object_uri uri)) nothing m.uris in
       unless_loads (keys_refusal m.uris) (loads.open_outcome m.uris) (open_fits (kept (λ uri. nothing) items) (sent (λ uri. uri) items) (keys-sent (λ uri. nothing) (λ uri. uri) items))
-  load_message opens at (load.CloseChannels m) = leaving_fits (keys_refusal m.id) opens (loads.closing opens m.id) tt
+  load_message opens at (load.CloseChannels m) = leaving_fits (keys_refusal m.id) opens (loads.close_outcome opens m.id) tt
   load_message opens at (load.LoadChannelData m) = append_fits (loaded opens None m.payload)
   load_message opens at (load.ReplaceRange m) = replace_fits (length m.channel_ids == 0) (not (are_open opens m.channel_ids)) opens at m
   load_message opens at (load.TruncateChannels m) =
@@ -548,14 +547,14 @@ module _ (config : Config) (h : List Entry) where
   stopping_fits (Some code) v l fits = tt
   stopping_fits None v l fits = fits
 
-  subscribe_message : (v : Subbed) (m : ChannelSubscribeMessage) → SubscriptionsFit (subscribes.subscribe_request v m).outcome
+  subscribe_message : (v : Subbed) (m : ChannelSubscribeMessage) → SubscriptionsFit (subscribes.subscribe_outcome v m).outcome
   subscribe_message v (subscribe.GetChannelMetadata m) =
       let items = checked (λ s uri. (s, object_uri uri)) nothing m.uris in
       unless_subscriptions (keys_refusal m.uris) (subscribes.metadata_outcome m.uris) (metadata_fits (kept (λ uri. nothing) items) (sent (λ uri. uri) items) (keys-sent (λ uri. nothing) (λ uri. uri) items))
   subscribe_message v (subscribe.SubscribeChannels m) =
       let items = checked (subscribes.subscribe_one v.subs) subscribes.none_named m.channels in
-      unless_subscriptions (keys_refusal m.channels) (subscribes.subscribe_outcome v.subs m.channels) (subscribe_fits (kept (λ a. a) items) (sent (λ a. a) items) (keys-sent (λ a. a) (λ a. a) items))
-  subscribe_message v (subscribe.UnsubscribeChannels m) = stopping_fits (keys_refusal m.channel_ids) v (subscribes.stopping v m.channel_ids) tt
+      unless_subscriptions (keys_refusal m.channels) (subscribes.begin_outcome v.subs m.channels) (subscribe_fits (kept (λ a. a) items) (sent (λ a. a) items) (keys-sent (λ a. a) (λ a. a) items))
+  subscribe_message v (subscribe.UnsubscribeChannels m) = stopping_fits (keys_refusal m.channel_ids) v (subscribes.stop_outcome v m.channel_ids) tt
   subscribe_message v (subscribe.GetRanges m) = unless_subscriptions (subscribes.ranges_refusal m.channel_ranges) (Calls (call.Range (subscribes.asks_of m.channel_ranges)) keeps_subscription.Ranges) (ranges_fit (subscribes.asks_of m.channel_ranges))
   subscribe_message v (subscribe.GetChannelMetadataResponse m) = tt
   subscribe_message v (subscribe.ChannelData m) = tt
@@ -632,7 +631,7 @@ module _ (config : Config) (h : List Entry) where
   of_row hd moment (message.Transaction m) s =
       let t = transactions.transaction_request s.config.instance s.number s.stage s.starts m in
       of_transactions (request_of hd) t.outcome (record s { stage = t.stage; starts = t.starts }) (transaction_message s.config.instance s.number s.stage s.starts m)
-  of_row hd moment (message.ChannelSubscribe m) s = of_subscriptions (request_of hd) (subscribes.subscribe_request s.subs m).outcome (record s { subs = (subscribes.subscribe_request s.subs m).subs }) (subscribe_message s.subs m)
+  of_row hd moment (message.ChannelSubscribe m) s = of_subscriptions (request_of hd) (subscribes.subscribe_outcome s.subs m).outcome (record s { subs = (subscribes.subscribe_outcome s.subs m).subs }) (subscribe_message s.subs m)
   of_row hd moment (message.ChannelDataLoad m) s = of_loads (request_of hd) (loads.load_outcome s.opens moment m).outcome (record s { opens = (loads.load_outcome s.opens moment m).opens }) (load_message s.opens moment m)
   of_row hd moment _ s = refl
 

@@ -1,7 +1,7 @@
 -- Noting of touched keys: marks decide nothing but conflicts, and what was noted stays noted.
 use Rattle.std.specs.Prelude.{ℕ, ◌+◌, ◌-◌, ◌≤◌, Bool, true, false, not, ◌||◌, ◌≡◌, List, [], ◌∷◌, ◌++◌, Option, Some, None, option_map, refl, if◌then◌else◌, map, length, nat_le, take, drop}
 use Rattle.std.specs.List.{AllByRecursion}
-use Rattle.std.proofs.Common.{ap, sym, ◌∙◌, subst, arith, zero, suc}
+use Rattle.std.proofs.Common.{ap, sym, ◌∙◌, subst, arith, zero, suc, take-take}
 use Rattle.std.proofs.lemmas.Bool.{false≢true}
 use Rattle.request_scope.specs.Scope.{code_of}
 use Rattle.store_machine.specs.Clash.{clash}
@@ -15,7 +15,6 @@ use Rattle.tx_stage.specs.Staging.{Transaction, has_space, is_touched, note_refu
 use Rattle.tx_stage.specs.declared.error.StageError.{StageError}
 use Rattle.tx_stage.specs.declared.error.StageError.TheVariants.{Keys, Space}
 use Rattle.tx_stage.specs.declared.key.Key.{Key}
-use Rattle.tx_stage.specs.declared.limits.TheConstants.{MAX_TOUCHED}
 use Rattle.tx_stage.specs.declared.look.Looked.{Looked}
 use Rattle.tx_stage.specs.declared.look.Want.{Want}
 use Rattle.tx_stage.specs.declared.touch.Touch.{Touch}
@@ -51,8 +50,8 @@ refusal_if may touched full k = if not may then Some (Space (space_of k)) else i
 
 marked-refusal : (m : ℕ) (x : Transaction) (k : Key) → note_refusal (marked m x) k ≡ note_refusal x k
 marked-refusal m x k =
-    ap (λ b. refusal_if (has_space x.spaces (space_of k)) b (nat_le MAX_TOUCHED (length (marks m x.touched))) k) (marks-touched m x.touched k)
-    ∙ ap (λ n. refusal_if (has_space x.spaces (space_of k)) (is_touched x.touched k) (nat_le MAX_TOUCHED n) k) (marks-length m x.touched)
+    ap (λ b. refusal_if (has_space x.spaces (space_of k)) b (nat_le 16384 (length (marks m x.touched))) k) (marks-touched m x.touched k)
+    ∙ ap (λ n. refusal_if (has_space x.spaces (space_of k)) (is_touched x.touched k) (nat_le 16384 n) k) (marks-length m x.touched)
 
 -- a key is added with this mark, unless it is there
 abbrev noted_if : Bool → ℕ → Transaction → Key → Transaction
@@ -182,7 +181,7 @@ pub all_touched : (q : ℕ) (x : Transaction) (ws : List Want) → AllByRecursio
 all_touched q x [] spaces all = tt
 all_touched q x (w ∷ ws) spaces all =
     let k = key_of w in
-    let now = note-notes q x k (has_space x.spaces (space_of k)) (is_touched x.touched k) (nat_le MAX_TOUCHED (length x.touched)) spaces.0 refl all.0 in
+    let now = note-notes q x k (has_space x.spaces (space_of k)) (is_touched x.touched k) (nat_le 16384 (length x.touched)) spaces.0 refl all.0 in
     let rest = same_but_marks (note 0 x k) (note q x k) (map key_of ws) (marked-note 0 0 x k ∙ sym (marked-note 0 q x k)) all.1 in
     let same : x.spaces ≡ (note q x k).spaces = sym (note_by-spaces q x k (note_refusal x k)) in
     (notes-stay q (note q x k) (map key_of ws) k now, all_touched q (note q x k) ws (subst (λ (ps : List (List ℕ)). AllByRecursion (λ w. has_space ps (space_of (key_of w)) ≡ true) ws) same spaces.1) rest)
@@ -208,12 +207,6 @@ touched-clear history q (t ∷ ts) k h below free = by (same_key k t.key) refl h
     by : (b : Bool) → same_key k t.key ≡ b → (b || is_touched ts k) ≡ true → (is_touched ts k ≡ true → Clear history q k) → Clear history q k
     by true e h rest = record { mark = t.mark; within = below.0; free = subst (λ x. clash x t.mark history ≡ None) (sym (same_key-is k t.key e)) free.0 }
     by false e h rest = rest h
-
-take-take : {X : Type 0} (q p : ℕ) (xs : List X) → q ≤ p → take q (take p xs) ≡ take q xs
-take-take zero p xs h = refl
-take-take (suc q) zero xs h = absurd (omega arith)
-take-take (suc q) (suc p) [] h = refl
-take-take (suc q) (suc p) (x ∷ xs) h = ap (λ l. x ∷ l) (take-take q p xs (omega arith))
 
 pub take-short : {X : Type 0} (q : ℕ) (xs : List X) → length (take q xs) ≤ q
 take-short zero xs = omega arith

@@ -1,9 +1,8 @@
 -- The header of a message that was read names the message's protocol.
-use Rattle.std.specs.Prelude.{ℕ, ℤ, pos, negsuc, Bool, true, false, List, [], ◌∷◌, ◌++◌, ◌≡◌, Option, Some, None, Result, Ok, Err, IfOk, int_lt, refl, if◌then◌else◌}
+use Rattle.std.specs.Prelude.{ℕ, ℤ, pos, Bool, true, false, List, [], ◌∷◌, ◌++◌, ◌≡◌, Option, Some, None, Result, Ok, Err, IfOk, refl, if◌then◌else◌}
 use Rattle.std.specs.List.{AllByRecursion}
-use Rattle.std.proofs.Common.{ap, sym, ◌∙◌, arith}
-use Rattle.std.proofs.lemmas.Bool.{eqb-true, false≢true}
-use Rattle.std.proofs.lemmas.Int.{ints}
+use Rattle.std.proofs.Common.{ap, ◌∙◌}
+use Rattle.etp_frame.proofs.KindLemmas.{number_is}
 use Rattle.avro_bin.specs.Value.{Value}
 use Rattle.etp_frame.specs.Message.{Protocol, common_kinds, kinds_in, protocol_of, protocols, typed_kind, under}
 use Rattle.etp_frame.specs.Reading.{◌>>=◌, known_message, read_of, tree_of}
@@ -22,13 +21,6 @@ use Rattle.msg_core.specs.Transaction.{transaction_kinds}
 use Rattle.msg_store.specs.DataArray.{data_array_kinds}
 use Rattle.msg_store.specs.Store.{store_kinds}
 use Rattle.session_core.proofs.Beside.{IsNamed}
-
-pub int_lt_trans : (a b c : ℤ) → int_lt a b ≡ true → int_lt b c ≡ true → int_lt a c ≡ true
-int_lt_trans a b c h k = grind (arith, ints)
-
-number_is : (a : ℕ) (n : ℤ) → is_number a n ≡ true → n ≡ pos a
-number_is a (pos b) h = ap pos (sym (eqb-true a b h))
-number_is a (negsuc b) h = absurd (false≢true h)
 
 -- a message is of the protocol of this number, or one of Core
 abbrev IsOfNumber : ℕ → Message → Type 0

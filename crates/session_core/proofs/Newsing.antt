@@ -2,6 +2,7 @@
 use Rattle.std.specs.Prelude.{ℕ, ℤ, pos, List, [], ◌∷◌, ◌++◌, ◌≡◌, ◌+◌, ◌≤◌, ◌<◌, min, Option, Some, None, map, take, drop, length, refl}
 use Rattle.std.specs.List.{flat_map}
 use Rattle.std.proofs.Common.{ap, sym, ◌∙◌, arith, length-take}
+use Rattle.subscribe_core.proofs.StreamLemmas.{told-stream, told-silent}
 use Rattle.server_config.specs.declared.config.Config.{Config}
 use Rattle.channel_rows.specs.Notices.{notice}
 use Rattle.channel_store.specs.Channels.{whats_of}
@@ -24,7 +25,7 @@ use Rattle.session_core.proofs.Moving.{Flow, keeps_on, known_of}
 use Rattle.session_core.proofs.Owing.{goes_on, since, told_up_to, window}
 use Rattle.session_core.proofs.Standing.{due_changes, found-channel}
 use Rattle.session_core.proofs.Starting.{IsKnown, Keeps, owes, owes_to}
-use Rattle.session_core.proofs.Telling.{note, notes_heard, solid_told, told-silent, told-stream, with_told}
+use Rattle.session_core.proofs.Telling.{note, notes_heard, solid_told, with_told}
 
 pub notes_said : (xs : List ChannelChange) → sayings_of message.ChannelSubscribe (map notice xs) ≡ map note xs
 notes_said [] = refl

@@ -1,11 +1,12 @@
 -- The stream of a subscription, as it goes on along the history.
 use Rattle.std.specs.Prelude.{ℕ, zero, suc, ℤ, Bool, true, false, cond, List, [], ◌∷◌, ◌++◌, ◌≡◌, ◌+◌, ◌≤◌, ◌<◌, max, min, nat_le, Option, Some, None, filter, take, drop, length, refl}
 use Rattle.std.specs.List.{flat_map}
-use Rattle.std.proofs.Common.{ap, sym, ◌∙◌, append-nil, append_assoc, arith, length-take}
+use Rattle.std.proofs.Common.{ap, sym, ◌∙◌, append-nil, append_assoc, arith, length-take, take-take, take-append-drop, take-add}
 use Rattle.std.proofs.lemmas.Bool.Decides.{nat_tests}
-use Rattle.std.proofs.lemmas.List.{map-append}
+use Rattle.std.proofs.lemmas.List.{map-append, drop_all}
 use Rattle.std.proofs.lemmas.List.Concat.{flat_map-append}
 use Rattle.std.proofs.lemmas.List.Elements.{filter-append}
+use Rattle.store_machine.proofs.Streams.{changes-append}
 use Rattle.channel_store.specs.Channels.{whats_of}
 use Rattle.channel_store.specs.Points.{append_of, past, view}
 use Rattle.channel_store.specs.Points as told
@@ -18,35 +19,9 @@ use Rattle.session_core.specs.Streams.{stream_to}
 
 -- ---- beginnings of lists
 
-take_of_take : {A : Type 0} (m n : ℕ) (xs : List A) → m ≤ n → take m (take n xs) ≡ take m xs
-take_of_take zero n xs h = refl
-take_of_take (suc m) zero xs h = absurd (omega (arith, h))
-take_of_take (suc m) (suc n) [] h = refl
-take_of_take (suc m) (suc n) (x ∷ xs) h = ap (λ l. x ∷ l) (take_of_take m n xs (omega (arith, h)))
-
-take_and_drop : {A : Type 0} (m : ℕ) (xs : List A) → take m xs ++ drop m xs ≡ xs
-take_and_drop zero xs = refl
-take_and_drop (suc m) [] = refl
-take_and_drop (suc m) (x ∷ xs) = ap (λ l. x ∷ l) (take_and_drop m xs)
-
-take_both : {A : Type 0} (m n : ℕ) (xs : List A) → take (m + n) xs ≡ take m xs ++ take n (drop m xs)
-take_both zero n xs = ap (λ k. take k xs) (omega arith)
-take_both {A} (suc m) n [] = let e : suc m + n ≡ suc (m + n) = omega arith in ap (λ k. take {A = A} k []) e ∙ sym (none n)
-  where
-    none : {A : Type 0} (n : ℕ) → take {A = A} n [] ≡ []
-    none zero = refl
-    none (suc n) = refl
-take_both (suc m) n (x ∷ xs) = let e : suc m + n ≡ suc (m + n) = omega arith in ap (λ k. take k (x ∷ xs)) e ∙ ap (λ l. x ∷ l) (take_both m n xs)
-
-drop_all : {A : Type 0} (m : ℕ) (xs : List A) → length xs ≤ m → drop m xs ≡ []
-drop_all zero [] h = refl
-drop_all zero (x ∷ xs) h = absurd (omega (arith, h))
-drop_all (suc m) [] h = refl
-drop_all (suc m) (x ∷ xs) h = drop_all m xs (omega (arith, h))
-
 -- a window of a beginning is one of the whole
 pub window : {A : Type 0} (u d p : ℕ) (xs : List A) → u + d ≤ p → take d (drop u (take p xs)) ≡ take d (drop u xs)
-window zero d p xs h = take_of_take d p xs (omega (arith, h))
+window zero d p xs h = take-take d p xs (omega (arith, h))
 window (suc u) d zero xs h = absurd (omega (arith, h))
 window (suc u) d (suc p) [] h = refl
 window (suc u) d (suc p) (x ∷ xs) h = window u d p xs (omega (arith, h))
@@ -55,13 +30,6 @@ window (suc u) d (suc p) (x ∷ xs) h = window u d p xs (omega (arith, h))
 
 abbrev pub since : ℕ → List ChannelChange → List ChannelChange
 since m xs = filter (λ (x : ChannelChange). nat_le m x.place) xs
-
-changes_append : (k : ℕ) (c : ℤ) (xs ys : List Entry) → changes_from k c (xs ++ ys) ≡ changes_from k c xs ++ changes_from (k + length xs) c ys
-changes_append k c [] ys = ap (λ j. changes_from j c ys) (omega arith)
-changes_append k c (e ∷ xs) ys =
-    let far : k + 1 + length xs ≡ k + length (e ∷ xs) = omega arith in
-    ap (λ l. change_by k c e ++ l) (changes_append (k + 1) c xs ys ∙ ap (λ j. changes_from (k + 1) c xs ++ changes_from j c ys) far)
-    ∙ sym (append_assoc (change_by k c e) (changes_from (k + 1) c xs) (changes_from (k + length (e ∷ xs)) c ys))
 
 since_one : (m k : ℕ) (c at : ℤ) (o : Option What) (b : Bool) → nat_le m k ≡ b → since m (change_list k c at o) ≡ cond b (change_list k c at o) []
 since_one m k c at None true h = refl
@@ -100,8 +68,8 @@ changes_past h m u c le = by (nat_le m u) refl
         let size : length whole ≡ min u (length h) = length-take u h in
         let front : length (take m whole) ≡ min m (length whole) = length-take m whole in
         let at : 0 + length (take m whole) ≡ m = omega (arith, size, front, le, high) in
-        ap (λ l. since m (changes_from 0 c l)) (sym (take_and_drop m whole))
-        ∙ ap (since m) (changes_append 0 c (take m whole) (drop m whole))
+        ap (λ l. since m (changes_from 0 c l)) (sym (take-append-drop m whole))
+        ∙ ap (since m) (changes-append 0 c (take m whole) (drop m whole))
         ∙ filter-append (λ (x : ChannelChange). nat_le m x.place) (changes_from 0 c (take m whole)) (changes_from (0 + length (take m whole)) c (drop m whole))
         ∙ (λ i. since_none m 0 c (take m whole) (omega (arith, at)) i ++ since_all m (0 + length (take m whole)) c (drop m whole) (omega (arith, at)) i)
         ∙ (λ i. changes_from (at i) c (drop m (take (sym most i) h)))
@@ -116,7 +84,7 @@ changes_past h m u c le = by (nat_le m u) refl
 pub is_stream : (h : List Entry) (u : ℕ) (s : Sub) → s.from ≤ length h → told_up_to h u s ≡ stream_to h u s
 is_stream h u s le =
     let low : s.from ≤ max s.from u = omega arith in
-    let front : take s.from h ≡ take s.from (take (max s.from u) h) = sym (take_of_take s.from (max s.from u) h low) in
+    let front : take s.from h ≡ take s.from (take (max s.from u) h) = sym (take-take s.from (max s.from u) h low) in
     (λ i. told.stream s.start s.all (channel_points s.channel (front i)) (whats_of (changes_past h s.from u s.channel le i)))
 
 -- further along the history
@@ -129,7 +97,7 @@ goes_on h u d s le =
     let size : length (take u h) ≡ min u (length h) = length-take u h in
     let at : 0 + length (take u h) ≡ u = omega (arith, size, le) in
     let both : old ++ new ≡ changes_from 0 s.channel (take (u + d) h) =
-    sym (ap (changes_from 0 s.channel) (take_both u d h) ∙ changes_append 0 s.channel (take u h) (take d (drop u h)) ∙ ap (λ k. old ++ changes_from k s.channel (take d (drop u h))) at) in
+    sym (ap (changes_from 0 s.channel) (take-add u d h) ∙ changes-append 0 s.channel (take u h) (take d (drop u h)) ∙ ap (λ k. old ++ changes_from k s.channel (take d (drop u h))) at) in
     append_assoc there (flat_map (view s.start s.all) (whats_of (since s.from old))) (flat_map (view s.start s.all) (whats_of (since s.from new)))
     ∙ ap (λ l. there ++ l)
     (sym (flat_map-append (view s.start s.all) (whats_of (since s.from old)) (whats_of (since s.from new)))

@@ -129,7 +129,7 @@ ready_row h now (message.DataArray m) s is = ready_arrays (request_of h) (arrays
 ready_row h now (message.Transaction m) s is =
     let t = transactions.transaction_request s.config.instance s.number s.stage s.starts m in
     ready_transactions (request_of h) t.outcome (record s { stage = t.stage; starts = t.starts }) is
-ready_row h now (message.ChannelSubscribe m) s is = let l = subscribes.subscribe_request s.subs m in ready_subscriptions (request_of h) l.outcome (record s { subs = l.subs }) is
+ready_row h now (message.ChannelSubscribe m) s is = let l = subscribes.subscribe_outcome s.subs m in ready_subscriptions (request_of h) l.outcome (record s { subs = l.subs }) is
 ready_row h now (message.ChannelDataLoad m) s is = let l = loads.load_outcome s.opens now m in ready_loads (request_of h) l.outcome (record s { opens = l.opens }) is
 ready_row h now (message.Core m) s is = ready_said (request_of h) (to_request (refusal code.InvalidMessageType) ∷ []) s is
 

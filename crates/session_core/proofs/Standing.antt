@@ -1,10 +1,10 @@
 -- Subscriptions that stand: what is due to them, and where they begin; for the crates above too.
-use Rattle.std.specs.Prelude.{ℕ, zero, suc, ℤ, pos, negsuc, Bool, true, false, cond, List, [], ◌∷◌, ◌++◌, ◌≡◌, ◌+◌, ◌<◌, ◌&&◌, ◌||◌, not, nat_le, Option, Some, None, is_some, filter, length, slice_get, if◌then◌else◌, refl}
+use Rattle.std.specs.Prelude.{ℕ, zero, suc, ℤ, pos, negsuc, Bool, true, false, cond, List, [], ◌∷◌, ◌++◌, ◌≡◌, ◌+◌, ◌<◌, ◌&&◌, ◌||◌, not, nat_le, Option, Some, None, filter, length, slice_get, if◌then◌else◌, refl}
 use Rattle.std.specs.Ordering.{int_eq}
 use Rattle.std.proofs.Common.{ap, sym, ◌∙◌, arith}
-use Rattle.std.proofs.lemmas.Int.{ints}
 use Rattle.std.proofs.lemmas.List.Elements.{filter-append}
 use Rattle.std.proofs.lemmas.Option.{none-some, same_Some}
+use Rattle.etp_values.proofs.Ints.{int_eq_is}
 use Rattle.server_config.specs.declared.config.ChannelDef.{ChannelDef}
 use Rattle.server_config.specs.declared.config.Config.{Config}
 use Rattle.channel_store.specs.Channels.{Channel}
@@ -25,18 +25,12 @@ use Rattle.store_machine.specs.declared.call.StartReply.{StartReply}
 use Rattle.store_machine.specs.declared.call.StartReply.TheVariants.{From, Refused}
 use Rattle.store_machine.specs.declared.journal.Entry.{Entry}
 use Rattle.subscribe_core.specs.Calls.{AreApart}
-use Rattle.subscribe_core.specs.Subscriptions.{has_sub, others}
+use Rattle.subscribe_core.specs.Subscriptions.{others}
 use Rattle.subscribe_core.specs.Views.{sub_of}
 use Rattle.subscribe_core.proofs.SubLemmas.{absent-has}
 use Rattle.session_core.proofs.Owing.{since}
 
 -- ---- finding
-
-pub has-absent : (c : ℤ) (xs : List Sub) → sub_of c xs ≡ None → has_sub c xs ≡ false
-has-absent c xs h = ap is_some h
-
-pub same_channel : (a b : ℤ) → int_eq a b ≡ true → a ≡ b
-same_channel a b e = grind (arith, ints)
 
 -- what is found is of the channel
 pub found-channel : (c : ℤ) (xs : List Sub) (s : Sub) → sub_of c xs ≡ Some s → s.channel ≡ c
@@ -44,7 +38,7 @@ found-channel c [] s h = absurd (none-some s h)
 found-channel c (y ∷ ys) s h = by (int_eq y.channel c) refl h (found-channel c ys s)
   where
     by : (b : Bool) → int_eq y.channel c ≡ b → (if b then Some y else sub_of c ys) ≡ Some s → (sub_of c ys ≡ Some s → s.channel ≡ c) → s.channel ≡ c
-    by true e h rest = ap (λ (x : Sub). x.channel) (sym (same_Some y s h)) ∙ same_channel y.channel c e
+    by true e h rest = ap (λ (x : Sub). x.channel) (sym (same_Some y s h)) ∙ int_eq_is y.channel c e
     by false e h rest = rest h
 
 -- one more
@@ -87,7 +81,7 @@ due_found (y ∷ ys) x s a h = by (int_eq y.channel x.channel) refl h (due_found
     by : (b : Bool) → int_eq y.channel x.channel ≡ b → (if b then Some y else sub_of x.channel ys) ≡ Some s → (sub_of x.channel ys ≡ Some s → is_due ys x ≡ nat_le s.from x.place)
         → ((b && nat_le y.from x.place) || is_due ys x) ≡ nat_le s.from x.place
     by true e h rest =
-        let none : sub_of x.channel ys ≡ None = ap (λ z. sub_of z ys) (sym (same_channel y.channel x.channel e)) ∙ absent-has y.channel ys a.0 in
+        let none : sub_of x.channel ys ≡ None = ap (λ z. sub_of z ys) (sym (int_eq_is y.channel x.channel e)) ∙ absent-has y.channel ys a.0 in
         ap (λ b. nat_le y.from x.place || b) (due_absent ys x none) ∙ or_none (nat_le y.from x.place) ∙ ap (λ (t : Sub). nat_le t.from x.place) (same_Some y s h)
     by false e h rest = rest h
 

@@ -3,11 +3,12 @@ use Rattle.std.specs.Prelude.{ℕ, ℤ, pos, Bool, true, false, cond, List, [], 
 use Rattle.std.specs.List.{list_any, AllByRecursion}
 use Rattle.std.specs.Ordering.{int_eq}
 use Rattle.std.proofs.Common.{ap, sym, ◌∙◌, subst, arith, append-nil, append_assoc, length-append}
-use Rattle.std.proofs.lemmas.Bool.{false≢true}
+use Rattle.std.proofs.lemmas.Bool.{or_parts}
 use Rattle.std.proofs.lemmas.Bool.Decides.{nat_tests}
-use Rattle.std.proofs.lemmas.Int.{ints}
 use Rattle.std.proofs.lemmas.List.{map-append}
 use Rattle.std.proofs.lemmas.Option.{none-some}
+use Rattle.subscribe_core.proofs.StreamLemmas.{of-append}
+use Rattle.etp_values.proofs.Ints.{int_eq_is}
 use Rattle.server_config.specs.declared.config.Config.{Config}
 use Rattle.channel_rows.specs.Notices.{notice_of}
 use Rattle.channel_rows.specs.Subscriptions.{begin_one, begins, first_notices, is_full, is_taken, names, start_at, subscribe_one, subscribe_with}
@@ -40,9 +41,9 @@ use Rattle.subscribe_core.specs.Subscriptions.{Subbed, cursor_after, has_sub}
 use Rattle.subscribe_core.specs.Views.{sub_of}
 use Rattle.session_core.proofs.MessageParts.{all_append}
 use Rattle.session_core.proofs.Owing.{begins_at, told_up_to}
-use Rattle.subscribe_core.proofs.SubLemmas.{absent-has, apart-push, found-push}
-use Rattle.session_core.proofs.Standing.{IsChannel, absent-push, begun_is, has-absent, same_channel}
-use Rattle.session_core.proofs.Telling.{AreSolid, IsSolid, of-append}
+use Rattle.subscribe_core.proofs.SubLemmas.{absent-has, apart-push, found-push, has-absent, other_way}
+use Rattle.session_core.proofs.Standing.{IsChannel, absent-push, begun_is}
+use Rattle.session_core.proofs.Telling.{AreSolid, IsSolid}
 
 -- ---- what holds of subscriptions at a place
 
@@ -87,19 +88,12 @@ first_of c channel [] false e = refl
 first_of c channel (p ∷ ps) true e = let x : ChannelChange = record { place = 0; channel = channel; at = pos 0; what = Append (p ∷ ps) } in ap (λ b. map (λ (x : ChannelChange). x.what) (cond b (x ∷ []) [])) e
 first_of c channel (p ∷ ps) false e = let x : ChannelChange = record { place = 0; channel = channel; at = pos 0; what = Append (p ∷ ps) } in ap (λ b. map (λ (x : ChannelChange). x.what) (cond b (x ∷ []) [])) e
 
-pub either_false : (a b : Bool) → (a || b) ≡ false → (a ≡ false) × (b ≡ false)
-either_false true b h = absurd (false≢true (sym h))
-either_false false b h = (refl, h)
-
 pub any_push : (c z : ℤ) (xs : List ℤ) → list_any (int_eq c) (xs ++ z ∷ []) ≡ false → (list_any (int_eq c) xs ≡ false) × (int_eq c z ≡ false)
-any_push c z [] h = (refl, (either_false (int_eq c z) false h).0)
+any_push c z [] h = (refl, (or_parts (int_eq c z) false h).0)
 any_push c z (x ∷ xs) h =
-    let both = either_false (int_eq c x) (list_any (int_eq c) (xs ++ z ∷ [])) h in
+    let both = or_parts (int_eq c x) (list_any (int_eq c) (xs ++ z ∷ [])) h in
     let rest = any_push c z xs both.1 in
     ((λ i. both.0 i || rest.0 i), rest.1)
-
-pub other_way : (a b : ℤ) → int_eq a b ≡ false → int_eq b a ≡ false
-other_way a b h = grind (arith, ints)
 
 module _ (config : Config) (h : List Entry) (p : ℕ) (t : ℤ → List What) (first : Subbed) where
   -- what has begun so far, beside what was told before
@@ -164,7 +158,7 @@ module _ (config : Config) (h : List Entry) (p : ℕ) (t : ℤ → List What) (f
       flow : (c : ℤ) (d : Bool) → int_eq a.channel c ≡ d → (t c ++ of_channel c begins.new) ++ of_channel c (first_change a.channel ps) ≡ owes h (grown b.subs (new_sub a start)) c
       flow c true e =
           let s : Sub = new_sub a start in
-          let same : a.channel ≡ c = same_channel a.channel c e in
+          let same : a.channel ≡ c = int_eq_is a.channel c e in
           let none : sub_of c b.subs.subs ≡ None = ap (λ z. sub_of z b.subs.subs) (sym same) ∙ absent-has a.channel b.subs.subs has in
           let cursor : ℕ = cursor_after b.subs.subs s b.subs.cursor in
           let within : cursor ≤ p = cursor_within b.subs.subs s b.subs.cursor (omega arith) begins.keeps.within in
@@ -253,7 +247,7 @@ module _ (config : Config) (h : List Entry) (p : ℕ) (t : ℤ → List What) (f
     key_granted start [] untaken unfull starts = absurd starts
     key_granted start (r ∷ rs) untaken unfull starts =
         let a : StartAsk = new_ask x.1 start in
-        let apart = either_false (has_sub a.channel first.subs) (list_any (int_eq a.channel) n.named) untaken in
+        let apart = or_parts (has_sub a.channel first.subs) (list_any (int_eq a.channel) n.named) untaken in
         let has : has_sub a.channel b.subs.subs ≡ false = is.fresh a.channel apart.1 apart.0 in
         let few = is.few in
         let less : length first.subs + n.going < 256 = grind (arith, nat_tests, unfull) in

@@ -273,7 +273,7 @@ module _ (h : List Entry) where
   of_row hd moment (message.Transaction m) s =
       let t = transactions.transaction_request s.config.instance s.number s.stage s.starts m in
       of_transactions (request_of hd) t.outcome (record s { stage = t.stage; starts = t.starts }) (of_transaction_message s.config.instance s.number s.stage s.starts m)
-  of_row hd moment (message.ChannelSubscribe m) s = of_subscriptions (request_of hd) (subscribes.subscribe_request s.subs m).outcome (record s { subs = (subscribes.subscribe_request s.subs m).subs }) (of_subscribe_message s.subs m)
+  of_row hd moment (message.ChannelSubscribe m) s = of_subscriptions (request_of hd) (subscribes.subscribe_outcome s.subs m).outcome (record s { subs = (subscribes.subscribe_outcome s.subs m).subs }) (of_subscribe_message s.subs m)
   of_row hd moment (message.ChannelDataLoad m) s = of_loads (request_of hd) (loads.load_outcome s.opens moment m).outcome (record s { opens = (loads.load_outcome s.opens moment m).opens }) (of_load_message s.opens moment m)
   of_row hd moment _ s = tt
 

@@ -9,8 +9,8 @@ use Rattle.std.specs.declared.cmp.Ordering.{Ordering}
 use Rattle.std.proofs.Common.{◌⊎◌, inl, inr, Less, Equal, Greater, ap, sym, ◌∙◌, subst, arith, append-nil}
 use Rattle.std.proofs.lemmas.Bool.{false≢true}
 use Rattle.std.proofs.lemmas.Fmt.{signed_decimal_injective}
-use Rattle.std.proofs.lemmas.Int.{ints}
 use Rattle.std.proofs.lemmas.Map.Lookups.{exact_bytes}
+use Rattle.etp_values.proofs.Ints.{int_eq_self, int_eq_is}
 use lib.Signed.{mag}
 use Rattle.channel_rows.specs.Notices.{ids_of, reason_of, stop_response}
 use Rattle.channel_rows.specs.Subscriptions.{stop_one}
@@ -21,7 +21,7 @@ use Rattle.etp_frame.specs.declared.message.Message.TheVariants as message
 use Rattle.etp_schema.specs.Form.{long_form}
 use Rattle.etp_values.specs.declared.code.ErrorCode.{ErrorCode}
 use Rattle.etp_values.specs.declared.code.ErrorCode.TheVariants.{NotFound}
-use Rattle.keyed_requests.specs.Keyed.{checked, checked_state, granted, replies}
+use Rattle.keyed_requests.specs.Keyed.{checked, checked_state, granted, keyed_replies}
 use Rattle.keyed_requests.specs.declared.keys.Decision.{Decision}
 use Rattle.keyed_requests.specs.declared.keys.Decision.TheVariants.{Granted, Refused}
 use Rattle.msg_channel.specs.declared.channel_subscribe_messages.ChannelSubscribeMessage.TheVariants as subscribe
@@ -33,12 +33,12 @@ use Rattle.session_core.specs.declared.state.Addressee.{Addressee}
 use Rattle.session_core.specs.declared.state.Addressee.TheVariants as to
 use Rattle.session_core.specs.declared.state.Part.{Part}
 use Rattle.session_core.specs.declared.state.Saying.{Saying}
-use Rattle.session_core.specs.Replies.{refused_keys as refused_message, sayings_of, to_request}
+use Rattle.session_core.specs.Replies.{refused_message, sayings_of, to_request}
 use Rattle.session_core.specs.Sending.{blobs_after, ended, parts_of}
 use Rattle.session_core.specs.Streams.{Heard, hear_stops, stops_for}
 use Rattle.session_core.proofs.Hearing.{IsQuiet, hear_parts, kinds_of, named, parts_quiet, stops, tells}
-use Rattle.subscribe_core.proofs.SubLemmas.{found-others}
-use Rattle.session_core.proofs.Standing.{none-others, same_channel}
+use Rattle.subscribe_core.proofs.SubLemmas.{found-others, other_way}
+use Rattle.session_core.proofs.Standing.{none-others}
 
 -- ---- a stop, in parts
 
@@ -58,7 +58,7 @@ quiet_heard limit number blobs c xs k q =
 
 -- the reply to a request for stops
 pub stop_reply_heard : (limit number blobs : ℕ) (c : ℤ) (cause : StopCause) (gs : List (List ℕ × ℤ)) (rs : List (List ℕ × ErrorCode)) (k : Heard)
-    → hear_parts c k (parts_of limit number blobs (sayings_of message.ChannelSubscribe (replies (stop_response cause) gs rs))) ≡ hear_stops c (reason_of cause) gs k
+    → hear_parts c k (parts_of limit number blobs (sayings_of message.ChannelSubscribe (keyed_replies (stop_response cause) gs rs))) ≡ hear_stops c (reason_of cause) gs k
 stop_reply_heard limit number blobs c cause [] [] k = stop_heard limit number blobs c to.Request cause [] [] k
 stop_reply_heard limit number blobs c cause [] (r ∷ rs) k = quiet_heard limit number blobs c (to_request (refused_message (r ∷ rs)) ∷ []) k ((refl, refl), tt)
 stop_reply_heard limit number blobs c cause (g ∷ gs) [] k = stop_heard limit number blobs c to.Request cause (g ∷ gs) [] k
@@ -126,7 +126,7 @@ ends_after reason c v (x ∷ ids) k = by (has_sub x.1 v.subs) (int_eq x.1 c) ref
     -- this one has none any more
     gone : ((j : Heard) → Ends reason j (sub_of c (without x.1 v).subs) (rest j) last) → (j : Heard) → int_eq x.1 c ≡ true → (last ≡ None) × (rest j ≡ j)
     gone ends j e =
-        let none : sub_of c (others x.1 v.subs) ≡ None = ap (λ z. sub_of c (others z v.subs)) (same_channel x.1 c e) ∙ none-others c v.subs in
+        let none : sub_of c (others x.1 v.subs) ≡ None = ap (λ z. sub_of c (others z v.subs)) (int_eq_is x.1 c e) ∙ none-others c v.subs in
         subst (λ (o : Option Sub). Ends reason j o (rest j) last) none (ends j)
 
     stopped : (o : Option Sub) → is_some o ≡ true → (j : Heard) → j ≡ stops_for reason k → (last ≡ None) × (rest j ≡ j) → Ends reason k o (rest j) last
@@ -143,9 +143,9 @@ ends_after reason c v (x ∷ ids) k = by (has_sub x.1 v.subs) (int_eq x.1 c) ref
         (sub_of c (after_stops (stop_by t x.1 v).0 ids).subs)
     by true true has e ends =
         let j : Heard = if int_eq x.1 c then stops_for reason k else k in
-        stopped (sub_of c v.subs) (ap (λ z. has_sub z v.subs) (sym (same_channel x.1 c e)) ∙ has) j (ap (λ (b : Bool). if b then stops_for reason k else k) e) (gone ends j e)
+        stopped (sub_of c v.subs) (ap (λ z. has_sub z v.subs) (sym (int_eq_is x.1 c e)) ∙ has) j (ap (λ (b : Bool). if b then stops_for reason k else k) e) (gone ends j e)
     by true false has e ends = apart ends (if int_eq x.1 c then stops_for reason k else k) e (ap (λ (b : Bool). if b then stops_for reason k else k) e)
-    by false true has e ends = silent (sub_of c v.subs) (ap (λ z. has_sub z v.subs) (sym (same_channel x.1 c e)) ∙ has) (gone ends k e)
+    by false true has e ends = silent (sub_of c v.subs) (ap (λ z. has_sub z v.subs) (sym (int_eq_is x.1 c e)) ∙ has) (gone ends k e)
     by false false has e ends = apart ends k e refl
 
 -- all that a request for stops does to a channel
@@ -191,9 +191,6 @@ IsNamed x = (x.0 ≡ signed_decimal x.1) × IsSmall x.1
 abbrev put_id : List (List ℕ × ℤ) → ℤ → List (List ℕ × ℤ)
 put_id ids z = insert_entry (slice_cmp nat_cmp) ids (signed_decimal z) z
 
-int_same : (z : ℤ) → int_eq z z ≡ true
-int_same z = grind (arith, ints)
-
 swap_sum : (a b c : ℕ) → a + (b + c) ≡ b + (a + c)
 swap_sum a b c = omega arith
 
@@ -217,7 +214,7 @@ put_more c z small (x ∷ xs) all none = by (slice_cmp nat_cmp (signed_decimal z
     by Equal e rest =
         let text : signed_decimal z ≡ signed_decimal x.1 = exact_bytes (signed_decimal z) x.0 e ∙ all.0.0 in
         let same : z ≡ x.1 = signed_decimal_injective z x.1 small all.0.1 text in
-        absurd (false≢true (sym differs.0 ∙ ap (λ y. int_eq y z) (sym same) ∙ int_same z))
+        absurd (false≢true (sym differs.0 ∙ ap (λ y. int_eq y z) (sym same) ∙ int_eq_self z))
     by Greater e rest =
         let more = rest differs.1 in
         (ap (λ n. one_if (int_eq x.1 c) + n) more.0 ∙ swap_sum (one_if (int_eq x.1 c)) (one_if (int_eq z c)) (times c xs), (all.0, more.1))
@@ -233,9 +230,6 @@ apart_each y (x ∷ xs) h = by (int_eq x.channel y.channel) refl h (apart_each y
         → AllByRecursion (λ (s : Sub). int_eq s.channel y.channel ≡ false) (x ∷ xs)
     by true e h rest = absurd (false≢true (sym h))
     by false e h rest = (e, rest h)
-
-other_way : (a b : ℤ) → int_eq a b ≡ false → int_eq b a ≡ false
-other_way a b h = grind (arith, ints)
 
 all_put : (ids : List (List ℕ × ℤ)) (z : ℤ) → IsSmall z → AllByRecursion IsNamed ids → times z ids ≡ 0 → (xs : List Sub)
     → AllByRecursion (λ (s : Sub). int_eq s.channel z ≡ false) xs → AllByRecursion (λ (s : Sub). times s.channel ids ≡ 0) xs → AllByRecursion (λ (s : Sub). times s.channel (put_id ids z) ≡ 0) xs
@@ -258,7 +252,7 @@ put_times c ids (y ∷ ys) apart small all zeros =
   where
     by : (b : Bool) → int_eq y.channel c ≡ b → one_if (has_sub c ys) + (one_if b + times c ids) ≡ one_if (is_some (if b then Some y else sub_of c ys)) + times c ids
     by true e =
-        let none : has_sub c ys ≡ false = ap (λ z. has_sub z ys) (sym (same_channel y.channel c e)) ∙ apart.0 in
+        let none : has_sub c ys ≡ false = ap (λ z. has_sub z ys) (sym (int_eq_is y.channel c e)) ∙ apart.0 in
         let zero_times : one_if (has_sub c ys) ≡ 0 = ap one_if none in
         omega (arith, zero_times)
     by false e = omega arith

@@ -7,7 +7,7 @@ use Rattle.std.proofs.lemmas.Bool.Decides.{nat_tests}
 use lib.Signed.{mag}
 use Rattle.server_config.specs.declared.config.Config.{Config}
 use Rattle.channel_rows.specs.Notices.{Told, ids_of, news_told, notice, notice_of, reason_of, stop_response}
-use Rattle.channel_rows.specs.Subscriptions.{SubscribeOutcome, asks_of, begin_one, beginning, lag_cause, metadata_called, metadata_outcome, metadata_response, news_call, news_from, none_named, ranges_refusal, replied, started_reply, stop_one, stopping, subscribe_called, subscribe_one, subscribe_outcome, subscribe_request, subscribe_response, unless_leaving}
+use Rattle.channel_rows.specs.Subscriptions.{SubscribeOutcome, asks_of, begin_one, beginning, lag_cause, metadata_called, metadata_outcome, metadata_response, news_call, news_from, none_named, ranges_refusal, replied, started_reply, stop_one, stop_outcome, subscribe_called, subscribe_one, begin_outcome, subscribe_outcome, subscribe_response, unless_leaving}
 use Rattle.channel_rows.specs.declared.subscribing.Beginning.{Beginning}
 use Rattle.channel_rows.specs.declared.subscriptions.SubscribePending.{SubscribePending}
 use Rattle.channel_rows.specs.declared.subscriptions.SubscribePending.TheVariants as keeps_subscription
@@ -19,7 +19,7 @@ use Rattle.etp_frame.specs.Splitting.{parts}
 use Rattle.etp_frame.specs.declared.message.Message.TheVariants as message
 use Rattle.etp_values.specs.declared.code.ErrorCode.{ErrorCode}
 use Rattle.etp_values.specs.declared.code.ErrorCode.TheVariants.{InvalidMessageType}
-use Rattle.keyed_requests.specs.Keyed.{called, checked, checked_state, finished, finished_state, granted, kept, refused_keys, replies, request_reply, sent as sent_keys, unasked}
+use Rattle.keyed_requests.specs.Keyed.{called, checked, checked_state, finished, finished_state, granted, kept, refused_keys, keyed_replies, request_reply, sent as sent_keys, unasked}
 use Rattle.keyed_requests.specs.Keys.{keys_refusal}
 use Rattle.keyed_requests.specs.Plain.{nothing}
 use Rattle.keyed_requests.specs.Sending.{refusal_alone, unless_refused}
@@ -81,7 +81,7 @@ abbrev AreQuietSendings : List (Sending ChannelSubscribeMessage) → Type 0
 AreQuietSendings xs = AreQuiet (sayings_of message.ChannelSubscribe xs)
 
 quiet_replies : {R : Type 0} (response : List (List ℕ × R) → ChannelSubscribeMessage) → ((g : List (List ℕ × R)) → QuietMessage (response g)) → (gs : List (List ℕ × R)) (rs : List (List ℕ × ErrorCode))
-    → AreQuietSendings (replies response gs rs)
+    → AreQuietSendings (keyed_replies response gs rs)
 quiet_replies response quiet [] [] = (quiet [], tt)
 quiet_replies response quiet [] (r ∷ rs) = ((refl, refl), tt)
 quiet_replies response quiet (g ∷ gs) [] = (quiet (g ∷ gs), tt)
@@ -139,7 +139,7 @@ notes_no_stop : (xs : List ChannelChange) → AllByRecursion (λ (x : Saying). s
 notes_no_stop [] = tt
 notes_no_stop (x ∷ xs) = (notice_no_stop x.at x.channel x.what, notes_no_stop xs)
 
-stop_replies_tell_nothing : (cause : StopCause) (gs : List (List ℕ × ℤ)) (rs : List (List ℕ × ErrorCode)) → AllByRecursion (λ (x : Saying). tells x.message ≡ false) (sayings_of message.ChannelSubscribe (replies (stop_response cause) gs rs))
+stop_replies_tell_nothing : (cause : StopCause) (gs : List (List ℕ × ℤ)) (rs : List (List ℕ × ErrorCode)) → AllByRecursion (λ (x : Saying). tells x.message ≡ false) (sayings_of message.ChannelSubscribe (keyed_replies (stop_response cause) gs rs))
 stop_replies_tell_nothing cause [] [] = (refl, tt)
 stop_replies_tell_nothing cause [] (r ∷ rs) = (refl, tt)
 stop_replies_tell_nothing cause (g ∷ gs) [] = (refl, tt)
@@ -272,7 +272,7 @@ module _ (config : Config) (h : List Entry) (last : ℕ) (sent : List Outgoing) 
           ))))
           (λ c x e. begins.stays c x (ap (λ (y : Subbed). sub_of c y.subs) is ∙ e))
 
-  begins_lead : (r : Request) (items : List (List ℕ × ChannelSubscribeInfo)) (m : State) → Hushed s m → GoesTo (on_subscriptions_by r (subscribe_outcome m.subs.subs items) m)
+  begins_lead : (r : Request) (items : List (List ℕ × ChannelSubscribeInfo)) (m : State) → Hushed s m → GoesTo (on_subscriptions_by r (begin_outcome m.subs.subs items) m)
   begins_lead r items m q = by (sent_keys (λ a. a) (asked_of m.subs items)) refl
     where
       ds : List (List ℕ × Decision StartAsk)
@@ -296,15 +296,15 @@ module _ (config : Config) (h : List Entry) (last : ℕ) (sent : List Outgoing) 
 
   -- ---- a message
 
-  leaving_leads : (r : Request) (why : Option ErrorCode) (v : Subbed) (ids : List (List ℕ × ℤ)) (m : State) → Causes Unsubscribed → v ≡ s.subs → Hushed s m → GoesTo (on_subscriptions r (unless_leaving why v (stopping v ids)) m)
+  leaving_leads : (r : Request) (why : Option ErrorCode) (v : Subbed) (ids : List (List ℕ × ℤ)) (m : State) → Causes Unsubscribed → v ≡ s.subs → Hushed s m → GoesTo (on_subscriptions r (unless_leaving why v (stop_outcome v ids)) m)
   leaving_leads r (Some code) v ids m cause is q = replies_lead r (refusal_alone code) (record m { subs = v }) ((refl, refl), tt) (record { config = q.config; subs = is; unheard = q.unheard })
   leaving_leads r None v ids m cause is q = stopping_leads r v ids m cause is q
 
-  pub subscribing_leads : Causes Unsubscribed → (r : Request) (x : ChannelSubscribeMessage) (m : State) → Hushed s m → GoesTo (on_subscriptions r (subscribe_request m.subs x) m)
+  pub subscribing_leads : Causes Unsubscribed → (r : Request) (x : ChannelSubscribeMessage) (m : State) → Hushed s m → GoesTo (on_subscriptions r (subscribe_outcome m.subs x) m)
   subscribing_leads cause r (subscribe.GetChannelMetadata x) m q =
       let items = checked (λ s uri. (s, object_uri uri)) nothing x.uris in
       unless_leads r (keys_refusal x.uris) (metadata_outcome x.uris) m q (metadata_leads r (kept (λ uri. nothing) items) (sent_keys (λ uri. uri) items) m q)
-  subscribing_leads cause r (subscribe.SubscribeChannels x) m q = unless_leads r (keys_refusal x.channels) (subscribe_outcome m.subs.subs x.channels) m q (begins_lead r x.channels m q)
+  subscribing_leads cause r (subscribe.SubscribeChannels x) m q = unless_leads r (keys_refusal x.channels) (begin_outcome m.subs.subs x.channels) m q (begins_lead r x.channels m q)
   subscribing_leads cause r (subscribe.UnsubscribeChannels x) m q = leaving_leads r (keys_refusal x.channel_ids) m.subs x.channel_ids m cause q.subs q
   subscribing_leads cause r (subscribe.GetRanges x) m q =
       unless_leads r (ranges_refusal x.channel_ranges) (Calls (call.Range (asks_of x.channel_ranges)) keeps_subscription.Ranges) m q (aside_leads r (call.Range (asks_of x.channel_ranges)) keeps_subscription.Ranges m tt q)

@@ -1,11 +1,12 @@
 -- What is heard of the notices that tell changes; for the crates above too.
-use Rattle.std.specs.Prelude.{ℕ, ℤ, Bool, true, false, cond, List, [], ◌∷◌, ◌++◌, ◌≡◌, ◌||◌, Option, Some, None, filter, int_lt, map, if◌then◌else◌, refl}
+use Rattle.std.specs.Prelude.{ℕ, ℤ, Bool, true, false, cond, List, [], ◌∷◌, ◌++◌, ◌≡◌, ◌||◌, Option, Some, None, int_lt, map, if◌then◌else◌, refl}
 use Rattle.std.specs.Int.{int_max}
 use Rattle.std.specs.List.{flat_map, AllByRecursion}
 use Rattle.std.specs.Ordering.{int_eq}
 use Rattle.std.proofs.Common.{ap, sym, ◌∙◌, append-nil, append_assoc, arith}
 use Rattle.std.proofs.lemmas.Int.{ints}
 use Rattle.std.proofs.lemmas.List.Concat.{flat_map-append}
+use Rattle.subscribe_core.proofs.StreamLemmas.{of-append}
 use Rattle.channel_rows.specs.Notices.{interval_of, notice_of}
 use Rattle.channel_rows.specs.Points.{items_of}
 use Rattle.channel_store.specs.Points.{append_of, past, view}
@@ -30,17 +31,6 @@ use Rattle.session_core.specs.Sending.{blobs_after, parts_of}
 use Rattle.session_core.specs.Streams.{Heard, gathers, hear_message, point_in, points_in}
 use Rattle.session_core.proofs.Hearing.{gathered, hear_parts, hear_whole, notice_parts}
 use Rattle.session_core.proofs.MessageParts.{all_map, all_append}
-
--- ---- the changes of a channel
-
-pub of-append : (c : ℤ) (xs ys : List ChannelChange) → of_channel c (xs ++ ys) ≡ of_channel c xs ++ of_channel c ys
-of-append c [] ys = refl
-of-append c (x ∷ xs) ys = by (int_eq x.channel c) (of-append c xs ys)
-  where
-    by : (b : Bool) → of_channel c (xs ++ ys) ≡ of_channel c xs ++ of_channel c ys → map (λ (x : ChannelChange). x.what) (cond b (x ∷ filter (λ (x : ChannelChange). int_eq x.channel c) (xs ++ ys)) (filter (λ (x : ChannelChange). int_eq x.channel c) (xs ++ ys)))
-        ≡ map (λ (x : ChannelChange). x.what) (cond b (x ∷ filter (λ (x : ChannelChange). int_eq x.channel c) xs) (filter (λ (x : ChannelChange). int_eq x.channel c) xs)) ++ of_channel c ys
-    by true rest = ap (λ l. x.what ∷ l) rest
-    by false rest = rest
 
 -- ---- the points of a notice
 
@@ -167,49 +157,3 @@ solid_to (Some s) x = solid_as x (view s.start s.all x.what) (solid_view s.start
 pub solid_told : (subs : List Sub) (xs : List ChannelChange) → AreSolid (flat_map (told subs) xs)
 solid_told subs [] = tt
 solid_told subs (x ∷ xs) = all_append (λ (x : ChannelChange). IsSolid x.what) (told subs x) (flat_map (told subs) xs) (solid_to (sub_of x.channel subs) x) (solid_told subs xs)
-
--- ---- what is told of one channel
-
-of-kept : (k : ℤ) (c : ChannelChange) → int_eq c.channel k ≡ true → (ws : List What) → of_channel k (map (λ w. record c { what = w }) ws) ≡ ws
-of-kept k c e [] = refl
-of-kept k c e (w ∷ ws) =
-    ap (λ b. map (λ (x : ChannelChange). x.what) (cond b (record c { what = w } ∷ filter (λ (x : ChannelChange). int_eq x.channel k) (map (λ w. record c { what = w }) ws)) (filter (λ (x : ChannelChange). int_eq x.channel k) (map (λ w. record c { what = w }) ws)))) e
-    ∙ ap (λ l. w ∷ l) (of-kept k c e ws)
-
-of-none : (k : ℤ) (c : ChannelChange) → int_eq c.channel k ≡ false → (ws : List What) → of_channel k (map (λ w. record c { what = w }) ws) ≡ []
-of-none k c e [] = refl
-of-none k c e (w ∷ ws) =
-    ap (λ b. map (λ (x : ChannelChange). x.what) (cond b (record c { what = w } ∷ filter (λ (x : ChannelChange). int_eq x.channel k) (map (λ w. record c { what = w }) ws)) (filter (λ (x : ChannelChange). int_eq x.channel k) (map (λ w. record c { what = w }) ws)))) e
-    ∙ of-none k c e ws
-
-told-other : (k : ℤ) (o : Option Sub) (c : ChannelChange) → int_eq c.channel k ≡ false → of_channel k (told_to o c) ≡ []
-told-other k None c e = refl
-told-other k (Some s) c e = of-none k c e (view s.start s.all c.what)
-
-pub same_channel : (a b : ℤ) → int_eq a b ≡ true → a ≡ b
-same_channel a b e = grind (arith, ints)
-
-pub told-stream : (k : ℤ) (s : Sub) (subs : List Sub) → sub_of k subs ≡ Some s → (cs : List ChannelChange)
-    → of_channel k (flat_map (told subs) cs) ≡ flat_map (view s.start s.all) (of_channel k cs)
-told-stream k s subs h [] = refl
-told-stream k s subs h (c ∷ cs) =
-    of-append k (told subs c) (flat_map (told subs) cs) ∙ by (int_eq c.channel k) refl (told-stream k s subs h cs)
-  where
-    by : (b : Bool) → int_eq c.channel k ≡ b → of_channel k (flat_map (told subs) cs) ≡ flat_map (view s.start s.all) (of_channel k cs)
-        → of_channel k (told subs c) ++ of_channel k (flat_map (told subs) cs)
-        ≡ flat_map (view s.start s.all) (map (λ (x : ChannelChange). x.what) (cond b (c ∷ filter (λ (x : ChannelChange). int_eq x.channel k) cs) (filter (λ (x : ChannelChange). int_eq x.channel k) cs)))
-    by true e rest =
-        ap (λ l. l ++ of_channel k (flat_map (told subs) cs))
-        (ap (λ o. of_channel k (told_to o c)) (ap (λ z. sub_of z subs) (same_channel c.channel k e) ∙ h)
-        ∙ of-kept k c e (view s.start s.all c.what))
-        ∙ ap (λ l. view s.start s.all c.what ++ l) rest
-    by false e rest = ap (λ l. l ++ of_channel k (flat_map (told subs) cs)) (told-other k (sub_of c.channel subs) c e) ∙ rest
-
-pub told-silent : (k : ℤ) (subs : List Sub) → sub_of k subs ≡ None → (cs : List ChannelChange) → of_channel k (flat_map (told subs) cs) ≡ []
-told-silent k subs h [] = refl
-told-silent k subs h (c ∷ cs) =
-    of-append k (told subs c) (flat_map (told subs) cs) ∙ ap (λ l. l ++ of_channel k (flat_map (told subs) cs)) (by (int_eq c.channel k) refl) ∙ told-silent k subs h cs
-  where
-    by : (b : Bool) → int_eq c.channel k ≡ b → of_channel k (told subs c) ≡ []
-    by true e = ap (λ o. of_channel k (told_to o c)) (ap (λ z. sub_of z subs) (same_channel c.channel k e) ∙ h)
-    by false e = told-other k (sub_of c.channel subs) c e

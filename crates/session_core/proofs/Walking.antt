@@ -5,7 +5,7 @@ use Rattle.array_rows.specs.Arrays.{ArrayOutcome, ArraysAnswered, array_outcome,
 use Rattle.server_config.specs.declared.config.Config.{Config}
 use Rattle.array_rows.specs.declared.arrays.ArrayPending.{ArrayPending}
 use Rattle.channel_rows.specs.Loads.{LoadOutcome, Loaded, load_outcome, load_reply}
-use Rattle.channel_rows.specs.Subscriptions.{subscribe_request}
+use Rattle.channel_rows.specs.Subscriptions.{subscribe_outcome}
 use Rattle.etp_frame.specs.Header.{acknowledge, has_flag}
 use Rattle.etp_frame.specs.Joining.{Awaited, joins}
 use Rattle.etp_frame.specs.declared.header.Header.{Header}
@@ -210,7 +210,7 @@ module _ (config : Config) (h : List Entry) (last : ℕ) (sent : List Outgoing) 
 
   -- ---- messages, where those of subscriptions lead to what they should
 
-  module _ (subscribing : (r : Request) (x : ChannelSubscribeMessage) (m : State) → Hushed s m → LeadsTo (on_subscriptions r (subscribe_request m.subs x) m)) where
+  module _ (subscribing : (r : Request) (x : ChannelSubscribeMessage) (m : State) → Hushed s m → LeadsTo (on_subscriptions r (subscribe_outcome m.subs x) m)) where
     row_leads : (hd : Header) (moment : ℤ) (x : Message) (m : State) → Hushed s m → LeadsTo (on_row hd moment x m)
     row_leads hd moment (message.Dataspace x) m q = dataspaces_lead (request_of hd) (dataspace_outcome x (is_some m.stage)) m q
     row_leads hd moment (message.Store x) m q = store_leads hd moment x m q

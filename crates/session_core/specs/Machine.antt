@@ -6,7 +6,7 @@ use Rattle.array_rows.specs.Arrays.{ArrayOutcome, ArraysAnswered, array_outcome,
 use Rattle.array_rows.specs.declared.arrays.ArrayPending.{ArrayPending}
 use Rattle.channel_rows.specs.Loads.{LoadOutcome, Loaded, Loading, load_outcome, load_reply}
 use Rattle.channel_rows.specs.Notices.{Told}
-use Rattle.channel_rows.specs.Subscriptions.{SubscribeOutcome, Subscribing, news_call, subscribe_reply, subscribe_request}
+use Rattle.channel_rows.specs.Subscriptions.{SubscribeOutcome, Subscribing, news_call, subscribe_reply, subscribe_outcome}
 use Rattle.channel_rows.specs.declared.subscriptions.SubscribePending.TheVariants as subscribes
 use Rattle.etp_values.specs.declared.code.ErrorCode.{ErrorCode}
 use Rattle.etp_values.specs.declared.code.ErrorCode.TheVariants as code
@@ -214,7 +214,7 @@ on_row h moment (message.Dataspace m) s = on_dataspaces (request_of h) (dataspac
 on_row h moment (message.Store m) s = on_store h moment m s
 on_row h moment (message.DataArray m) s = on_arrays (request_of h) (array_outcome s.stage moment m) s
 on_row h moment (message.Transaction m) s = on_transactions (request_of h) (transaction_request s.config.instance s.number s.stage s.starts m) s
-on_row h moment (message.ChannelSubscribe m) s = on_subscriptions (request_of h) (subscribe_request s.subs m) s
+on_row h moment (message.ChannelSubscribe m) s = on_subscriptions (request_of h) (subscribe_outcome s.subs m) s
 on_row h moment (message.ChannelDataLoad m) s = on_loads (request_of h) (load_outcome s.opens moment m) s
 on_row h moment _ s = no_call (refuses (request_of h) code.InvalidMessageType s)
 

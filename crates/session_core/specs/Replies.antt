@@ -20,8 +20,8 @@ abbrev pub refusal : ErrorCode → Message
 refusal code = Core (ProtocolException (record { error = Some (error_info code); errors = [] }))
 
 -- the refused keys of a request, with their codes
-abbrev pub refused_keys : List (List ℕ × ErrorCode) → Message
-refused_keys keys = Core (ProtocolException (record { error = None; errors = map (λ x. (x.0, error_info x.1)) keys }))
+abbrev pub refused_message : List (List ℕ × ErrorCode) → Message
+refused_message keys = Core (ProtocolException (record { error = None; errors = map (λ x. (x.0, error_info x.1)) keys }))
 
 -- a message of a reply
 abbrev pub to_request : Message → Saying
@@ -35,7 +35,7 @@ receipt = record { to = to.Receipt; message = Core (Acknowledge (record {})) }
 abbrev pub saying_of : {M : Type 0} → (M → Message) → Sending M → Saying
 saying_of wrapped (Reply m) = to_request (wrapped m)
 saying_of wrapped (Refusal code) = to_request (refusal code)
-saying_of wrapped (RefusedKeys keys) = to_request (refused_keys keys)
+saying_of wrapped (RefusedKeys keys) = to_request (refused_message keys)
 saying_of wrapped (Notice m) = record { to = to.Nobody; message = wrapped m }
 
 -- all that a protocol answers a request, and tells behind it

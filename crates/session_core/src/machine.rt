@@ -222,13 +222,13 @@ impl Machine {
                 header,
                 moment,
                 message,
-            } => self.on_arrived(alloc, &header, moment, message),
+            } => self.on_fresh(alloc, &header, moment, message),
             Arrived::Polled(front) => self.on_poll(alloc, front),
         }
     }
 
     /// A message whose id follows: its receipt is acknowledged, where its sender wants that, and then it is taken.
-    fn on_arrived(
+    fn on_fresh(
         &mut self,
         alloc: Global,
         header: &Header,

@@ -1,6 +1,6 @@
 //! What is said to a request, among it the exceptions by which it is refused.
 ghost use Rattle.std.specs.Prelude.{◌≡◌, IfOk};
-ghost use Rattle.session_core.specs.Replies.{error_info, receipt, refusal, refused_keys, saying_of, sayings_of, to_request};
+ghost use Rattle.session_core.specs.Replies.{error_info, receipt, refusal, refused_message, saying_of, sayings_of, to_request};
 
 use crate::state::{Addressee, Saying};
 use etp_frame::Message;
@@ -108,8 +108,8 @@ pub(crate) fn refusal(alloc: Global, code: ErrorCode) -> Result<Message, NoMemor
 }
 
 /// The exception that refuses some keys of a request, each with its code.
-fn refused_keys(alloc: Global, keys: Named<ErrorCode>) -> Result<Message, NoMemory>
-    ensures { IfOk result (λ message. message ≡ refused_keys keys) }
+fn refused_message(alloc: Global, keys: Named<ErrorCode>) -> Result<Message, NoMemory>
+    ensures { IfOk result (λ message. message ≡ refused_message keys) }
 {
     let mut errors = Vec::new(alloc);
     for (key, code) in keys.into_vec() {
@@ -132,7 +132,7 @@ fn saying_of<M: IntoMessage>(alloc: Global, sending: Sending<M>) -> Result<Sayin
     match sending {
         Sending::Reply(message) => Ok(to_request(message.into_message(alloc)?)),
         Sending::Refusal(code) => Ok(to_request(refusal(alloc, code)?)),
-        Sending::RefusedKeys(keys) => Ok(to_request(refused_keys(alloc, keys)?)),
+        Sending::RefusedKeys(keys) => Ok(to_request(refused_message(alloc, keys)?)),
         Sending::Notice(message) => Ok(Saying {
             to: Addressee::Nobody,
             message: message.into_message(alloc)?,

@@ -4,9 +4,10 @@ use Rattle.std.specs.List.{list_any, AllByRecursion}
 use Rattle.std.specs.Ordering.{int_eq}
 use Rattle.std.proofs.Common.{inl, inr, ap, sym, ◌∙◌, subst, arith, append-nil, append_assoc, length-append}
 use Rattle.std.proofs.lemmas.Bool.Decides.{nat_tests}
-use Rattle.std.proofs.lemmas.Int.{ints}
 use Rattle.std.proofs.lemmas.List.{map-append}
 use Rattle.std.proofs.lemmas.Option.{none-some}
+use Rattle.std.proofs.lemmas.Bool.{or_parts}
+use Rattle.etp_values.proofs.Ints.{int_eq_self, int_eq_is}
 use Rattle.channel_rows.specs.Subscriptions.{begin_one, begins, first_notices, is_full, is_taken, names, start_at, subscribe_one, subscribe_with}
 use Rattle.channel_rows.specs.declared.subscribing.Beginning.{Beginning}
 use Rattle.channel_rows.specs.declared.subscribing.Naming.{Naming}
@@ -34,9 +35,9 @@ use Rattle.subscribe_core.specs.Views.{sub_of}
 use Rattle.session_core.specs.Granting.{AreDecided, IsFirstOf, IsGranted, IsStartOf}
 use Rattle.session_core.proofs.MessageParts.{all_append}
 use Rattle.session_core.proofs.Moving.{all_weaker}
-use Rattle.subscribe_core.proofs.SubLemmas.{absent-has, found-push}
-use Rattle.session_core.proofs.Standing.{absent-push, has-absent, same_channel}
-use Rattle.session_core.proofs.Starting.{any_push, either_false, first_change, first_told, other_way, told_as}
+use Rattle.subscribe_core.proofs.SubLemmas.{absent-has, found-push, has-absent, other_way}
+use Rattle.session_core.proofs.Standing.{absent-push}
+use Rattle.session_core.proofs.Starting.{any_push, first_change, first_told, told_as}
 
 -- ---- where the store lets a subscription start
 
@@ -71,9 +72,6 @@ are_fair cs room [] = tt
 are_fair cs room (a ∷ asks) = (fair_begun (channel_at cs a.1.channel) room a.1.start, are_fair cs (room_behind room (begun (channel_at cs a.1.channel) room a.1.start)) asks)
 
 -- ---- one key after the other
-
-self_eq : (a : ℤ) → int_eq a a ≡ true
-self_eq a = grind (arith, ints)
 
 module _ (p : ℕ) (first : Subbed) where
   -- only what was named has begun
@@ -171,11 +169,11 @@ module _ (p : ℕ) (first : Subbed) where
       b1 = grown at ps (more at)
 
       found : sub_of x.1.channel_id b1.subs.subs ≡ Some (new_sub at)
-      found = absent-push x.1.channel_id b.subs.subs (new_sub at) absent ∙ ap (λ (b : Bool). if b then Some (new_sub at) else None) (self_eq x.1.channel_id)
+      found = absent-push x.1.channel_id b.subs.subs (new_sub at) absent ∙ ap (λ (b : Bool). if b then Some (new_sub at) else None) (int_eq_self x.1.channel_id)
 
       only_so : (w : Beginning) (ds : List (List ℕ × Decision (List ℕ))) → Decides b1 w items ds → (c : ℤ) (s : Sub) → sub_of c b.subs.subs ≡ None → sub_of c w.subs.subs ≡ Some s → (d : Bool) → int_eq x.1.channel_id c ≡ d
           → IsGranted c (x ∷ items) ((x.0, Granted []) ∷ ds)
-      only_so w ds later c s e f true same = inl (same_channel x.1.channel_id c same)
+      only_so w ds later c s e f true same = inl (int_eq_is x.1.channel_id c same)
       only_so w ds later c s e f false other = inr (later.only c s (absent-push c b.subs.subs (new_sub at) e ∙ ap (λ (b : Bool). if b then Some (new_sub at) else None) other) f)
 
       granted_on : (w : Beginning) (ds : List (List ℕ × Decision (List ℕ))) → Decides b1 w items ds → Decides b w (x ∷ items) ((x.0, Granted []) ∷ ds)
@@ -209,7 +207,7 @@ module _ (p : ℕ) (first : Subbed) where
         → AreFair (sent (λ a. a) (with_key (going_on, Granted (new_ask s)))) rs → Shows b (x ∷ items) (with_key (going_on, Granted (new_ask s))) rs
     key_granted s [] from untaken unfull fair = absurd fair
     key_granted s (r ∷ rs) from untaken unfull fair =
-        let apart = either_false (has_sub x.1.channel_id first.subs) (list_any (int_eq x.1.channel_id) n.named) untaken in
+        let apart = or_parts (has_sub x.1.channel_id first.subs) (list_any (int_eq x.1.channel_id) n.named) untaken in
         let few = is.few in
         let less : length first.subs + n.going < 256 = grind (arith, nat_tests, unfull) in
         let few_left : length b.subs.subs < 256 = omega (arith, few, less) in

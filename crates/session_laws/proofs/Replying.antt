@@ -6,7 +6,7 @@ use Rattle.array_rows.specs.Arrays.{ArrayOutcome, ArraysAnswered, array_outcome,
 use Rattle.server_config.specs.declared.config.ChannelDef.{ChannelDef}
 use Rattle.channel_rows.specs.Loads.{LoadOutcome, Loaded, load_outcome, load_reply}
 use Rattle.channel_rows.specs.Notices.{Told, ids_of, news_told, notice, stop_response}
-use Rattle.channel_rows.specs.Subscriptions.{SubscribeOutcome, asks_of, begin_one, beginning, metadata_called, metadata_outcome, metadata_response, news_call, news_from, none_named, ranges_refusal, replied, started_reply, stop_one, stopping, subscribe_called, subscribe_one, subscribe_outcome, subscribe_request, subscribe_response, unless_leaving}
+use Rattle.channel_rows.specs.Subscriptions.{SubscribeOutcome, asks_of, begin_one, beginning, metadata_called, metadata_outcome, metadata_response, news_call, news_from, none_named, ranges_refusal, replied, started_reply, stop_one, stop_outcome, subscribe_called, subscribe_one, begin_outcome, subscribe_outcome, subscribe_response, unless_leaving}
 use Rattle.channel_rows.specs.declared.subscribing.Beginning.{Beginning}
 use Rattle.channel_rows.specs.declared.subscriptions.SubscribePending.TheVariants as keeps_subscription
 use Rattle.channel_store.specs.Points.{view}
@@ -24,7 +24,7 @@ use Rattle.etp_frame.specs.declared.message.Message.{Message}
 use Rattle.etp_frame.specs.declared.message.Message.TheVariants as message
 use Rattle.etp_values.specs.declared.code.ErrorCode.{ErrorCode}
 use Rattle.etp_values.specs.declared.code.ErrorCode.TheVariants as code
-use Rattle.keyed_requests.specs.Keyed.{called, checked, checked_state, finished, finished_state, kept, refused_keys, replies, request_reply, sent as sent_keys, unasked}
+use Rattle.keyed_requests.specs.Keyed.{called, checked, checked_state, finished, finished_state, kept, refused_keys, keyed_replies, request_reply, sent as sent_keys, unasked}
 use Rattle.keyed_requests.specs.Keys.{keys_refusal}
 use Rattle.keyed_requests.specs.Plain.{nothing}
 use Rattle.keyed_requests.specs.Sending.{refusal_alone, unless_refused}
@@ -320,14 +320,14 @@ module _ (e : Event) (v : Subbed) where
   -- ---- requests about subscriptions that say nothing of them
 
   aside_replies : {R : Type 0} (response : List (List ℕ × R) → ChannelSubscribeMessage) → ((g : List (List ℕ × R)) → subscribe_speaks (response g) ≡ false) → (gs : List (List ℕ × R)) (rs : List (List ℕ × ErrorCode))
-      → AllByRecursion IsAside (sayings_of message.ChannelSubscribe (replies response gs rs))
+      → AllByRecursion IsAside (sayings_of message.ChannelSubscribe (keyed_replies response gs rs))
   aside_replies response silent [] [] = ((silent [], refl), tt)
   aside_replies response silent [] (r ∷ rs) = ((refl, refl), tt)
   aside_replies response silent (g ∷ gs) [] = ((silent (g ∷ gs), refl), tt)
   aside_replies response silent (g ∷ gs) (r ∷ rs) = ((silent (g ∷ gs), refl), ((refl, refl), tt))
 
   -- with no key granted
-  unasked_aside : (rs : List (List ℕ × ErrorCode)) → AllByRecursion IsAside (sayings_of message.ChannelSubscribe (replies subscribe_response [] rs))
+  unasked_aside : (rs : List (List ℕ × ErrorCode)) → AllByRecursion IsAside (sayings_of message.ChannelSubscribe (keyed_replies subscribe_response [] rs))
   unasked_aside [] = ((refl, refl), tt)
   unasked_aside (r ∷ rs) = ((refl, refl), tt)
 
@@ -393,7 +393,7 @@ module _ (e : Event) (v : Subbed) where
       }
 
   leaving_leads : (hd : Header) (x : UnsubscribeChannels) (why : Option ErrorCode) (w : Subbed) (m : State) → IsUnsubscribe hd x → w ≡ v → IsQuiet v m
-      → LeadsTo (on_subscriptions (request_of hd) (unless_leaving why w (stopping w x.channel_ids)) m)
+      → LeadsTo (on_subscriptions (request_of hd) (unless_leaving why w (stop_outcome w x.channel_ids)) m)
   leaving_leads hd x (Some code) w m read is q = replies_lead (request_of hd) (refusal_alone code) (record m { subs = w }) ((refl, refl), tt) (record { subs = is; out = q.out })
   leaving_leads hd x None w m read is q = stopping_leads hd x w m read is q
 
@@ -454,7 +454,7 @@ module _ (e : Event) (v : Subbed) where
   subscribed_says defs limit hd x mark (answer.Refused code) m read q fair live = told_aside (request_of hd) (told_by defs limit mark m x (answer.Refused code)) m q.subs ((refl, refl), tt) q live
   subscribed_says defs limit hd x mark a m read q fair live = told_aside (request_of hd) (told_by defs limit mark m x a) m q.subs tt q live
 
-  begins_lead : (hd : Header) (x : SubscribeChannels) (m : State) → IsSubscribe hd x → IsQuiet v m → LeadsTo (on_subscriptions_by (request_of hd) (subscribe_outcome m.subs.subs x.channels) m)
+  begins_lead : (hd : Header) (x : SubscribeChannels) (m : State) → IsSubscribe hd x → IsQuiet v m → LeadsTo (on_subscriptions_by (request_of hd) (begin_outcome m.subs.subs x.channels) m)
   begins_lead hd x m read q = by (sent_keys (λ a. a) (asked_of m.subs x)) refl
     where
       by : (asks : List (List ℕ × StartAsk)) → sent_keys (λ a. a) (asked_of m.subs x) ≡ asks
@@ -467,11 +467,11 @@ module _ (e : Event) (v : Subbed) where
 
   -- ---- a message
 
-  subscribing_leads : (hd : Header) (x : ChannelSubscribeMessage) (m : State) → IsRead e hd (message.ChannelSubscribe x) → IsQuiet v m → LeadsTo (on_subscriptions (request_of hd) (subscribe_request m.subs x) m)
+  subscribing_leads : (hd : Header) (x : ChannelSubscribeMessage) (m : State) → IsRead e hd (message.ChannelSubscribe x) → IsQuiet v m → LeadsTo (on_subscriptions (request_of hd) (subscribe_outcome m.subs x) m)
   subscribing_leads hd (subscribe.GetChannelMetadata x) m read q =
       let items = checked (λ s uri. (s, object_uri uri)) nothing x.uris in
       unless_leads (request_of hd) (keys_refusal x.uris) (metadata_outcome x.uris) m q (metadata_leads (request_of hd) (kept (λ uri. nothing) items) (sent_keys (λ uri. uri) items) m q)
-  subscribing_leads hd (subscribe.SubscribeChannels x) m read q = unless_leads (request_of hd) (keys_refusal x.channels) (subscribe_outcome m.subs.subs x.channels) m q (begins_lead hd x m read q)
+  subscribing_leads hd (subscribe.SubscribeChannels x) m read q = unless_leads (request_of hd) (keys_refusal x.channels) (begin_outcome m.subs.subs x.channels) m q (begins_lead hd x m read q)
   subscribing_leads hd (subscribe.UnsubscribeChannels x) m read q = leaving_leads hd x (keys_refusal x.channel_ids) m.subs m read q.subs q
   subscribing_leads hd (subscribe.GetRanges x) m read q =
       unless_leads (request_of hd) (ranges_refusal x.channel_ranges) (Calls (call.Range (asks_of x.channel_ranges)) keeps_subscription.Ranges) m q (ranges_lead (request_of hd) (call.Range (asks_of x.channel_ranges)) m q)

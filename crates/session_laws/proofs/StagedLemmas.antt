@@ -237,7 +237,7 @@ module _ (x : Transaction) where
       of_transactions (request_of hd) t.outcome (record s { stage = t.stage; starts = t.starts })
       (subst (λ (st : Option Transaction). OnlyCommits (transactions.transaction_request s.config.instance s.number st s.starts m).outcome) (sym is) (of_transaction_message s.config.instance s.number s.starts m))
   of_row hd moment (message.ChannelSubscribe m) s is =
-      of_subscriptions (request_of hd) (subscribes.subscribe_request s.subs m).outcome (record s { subs = (subscribes.subscribe_request s.subs m).subs }) (of_subscribe_message s.subs m)
+      of_subscriptions (request_of hd) (subscribes.subscribe_outcome s.subs m).outcome (record s { subs = (subscribes.subscribe_outcome s.subs m).subs }) (of_subscribe_message s.subs m)
   of_row hd moment (message.ChannelDataLoad m) s is =
       of_loads (request_of hd) (loads.load_outcome s.opens moment m).outcome (record s { opens = (loads.load_outcome s.opens moment m).opens }) (of_load_message s.opens moment m)
   of_row hd moment _ s is = tt

@@ -1,7 +1,7 @@
 -- How many entries of a journal are a session's own, as the turn's book and the store count them.
 use Rattle.std.proofs.Common.{◌≡◌, ◌==◌, ◌+◌, ◌≤◌, ◌<◌, ℕ, suc, Bool, true, false, List, [], ◌∷◌, length, Some, slice_get, if◌then◌else◌, refl, ap, sym, ◌∙◌, subst, drop, arith}
 use Rattle.std.specs.Prelude.{IsSomeAnd, Option}
-use Rattle.std.proofs.lemmas.Bool.{false≢true, eqb-true}
+use Rattle.std.proofs.lemmas.Bool.{false≢true, eqb-true, and_parts}
 use Rattle.std.proofs.lemmas.List.{drop_all}
 use Rattle.server_config.specs.declared.config.Config.{Config}
 use Rattle.store_machine.specs.declared.journal.Act.TheVariants.{Enter}
@@ -10,7 +10,6 @@ use Rattle.store_machine.specs.Laws.{is_enter}
 use Rattle.store_machine.specs.Legal as legal
 use Rattle.store_machine.specs.Legal.{IsNext, Legal}
 use Rattle.store_machine.proofs.Numbers.{enter-is, own-step}
-use Rattle.etp_values.proofs.Bools.{both_true}
 use Rattle.turn_book.specs.Hands.{IsBegun}
 use Rattle.turn_book.specs.Lists.{own_from, own}
 use Rattle.turn_book.specs.Rules.{IsSettled}
@@ -54,7 +53,7 @@ first_below n k (e ∷ es) first more is =
 begun_below : (n : ℕ) (seen : List Entry) (xs : List (ℕ × Entry)) → own by_of n seen ≡ xs → begins_at n xs ≡ true → n < length seen
 begun_below n seen [] is h = absurd (false≢true h)
 begun_below n seen (first ∷ more) is h =
-    let at : first.0 ≡ n = eqb-true first.0 n (both_true (first.0 == n) (enters_of first.1) h).0 in
+    let at : first.0 ≡ n = eqb-true first.0 n (and_parts (first.0 == n) (enters_of first.1) h).0 in
     let low : first.0 < 0 + length seen = first_below n 0 seen first more is in
     omega (arith, at, low)
 

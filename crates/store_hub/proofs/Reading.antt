@@ -1,7 +1,7 @@
--- An answer read off what the pass sees afterwards, and what a fresh pass has.
+-- An answer read off what the pass sees afterwards, and what a fresh pass has; for the crates above too.
 use Rattle.std.proofs.Common.{◌≡◌, ◌==◌, ◌≤◌, ℕ, ℤ, Bool, true, List, [], ◌∷◌, ◌++◌, length, map, take, refl, ap, sym, ◌∙◌, subst, eq-eqb, arith}
 use Rattle.std.specs.Prelude.{if◌then◌else◌}
-use Rattle.std.proofs.lemmas.Bool.{false≢true, eqb-true}
+use Rattle.std.proofs.lemmas.Bool.{false≢true, eqb-true, and_parts}
 use Rattle.std.proofs.lemmas.List.{append-nil, take_at}
 use Rattle.server_config.specs.declared.config.Config.{Config}
 use Rattle.store_machine.specs.declared.call.StoreCall.{StoreCall}
@@ -10,7 +10,6 @@ use Rattle.store_machine.specs.declared.journal.Entry.{Entry}
 use Rattle.store_machine.specs.Answers.{answered, added}
 use Rattle.store_machine.specs.Laws.{OneOrNone}
 use Rattle.store_machine.proofs.Numbers.{entries-one}
-use Rattle.etp_values.proofs.Bools.{both_true}
 use Rattle.etp_values.proofs.Prefixes.{prefix_length}
 use Rattle.turn_book.specs.Lists.{Each, own}
 use Rattle.store_hub.specs.declared.pass.Pass.{Pass}
@@ -28,7 +27,7 @@ added_one : (config : Config) (log : List Entry) (n nth : ℕ) (at : ℤ) (call 
 unfolding added
 added_one config log n nth at call = entries-one config log n nth at call
 
-noted_seen : (log es : List Entry) (v : Known) → OneOrNone es → (noted log es v).seen ≡ log ++ es
+pub noted_seen : (log es : List Entry) (v : Known) → OneOrNone es → (noted log es v).seen ≡ log ++ es
 noted_seen log [] v one = sym (append-nil log)
 noted_seen log (e ∷ []) v one = refl
 noted_seen log (e ∷ f ∷ es) v one = absurd one
@@ -66,7 +65,7 @@ only_one n entries places is alone =
 one_own : (n : ℕ) (xs : List (ℕ × Entry)) → length xs ≡ 1 → begins_at n xs ≡ true → (e : Entry) × (xs ≡ (n, e) ∷ []) × (enters_of e ≡ true)
 one_own n [] len begins = absurd (false≢true begins)
 one_own n (first ∷ []) len begins =
-    let t = both_true (first.0 == n) (enters_of first.1) begins in
+    let t = and_parts (first.0 == n) (enters_of first.1) begins in
     (first.1, ap (λ (k : ℕ). (k, first.1) ∷ []) (eqb-true first.0 n t.0), t.1)
 one_own n (first ∷ second ∷ more) len begins = absurd (omega (arith, len))
 

@@ -1,5 +1,5 @@
 //! The hub.
-ghost use Rattle.std.specs.Prelude.{◌≡◌, ◌≤◌, ℕ, length, Some, None, Err, IfOk, OnErr};
+ghost use Rattle.std.specs.Prelude.{◌≡◌, ◌≤◌, length, Err, IfOk, OnErr};
 
 use crate::book::StoreBook;
 use crate::error::EnterError;

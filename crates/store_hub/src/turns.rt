@@ -1,12 +1,11 @@
 //! What is done at a seat of the book, a call at a time.
-ghost use Rattle.std.specs.Prelude.{◌≡◌, ◌≤◌, ◌++◌, ◌∷◌, ℕ, [], length, true, false, Some, None, Ok, Err, IfOk, OnErr};
+ghost use Rattle.std.specs.Prelude.{◌≡◌, ◌≤◌, ◌++◌, ◌∷◌, [], length, false, Some, None, Ok, Err, IfOk, OnErr};
 ghost use mathlib.Core.List.{IsPrefix};
 ghost use Rattle.store_machine.specs.Answers.{answered, has_room_for};
 ghost use Rattle.store_machine.specs.declared.journal.Act.TheVariants.{Enter};
 ghost use Rattle.store_machine.specs.Laws.{IsCallAt};
 ghost use Rattle.store_machine.specs.Legal.{IsNext};
 ghost use Rattle.turn_book.specs.Lists.{own};
-ghost use Rattle.turn_book.specs.Rules.{Knows};
 ghost use Rattle.turn_book.specs.Steps.{first_view, hearing};
 ghost use Rattle.turn_book.specs.Hands.{IsBegun, Waits};
 ghost use Rattle.turn_book.specs.Words.{view, fixed_of, IsSeatOf};

@@ -1,8 +1,9 @@
--- Truncations: those that are accepted are accepted again, and the channels refuse none of them.
+-- Truncations: those that are accepted are accepted again, and the channels refuse none of them; for the crates above too.
 use Rattle.std.specs.Prelude.{ℕ, ℤ, Bool, true, false, not, ◌||◌, ◌≡◌, List, [], ◌∷◌, ◌++◌, Option, Some, None, is_some, length, map, zip, refl}
 use Rattle.std.specs.Map.{keys_of, values_of}
 use Rattle.std.proofs.Common.{ap, sym, ◌∙◌, append_assoc, append-nil, suc}
 use Rattle.std.proofs.lemmas.List.Folds.{list_any-append}
+use Rattle.std.proofs.lemmas.Bool.{or_parts}
 use Rattle.channel_store.specs.declared.error.ChannelError.{ChannelError}
 use Rattle.channel_store.specs.declared.error.ChannelError.TheVariants.{NoChannel, Index, Doubled}
 use Rattle.channel_store.specs.Channels.{Channel}
@@ -19,10 +20,6 @@ use Rattle.store_machine.specs.Loads.{CutDrafting, TakesCut}
 record Fewer (sub earlier : List ℤ) : Type 0 where
   lacks : (id : ℤ) → is_listed earlier id ≡ false → is_listed sub id ≡ false
 
-neither : (a b : Bool) → (a || b) ≡ false → (a ≡ false) × (b ≡ false)
-neither true b h = absurd (cc)
-neither false b h = (refl, h)
-
 joined : (a b : Bool) → a ≡ false → b ≡ false → (a || b) ≡ false
 joined true b h k = absurd (cc)
 joined false b h k = k
@@ -30,13 +27,13 @@ joined false b h k = k
 fewer-both : (sub earlier : List ℤ) (x : ℤ) → Fewer sub earlier → Fewer (sub ++ x ∷ []) (earlier ++ x ∷ [])
 fewer-both sub earlier x f = record {
   lacks = λ id h.
-      let parts = neither (is_listed earlier id) (is_listed (x ∷ []) id) (sym (list_any-append (int_eq id) earlier (x ∷ [])) ∙ h) in
+      let parts = or_parts (is_listed earlier id) (is_listed (x ∷ []) id) (sym (list_any-append (int_eq id) earlier (x ∷ [])) ∙ h) in
       list_any-append (int_eq id) sub (x ∷ []) ∙ joined (is_listed sub id) (is_listed (x ∷ []) id) (f.lacks id parts.0) parts.1;
 }
 
 fewer-one : (sub earlier : List ℤ) (x : ℤ) → Fewer sub earlier → Fewer sub (earlier ++ x ∷ [])
 fewer-one sub earlier x f = record {
-  lacks = λ id h. f.lacks id (neither (is_listed earlier id) (is_listed (x ∷ []) id) (sym (list_any-append (int_eq id) earlier (x ∷ [])) ∙ h)).0;
+  lacks = λ id h. f.lacks id (or_parts (is_listed earlier id) (is_listed (x ∷ []) id) (sym (list_any-append (int_eq id) earlier (x ∷ [])) ∙ h)).0;
 }
 
 fewer-same : (earlier : List ℤ) → Fewer earlier earlier

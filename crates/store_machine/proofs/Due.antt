@@ -3,9 +3,10 @@ use Rattle.std.specs.Prelude.{ℕ, ℤ, pos, ◌≡◌, ◌+◌, ◌≤◌, ◌<
 use Rattle.std.specs.List.{flat_map, range_with_len}
 use Rattle.std.specs.Ordering.{int_eq}
 use Rattle.std.proofs.Common.{ap, sym, ◌∙◌, append-nil, arith, suc, zero}
-use Rattle.std.proofs.lemmas.Int.{ints}
 use Rattle.std.proofs.lemmas.List.{length-drop}
 use Rattle.std.proofs.lemmas.List.Elements.{filter-append}
+use Rattle.std.proofs.lemmas.Int.{ints}
+use Rattle.etp_values.proofs.Ints.{int_eq_self}
 use Rattle.etp_values.specs.Weight.{weigh}
 use Rattle.server_config.specs.declared.config.Config.{Config}
 use Rattle.channel_store.specs.declared.change.ChannelChange.{ChannelChange}
@@ -75,16 +76,13 @@ filter-swap {X} p q (x ∷ xs) = by (p x) (q x) refl refl (filter-swap p q xs)
     by false true e f rest = ap (λ c. cond c (x ∷ filter p (filter q xs)) (filter p (filter q xs))) e ∙ rest
     by false false e f rest = rest
 
-same_id : (k : ℕ) → int_eq (pos k) (pos k) ≡ true
-same_id k = grind (arith, ints)
-
 other_id : (j k : ℕ) → (j ≡ k → ⊥) → int_eq (pos j) (pos k) ≡ false
 other_id j k h = grind (arith, ints)
 
 own-kept : (k place : ℕ) (at : ℤ) (o : Option What) → filter (is_of k) (change_list place (pos k) at o) ≡ change_list place (pos k) at o
 unfolding is_of
 own-kept k place at None = refl
-own-kept k place at (Some w) = let x : ChannelChange = record { place = place; channel = pos k; at = at; what = w } in ap (λ b. cond b (x ∷ []) []) (same_id k)
+own-kept k place at (Some w) = let x : ChannelChange = record { place = place; channel = pos k; at = at; what = w } in ap (λ b. cond b (x ∷ []) []) (int_eq_self (pos k))
 
 other-dropped : (j k place : ℕ) (at : ℤ) (o : Option What) → (j ≡ k → ⊥) → filter (is_of k) (change_list place (pos j) at o) ≡ []
 unfolding is_of

@@ -8,6 +8,7 @@ use Rattle.std.proofs.lemmas.Bool.Decides.{nat_tests}
 use Rattle.std.proofs.lemmas.Int.{ints}
 use Rattle.std.proofs.lemmas.List.{length-drop}
 use Rattle.std.proofs.lemmas.List.Elements.{filter-append}
+use Rattle.etp_values.proofs.Ints.{int_eq_is, int_eq_self}
 use Rattle.etp_values.proofs.Each.{all-append}
 use Rattle.channel_points.specs.Splits.{RisesBy}
 use Rattle.server_config.specs.declared.config.ChannelDef.{ChannelDef}
@@ -25,7 +26,7 @@ use Rattle.store_machine.specs.declared.news.Followed.{Followed}
 use Rattle.store_machine.specs.Channels.{change_by, change_list, changes_from, channel_by, channel_changes, channels_of, what_of}
 use Rattle.store_machine.specs.News.{changes_at_entry, dues, is_due, news_after, news_by}
 use Rattle.store_machine.specs.Telling.{Follows, due_at, due_here, dues_at, followed_by, is_followed}
-use Rattle.store_machine.proofs.Following.{follows}
+use Rattle.store_machine.proofs.Following.{follows, int_lt_trans}
 
 -- ---- the change of one channel at a place
 
@@ -162,9 +163,6 @@ past-none fs m p e h = by (what_of e.act (pos m))
     by None = refl
     by (Some w) = ap (λ b. cond b (record { place = p; channel = pos m; at = e.at; what = w } ∷ []) []) (unfollowed fs m p e.at w h)
 
-same_id : (m : ℕ) → int_eq (pos m) (pos m) ≡ true
-same_id m = grind (arith, ints)
-
 -- the first follows an id, the others are past it
 one-followed : (f : Followed) (fs : List Followed) (m p : ℕ) (e : Entry) → f.channel ≡ pos m → IsPast m fs → filter (is_followed (f ∷ fs)) (change_by p (pos m) e) ≡ (if nat_le f.from p then change_by p (pos m) e else [])
 one-followed f fs m p e at past = by (what_of e.act (pos m))
@@ -173,7 +171,7 @@ one-followed f fs m p e at past = by (what_of e.act (pos m))
     by None = sym (either-none (nat_le f.from p))
     by (Some w) =
         let x : ChannelChange = record { place = p; channel = pos m; at = e.at; what = w } in
-        let is : int_eq f.channel (pos m) ≡ true = ap (λ id. int_eq id (pos m)) at ∙ same_id m in
+        let is : int_eq f.channel (pos m) ≡ true = ap (λ id. int_eq id (pos m)) at ∙ int_eq_self (pos m) in
         (λ j. cond ((is j && nat_le f.from p) || unfollowed fs m p e.at w past j) (x ∷ []) []) ∙ ap (λ b. cond b (x ∷ []) []) (or-none (nat_le f.from p))
 
 -- what one that is followed has at a place
@@ -234,9 +232,6 @@ other_id m k i at past = ap (λ j. int_eq j (pos k)) at ∙ apart
     apart : int_eq (pos m) (pos k) ≡ false
     apart = grind (arith, ints, past)
 
-same_ids : (i j : ℤ) → int_eq i j ≡ true → i ≡ j
-same_ids i j h = grind (arith, ints, h)
-
 above_it : (i : ℤ) (m : ℕ) → int_lt i (pos m) ≡ false → int_eq i (pos m) ≡ false → int_lt (pos m) i ≡ true
 above_it i m h e = grind (arith, ints, h, e)
 
@@ -248,13 +243,10 @@ unfolding IsPast IsFrom
 next-from m [] past = tt
 next-from m (f ∷ fs) past = (from_next f.channel m past.0, next-from m fs past.1)
 
-lower : (i j k : ℤ) → int_lt i j ≡ true → int_lt j k ≡ true → int_lt i k ≡ true
-lower i j k h l = grind (arith, ints, h, l)
-
 all-past : (m : ℕ) (i : ℤ) (fs : List Followed) → int_lt (pos m) i ≡ true → AllByRecursion (λ (g : Followed). int_lt i g.channel ≡ true) fs → IsPast m fs
 unfolding IsPast
 all-past m i [] h above = tt
-all-past m i (f ∷ fs) h above = (lower (pos m) i f.channel h above.0, all-past m i fs h above.1)
+all-past m i (f ∷ fs) h above = (int_lt_trans (pos m) i f.channel h above.0, all-past m i fs h above.1)
 
 past-it : (m : ℕ) (i : ℤ) (fs : List Followed) → i ≡ pos m → AllByRecursion (λ (g : Followed). int_lt i g.channel ≡ true) fs → IsPast m fs
 unfolding IsPast
@@ -301,7 +293,7 @@ due-ids cs p e n tie (suc count) m end (f ∷ fs) rise from =
         → (IsFrom (m + 1) fs → due_at cs fs p ≡ filter (is_followed fs) rest) → (IsFrom (m + 1) (f ∷ fs) → due_at cs (f ∷ fs) p ≡ filter (is_followed (f ∷ fs)) rest)
         → due_at cs (f ∷ fs) p ≡ filter (is_followed (f ∷ fs)) (change_by p (pos m) e ++ rest)
     by true q later all =
-        let at = same_ids f.channel (pos m) q in
+        let at = int_eq_is f.channel (pos m) q in
         one at (later (next-from m fs (past-it m f.channel fs at rise.0)))
     by false q later all =
         let past = past-with m f fs (above_it f.channel m (first_from m f fs from) q) rise.0 in

@@ -1,10 +1,13 @@
 -- The channels that are followed: in the order of their ids, and followed wherever the subscriptions have them due.
+-- For the crates above too.
 use Rattle.std.specs.Prelude.{ℕ, ℤ, zero, suc, min, ◌≡◌, ◌<◌, ◌&&◌, ◌||◌, nat_le, int_lt, Bool, true, false, List, [], ◌∷◌, Option, Some, None, if◌then◌else◌, length, fold, insert, slice_get, slice_set, refl}
 use Rattle.std.specs.List.{AllByRecursion}
 use Rattle.std.specs.Ordering.{int_eq}
 use Rattle.std.proofs.Common.{ap, sym, ◌∙◌, subst, arith}
 use Rattle.std.proofs.lemmas.Bool.Decides.{nat_tests}
 use Rattle.std.proofs.lemmas.Int.{ints}
+use Rattle.store_machine.proofs.Standing.{or_swap}
+use Rattle.etp_values.proofs.Ints.{int_eq_is}
 use Rattle.channel_points.specs.Splits.{RisesBy}
 use Rattle.channel_store.specs.declared.change.ChannelChange.{ChannelChange}
 use Rattle.channel_store.specs.declared.subscription.Sub.{Sub}
@@ -58,11 +61,6 @@ put_new fs new k s at is made =
 abbrev is_own : ℤ → ℕ → ChannelChange → Bool
 is_own id from c = int_eq id c.channel && nat_le from c.place
 
-exchange : (a b c : Bool) → (a || (b || c)) ≡ (b || (a || c))
-exchange true true c = refl
-exchange true false c = refl
-exchange false b c = refl
-
 regroup : (a b c : Bool) → (a || (b || c)) ≡ ((b || a) || c)
 regroup true true c = refl
 regroup true false c = refl
@@ -80,9 +78,6 @@ both-same true a b p rest = ap (λ t. t || rest) (earlier a b p) ∙ by (nat_le 
     by false y = refl
 both-same false a b p rest = refl
 
-same_ids : (i j : ℤ) → int_eq i j ≡ true → i ≡ j
-same_ids i j h = grind (arith, ints, h)
-
 one-more : (fs : List Followed) (s : Sub) (c : ChannelChange) → is_followed (followed_with fs s) c ≡ (is_own s.channel s.from c || is_followed fs c)
 one-more [] s c = refl
 one-more (f ∷ fs) s c = by (int_lt f.channel s.channel) (one-more fs s c)
@@ -91,13 +86,13 @@ one-more (f ∷ fs) s c = by (int_lt f.channel s.channel) (one-more fs s c)
         → is_followed (if b then from_place s (min f.from s.from) ∷ fs else from_place s s.from ∷ f ∷ fs) c ≡ (is_own s.channel s.from c || is_followed (f ∷ fs) c)
     here true e =
         both-same (int_eq s.channel c.channel) f.from s.from c.place (is_followed fs c)
-        ∙ ap (λ i. is_own s.channel s.from c || (is_own i f.from c || is_followed fs c)) (sym (same_ids f.channel s.channel e))
+        ∙ ap (λ i. is_own s.channel s.from c || (is_own i f.from c || is_followed fs c)) (sym (int_eq_is f.channel s.channel e))
     here false e = refl
 
     by : (b : Bool) → is_followed (followed_with fs s) c ≡ (is_own s.channel s.from c || is_followed fs c)
         → is_followed (if b then f ∷ followed_with fs s else (if int_eq f.channel s.channel then from_place s (min f.from s.from) ∷ fs else from_place s s.from ∷ f ∷ fs)) c
         ≡ (is_own s.channel s.from c || is_followed (f ∷ fs) c)
-    by true rest = ap (λ t. is_own f.channel f.from c || t) rest ∙ exchange (is_own f.channel f.from c) (is_own s.channel s.from c) (is_followed fs c)
+    by true rest = ap (λ t. is_own f.channel f.from c || t) rest ∙ or_swap (is_own f.channel f.from c) (is_own s.channel s.from c) (is_followed fs c)
     by false rest = here (int_eq f.channel s.channel) refl
 
 all-due : (subs : List Sub) (fs : List Followed) (c : ChannelChange) → is_followed (fold followed_with fs subs) c ≡ (is_due subs c || is_followed fs c)
@@ -115,13 +110,13 @@ Above id fs = AllByRecursion (λ (f : Followed). int_lt id f.channel ≡ true) f
 abbrev Rise : List Followed → Type 0
 Rise fs = RisesBy (λ (f g : Followed). int_lt f.channel g.channel ≡ true) fs
 
-lower : (i j k : ℤ) → int_lt i j ≡ true → int_lt j k ≡ true → int_lt i k ≡ true
-lower i j k h l = grind (arith, ints, h, l)
+pub int_lt_trans : (i j k : ℤ) → int_lt i j ≡ true → int_lt j k ≡ true → int_lt i k ≡ true
+int_lt_trans i j k h l = grind (arith, ints, h, l)
 
 still-above : (i j : ℤ) (fs : List Followed) → int_lt i j ≡ true → Above j fs → Above i fs
 unfolding Above
 still-above i j [] h above = tt
-still-above i j (f ∷ fs) h above = (lower i j f.channel h above.0, still-above i j fs h above.1)
+still-above i j (f ∷ fs) h above = (int_lt_trans i j f.channel h above.0, still-above i j fs h above.1)
 
 put-above : (i : ℤ) (fs : List Followed) (s : Sub) → int_lt i s.channel ≡ true → Above i fs → Above i (followed_with fs s)
 unfolding Above
@@ -145,7 +140,7 @@ put-rises (f ∷ fs) s rise = by (int_lt f.channel s.channel) (int_eq f.channel 
     by : (b e : Bool) → int_lt f.channel s.channel ≡ b → int_eq f.channel s.channel ≡ e → Rise (followed_with fs s)
         → Rise (if b then f ∷ followed_with fs s else (if e then from_place s (min f.from s.from) ∷ fs else from_place s s.from ∷ f ∷ fs))
     by true e lt eq rest = (put-above f.channel fs s lt rise.0, rest)
-    by false true lt eq rest = (subst (λ i. Above i fs) (same_ids f.channel s.channel eq) rise.0, rise.1)
+    by false true lt eq rest = (subst (λ i. Above i fs) (int_eq_is f.channel s.channel eq) rise.0, rise.1)
     by false false lt eq rest =
         let low = between f.channel s.channel lt eq in
         ((low, still-above s.channel f.channel fs low rise.0), rise)

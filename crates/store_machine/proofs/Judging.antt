@@ -1,4 +1,5 @@
 -- Items that are judged one after the other get the definition's verdicts, and the plan has what the accepted ones leave.
+-- For the crates above too.
 use Rattle.std.specs.Prelude.{ℕ, ℤ, Bool, true, false, List, [], ◌∷◌, ◌++◌, ◌≡◌, Option, Some, None, map, refl, if◌then◌else◌, is_some}
 use Rattle.std.specs.Map.{values_of, keys_of}
 use Rattle.std.specs.Str.{bytes_eq}

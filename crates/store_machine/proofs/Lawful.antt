@@ -22,7 +22,6 @@ use Rattle.tx_stage.specs.Looks.{looks}
 use Rattle.tx_stage.specs.State.{first, state_in, state_now}
 use Rattle.store_machine.specs.declared.alterations.Alterations.{Alterations}
 use Rattle.store_machine.specs.declared.call.SpacePut.{SpacePut}
-use Rattle.store_machine.specs.declared.counted.TheConstants.{MAX_JOURNAL_BYTES}
 use Rattle.store_machine.specs.declared.journal.Act.{Act}
 use Rattle.store_machine.specs.declared.journal.Act.TheVariants.{Enter, PutSpaces, DropSpaces, Put, Commit, Append, Replace, Truncate}
 use Rattle.store_machine.specs.declared.journal.Entry.{Entry}
@@ -194,7 +193,7 @@ counted-push : (history : List Entry) (e : Entry) → counted (history ++ e ∷ 
 counted-push [] e = omega arith
 counted-push (x ∷ xs) e = let rest = counted-push xs e in omega arith
 
-fits : (config : Config) (history : List Entry) (a : Act) → has_room_for config history a ≡ true → counted history + counted_act a ≤ MAX_JOURNAL_BYTES
+fits : (config : Config) (history : List Entry) (a : Act) → has_room_for config history a ≡ true → counted history + counted_act a ≤ 536870912
 fits config history a h = grind (arith, h)
 
 -- ---- a further entry
@@ -205,7 +204,7 @@ keeps-push : (config : Config) (journal : List Entry) (total : ℕ) (t t' : Cont
 keeps-push config journal total t t' cs cs' a a' e k f room h ch m = record {
   legal = legal-push config journal e k.legal f;
   bytes = ap (λ n. n + counted_act e.act) k.bytes ∙ sym (counted-push journal e);
-  limit = subst (λ n. n + counted_act e.act ≤ MAX_JOURNAL_BYTES) (sym k.bytes) (fits config journal e.act room);
+  limit = subst (λ n. n + counted_act e.act ≤ 536870912) (sym k.bytes) (fits config journal e.act room);
   holds = subst (Holds t') (sym (changes-push journal e)) h;
   channels = ch;
   marks = m;

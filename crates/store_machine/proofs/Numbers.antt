@@ -1,4 +1,4 @@
--- Numbers of sessions, the calls that they may make, and the entries that those add.
+-- Numbers of sessions, the calls that they may make, and the entries that those add; for the crates above too.
 use Rattle.std.specs.Prelude.{ℕ, ℤ, pos, Bool, true, false, cond, drop, List, [], ◌∷◌, ◌++◌, ◌≡◌, ◌+◌, ◌≤◌, ◌<◌, ◌==◌, Some, IsSomeAnd, slice_get, length, if◌then◌else◌}
 use Rattle.std.specs.List.{AllByRecursion}
 use Rattle.std.proofs.Common.{ap, sym, ◌∙◌, subst, refl, arith, suc, zero, ⊎_elim}
@@ -134,6 +134,15 @@ call-stays history later _ h = tt
 pub enter-is : (a : Act) → is_enter a ≡ true → a ≡ Enter
 enter-is Enter h = refl
 enter-is _ h = absurd (false≢true h)
+
+-- no more entries are one's own than there are
+pub own_few : (n : ℕ) (es : List Entry) → length (own n es) ≤ length es
+own_few n [] = omega arith
+own_few n (e ∷ es) = by (e.by == n) (own_few n es)
+  where
+    by : (b : Bool) → length (own n es) ≤ length es → length (cond b (e ∷ own n es) (own n es)) ≤ suc (length es)
+    by true below = omega arith
+    by false below = omega arith
 
 -- the entry that was read stands before the rest
 pub drop-entry : {X : Type 0} (xs : List X) (k : ℕ) (x : X) → slice_get xs k ≡ Some x → drop k xs ≡ x ∷ drop (suc k) xs

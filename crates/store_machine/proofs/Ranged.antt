@@ -1,8 +1,10 @@
 -- In a legal history the points of each channel are in range, so the last of them has a next index.
-use Rattle.std.specs.Prelude.{ℕ, ℤ, pos, negsuc, ◌≡◌, ◌&&◌, not, Bool, true, false, cond, List, [], ◌∷◌, ◌++◌, Option, Some, None, filter, map, refl, if◌then◌else◌}
+use Rattle.std.specs.Prelude.{ℕ, ℤ, pos, negsuc, ◌≡◌, ◌&&◌, not, Bool, true, false, cond, List, [], ◌∷◌, ◌++◌, Option, Some, None, filter, map, if◌then◌else◌}
 use Rattle.std.specs.List.{AllByRecursion}
 use Rattle.std.proofs.Common.{sym, subst, append_assoc, append-nil, arith, suc}
 use Rattle.std.proofs.lemmas.Int.{ints}
+use Rattle.std.proofs.lemmas.Bool.{and_parts}
+use Rattle.channel_store.proofs.Ended.{first-none, unless-holds}
 use Rattle.etp_values.proofs.Each.{all-append}
 use Rattle.etp_values.specs.declared.point.ChannelPoint.{ChannelPoint}
 use Rattle.etp_values.specs.declared.point.Point.{Point}
@@ -10,7 +12,6 @@ use Rattle.server_config.specs.declared.config.ChannelDef.{ChannelDef}
 use Rattle.server_config.specs.declared.config.Config.{Config}
 use Rattle.channel_store.specs.declared.change.What.{What}
 use Rattle.channel_store.specs.declared.change.What.TheVariants.{Append, Replace, Truncate}
-use Rattle.channel_store.specs.declared.error.ChannelError.{ChannelError}
 use Rattle.channel_store.specs.declared.error.ChannelError.TheVariants as fault
 use Rattle.channel_store.specs.Channels.{Channel}
 use Rattle.channel_store.specs.Points.{after, at_most, is_within, last_of, outside, put_below}
@@ -71,17 +72,9 @@ last-in (x ∷ y ∷ ys) h = last-in (y ∷ ys) h.1
 
 -- ---- what is accepted
 
-or-none : (a b : Option ChannelError) → or_else a b ≡ None → (a ≡ None) × (b ≡ None)
-or-none None b h = (refl, h)
-or-none (Some e) b h = absurd (cc)
-
-unless-none : (b : Bool) (e : ChannelError) → unless b e ≡ None → b ≡ true
-unless-none true e h = refl
-unless-none false e h = absurd (cc)
-
 item-in : (o : Option Channel) (i : ChannelPoint) → item_refusal o i ≡ None → in_range i.point.index ≡ true
 item-in None i h = absurd (cc)
-item-in (Some c) i h = unless-none (in_range i.point.index) (fault.Index i.channel) (or-none (unless (in_range i.point.index) (fault.Index i.channel)) (unless (suits c.kind i.point.value) (fault.Kind i.channel)) h).0
+item-in (Some c) i h = unless-holds (in_range i.point.index) (fault.Index i.channel) (first-none (unless (in_range i.point.index) (fault.Index i.channel)) (unless (suits c.kind i.point.value) (fault.Kind i.channel)) h).0
 
 ItemsInRange : List ChannelPoint → Type 0
 ItemsInRange items = AllByRecursion (λ (i : ChannelPoint). in_range i.point.index ≡ true) items
@@ -90,18 +83,14 @@ append-items : (cs : List Channel) (items : List ChannelPoint) → first_refusal
 unfolding ItemsInRange
 append-items cs [] h = tt
 append-items cs (i ∷ is) h =
-    let parts = or-none (item_refusal (channel_at cs i.channel) i) (first_refusal (λ (x : ChannelPoint). item_refusal (channel_at cs x.channel) x) is) h in
+    let parts = first-none (item_refusal (channel_at cs i.channel) i) (first_refusal (λ (x : ChannelPoint). item_refusal (channel_at cs x.channel) x) is) h in
     (item-in (channel_at cs i.channel) i parts.0, append-items cs is parts.1)
-
-both : (a b : Bool) → (a && b) ≡ true → (a ≡ true) × (b ≡ true)
-both true b h = (refl, h)
-both false b h = absurd (cc)
 
 between : (lo hi from to i : ℤ) → is_within lo hi from ≡ true → is_within lo hi to ≡ true → is_within from to i ≡ true → is_within lo hi i ≡ true
 between lo hi from to i h k l =
-    let a = both (at_most lo from) (at_most from hi) h in
-    let b = both (at_most lo to) (at_most to hi) k in
-    let c = both (at_most from i) (at_most i to) l in
+    let a = and_parts (at_most lo from) (at_most from hi) h in
+    let b = and_parts (at_most lo to) (at_most to hi) k in
+    let c = and_parts (at_most from i) (at_most i to) l in
     let low = a.0 in
     let high = b.1 in
     let over = c.0 in
@@ -113,14 +102,14 @@ inside-in false o from to i low high h = absurd (cc)
 inside-in true None from to i low high h = absurd (cc)
 inside-in true (Some c) from to i low high h =
     between (negsuc 4611686018427387903) (pos 4611686018427387904) from to i.point.index low high
-    (unless-none (is_within from to i.point.index) (fault.Outside i.channel) (or-none (unless (suits c.kind i.point.value) (fault.Kind i.channel)) (unless (is_within from to i.point.index) (fault.Outside i.channel)) h).1)
+    (unless-holds (is_within from to i.point.index) (fault.Outside i.channel) (first-none (unless (suits c.kind i.point.value) (fault.Kind i.channel)) (unless (is_within from to i.point.index) (fault.Outside i.channel)) h).1)
 
 replace-items : (cs : List Channel) (ids : List ℤ) (from to : ℤ) (items : List ChannelPoint) → in_range from ≡ true → in_range to ≡ true
     → first_refusal (λ (i : ChannelPoint). inside_refusal (is_listed ids i.channel) (channel_at cs i.channel) from to i) items ≡ None → ItemsInRange items
 unfolding ItemsInRange
 replace-items cs ids from to [] low high h = tt
 replace-items cs ids from to (i ∷ is) low high h =
-    let parts = or-none (inside_refusal (is_listed ids i.channel) (channel_at cs i.channel) from to i) (first_refusal (λ (x : ChannelPoint). inside_refusal (is_listed ids x.channel) (channel_at cs x.channel) from to x) is) h in
+    let parts = first-none (inside_refusal (is_listed ids i.channel) (channel_at cs i.channel) from to i) (first_refusal (λ (x : ChannelPoint). inside_refusal (is_listed ids x.channel) (channel_at cs x.channel) from to x) is) h in
     (inside-in (is_listed ids i.channel) (channel_at cs i.channel) from to i low high parts.0, replace-items cs ids from to is low high parts.1)
 
 points-in : (id : ℤ) (items : List ChannelPoint) → ItemsInRange items → AreInRange (points_of id items)
@@ -163,15 +152,15 @@ act-brings config history by nth at (acts.Commit staged) id h = tt
 act-brings config history by nth at (acts.Append items) id h =
     let cs = channels_of config history in
     let accepted = not_refused config history by nth at acts.Append (append_refusal cs items) items _ h in
-    append-brings (points_of id items) (points-in id items (append-items cs items (or-none (first_refusal (λ (i : ChannelPoint). item_refusal (channel_at cs i.channel) i) items) (disorder (points_at cs) [] items) accepted).0))
+    append-brings (points_of id items) (points-in id items (append-items cs items (first-none (first_refusal (λ (i : ChannelPoint). item_refusal (channel_at cs i.channel) i) items) (disorder (points_at cs) [] items) accepted).0))
 act-brings config history by nth at (acts.Replace ids from to items) id h =
     let cs = channels_of config history in
     let accepted = not_refused config history by nth at (λ xs. acts.Replace xs from to items) (replace_refusal cs ids from to items) ids _ h in
-    let after_ids = (or-none (channels_refusal cs [] ids) (or_else (interval_refusal from to) (or_else (first_refusal (λ (i : ChannelPoint). inside_refusal (is_listed ids i.channel) (channel_at cs i.channel) from to i) items) (disorder (λ x. []) [] items))) accepted).1 in
-    let parts = or-none (interval_refusal from to) (or_else (first_refusal (λ (i : ChannelPoint). inside_refusal (is_listed ids i.channel) (channel_at cs i.channel) from to i) items) (disorder (λ x. []) [] items)) after_ids in
-    let ends = both (at_most from to && in_range from) (in_range to) (unless-none (at_most from to && in_range from && in_range to) fault.Interval parts.0) in
-    let low = (both (at_most from to) (in_range from) ends.0).1 in
-    let inside = (or-none (first_refusal (λ (i : ChannelPoint). inside_refusal (is_listed ids i.channel) (channel_at cs i.channel) from to i) items) (disorder (λ x. []) [] items) parts.1).0 in
+    let after_ids = (first-none (channels_refusal cs [] ids) (or_else (interval_refusal from to) (or_else (first_refusal (λ (i : ChannelPoint). inside_refusal (is_listed ids i.channel) (channel_at cs i.channel) from to i) items) (disorder (λ x. []) [] items))) accepted).1 in
+    let parts = first-none (interval_refusal from to) (or_else (first_refusal (λ (i : ChannelPoint). inside_refusal (is_listed ids i.channel) (channel_at cs i.channel) from to i) items) (disorder (λ x. []) [] items)) after_ids in
+    let ends = and_parts (at_most from to && in_range from) (in_range to) (unless-holds (at_most from to && in_range from && in_range to) fault.Interval parts.0) in
+    let low = (and_parts (at_most from to) (in_range from) ends.0).1 in
+    let inside = (first-none (first_refusal (λ (i : ChannelPoint). inside_refusal (is_listed ids i.channel) (channel_at cs i.channel) from to i) items) (disorder (λ x. []) [] items) parts.1).0 in
     replace-brings (is_listed ids id) from to (points_of id items) (points-in id items (replace-items cs ids from to items low ends.1 inside))
 act-brings config history by nth at (acts.Truncate cuts) id h = cut-brings (map cut_of cuts) id
 

@@ -1,4 +1,4 @@
--- Ranges that are gathered one after the other are those of the definition.
+-- Ranges that are gathered one after the other are those of the definition; for the crates above too.
 use Rattle.std.specs.Prelude.{ℕ, ◌≡◌, List, [], ◌∷◌, ◌++◌, Some, None, Result, Ok, Err, length, map, refl}
 use Rattle.std.specs.Map.{keys_of}
 use Rattle.std.proofs.Common.{ap, sym, ◌∙◌, append_assoc, append-nil}

@@ -3,7 +3,6 @@ use Rattle.std.specs.Prelude.{ℕ, ◌≡◌, false, List, [], ◌∷◌, ◌++�
 use Rattle.std.proofs.Common.{arith}
 use Rattle.std.proofs.lemmas.Grind.{common_steps}
 use Rattle.server_config.specs.declared.config.Config.{Config}
-use Rattle.store_machine.specs.declared.counted.TheConstants.{MAX_JOURNAL_BYTES}
 use Rattle.store_machine.specs.declared.journal.Act.TheVariants.{Enter}
 use Rattle.store_machine.specs.declared.journal.Entry.{Entry}
 use Rattle.store_machine.specs.Counted.{counted, counted_act}
@@ -23,4 +22,4 @@ full-stays config history later none =
     let longer : length history ≤ length (history ++ later) = grind (arith, common_steps) in
     let sum = counted-append history later in
     let more : counted history + counted_act Enter ≤ counted (history ++ later) + counted_act Enter = omega (arith, sum) in
-    still_none (length history) (length (history ++ later)) config.journal (counted history + counted_act Enter) (counted (history ++ later) + counted_act Enter) MAX_JOURNAL_BYTES longer more none
+    still_none (length history) (length (history ++ later)) config.journal (counted history + counted_act Enter) (counted (history ++ later) + counted_act Enter) 536870912 longer more none

@@ -10,7 +10,7 @@ use Rattle.std.specs.BTreeSet.{insert_key}
 use Rattle.std.specs.Map.{keys_of, lookup}
 use Rattle.std.specs.Str.{bytes_eq}
 use Rattle.std.proofs.Common.{ap, sym, ◌∙◌, subst, if◌then◌else◌}
-use Rattle.std.proofs.lemmas.Bool.{false≢true}
+use Rattle.std.proofs.lemmas.Bool.{false≢true, or_parts}
 use Rattle.std.proofs.lemmas.List.Kept.{IsStrictlySortedBy-filter}
 use Rattle.etp_values.proofs.Names.{found_alike}
 use Rattle.object_store.specs.declared.records.SpaceRecord.{SpaceRecord}
@@ -113,7 +113,7 @@ found-dataspaces cs q (p ∷ ps) = by (value (Space p) cs) refl (of-value p cs) 
     by (Some (valued.Array r)) e o rest = absurd o
 
 -- a path among others, and the one put there
-or_swap : (a b c : Bool) → (a || (b || c)) ≡ (b || (a || c))
+pub or_swap : (a b c : Bool) → (a || (b || c)) ≡ (b || (a || c))
 or_swap true true c = refl
 or_swap true false c = refl
 or_swap false b c = refl
@@ -133,14 +133,6 @@ any-placed q p (x ∷ xs) = by (path_cmp p x) refl (any-placed q p xs)
     by Equal e rest = or_twice (bytes_eq q p) (bytes_eq q x) (list_any (bytes_eq q) xs) (ap (bytes_eq q) (tie_is p x e))
     by Greater e rest = ap (λ b. bytes_eq q x || b) rest ∙ or_swap (bytes_eq q x) (bytes_eq q p) (list_any (bytes_eq q) xs)
 
-left_of : (a b : Bool) → (a || b) ≡ false → a ≡ false
-left_of true b h = absurd (false≢true (sym h))
-left_of false b h = refl
-
-right_of : (a b : Bool) → (a || b) ≡ false → b ≡ false
-right_of true b h = absurd (false≢true (sym h))
-right_of false b h = h
-
 none_either : (b : Bool) (v : Option Value) → v ≡ None → (if b then v else None) ≡ None
 none_either true v h = h
 none_either false v h = refl
@@ -155,8 +147,8 @@ unput_from q (SetSpace p custom at ∷ cs) ps v h k = by (bytes_eq q p) refl (λ
 
     by : (b : Bool) → bytes_eq q p ≡ b → ((w : Option Value) → (list_any (bytes_eq q) (insert_key path_cmp ps p) ≡ false → w ≡ None) → fold left w rest_of ≡ None)
         → fold left v (cond b (SetSpace p custom at ∷ rest_of) rest_of) ≡ None
-    by true e rest = rest (left v (SetSpace p custom at)) (λ n. absurd (false≢true (sym (left_of (bytes_eq q p) (list_any (bytes_eq q) ps) (sym (any-placed q p ps) ∙ n)) ∙ e)))
-    by false e rest = rest v (λ n. h (right_of (bytes_eq q p) (list_any (bytes_eq q) ps) (sym (any-placed q p ps) ∙ n)))
+    by true e rest = rest (left v (SetSpace p custom at)) (λ n. absurd (false≢true (sym (or_parts (bytes_eq q p) (list_any (bytes_eq q) ps) (sym (any-placed q p ps) ∙ n)).0 ∙ e)))
+    by false e rest = rest v (λ n. h (or_parts (bytes_eq q p) (list_any (bytes_eq q) ps) (sym (any-placed q p ps) ∙ n)).1)
 unput_from q (DropSpace p ∷ cs) ps v h k = by (bytes_eq q p) (λ w n. unput_from q cs ps w n k)
   where
     rest_of : List Change

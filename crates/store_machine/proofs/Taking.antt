@@ -8,7 +8,6 @@ use Rattle.channel_store.specs.declared.change.ChannelChange.{ChannelChange}
 use Rattle.channel_store.specs.Channels.{Channel}
 use Rattle.channel_store.specs.Told.{change_bytes}
 use Rattle.store_machine.specs.declared.news.Followed.{Followed}
-use Rattle.store_machine.specs.declared.news.TheConstants.{MAX_CHANGES, MAX_CHANGE_BYTES}
 use Rattle.store_machine.specs.declared.call.Reply.TheVariants as replied
 use Rattle.store_machine.specs.News.{fits_behind, joined, lag, news_by, taken}
 use Rattle.store_machine.specs.Telling.{Takes, TakesOn, due_at, dues_at}
@@ -31,10 +30,10 @@ pub fits_first : (b : ℕ) (due : List ChannelChange) → true ≡ fits_behind 0
 fits_first b [] = refl
 fits_first b (c ∷ cs) = refl
 
-capped-within : (n : ℕ) → nat_le (capped n) MAX_CHANGE_BYTES ≡ nat_le n MAX_CHANGE_BYTES
+capped-within : (n : ℕ) → nat_le (capped n) 67108864 ≡ nat_le n 67108864
 capped-within n = grind (arith, nat_tests)
 
-capped-few : (n : ℕ) → nat_le (capped n) MAX_CHANGES ≡ nat_le n MAX_CHANGES
+capped-few : (n : ℕ) → nat_le (capped n) 256 ≡ nat_le n 256
 capped-few n = grind (arith, nat_tests)
 
 not_first : (n : ℕ) → (n ≡ 0 → ⊥) → nat_le n 0 ≡ false
@@ -42,12 +41,12 @@ not_first n h = grind (arith, nat_tests, h)
 
 -- by numbers, where something was taken and something is due
 pub fits_by_numbers : (n count bytes b : ℕ) (due : List ChannelChange) → (n ≡ 0 → ⊥) → (count ≡ 0 → ⊥) → count ≡ length due → bytes ≡ capped (b + weigh change_bytes due)
-    → (nat_le (capped (n + count)) MAX_CHANGES && nat_le bytes MAX_CHANGE_BYTES) ≡ fits_behind n b due
+    → (nat_le (capped (n + count)) 256 && nat_le bytes 67108864) ≡ fits_behind n b due
 fits_by_numbers n count bytes b [] some any is sum = absurd (any is)
 fits_by_numbers n count bytes b (c ∷ cs) some any is sum =
-    let few : nat_le (capped (n + count)) MAX_CHANGES ≡ nat_le (n + length (c ∷ cs)) MAX_CHANGES = capped-few (n + count) ∙ ap (λ k. nat_le (n + k) MAX_CHANGES) is in
-    let small : nat_le bytes MAX_CHANGE_BYTES ≡ nat_le (b + weigh change_bytes (c ∷ cs)) MAX_CHANGE_BYTES = ap (λ k. nat_le k MAX_CHANGE_BYTES) sum ∙ capped-within (b + weigh change_bytes (c ∷ cs)) in
-    (λ j. few j && small j) ∙ ap (λ t. t || (nat_le (n + length (c ∷ cs)) MAX_CHANGES && nat_le (b + weigh change_bytes (c ∷ cs)) MAX_CHANGE_BYTES)) (sym (not_first n some))
+    let few : nat_le (capped (n + count)) 256 ≡ nat_le (n + length (c ∷ cs)) 256 = capped-few (n + count) ∙ ap (λ k. nat_le (n + k) 256) is in
+    let small : nat_le bytes 67108864 ≡ nat_le (b + weigh change_bytes (c ∷ cs)) 67108864 = ap (λ k. nat_le k 67108864) sum ∙ capped-within (b + weigh change_bytes (c ∷ cs)) in
+    (λ j. few j && small j) ∙ ap (λ t. t || (nat_le (n + length (c ∷ cs)) 256 && nat_le (b + weigh change_bytes (c ∷ cs)) 67108864)) (sym (not_first n some))
 
 -- ---- what is taken
 

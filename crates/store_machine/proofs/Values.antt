@@ -1,13 +1,13 @@
 -- The value of a key after further changes, and after further entries.
-use Rattle.std.specs.Prelude.{ℕ, Bool, true, false, cond, List, [], ◌∷◌, ◌++◌, ◌≡◌, ◌||◌, ◌&&◌, Option, Some, fold, filter, refl, is_none}
+use Rattle.std.specs.Prelude.{ℕ, Bool, true, false, cond, List, [], ◌∷◌, ◌++◌, ◌≡◌, ◌&&◌, Option, Some, fold, filter, refl, is_none}
 use Rattle.std.specs.List.{list_any}
 use Rattle.std.specs.Str.{bytes_eq}
-use Rattle.std.proofs.Common.{ap, sym, ◌∙◌, append-nil}
-use Rattle.std.proofs.lemmas.Bool.{false≢true}
+use Rattle.std.proofs.Common.{ap, ◌∙◌, append-nil}
 use Rattle.std.proofs.lemmas.Slice.Eq.{bytes_eq-Decides}
 use Rattle.std.proofs.lemmas.List.Elements.{filter-append}
 use Rattle.std.proofs.lemmas.List.Sums.{fold-append}
 use Rattle.std.proofs.lemmas.List.Concat.{flat_map-append}
+use Rattle.tx_stage.proofs.AlteredLemmas.{none-pass}
 use Rattle.array_store.specs.Refusals.{record_refusal}
 use Rattle.etp_values.specs.SameUri.{same_uri}
 use Rattle.object_store.specs.Tables.{default_dataspace}
@@ -25,15 +25,6 @@ use Rattle.store_machine.specs.History.{Change, SetSpace, DropSpace, Operate, al
 pub path_is : (p q : List ℕ) → bytes_eq p q ≡ true → p ≡ q
 path_is p q h = (bytes_eq-Decides p q).0 h
 
--- none passes: nothing is kept
-filter-none : {X : Type 0} (p : X → Bool) (xs : List X) → list_any p xs ≡ false → filter p xs ≡ []
-filter-none p [] h = refl
-filter-none p (x ∷ xs) h = by (p x) h (filter-none p xs)
-  where
-    by : (b : Bool) → (b || list_any p xs) ≡ false → (list_any p xs ≡ false → filter p xs ≡ []) → cond b (x ∷ filter p xs) (filter p xs) ≡ []
-    by true h rest = absurd (false≢true (sym h))
-    by false h rest = rest h
-
 pub value-append : (key : Key) (before later : List Change) → value key (before ++ later) ≡ fold left (value key before) (filter (λ c. alters c key) later)
 value-append key before later =
     ap (fold left (first key)) (filter-append (λ c. alters c key) before later) ∙ fold-append left (first key) (filter (λ c. alters c key) before) (filter (λ c. alters c key) later)
@@ -47,7 +38,7 @@ value-push key before c = value-append key before (c ∷ []) ∙ by (alters c ke
 
 -- changes that don't alter the key
 pub value-unaltered : (key : Key) (before later : List Change) → list_any (λ c. alters c key) later ≡ false → value key (before ++ later) ≡ value key before
-value-unaltered key before later h = value-append key before later ∙ ap (fold left (value key before)) (filter-none (λ c. alters c key) later h)
+value-unaltered key before later h = value-append key before later ∙ ap (fold left (value key before)) (none-pass (λ c. alters c key) later h)
 
 -- the changes of one more entry
 pub changes-push : (history : List Entry) (e : Entry) → changes_of (history ++ e ∷ []) ≡ changes_of history ++ entry_changes e

@@ -120,6 +120,7 @@ wanted config history _ = []
 abbrev pub has_room_for : Config → List Entry → Act → Bool
 has_room_for config history a = is_room config.journal (length history) (counted history) a
 
+-- whether the journal takes the entry of a call, which adds one act or none
 abbrev pub has_room : Config → List Entry → List Act → Bool
 has_room config history [] = true
 has_room config history (a ∷ more) = has_room_for config history a

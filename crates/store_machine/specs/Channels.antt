@@ -23,8 +23,8 @@ use Rattle.store_machine.specs.declared.journal.Entry.{Entry}
 abbrev pub cut_of : Cutting → ℤ × ℤ
 cut_of c = (c.channel, c.end)
 
--- what an act does to the channel of an id: an append changes the channels of its items, a replacement those that it lists, a
--- truncation those that it names
+-- what an act does to the channel of an id: an append does something where it has an item for it, a replacement and a
+-- truncation where they list it
 abbrev pub what_of : Act → ℤ → Option What
 what_of act.Enter id = None
 what_of (act.PutSpaces puts) id = None

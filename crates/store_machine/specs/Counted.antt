@@ -4,7 +4,6 @@ use Rattle.etp_values.specs.Weight.{weigh, custom_weight_of}
 use Rattle.channel_points.specs.Handles.{item_bytes}
 use Rattle.tx_stage.specs.Counted.{op_bytes, touch_bytes}
 use Rattle.store_machine.specs.declared.call.SpacePut.{SpacePut}
-use Rattle.store_machine.specs.declared.counted.TheConstants.{MAX_JOURNAL_BYTES}
 use Rattle.store_machine.specs.declared.journal.Act.{Act}
 use Rattle.store_machine.specs.declared.journal.Act.TheVariants as act
 use Rattle.store_machine.specs.declared.journal.Entry.{Entry}
@@ -37,9 +36,9 @@ abbrev pub counted : List Entry → ℕ
 counted history = weigh (λ (e : Entry). counted_act e.act) history
 
 -- whether a journal of so many entries and counted bytes takes a further entry of this act: it has fewer entries than its
--- limit, and stays in the limit of bytes
+-- limit, and stays within 512 MiB
 abbrev pub is_room : ℕ → ℕ → ℕ → Act → Bool
-is_room limit entries bytes a = nat_lt entries limit && nat_le (bytes + counted_act a) MAX_JOURNAL_BYTES
+is_room limit entries bytes a = nat_lt entries limit && nat_le (bytes + counted_act a) 536870912
 
 -- the counted bytes with that entry, where there is room for it
 abbrev pub bytes_with : ℕ → ℕ → ℕ → Act → Option ℕ

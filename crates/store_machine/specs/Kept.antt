@@ -19,7 +19,6 @@ use Rattle.tx_stage.specs.declared.value.Value.{Value}
 use Rattle.tx_stage.specs.declared.value.Value.TheVariants as valued
 use Rattle.tx_stage.specs.State.{state_in, state_now}
 use Rattle.store_machine.specs.declared.alterations.Alterations.{Alterations}
-use Rattle.store_machine.specs.declared.counted.TheConstants.{MAX_JOURNAL_BYTES}
 use Rattle.store_machine.specs.declared.call.Verdict.{Verdict}
 use Rattle.store_machine.specs.declared.journal.Entry.{Entry}
 use Rattle.store_machine.specs.History.{Change, Operate, alters, left, value, changes_of}
@@ -90,7 +89,7 @@ pub record PlansOn (t : Contents) (p : Plan) (rest all : List Op) : Type 0 where
 pub record Keeps (config : Config) (journal : List Entry) (total : ℕ) (t : Contents) (cs : List Channel) (a : Alterations) : Type 0 where
   pub legal : Legal config journal
   pub bytes : total ≡ counted journal
-  pub limit : total ≤ MAX_JOURNAL_BYTES
+  pub limit : total ≤ 536870912
   pub holds : Holds t (changes_of journal)
   pub channels : cs ≡ channels_of config journal
   pub marks : Marks a journal

@@ -41,6 +41,7 @@ LegalFrom config earlier (e ∷ es) = Follows config earlier e × LegalFrom conf
 abbrev pub door : Entry
 door = record { by = 0; nth = 0; at = pos 0; act = Enter }
 
+-- a history that the store can have: it begins with the door, and each further entry follows those before it
 abbrev pub Legal : Config → List Entry → Type 0
 Legal config [] = ⊥
 Legal config (e ∷ es) = (e ≡ door) × LegalFrom config (e ∷ []) es

@@ -13,7 +13,6 @@ use Rattle.channel_store.specs.Told.{change_bytes}
 use Rattle.store_machine.specs.declared.call.Reply.{Reply}
 use Rattle.store_machine.specs.declared.call.Reply.TheVariants as replied
 use Rattle.store_machine.specs.declared.journal.Entry.{Entry}
-use Rattle.store_machine.specs.declared.news.TheConstants.{MAX_CHANGES, MAX_CHANGE_BYTES}
 use Rattle.store_machine.specs.Channels.{change_by, changes_from, channel_points}
 
 -- ---- what is due
@@ -41,9 +40,10 @@ lag ds = length (filter is_some_due ds)
 
 -- ---- what is taken
 
--- an entry's due changes fit behind so many, whose points count so much; an entry without any does, and so does the first
+-- an entry's due changes fit behind so many, whose points count so much, if all together are at most 256 and count at most
+-- 64 MiB; an entry without any does, and so does the first
 abbrev pub fits_behind : ℕ → ℕ → List ChannelChange → Bool
-fits_behind n b d = not (is_some_due d) || (nat_le n 0 || (nat_le (n + length d) MAX_CHANGES && nat_le (b + weigh change_bytes d) MAX_CHANGE_BYTES))
+fits_behind n b d = not (is_some_due d) || (nat_le n 0 || (nat_le (n + length d) 256 && nat_le (b + weigh change_bytes d) 67108864))
 
 -- the entries that are taken, from the first on as long as they fit
 abbrev pub taken : ℕ → ℕ → List (List ChannelChange) → List (List ChannelChange)

@@ -19,14 +19,13 @@ use Rattle.store_machine.specs.declared.call.RangeAsk.{RangeAsk}
 use Rattle.store_machine.specs.declared.call.Reply.{Reply}
 use Rattle.store_machine.specs.declared.call.Reply.TheVariants as replied
 use Rattle.store_machine.specs.declared.reads.Room.{Room}
-use Rattle.store_machine.specs.declared.reads.TheConstants.{MAX_POINTS, MAX_POINT_BYTES}
 use Rattle.store_machine.specs.Channels.{code_of}
 
 -- ---- the room of an answer
 
--- an answer has at most so many points, which count at most so much
+-- an answer has at most 1,048,576 points, which count at most 64 MiB
 abbrev pub whole_room : Room
-whole_room = record { points = MAX_POINTS; bytes = MAX_POINT_BYTES }
+whole_room = record { points = 1048576; bytes = 67108864 }
 
 abbrev pub fits : Room → List Point → Bool
 fits room ps = nat_le (length ps) room.points && nat_le (weigh point_bytes ps) room.bytes

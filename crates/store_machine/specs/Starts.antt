@@ -31,8 +31,8 @@ abbrev pub past_last : Option ℤ → ℤ
 past_last None = least_index
 past_last (Some i) = i +ℤ pos 1
 
--- the index at which a subscription starts: its own, that of the k-th point from the end or the least where there are fewer
--- points, or the one past the last point
+-- the index at which a subscription starts: one that it names; that of its k-th point from the end, or the least index where
+-- it has fewer; or the one behind its last point
 abbrev pub start_of : List Point → Start → ℤ
 start_of xs (At i) = i
 start_of xs (Latest k) = unwrap_or (index_from_end (natural k) xs) least_index

@@ -10,7 +10,7 @@ use channel_store::ChannelError;
 use etp_values::{ErrorCode, NoMemory};
 
 /// The code of an error that refuses a call; want of memory refuses none.
-pub(crate) fn refused(error: ChannelError) -> Result<ErrorCode, NoMemory>
+pub(crate) fn refusal_code(error: ChannelError) -> Result<ErrorCode, NoMemory>
     ensures { IfOk result (IsRefusedBy error) }
 {
     match error {
@@ -31,6 +31,6 @@ pub(crate) fn refusal_of(ended: Result<(), ChannelError>) -> Result<Option<Error
 {
     match ended {
         Ok(()) => Ok(None),
-        Err(error) => Ok(Some(refused(error)?)),
+        Err(error) => Ok(Some(refusal_code(error)?)),
     }
 }

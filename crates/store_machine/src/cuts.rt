@@ -10,7 +10,7 @@ ghost use Rattle.store_machine.specs.Loads.{TakesCut};
 ghost use Rattle.store_machine.specs.declared.journal.Act.TheVariants as act;
 
 use crate::call::{Cutting, Verdict};
-use crate::codes::refused;
+use crate::codes::refusal_code;
 use crate::journal::{Act, Entry};
 use channel_store::ChannelStore;
 use etp_values::{List, NoMemory, Text};
@@ -61,7 +61,7 @@ fn judge_cut(channels: &ChannelStore, earlier: &[i64], cut: &Cutting) -> Result<
 {
     match channels.test_cut(earlier, cut.channel, cut.end) {
         Ok(()) => Ok(Verdict::Accepted),
-        Err(error) => Ok(Verdict::Refused(refused(error)?)),
+        Err(error) => Ok(Verdict::Refused(refusal_code(error)?)),
     }
 }
 
@@ -122,7 +122,7 @@ fn ends_of(alloc: Global, cuts: &List<Cutting>) -> Result<List<i64>, NoMemory>
     Ok(List::from_vec(ends))
 }
 
-/// Cuts channels, and adds the entry. All memory is taken before anything changes.
+/// Cuts channels, and adds the entry, once it has the memory for both.
 pub(crate) fn add_cuts(
     alloc: Global,
     journal: &mut Vec<Entry>,

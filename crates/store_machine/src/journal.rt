@@ -81,7 +81,7 @@ fn make_room(
     Ok(altered)
 }
 
-/// Does a plan, and adds its entry, whose keys are noted. All memory is taken before anything changes.
+/// Does a plan, and adds its entry, whose keys are noted, once it has the memory for the whole of it.
 pub(crate) fn add_entry(
     alloc: Global,
     journal: &mut Vec<Entry>,

@@ -11,7 +11,7 @@ ghost use Rattle.store_machine.specs.Loads.{Adds, adds_entry, load_act, load_ref
 ghost use Rattle.store_machine.specs.declared.journal.Act.TheVariants as act;
 
 use crate::boxed::BoxedItems;
-use crate::codes::{refusal_of, refused};
+use crate::codes::{refusal_code, refusal_of};
 use crate::counted::{points_bytes, replaced_bytes};
 use crate::journal::{Act, Entry};
 use channel_points::{ChannelPoints, Points};
@@ -153,7 +153,7 @@ fn replace(
     }
 }
 
-/// Does what is loaded, and adds its entry, where the channels do not refuse it. All memory is taken before anything changes.
+/// Does what is loaded, and adds its entry, where the channels do not refuse it, once it has the memory for the whole of it.
 pub(crate) fn add_load(
     alloc: Global,
     journal: &mut Vec<Entry>,
@@ -176,6 +176,6 @@ pub(crate) fn add_load(
             let _ = journal.push(Entry { by, nth, at, act });
             Ok(None)
         }
-        Err(error) => Ok(Some(refused(error)?)),
+        Err(error) => Ok(Some(refusal_code(error)?)),
     }
 }

@@ -8,7 +8,7 @@ ghost use Rattle.store_machine.specs.Reads.{meta_of, meta_under, range_reply, ra
 ghost use Rattle.store_machine.specs.Ranging.{JoinsRange};
 
 use crate::call::{MetaReply, RangeAsk, Reply};
-use crate::codes::refused;
+use crate::codes::refusal_code;
 use channel_store::{ChannelStore, PointSize};
 use etp_values::{ChannelPoint, ErrorCode, List, NoMemory, Point, StoreUri, Text};
 use std::alloc::Global;
@@ -119,7 +119,7 @@ fn take_range(
     ensures within { room.new.bytes ≤ MAX_POINT_BYTES }
 {
     match channels.range_size(ask.channel, ask.from, ask.to) {
-        Err(error) => Ok(Some(refused(error)?)),
+        Err(error) => Ok(Some(refusal_code(error)?)),
         Ok(size) => take_sized(channels, ask, size, room, items),
     }
 }

@@ -1,14 +1,12 @@
 //! Where subscriptions start.
 ghost use Rattle.std.specs.Prelude.{◌≡◌, ◌≤◌, ◌&&◌, IfOk, Ok, Some, is_some, true};
 ghost use Rattle.std.specs.Option.{unwrap_or};
-ghost use Rattle.channel_store.specs.Channels.{Channel};
 ghost use Rattle.channel_store.specs.Points.{index_from_end, last_of, past};
 ghost use Rattle.channel_store.specs.Refusals.{channel_at, points_at};
 ghost use Rattle.channel_store.specs.Store.{tail_of};
 ghost use Rattle.channel_store.specs.Told.{sized};
 ghost use Rattle.store_machine.specs.Reads.{room_with, whole_room};
 ghost use Rattle.store_machine.specs.Starts.{IsEnded, EndsInRange, begun, from_index, is_start, least_index, natural, past_last, room_behind, start_of, started};
-ghost use Rattle.store_machine.specs.declared.reads.TheConstants.{MAX_POINT_BYTES};
 
 use crate::call::{Start, StartAsk, StartReply};
 use crate::reads::Room;
@@ -75,12 +73,12 @@ fn from_sized(
     size: PointSize,
     room: &mut Room,
 ) -> Result<StartReply, NoMemory>
-    requires within { room.old.bytes ≤ MAX_POINT_BYTES }
+    requires within { room.old.bytes ≤ 67108864 }
     requires size { Ok size ≡ sized (tail_of channels.now channel start) }
     ensures reply { IfOk result (λ r. r ≡ from_index start (past start (points_at channels.now channel))
         (room_with room.old (past start (points_at channels.now channel)))) }
     ensures room { IfOk result (λ r. room.new ≡ room_behind room.old r) }
-    ensures within { room.new.bytes ≤ MAX_POINT_BYTES }
+    ensures within { room.new.bytes ≤ 67108864 }
 {
     let Some(left) = room.without(size) else {
         return Ok(StartReply::Refused(ErrorCode::LimitExceeded));
@@ -100,11 +98,11 @@ fn from_start(
     room: &mut Room,
 ) -> Result<StartReply, NoMemory>
     requires there { is_some (channel_at channels.now channel) ≡ true }
-    requires within { room.old.bytes ≤ MAX_POINT_BYTES }
+    requires within { room.old.bytes ≤ 67108864 }
     ensures reply { IfOk result (λ r. r ≡ from_index start (past start (points_at channels.now channel))
         (room_with room.old (past start (points_at channels.now channel)))) }
     ensures room { IfOk result (λ r. room.new ≡ room_behind room.old r) }
-    ensures within { room.new.bytes ≤ MAX_POINT_BYTES }
+    ensures within { room.new.bytes ≤ 67108864 }
 {
     match channels.tail_size(channel, start) {
         Err(_) => Ok(StartReply::Refused(ErrorCode::NotFound)),
@@ -115,10 +113,10 @@ fn from_start(
 /// Where a subscription starts, and its points, which are taken from the room of the answer.
 fn start(channels: &ChannelStore, ask: &StartAsk, room: &mut Room) -> Result<StartReply, NoMemory>
     requires ends { EndsInRange channels.now }
-    requires within { room.old.bytes ≤ MAX_POINT_BYTES }
+    requires within { room.old.bytes ≤ 67108864 }
     ensures reply { IfOk result (λ r. r ≡ begun (channel_at channels.now ask.now.channel) room.old ask.now.start) }
     ensures room { IfOk result (λ r. room.new ≡ room_behind room.old r) }
-    ensures within { room.new.bytes ≤ MAX_POINT_BYTES }
+    ensures within { room.new.bytes ≤ 67108864 }
 {
     if !has(channels, ask.channel) {
         return Ok(StartReply::Refused(ErrorCode::NotFound));

@@ -1,5 +1,5 @@
 -- The points of a list that are told, place by place.
-use Rattle.std.proofs.Common.{ℕ, zero, suc, ◌≡◌, ◌<◌, ◌≤◌, ℤ, true, false, cond, List, [], ◌∷◌, length, map, drop, Some, slice_get, ap, sym, subst, ◌∙◌, arith, add-one, append_assoc, ◌++◌, ◌+◌}
+use Rattle.std.proofs.Common.{ℕ, zero, suc, ◌≡◌, ◌<◌, ℤ, true, false, cond, List, [], ◌∷◌, length, map, drop, Some, slice_get, ap, sym, subst, ◌∙◌, arith, add-one, append_assoc, ◌++◌, ◌+◌}
 use Rattle.std.proofs.lemmas.Option.{none-some, same_Some}
 use Rattle.etp_values.specs.declared.point.Point.{Point}
 use Rattle.channel_store.specs.declared.change.What.TheVariants.{Append}

@@ -1,13 +1,13 @@
--- What is told of one channel.
-use Rattle.std.proofs.Common.{◌≡◌, ℤ, Bool, true, false, cond, ◌||◌, List, [], ◌∷◌, ◌++◌, length, map, filter, Option, Some, None, ap, sym, ◌∙◌, refl, arith}
+-- What is told of one channel; for the crates above too.
+use Rattle.std.proofs.Common.{◌≡◌, ℤ, Bool, true, false, cond, ◌||◌, List, [], ◌∷◌, ◌++◌, length, map, filter, Option, Some, None, ap, sym, ◌∙◌, refl}
 use Rattle.std.specs.Prelude.{nat_le}
 use Rattle.std.specs.List.{flat_map, AllByRecursion}
 use Rattle.std.specs.Ordering.{int_eq}
 use Rattle.std.proofs.lemmas.Bool.{false≢true}
-use Rattle.std.proofs.lemmas.Int.{ints}
 use Rattle.std.proofs.lemmas.List.{map-append}
 use Rattle.std.proofs.lemmas.List.Concat.{flat_map-append}
 use Rattle.std.proofs.lemmas.List.Elements.{filter-append}
+use Rattle.etp_values.proofs.Ints.{int_eq_is}
 use Rattle.channel_store.specs.declared.change.ChannelChange.{ChannelChange}
 use Rattle.channel_store.specs.declared.change.What.{What}
 use Rattle.channel_store.specs.Points.{append_of, past, view}
@@ -19,7 +19,7 @@ use Rattle.subscribe_core.specs.Streams.{of_channel, ends, begins, came_by, came
 use Rattle.subscribe_core.proofs.SubLemmas.{found-push, absent-push, found-others, absent-others}
 use Rattle.subscribe_core.proofs.CallLemmas.{handed-told}
 
-of-append : (k : ℤ) (xs ys : List ChannelChange) → of_channel k (xs ++ ys) ≡ of_channel k xs ++ of_channel k ys
+pub of-append : (k : ℤ) (xs ys : List ChannelChange) → of_channel k (xs ++ ys) ≡ of_channel k xs ++ of_channel k ys
 of-append k xs ys =
     ap (map (λ x. x.what)) (filter-append (λ c. int_eq c.channel k) xs ys)
     ∙ map-append (λ x. x.what) (filter (λ c. int_eq c.channel k) xs) (filter (λ c. int_eq c.channel k) ys)
@@ -42,34 +42,31 @@ told-other : (k : ℤ) (o : Option Sub) (c : ChannelChange) → int_eq c.channel
 told-other k None c e = refl
 told-other k (Some s) c e = of-none k c e (view s.start s.all c.what)
 
-same_channel : (a b : ℤ) → int_eq a b ≡ true → a ≡ b
-same_channel a b e = grind (arith, ints)
-
 -- ---- the changes of a call
 
-told-stream : (s : Sub) (subs : List Sub) → sub_of s.channel subs ≡ Some s → (cs : List ChannelChange)
-    → of_channel s.channel (flat_map (told subs) cs) ≡ flat_map (view s.start s.all) (of_channel s.channel cs)
-told-stream s subs h [] = refl
-told-stream s subs h (c ∷ cs) =
-    of-append s.channel (told subs c) (flat_map (told subs) cs) ∙ by (int_eq c.channel s.channel) refl (told-stream s subs h cs)
+pub told-stream : (k : ℤ) (s : Sub) (subs : List Sub) → sub_of k subs ≡ Some s → (cs : List ChannelChange)
+    → of_channel k (flat_map (told subs) cs) ≡ flat_map (view s.start s.all) (of_channel k cs)
+told-stream k s subs h [] = refl
+told-stream k s subs h (c ∷ cs) =
+    of-append k (told subs c) (flat_map (told subs) cs) ∙ by (int_eq c.channel k) refl (told-stream k s subs h cs)
   where
-    by : (b : Bool) → int_eq c.channel s.channel ≡ b → of_channel s.channel (flat_map (told subs) cs) ≡ flat_map (view s.start s.all) (of_channel s.channel cs)
-        → of_channel s.channel (told subs c) ++ of_channel s.channel (flat_map (told subs) cs)
-        ≡ flat_map (view s.start s.all) (map (λ x. x.what) (cond b (c ∷ filter (λ x. int_eq x.channel s.channel) cs) (filter (λ x. int_eq x.channel s.channel) cs)))
+    by : (b : Bool) → int_eq c.channel k ≡ b → of_channel k (flat_map (told subs) cs) ≡ flat_map (view s.start s.all) (of_channel k cs)
+        → of_channel k (told subs c) ++ of_channel k (flat_map (told subs) cs)
+        ≡ flat_map (view s.start s.all) (map (λ (x : ChannelChange). x.what) (cond b (c ∷ filter (λ (x : ChannelChange). int_eq x.channel k) cs) (filter (λ (x : ChannelChange). int_eq x.channel k) cs)))
     by true e rest =
-        ap (λ l. l ++ of_channel s.channel (flat_map (told subs) cs))
-        (ap (λ o. of_channel s.channel (told_to o c)) (ap (λ z. sub_of z subs) (same_channel c.channel s.channel e) ∙ h)
-        ∙ of-kept s.channel c e (view s.start s.all c.what))
+        ap (λ l. l ++ of_channel k (flat_map (told subs) cs))
+        (ap (λ o. of_channel k (told_to o c)) (ap (λ z. sub_of z subs) (int_eq_is c.channel k e) ∙ h)
+        ∙ of-kept k c e (view s.start s.all c.what))
         ∙ ap (λ l. view s.start s.all c.what ++ l) rest
-    by false e rest = ap (λ l. l ++ of_channel s.channel (flat_map (told subs) cs)) (told-other s.channel (sub_of c.channel subs) c e) ∙ rest
+    by false e rest = ap (λ l. l ++ of_channel k (flat_map (told subs) cs)) (told-other k (sub_of c.channel subs) c e) ∙ rest
 
-told-silent : (k : ℤ) (subs : List Sub) → sub_of k subs ≡ None → (cs : List ChannelChange) → of_channel k (flat_map (told subs) cs) ≡ []
+pub told-silent : (k : ℤ) (subs : List Sub) → sub_of k subs ≡ None → (cs : List ChannelChange) → of_channel k (flat_map (told subs) cs) ≡ []
 told-silent k subs h [] = refl
 told-silent k subs h (c ∷ cs) =
     of-append k (told subs c) (flat_map (told subs) cs) ∙ ap (λ l. l ++ of_channel k (flat_map (told subs) cs)) (by (int_eq c.channel k) refl) ∙ told-silent k subs h cs
   where
     by : (b : Bool) → int_eq c.channel k ≡ b → of_channel k (told subs c) ≡ []
-    by true e = ap (λ o. of_channel k (told_to o c)) (ap (λ z. sub_of z subs) (same_channel c.channel k e) ∙ h)
+    by true e = ap (λ o. of_channel k (told_to o c)) (ap (λ z. sub_of z subs) (int_eq_is c.channel k e) ∙ h)
     by false e = told-other k (sub_of c.channel subs) c e
 
 -- ---- a call
@@ -109,7 +106,7 @@ step-stream : (s : Sub) (c : Call) (v : Subbed) → sub_of s.channel v.subs ≡ 
 step-stream s (Add x) v h = refl
 step-stream s (Remove j) v h = refl
 step-stream s RemoveAll v h = refl
-step-stream s (Fill upto changes) v h = told-stream s v.subs h changes
+step-stream s (Fill upto changes) v h = told-stream s.channel s v.subs h changes
 step-stream s Next v h = refl
 
 step-silent : (k : ℤ) (c : Call) (v : Subbed) → sub_of k v.subs ≡ None → of_channel k (views_by c v) ≡ []

@@ -1,4 +1,4 @@
--- The subscription of a channel in a list that changed.
+-- The subscription of a channel in a list that changed; for the crates above too.
 use Rattle.std.proofs.Common.{◌≡◌, ℤ, Bool, true, false, cond, not, List, [], ◌∷◌, ◌++◌, Option, Some, None, is_some, ap, sym, ◌∙◌, refl, arith}
 use Rattle.std.specs.Ordering.{int_eq}
 use Rattle.std.proofs.lemmas.Int.{ints}
@@ -60,7 +60,7 @@ absent-has k xs h = by (sub_of k xs) h
     by None h = refl
     by (Some x) h = absurd (false≢true (sym h))
 
-has-absent : (k : ℤ) (xs : List Sub) → sub_of k xs ≡ None → has_sub k xs ≡ false
+pub has-absent : (k : ℤ) (xs : List Sub) → sub_of k xs ≡ None → has_sub k xs ≡ false
 has-absent k xs h = ap is_some h
 
 pub apart-others : (c : ℤ) (xs : List Sub) → AreApart xs → AreApart (others c xs)
@@ -71,7 +71,7 @@ apart-others c (y ∷ ys) a = by (int_eq y.channel c) (apart-others c ys a.1)
     by true rest = rest
     by false rest = (has-absent y.channel (others c ys) (absent-others y.channel c ys (absent-has y.channel ys a.0)), rest)
 
-other_way : (a b : ℤ) → int_eq a b ≡ false → int_eq b a ≡ false
+pub other_way : (a b : ℤ) → int_eq a b ≡ false → int_eq b a ≡ false
 other_way a b h = grind (arith, ints)
 
 pub apart-push : (xs : List Sub) (s : Sub) → sub_of s.channel xs ≡ None → AreApart xs → AreApart (xs ++ s ∷ [])

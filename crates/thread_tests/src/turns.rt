@@ -1,7 +1,7 @@
 //! A book of numbers, shared by two threads.
-ghost use Rattle.std.specs.Prelude.{◌≡◌, ◌++◌, [], ◌∷◌, Some, None, IfOk, OnOk, OnErr, length, true, slice_get};
+ghost use Rattle.std.specs.Prelude.{◌≡◌, ◌++◌, [], ◌∷◌, Some, None, IfOk, OnOk, OnErr, true};
 ghost use Rattle.turn_book.specs.Lists.{without_each};
-ghost use Rattle.turn_book.specs.Words.{fixed_of, view, IsSeatOf};
+ghost use Rattle.turn_book.specs.Words.{view, IsSeatOf};
 
 use etp_values::NoMemory;
 use std::alloc::Global;

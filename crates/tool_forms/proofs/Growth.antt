@@ -1,9 +1,10 @@
 -- A journal grows by the entries of one session.
-use Rattle.std.proofs.Common.{◌≡◌, ◌≢◌, ℕ, ℤ, zero, suc, ◌+◌, ◌-◌, ◌<◌, ◌≤◌, Bool, true, false, cond, List, [], ◌∷◌, ◌++◌, length, refl, ap, sym, ◌∙◌, subst, arith, append_assoc, append-nil, length-append, ◌==◌, nat_eq, eq-eqb}
+use Rattle.std.proofs.Common.{◌≡◌, ◌≢◌, ℕ, ℤ, zero, suc, ◌+◌, ◌-◌, ◌<◌, cond, List, [], ◌∷◌, ◌++◌, length, refl, ap, sym, ◌∙◌, subst, arith, append_assoc, append-nil, length-append, ◌==◌, eq-eqb}
 use Rattle.std.specs.Prelude.{IsSomeAnd, slice_get}
 use Rattle.std.specs.List.{AllByRecursion}
-use Rattle.std.proofs.lemmas.Bool.Decides.{nat_tests}
 use Rattle.std.proofs.lemmas.List.Elements.{filter-append}
+use Rattle.std.proofs.lemmas.Bool.{ne_eqb}
+use Rattle.store_machine.proofs.Numbers.{own_few}
 use Rattle.store_machine.specs.Laws.{IsEntryOf, IsNumber, NumbersStay}
 use Rattle.store_machine.specs.Legal.{own, IsNext}
 use Rattle.store_machine.specs.declared.journal.Entry.{Entry}
@@ -50,13 +51,10 @@ entry_within (e ∷ es) (suc i) P there = let below = entry_within es i P there 
 
 -- ---- counts of own entries
 
-is_other : (a m : ℕ) → a ≢ m → nat_eq a m ≡ false
-is_other a m other = grind (arith, nat_tests)
-
 own_other : (n m : ℕ) (es : List Entry) → m ≢ n → By n es → own m es ≡ []
 own_other n m [] other by = refl
 own_other n m (e ∷ es) other by =
-    ap (λ b. cond b (e ∷ own m es) (own m es)) (is_other e.by m (λ same. other (sym same ∙ by.0))) ∙ own_other n m es other by.1
+    ap (λ b. cond b (e ∷ own m es) (own m es)) (ne_eqb e.by m (λ same. other (sym same ∙ by.0))) ∙ own_other n m es other by.1
 
 pub own_all : (n : ℕ) (es : List Entry) → By n es → own n es ≡ es
 own_all n [] by = refl
@@ -85,15 +83,6 @@ next_more stay n k h es by next =
       session = stay h es n next.session;
       entries = ap (λ x. x + length es) next.entries ∙ sym (length-append (own n h) es) ∙ ap length (sym all);
     }
-
-few : (b : Bool) (e : Entry) (xs : List Entry) (k : ℕ) → length xs ≤ k → length (cond b (e ∷ xs) xs) ≤ suc k
-few true e xs k below = omega arith
-few false e xs k below = omega arith
-
--- own entries are no more than all
-own_few : (n : ℕ) (h : List Entry) → length (own n h) ≤ length h
-own_few n [] = omega arith
-own_few n (e ∷ es) = few (nat_eq e.by n) e (own n es) (length es) (own_few n es)
 
 -- the count of own entries, and of what was added, is a number of the machine where the journal's length is
 pub own_fits : (n entries : ℕ) (h h' : List Entry) (before after : ℕ) (es : List Entry) → h' ≡ h ++ es → entries ≡ length (own n h) → before ≡ length h → after ≡ length h' → after < 18446744073709551616

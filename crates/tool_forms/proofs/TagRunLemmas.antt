@@ -5,7 +5,7 @@ use Rattle.std.specs.Map.{values_of}
 use Rattle.std.specs.declared.option.Option.{Option}
 use Rattle.std.specs.Ordering.{nat_cmp}
 use Rattle.std.specs.BTreeMap.{is_at}
-use Rattle.std.proofs.lemmas.List.{take_at}
+use Rattle.std.proofs.lemmas.List.{take_at, map-append}
 use Rattle.std.proofs.lemmas.List.Elements.{filter-append}
 use Rattle.std.proofs.lemmas.Bool.{false≢true}
 use Rattle.std.proofs.lemmas.Bool.Decides.{nat_tests}
@@ -45,10 +45,6 @@ use Rattle.tool_forms.proofs.Soundness.{Laws, TagFits, by_added, effect_fits, nu
 use Rattle.tool_forms.proofs.Tags.{put_found, at_other, at_self}
 
 -- ---- what goes to a tag
-
-map-append : {X Y : Type 0} (f : X → Y) (xs ys : List X) → map f (xs ++ ys) ≡ map f xs ++ map f ys
-map-append f [] ys = refl
-map-append f (x ∷ xs) ys = ap (λ l. f x ∷ l) (map-append f xs ys)
 
 to_both : (kind tag : ℕ) (xs ys : List Frame) → payloads_to kind tag (xs ++ ys) ≡ payloads_to kind tag xs ++ payloads_to kind tag ys
 to_both kind tag xs ys =

@@ -8,7 +8,7 @@ ghost use Rattle.tool_forms.specs.Sound.{IsSound};
 
 use crate::player::Player;
 use capture_run::Form;
-use etp_capture::{Frame, push_frame, push_magic};
+use etp_capture::{Frame, HEAD_LEN, push_frame, push_magic};
 use etp_values::NoMemory;
 use server_config::Config;
 use std::alloc::Global;
@@ -65,7 +65,7 @@ fn room_of(frames: &[Frame]) -> usize {
     let mut room = 0usize;
     for frame in frames {
         room = room
-            .saturating_add(17)
+            .saturating_add(HEAD_LEN)
             .saturating_add(frame.bytes.as_bytes().len());
     }
     room

@@ -2,9 +2,9 @@
 ghost use Rattle.std.specs.Prelude.{◌≡◌, ◌++◌, ◌∷◌, [], IfOk, IfSome, OnOk, List, ℕ, length};
 ghost use Rattle.std.specs.Int.{w32, to_be_bytes, cast_unsigned};
 ghost use Rattle.store_machine.specs.Answers.{answered, added};
-ghost use Rattle.store_machine.specs.Legal.{IsNext, MayAsk, own};
+ghost use Rattle.store_machine.specs.Legal.{MayAsk, own};
 ghost use Rattle.store_machine.specs.declared.journal.Entry.{Entry};
-ghost use Rattle.session_core.specs.Run.{takes, hears, drained, moment_of, Asks};
+ghost use Rattle.session_core.specs.Run.{takes, drained, moment_of, Asks};
 ghost use Rattle.session_core.specs.Session.{end_of};
 ghost use Rattle.tool_forms.specs.Turns.{event_of, turn, effect_after, effect_open, effect_new, effect_at, place_in, messages, end_frame, answering, ending_bytes, session_end_bytes};
 ghost use Rattle.tool_forms.specs.Plays.{Meets};

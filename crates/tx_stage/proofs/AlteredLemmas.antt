@@ -1,6 +1,7 @@
--- The keys that operations alter are found, and where none is found nothing is done.
+-- The keys that operations alter are found, and where none is found nothing is done; for the crates above too.
 use Rattle.std.proofs.Common.{Bool, true, false, cond, ◌&&◌, ◌||◌, List, [], ◌∷◌, ◌++◌, ◌≡◌, Option, refl, sym, ap, ◌∙◌, filter, fold, true≢false}
 use Rattle.std.specs.List.{list_any}
+use Rattle.std.proofs.lemmas.Bool.{or_parts}
 use Rattle.indexmap.specs.IndexSet.{insert_key}
 use Rattle.etp_values.specs.declared.uri.StoreUri.{StoreUri}
 use Rattle.etp_values.specs.SameUri.{same_uri, same_uri-equiv, same_uri-is}
@@ -18,27 +19,23 @@ use Rattle.tx_stage.specs.SameKey.{same_key-is}
 
 -- ---- tests of lists
 
-neither : (a b : Bool) → (a || b) ≡ false → (a ≡ false) × (b ≡ false)
-neither true b h = absurd (true≢false h)
-neither false b h = (refl, h)
-
 any-none : {A : Type 0} (test : A → Bool) (xs : List A) (x : A) → list_any test xs ≡ false → test x ≡ false → list_any test (xs ++ x ∷ []) ≡ false
 any-none test [] x before last = ap (λ b. b || false) last
 any-none test (y ∷ ys) x before last =
-    let parts = neither (test y) (list_any test ys) before in
+    let parts = or_parts (test y) (list_any test ys) before in
     ap (λ b. b || list_any test (ys ++ x ∷ [])) parts.0 ∙ any-none test ys x parts.1 last
 
 any-last : {A : Type 0} (test : A → Bool) (xs : List A) (x : A) → list_any test (xs ++ x ∷ []) ≡ false → (list_any test xs ≡ false) × (test x ≡ false)
-any-last test [] x h = (refl, (neither (test x) false h).0)
+any-last test [] x h = (refl, (or_parts (test x) false h).0)
 any-last test (y ∷ ys) x h =
-    let parts = neither (test y) (list_any test (ys ++ x ∷ [])) h in
+    let parts = or_parts (test y) (list_any test (ys ++ x ∷ [])) h in
     let rest = any-last test ys x parts.1 in
     (ap (λ b. b || list_any test ys) parts.0 ∙ rest.0, rest.1)
 
-none-pass : {A : Type 0} (test : A → Bool) (xs : List A) → list_any test xs ≡ false → filter test xs ≡ []
+pub none-pass : {A : Type 0} (test : A → Bool) (xs : List A) → list_any test xs ≡ false → filter test xs ≡ []
 none-pass test [] h = refl
 none-pass test (x ∷ xs) h =
-    let parts = neither (test x) (list_any test xs) h in
+    let parts = or_parts (test x) (list_any test xs) h in
     ap (λ b. cond b (x ∷ filter test xs) (filter test xs)) parts.0 ∙ none-pass test xs parts.1
 
 -- what isn't found after an insert wasn't found before, and isn't what was inserted
@@ -78,7 +75,7 @@ suits-not false = refl
 
 pub finds-next : (a : Altered) (ops : List Op) (o : Op) → FindsAltered a ops → FindsAltered (with_op a o) (ops ++ o ∷ [])
 finds-next a ops o found key none =
-    let parts = neither (list_any (same_key key) (with_op a o).own) (is_array_of_any (with_op a o).gone key) none in
+    let parts = or_parts (list_any (same_key key) (with_op a o).own) (is_array_of_any (with_op a o).gone key) none in
     let own = inserted same_key same_key-is a.own o.key key parts.0 in
     let gone = along a.gone o.key o.what key parts.1 in
     let before : may_alter a key ≡ false = ap (λ b. b || is_array_of_any a.gone key) own.0 ∙ gone.0 in

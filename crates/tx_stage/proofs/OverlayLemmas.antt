@@ -1,5 +1,5 @@
 -- What stands after operations, step by step.
-use Rattle.std.proofs.Common.{ℕ, zero, suc, ◌+◌, ◌<◌, ℤ, Bool, true, false, cond, not, List, [], ◌∷◌, ◌++◌, ◌≡◌, Option, Some, None, refl, sym, ap, ◌∙◌, fold, filter, length, drop, get_or, add-one, arith}
+use Rattle.std.proofs.Common.{ℕ, suc, ◌+◌, ◌<◌, ℤ, Bool, true, false, cond, not, List, [], ◌∷◌, ◌++◌, ◌≡◌, Option, Some, None, refl, sym, ap, ◌∙◌, fold, filter, length, drop, get_or, add-one, drop-cons}
 use Rattle.std.specs.Prelude.{is_some}
 use Rattle.std.specs.Option.{option_map}
 use Rattle.std.proofs.lemmas.List.{append-nil}
@@ -35,11 +35,6 @@ first-step f a x xs false = refl
 overlay-first : (o : Op) (ops : List Op) (key : Key) (base : Option Value) → overlay (o ∷ ops) key base ≡ overlay ops key (cond (op_alters o key) (op_left o base) base)
 overlay-first o ops key base = first-step (λ v (p : Op). op_left p v) base o (filter (λ (p : Op). op_alters p key) ops) (op_alters o key)
 
-drop-at : {X : Type 0} (xs : List X) (k : ℕ) (x : X) → k < length xs → x ≡ get_or xs k x → drop k xs ≡ x ∷ drop (suc k) xs
-drop-at [] k x h e = absurd (omega arith)
-drop-at (y ∷ ys) zero x h e = ap (λ q. q ∷ ys) (sym e)
-drop-at (y ∷ ys) (suc k) x h e = drop-at ys k x (omega arith) e
-
 -- one operation of a list is done, and then the others
 pub overlay-goes : (ops : List Op) (k : ℕ) (o : Op) (key : Key) (before after : Option Value) → k < length ops → o ≡ get_or ops k o
     → after ≡ cond (op_alters o key) (op_left o before) before → overlay (drop (k + 1) ops) key after ≡ overlay (drop k ops) key before
@@ -47,7 +42,7 @@ overlay-goes ops k o key before after within is done =
     ap (overlay (drop (k + 1) ops) key) done
     ∙ sym (overlay-first o (drop (k + 1) ops) key before)
     ∙ ap (λ n. overlay (o ∷ drop n ops) key before) (add-one k)
-    ∙ ap (λ os. overlay os key before) (sym (drop-at ops k o within is))
+    ∙ ap (λ os. overlay os key before) (sym (drop-cons ops k o within ∙ ap (λ p. p ∷ drop (suc k) ops) (sym is)))
 
 -- ---- whether something stands
 

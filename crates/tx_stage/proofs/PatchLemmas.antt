@@ -4,7 +4,7 @@ use Rattle.std.specs.Prelude.{is_some, is_none, IsSome, IfOk, OnOk}
 use Rattle.std.specs.List.{list_any}
 use Rattle.std.specs.Option.{option_map}
 use Rattle.std.specs.Vec.{with_item}
-use Rattle.std.proofs.lemmas.Bool.{false≢true}
+use Rattle.std.proofs.lemmas.Bool.{false≢true, or_parts, and_parts}
 use Rattle.std.proofs.lemmas.List.{set-get_or}
 use lib.ListN.{length-set}
 use native.Mathlib.Nat.{ℕ_set}
@@ -38,14 +38,6 @@ use Rattle.tx_stage.proofs.PlanLemmas.{accepted-patch, arrays-next, leaves-refus
 
 -- ---- tests
 
-both : (a b : Bool) → (a && b) ≡ true → (a ≡ true) × (b ≡ true)
-both true b h = (refl, h)
-both false b h = absurd (false≢true h)
-
-neither : (a b : Bool) → (a || b) ≡ false → (a ≡ false) × (b ≡ false)
-neither true b h = absurd (false≢true (sym h))
-neither false b h = (refl, h)
-
 none-of : (e : Option ArrayError) → is_none e ≡ true → e ≡ None
 none-of None h = refl
 none-of (Some e) h = absurd (false≢true h)
@@ -77,20 +69,20 @@ sets-over key before (o ∷ ops) (suc place) is stands = sets-over key (array_af
 -- ---- operations that do not concern a key
 
 idle-op : (key : ArrayKey) (o : ArrayOp) (before : Option ArrayRecord) → concerns key o ≡ false → array_after key before o ≡ before
-idle-op key (SetArray k r) before h = put (same_key key k) (record_refusal r) (neither (same_key key k && is_none (record_refusal r)) false h).0
+idle-op key (SetArray k r) before h = put (same_key key k) (record_refusal r) (or_parts (same_key key k && is_none (record_refusal r)) false h).0
   where
     put : (b : Bool) (e : Option ArrayError) → (b && is_none e) ≡ false → cond b (put_unless e before r) before ≡ before
     put true None h = absurd (false≢true (sym h))
     put true (Some e) h = refl
     put false e h = refl
 idle-op key (PatchArray k at ss cs vs) before h = ap (λ b. cond b (option_map (patched_in_place at ss cs vs) before) before) h
-idle-op key (DropArraysOf u) before h = ap (λ b. cond b None before) (neither (is_of_object u key) false h).0
-idle-op key (DropArraysIn p) before h = ap (λ b. cond b None before) (neither (is_in_space p key) false h).0
+idle-op key (DropArraysOf u) before h = ap (λ b. cond b None before) (or_parts (is_of_object u key) false h).0
+idle-op key (DropArraysIn p) before h = ap (λ b. cond b None before) (or_parts (is_in_space p key) false h).0
 
 idle : (key : ArrayKey) (ops : List ArrayOp) (before : Option ArrayRecord) → list_any (concerns key) ops ≡ false → fold (array_after key) before ops ≡ before
 idle key [] before h = refl
 idle key (o ∷ ops) before h =
-    let n = neither (concerns key o) (list_any (concerns key) ops) h in
+    let n = or_parts (concerns key o) (list_any (concerns key) ops) h in
     ap (λ x. fold (array_after key) x ops) (idle-op key o before n.0) ∙ idle key ops before n.1
 
 -- ---- what stands at the key
@@ -109,7 +101,7 @@ stands-here : (key : ArrayKey) (o : ArrayOp) (before : Option ArrayRecord) (ops 
     → Stands key o (fold (array_after key) (array_after key before o) ops)
 stands-here key (SetArray k r) None ops some set later = absurd (false≢true some)
 stands-here key (SetArray k r) (Some b) ops some set later =
-    let h = both (same_key key k) (is_none (record_refusal r)) set in
+    let h = and_parts (same_key key k) (is_none (record_refusal r)) set in
     let sound = none-of (record_refusal r) h.1 in
     record {
       own = k;
@@ -138,7 +130,7 @@ patched-here : (key : ArrayKey) (o : ArrayOp) (before : Option ArrayRecord) (ops
     → fold (array_after key) (array_after key before new) ops ≡ option_map (patched_at at ss cs vs) (fold (array_after key) (array_after key before o) ops)
 patched-here key (SetArray k r) None ops new at ss cs vs some is later made fits sound = absurd (false≢true some)
 patched-here key (SetArray k r) (Some b) ops new at ss cs vs some is later made fits sound =
-    let h = both (same_key key k) (is_none (record_refusal r)) is in
+    let h = and_parts (same_key key k) (is_none (record_refusal r)) is in
     let patched : ArrayRecord = patched_at at ss cs vs r in
     let held : record_refusal r ≡ None = none-of (record_refusal r) h.1 in
     let holds : record_refusal patched ≡ None = none-of (record_refusal patched) (ap is_sound (sym made) ∙ sound) in
@@ -166,7 +158,7 @@ patched-own key before (p ∷ ops) (suc place) o new at ss cs vs is read made fi
 other-here : (key q : ArrayKey) (o new : ArrayOp) (y : Option ArrayRecord) (at : ℤ) (ss cs : List ℤ) (vs : AnyArray)
     → same_key q key ≡ false → sets key o ≡ true → new ≡ patched_op at ss cs vs o → array_after q y new ≡ array_after q y o
 other-here key q (SetArray k r) new y at ss cs vs apart is made =
-    let h = both (same_key key k) (is_none (record_refusal r)) is in
+    let h = and_parts (same_key key k) (is_none (record_refusal r)) is in
     let off : same_key q k ≡ false = ap (same_key q) (sym (same_key-is key k h.0)) ∙ apart in
     let patched : ArrayRecord = patched_at at ss cs vs r in
     ap (array_after q y) made
@@ -278,15 +270,15 @@ kept (Ok code) p place o new at ss cs vs read made coded = λ some.
 -- ---- the array as it was given, where an operation sets it and no later one concerns it
 
 idle-given-op : (key : ArrayKey) (o : ArrayOp) (before : Option ArrayRecord) → concerns key o ≡ false → array_given key before o ≡ before
-idle-given-op key (SetArray k r) before h = ap (λ b. cond b (Some r) before) (neither (same_key key k && is_none (record_refusal r)) false h).0
+idle-given-op key (SetArray k r) before h = ap (λ b. cond b (Some r) before) (or_parts (same_key key k && is_none (record_refusal r)) false h).0
 idle-given-op key (PatchArray k at ss cs vs) before h = ap (λ b. cond b (option_map (patched_in_place at ss cs vs) before) before) h
-idle-given-op key (DropArraysOf u) before h = ap (λ b. cond b None before) (neither (is_of_object u key) false h).0
-idle-given-op key (DropArraysIn p) before h = ap (λ b. cond b None before) (neither (is_in_space p key) false h).0
+idle-given-op key (DropArraysOf u) before h = ap (λ b. cond b None before) (or_parts (is_of_object u key) false h).0
+idle-given-op key (DropArraysIn p) before h = ap (λ b. cond b None before) (or_parts (is_in_space p key) false h).0
 
 idle-given : (key : ArrayKey) (ops : List ArrayOp) (before : Option ArrayRecord) → list_any (concerns key) ops ≡ false → fold (array_given key) before ops ≡ before
 idle-given key [] before h = refl
 idle-given key (o ∷ ops) before h =
-    let n = neither (concerns key o) (list_any (concerns key) ops) h in
+    let n = or_parts (concerns key o) (list_any (concerns key) ops) h in
     ap (λ x. fold (array_given key) x ops) (idle-given-op key o before n.0) ∙ idle-given key ops before n.1
 
 given-here : (key : ArrayKey) (o : ArrayOp) (before : Option ArrayRecord) → sets key o ≡ true → array_given key before o ≡ array_set o

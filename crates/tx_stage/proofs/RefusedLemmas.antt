@@ -1,4 +1,4 @@
--- Refusals of arrays, their codes, and want of memory.
+-- Refusals of arrays, their codes, and want of memory; for the crates above too.
 use Rattle.std.proofs.Common.{◌≡◌, Option, Some, None, Result, Ok, refl, sym, ap, ◌∙◌, subst}
 use Rattle.std.specs.Prelude.{IfOk}
 use Rattle.std.specs.Option.{option_map, unwrap_or}
@@ -30,7 +30,7 @@ slice-refused result e refusal values is given =
     subst (λ r. IfOk r (λ l. l ≡ elements_seen refusal values)) (sym (given ∙ ap memory_or_refused is)) (seen-refused refusal values)
 
 -- a refusal has its code
-refusal-code : (e : ArrayError) (code : ErrorCode) → memory_or_code e ≡ Ok code → code ≡ code_of e
+pub refusal-code : (e : ArrayError) (code : ErrorCode) → memory_or_code e ≡ Ok code → code ≡ code_of e
 refusal-code error.Rank code h = cc
 refusal-code error.Outside code h = cc
 refusal-code error.Kind code h = cc

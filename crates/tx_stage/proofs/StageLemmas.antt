@@ -5,7 +5,6 @@ use Rattle.std.specs.List.{list_any}
 use Rattle.etp_values.specs.Weight.{weigh}
 use Rattle.tx_stage.specs.declared.error.StageError.TheVariants.{Space, Keys}
 use Rattle.tx_stage.specs.declared.key.Key.{Key}
-use Rattle.tx_stage.specs.declared.limits.TheConstants.{MAX_TOUCHED}
 use Rattle.tx_stage.specs.declared.touch.Touch.{Touch}
 use Rattle.tx_stage.specs.Keys.{same_key, space_of}
 use Rattle.tx_stage.specs.Staging.{Transaction, has_space, is_touched, note_refusal, noted, unless}
@@ -43,12 +42,12 @@ keys-push key keys new touched t listed same fresh put =
 pub note-known : (x : Transaction) (key : Key) (mark : ℕ) → has_space x.spaces (space_of key) ≡ true → is_touched x.touched key ≡ true
     → (unless (note_refusal x key) ≡ Ok tt) × (x ≡ noted mark x key)
 note-known x key mark has touched = (
-  (λ j. unless (cond (not (has j)) (Some (Space (space_of key))) (cond (touched j) None (cond (nat_le MAX_TOUCHED (length x.touched)) (Some Keys) None)))),
+  (λ j. unless (cond (not (has j)) (Some (Space (space_of key))) (cond (touched j) None (cond (nat_le 16384 (length x.touched)) (Some Keys) None)))),
   sym (λ j. cond (touched j) x (record x { touched = x.touched ++ record { key = key; mark = mark } ∷ [] })),
 )
 
 -- one too many
-pub note-full : (x : Transaction) (key : Key) → has_space x.spaces (space_of key) ≡ true → is_touched x.touched key ≡ false → nat_le MAX_TOUCHED (length x.touched) ≡ true
+pub note-full : (x : Transaction) (key : Key) → has_space x.spaces (space_of key) ≡ true → is_touched x.touched key ≡ false → nat_le 16384 (length x.touched) ≡ true
     → unless (note_refusal x key) ≡ Err Keys
 note-full x key has fresh full =
     λ j. unless (cond (not (has j)) (Some (Space (space_of key))) (cond (fresh j) None (cond (full j) (Some Keys) None)))

@@ -18,7 +18,6 @@ use Rattle.tx_stage.specs.declared.look.Want.{Want}
 use Rattle.tx_stage.specs.declared.look.Want.TheVariants as want
 use Rattle.tx_stage.specs.declared.look.Looked.{Looked}
 use Rattle.tx_stage.specs.declared.look.Looked.TheVariants as looked
-use Rattle.tx_stage.specs.declared.look.TheConstants.{MAX_PAYLOAD}
 use Rattle.tx_stage.specs.declared.value.Value.{Value}
 use Rattle.tx_stage.specs.Values.{as_space, as_object, as_array}
 
@@ -96,9 +95,9 @@ looks_within state room (w ∷ ws) =
     given room (seen_of w (state (key_of w)))
     ∷ looks_within state (room - payload_of (given room (seen_of w (state (key_of w))))) ws
 
--- the looks of one call
+-- the looks of one call, which give at most 64 MiB of payload
 abbrev pub looks : (Key → Option Value) → List Want → List Looked
-looks state ws = looks_within state MAX_PAYLOAD ws
+looks state ws = looks_within state 67108864 ws
 
 -- ---- how a refusal is seen; want of memory is none
 

@@ -42,6 +42,7 @@ takes_along own Gone key = is_array_of own key
 abbrev pub alters_by : Key → OpWhat → Key → Bool
 alters_by own what key = suits own what && (same_key key own || takes_along own what key)
 
+-- whether an operation alters what a key has
 abbrev pub op_alters : Op → Key → Bool
 op_alters o key = alters_by o.key o.what key
 
@@ -66,5 +67,6 @@ left_by at (SetArray r) before = Some (value.Array (record r { written = at; cre
 left_by at (Patch ss cs vs) before = option_map (patched_value at ss cs vs) before
 left_by at Gone before = None
 
+-- what a key has after an operation that alters it, from what it had before
 abbrev pub op_left : Op → Option Value → Option Value
 op_left o before = left_by o.at o.what before

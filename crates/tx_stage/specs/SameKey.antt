@@ -1,10 +1,10 @@
 -- That keys which are the same are equal, and the laws that a table with such keys asks for.
-use Rattle.std.specs.Prelude.{Bool, true, false, ◌≡◌, ◌&&◌, refl}
+use Rattle.std.specs.Prelude.{true, false, ◌≡◌, refl}
 use Rattle.std.specs.Cmp.{IsEquivalence, and_equiv, on_equiv}
 use Rattle.std.specs.Cmp.Lexicographic.{nat_list_eq_equiv}
 use Rattle.std.specs.Str.{bytes_eq}
 use Rattle.std.proofs.Common.{ap}
-use Rattle.std.proofs.lemmas.Bool.{false≢true}
+use Rattle.std.proofs.lemmas.Bool.{false≢true, and_parts}
 use Rattle.std.proofs.lemmas.Slice.Eq.{bytes_eq-Decides}
 use Rattle.etp_values.specs.SameUri.{same_uri, same_uri-equiv, same_uri-is}
 use Rattle.array_store.specs.declared.key.ArrayKey.{ArrayKey}
@@ -16,13 +16,9 @@ use Rattle.tx_stage.specs.Keys.{same_key}
 array-equiv : IsEquivalence table.same_key
 array-equiv = and_equiv (on_equiv (λ k. k.uri) same_uri-equiv) (on_equiv (λ k. k.path) nat_list_eq_equiv)
 
-both : (a b : Bool) → (a && b) ≡ true → (a ≡ true) × (b ≡ true)
-both true b h = (refl, h)
-both false b h = absurd (false≢true h)
-
 array-is : (k l : ArrayKey) → table.same_key k l ≡ true → k ≡ l
 array-is k l h =
-    let parts = both (same_uri k.uri l.uri) (bytes_eq k.path l.path) h in
+    let parts = and_parts (same_uri k.uri l.uri) (bytes_eq k.path l.path) h in
     let uri = same_uri-is k.uri l.uri parts.0 in
     let path = (bytes_eq-Decides k.path l.path).0 parts.1 in
     (λ j. record { uri = uri j; path = path j })

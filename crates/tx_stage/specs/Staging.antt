@@ -6,7 +6,6 @@ use Rattle.etp_values.specs.Weight.{weigh}
 use Rattle.tx_stage.specs.declared.error.StageError.{StageError}
 use Rattle.tx_stage.specs.declared.error.StageError.TheVariants.{ReadOnly, Space, Operations, Bytes, Keys}
 use Rattle.tx_stage.specs.declared.key.Key.{Key}
-use Rattle.tx_stage.specs.declared.limits.TheConstants.{MAX_OPERATIONS, MAX_STAGED_BYTES, MAX_TOUCHED}
 use Rattle.tx_stage.specs.declared.op.Op.{Op}
 use Rattle.tx_stage.specs.declared.touch.Touch.{Touch}
 use Rattle.tx_stage.specs.Counted.{op_bytes}
@@ -28,12 +27,12 @@ has_space spaces path = if length spaces == 0 then length path == 0 else list_an
 abbrev pub is_touched : List Touch → Key → Bool
 is_touched touched key = list_any (λ (t : Touch). same_key key t.key) touched
 
--- why a key is not noted
+-- why a key is not noted; at most 16,384 are
 abbrev pub note_refusal : Transaction → Key → Option StageError
 note_refusal x key =
     if not (has_space x.spaces (space_of key)) then Some (Space (space_of key))
     else if is_touched x.touched key then None
-    else if nat_le MAX_TOUCHED (length x.touched) then Some Keys
+    else if nat_le 16384 (length x.touched) then Some Keys
     else None
 
 -- a key is noted once, with the mark of its first touch
@@ -42,13 +41,13 @@ noted mark x key =
     if is_touched x.touched key then x
     else record x { touched = x.touched ++ record { key = key; mark = mark } ∷ [] }
 
--- why an operation is not staged
+-- why an operation is not staged; at most 4,096 are, which count at most 64 MiB together
 abbrev pub put_refusal : Transaction → Op → Option StageError
 put_refusal x o =
     if x.read_only then Some ReadOnly
     else if not (has_space x.spaces (space_of o.key)) then Some (Space (space_of o.key))
-    else if nat_le MAX_OPERATIONS (length x.ops) then Some Operations
-    else if nat_lt MAX_STAGED_BYTES (weigh op_bytes x.ops + op_bytes o) then Some Bytes
+    else if nat_le 4096 (length x.ops) then Some Operations
+    else if nat_lt 67108864 (weigh op_bytes x.ops + op_bytes o) then Some Bytes
     else None
 
 -- an operation staged

@@ -422,7 +422,7 @@ impl Contents {
         Ok(None)
     }
 
-    /// Does a plan. All memory is taken before anything changes.
+    /// Does a plan, once it has the memory for the whole of it.
     pub fn apply(&mut self, plan: Plan) -> Result<(), NoMemory>
         ensures ok { OnOk result ((key : AKey) → state_in self.new key ≡ state_now self.old plan key) }
         ensures err { OnErr result ((key : AKey) → state_in self.new key ≡ state_in self.old key) }

@@ -39,4 +39,4 @@ pub use overlaying::{overlay, there};
 pub use plan::Plan;
 pub use stage::Stage;
 pub use touch::{Staged, Touch};
-pub use value::{Value, left};
+pub use value::{Value, left, memory_or_code};

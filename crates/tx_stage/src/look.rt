@@ -115,8 +115,8 @@ fn see_array(alloc: Global, array: Option<&ArrayRecord>) -> Result<Looked, NoMem
     Ok(Looked::Array(array.copy(alloc)?))
 }
 
-/// The code of a refusal; want of memory is none.
-fn refused(error: ArrayError) -> Result<Looked, NoMemory>
+/// How a refusal is seen; want of memory is none.
+fn memory_or_refused(error: ArrayError) -> Result<Looked, NoMemory>
     ensures { result ≡ memory_or_refused error }
 {
     match error {
@@ -142,7 +142,7 @@ fn see_slice(
     };
     match read_slice(alloc, array, starts, counts) {
         Ok(values) => Ok(Looked::Slice(values)),
-        Err(error) => refused(error),
+        Err(error) => memory_or_refused(error),
     }
 }
 

@@ -78,7 +78,7 @@ fn made_at(at: i64, before: &Option<Value>) -> i64
 }
 
 /// The code of a refusal; want of memory is none.
-fn refused(error: ArrayError) -> Result<ErrorCode, NoMemory>
+pub fn memory_or_code(error: ArrayError) -> Result<ErrorCode, NoMemory>
     ensures { result ≡ memory_or_code error }
 {
     match error {
@@ -113,7 +113,7 @@ pub(crate) fn patch_in_place(
             Ok(None)
         }
         Err(error) => {
-            let code = refused(error)?;
+            let code = memory_or_code(error)?;
             Ok(Some(code))
         }
     }

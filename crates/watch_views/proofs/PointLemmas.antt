@@ -5,6 +5,7 @@ use Rattle.std.specs.Option.{option_to_list}
 use Rattle.std.proofs.lemmas.List.{drop_all, take_all}
 use Rattle.std.proofs.Math.Seq.{drop-append_seam, drop-append-add}
 use Rattle.std.proofs.lemmas.List.Elements.{filter-append}
+use Rattle.std.proofs.lemmas.Option.{slice_get_within}
 use Rattle.circular_buffer.specs.Buffer.{keep_last}
 use Rattle.etp_values.specs.declared.point.Point.{Point}
 use Rattle.channel_store.specs.declared.change.What.{What}
@@ -62,12 +63,6 @@ pub one_none : {X : Type 0} (o : Option X) (ys : List X) → length ys ≡ 0 →
 one_none o [] h = ap (keep_last 1) (append-nil (option_to_list o)) ∙ keep_short 1 (option_to_list o) (option_short o)
 one_none o (y ∷ ys) h = absurd (omega arith)
 
-get_within : {X : Type 0} (xs : List X) (k : ℕ) (x : X) → slice_get xs k ≡ Some x → k < length xs
-get_within [] zero x h = cc
-get_within [] (suc k) x h = cc
-get_within (y ∷ ys) zero x h = omega arith
-get_within (y ∷ ys) (suc k) x h = let rest = get_within ys k x h in omega arith
-
 last_one : {X : Type 0} (ys : List X) (p : X) → slice_get ys (length ys - 1) ≡ Some p → keep_last 1 ys ≡ p ∷ []
 last_one [] p h = cc
 last_one (y ∷ []) p h = cc
@@ -79,7 +74,7 @@ last_one (y ∷ z ∷ zs) p h =
 pub one_some : {X : Type 0} (xs ys : List X) (p : X) → slice_get ys (length ys - 1) ≡ Some p → keep_last 1 (xs ++ ys) ≡ p ∷ []
 one_some [] ys p h = last_one ys p h
 one_some (x ∷ xs) ys p h =
-    let within = get_within ys (length ys - 1) p h in
+    let within = slice_get_within ys (length ys - 1) p h in
     keep_cons 1 x (xs ++ ys) (omega (arith, within, length-append xs ys)) ∙ one_some xs ys p h
 
 -- ---- copies of the last ones, one by one

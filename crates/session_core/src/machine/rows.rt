@@ -3,7 +3,7 @@ ghost use Rattle.std.specs.List.{list_any};
 ghost use Rattle.std.specs.Ordering.{int_eq};
 ghost use Rattle.std.specs.Prelude.{◌≡◌, IfOk, OnOk, Some};
 ghost use Rattle.channel_rows.specs.Loads.{load_outcome};
-ghost use Rattle.channel_rows.specs.Subscriptions.{subscribe_request};
+ghost use Rattle.channel_rows.specs.Subscriptions.{subscribe_outcome};
 ghost use Rattle.session_core.specs.Arriving.{request_of};
 ghost use Rattle.session_core.specs.Machine.{arrays_kept, asks, objects_kept, on_arrays, on_dataspaces, on_loads, on_loads_by, on_message, on_objects, on_protocol, on_row, on_subscriptions, on_subscriptions_by, on_transactions, on_transactions_by, protocol_refusal};
 ghost use Rattle.session_core.specs.Noting.{keys_in};
@@ -358,9 +358,9 @@ impl Machine {
         request: Request,
         message: ChannelSubscribeMessage,
     ) -> Result<Option<StoreCall>, NoMemory>
-        ensures call { let subscribing = subscribe_request self.old.subs message in
+        ensures call { let subscribing = subscribe_outcome self.old.subs message in
             IfOk result (λ call. call ≡ (on_subscriptions request subscribing self.old).call) }
-        ensures state { let subscribing = subscribe_request self.old.subs message in
+        ensures state { let subscribing = subscribe_outcome self.old.subs message in
             OnOk result (self.new ≡ (on_subscriptions request subscribing self.old).state) }
     {
         let mut subs = taken_subs(alloc, self.subs.take())?;

@@ -4,4 +4,4 @@ use Rattle.array_rows.proofs.CodeLemmas.{refusal_code}
 use Rattle.array_rows.proofs.patching.write_fault.Goals as goal
 
 pub returns-in_ok-code-in-Err : goal.returns-in_ok-code-in-Err
-returns-in_ok-code-in-Err c = refusal_code c.in-Err.error c.in_ok-code-in-Err.code (write_refusal c.args.array.now c.args.starts.now c.args.counts.now c.args.values) c.in-Err.ensures.done (sym c.refused.ensures ∙ c.in_ok-code-in-Err.was)
+returns-in_ok-code-in-Err c = refusal_code c.in-Err.error c.in_ok-code-in-Err.code (write_refusal c.args.array.now c.args.starts.now c.args.counts.now c.args.values) c.in-Err.ensures.done (sym c.memory_or_code.ensures ∙ c.in_ok-code-in-Err.was)

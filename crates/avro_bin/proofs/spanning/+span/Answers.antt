@@ -1,11 +1,11 @@
-use Rattle.std.proofs.Common.{◌≡◌, length, map, [], get_or, ◌+◌, ◌-◌, ◌<◌, List, ℕ, Bor, true, false, refl, ap, sym, ◌∙◌, arith, rules, FitsSigned, w64, of_z, to_z, to_z-of_z}
+use Rattle.std.proofs.Common.{◌≡◌, length, ◌-◌, ◌<◌, List, ℕ, Bor, true, false, refl, ap, sym, ◌∙◌, arith, rules, FitsSigned, w64, of_z, to_z, to_z-of_z}
 use Rattle.std.proofs.lemmas.Result.{err_from_is_err_and}
 use Rattle.std.specs.Ordering.{nat_cmp}
 use Rattle.std.specs.Cmp.Lexicographic.{slice_cmp}
 use Rattle.std.specs.BTreeMap.{insert_entry}
 use Rattle.avro_bin.specs.Reading.{value_at, has}
 use Rattle.avro_bin.specs.Along.{pass_at, put_at, mark_at}
-use Rattle.avro_bin.specs.Schema.{schema, schemas}
+use Rattle.avro_bin.specs.Schema.{schema}
 use Rattle.avro_bin.specs.declared.schema.Node.TheVariants as n
 use Rattle.avro_bin.proofs.Schemas.{below, leaf_is}
 use Rattle.avro_bin.proofs.Steps.{items_next, items_fail, items_done, blocks_stop, blocks_more, blocks_ends, blocks_none, blocks_fail, is_zero, all_at, place_below}

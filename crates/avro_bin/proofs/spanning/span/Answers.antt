@@ -1,4 +1,4 @@
-use Rattle.std.proofs.Common.{inr, refl}
+use Rattle.std.proofs.Common.{inr}
 use Rattle.avro_bin.specs.Schema.{schema}
 use Rattle.avro_bin.specs.Laws.{node_limit}
 use Rattle.avro_bin.proofs.Spanned.{spans_ok, spans_err}

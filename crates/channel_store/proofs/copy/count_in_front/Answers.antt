@@ -1,6 +1,6 @@
 use Rattle.std.proofs.Common.{◌≡◌, true, false, length, take, arith, subst, rules, w64, to_z, of_z}
 use Rattle.std.specs.List.{AllByRecursion}
-use Rattle.std.proofs.lemmas.Int.{to_z-of_z, ints}
+use Rattle.std.proofs.lemmas.Int.{to_z-of_z}
 use Rattle.channel_store.specs.Copies.{IsFront}
 use Rattle.channel_store.specs.Points.{at_most}
 use Rattle.channel_store.proofs.FrontLemmas.{front-all, front-at}

@@ -1,8 +1,8 @@
 use Rattle.std.proofs.Common.{◌||◌, arith, IsSome, ap, sym, subst, ◌∙◌}
+use Rattle.etp_outside.proofs.FaultLemmas.{rose_later}
 use Rattle.client_forms.specs.Ctl.{ctl}
 use Rattle.client_forms.specs.Top.{HasCause, Runs, dials, world}
 use Rattle.client_forms.specs.Work.{input, line, output, outside}
-use Rattle.client_forms.proofs.Chains.{rose_later}
 use Rattle.client_forms.proofs.Dialing.{caused, done_over, ran_over, told_from}
 use Rattle.client_forms.proofs.run.run_over.Goals as goal
 

@@ -12,10 +12,10 @@ pub returns-then-at-got-gt-CAPTURE_LIMIT-clause-bytes : goal.returns-then-at-got
 returns-then-at-got-gt-CAPTURE_LIMIT-clause-bytes c = λ rest end.
     front_limit c.args.head.now c.args.got c.args.at rest c.requires.some c.requires.most c.told-head (omega arith) (omega arith) (sym c.is_kind.ensures ∙ c.if-not-is_kind.false)
 
-pub returns-then-got-lt17-clause-bytes : goal.returns-then-got-lt17-clause-bytes
-returns-then-got-lt17-clause-bytes c = λ rest end.
-    front_cut c.args.head.now c.args.got c.args.at rest c.requires.some c.if-got-lt17.true c.told-head (omega arith)
-    (end (omega arith) c.if-got-lt17.true) (sym c.is_kind.ensures ∙ c.if-not-is_kind.false)
+pub returns-then-got-lt-HEAD_LEN-clause-bytes : goal.returns-then-got-lt-HEAD_LEN-clause-bytes
+returns-then-got-lt-HEAD_LEN-clause-bytes c = λ rest end.
+    front_cut c.args.head.now c.args.got c.args.at rest c.requires.some c.if-got-lt-HEAD_LEN.true c.told-head (omega arith)
+    (end (omega arith) c.if-got-lt-HEAD_LEN.true) (sym c.is_kind.ensures ∙ c.if-not-is_kind.false)
 
 pub returns-then-not-is_length-clause-bytes : goal.returns-then-not-is_length-clause-bytes
 returns-then-not-is_length-clause-bytes c = λ rest end.

@@ -1,6 +1,6 @@
 use Rattle.std.proofs.Common.{ℕ, ◌+◌, Some, refl, ap, ◌∙◌, inl, inr, arith}
+use Rattle.etp_outside.proofs.FaultLemmas.{rose_later}
 use Rattle.etp_serve.proofs.AcceptLemmas.{left_most, left_next, left_over, left_start}
-use Rattle.etp_serve.proofs.Causes.{rose_later}
 use Rattle.etp_serve.proofs.accepting.serve_links.Goals as goal
 
 pub loop-init : goal.loop-init

@@ -1,11 +1,12 @@
 use Rattle.std.proofs.Common.{◌≡◌, ℕ, ℤ, List, ap, sym, ◌∙◌, refl, w64, to_z, of_z, rules, FitsSigned}
 use Rattle.std.proofs.lemmas.Int.{to_z-of_z}
+use Rattle.etp_outside.proofs.FaultLemmas.{rose_later}
 use Rattle.store_hub.specs.Passes.{known, config_of}
 use Rattle.session_core.specs.Arriving.{Event, Receives}
 use Rattle.session_core.specs.Run.{takes}
 use Rattle.session_core.specs.State.{State}
 use Rattle.etp_serve.specs.declared.ended.Ended.TheVariants.{PeerEnd, LinkFault, NoMemory}
-use Rattle.etp_serve.proofs.Causes.{or_true, rose_later}
+use Rattle.etp_serve.proofs.Causes.{or_true}
 use Rattle.session_core.proofs.StepLemmas.{asks_call}
 use Rattle.etp_serve.proofs.Turns.{run_stops, run_idle, message_fails}
 use Rattle.etp_serve.proofs.Tails.{message_goes, message_ends}

@@ -1,5 +1,5 @@
 use Rattle.std.proofs.Common.{arith, ◌∙◌, sym, refl}
-use Rattle.etp_serve.proofs.Causes.{rose_later}
+use Rattle.etp_outside.proofs.FaultLemmas.{rose_later}
 use Rattle.etp_serve.proofs.Drained.{drain_start, drain_step, drain_smaller, drain_done, drain_cut, drain_stopped}
 use Rattle.etp_serve.proofs.steps.drain.Goals as goal
 

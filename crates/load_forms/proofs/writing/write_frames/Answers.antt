@@ -1,5 +1,5 @@
 use Rattle.std.proofs.Common.{Some, ap, arith}
-use Rattle.gathered_text.proofs.GoingLemmas.{rose_later}
+use Rattle.etp_outside.proofs.FaultLemmas.{rose_later}
 use Rattle.load_forms.proofs.writing.write_frames.Goals as goal
 
 pub loop-wrote-init : goal.loop-wrote-init

@@ -1,7 +1,8 @@
 use Rattle.std.proofs.Common.{◌≡◌, ◌++◌, [], ℕ, List, ap, sym, ◌∙◌, subst, arith}
+use Rattle.etp_outside.proofs.FaultLemmas.{rose_later}
 use Rattle.server_forms.specs.Report.{entries_line, lines_from, report}
 use Rattle.gathered_text.specs.Writing.{Going}
-use Rattle.gathered_text.proofs.GoingLemmas.{going_start, nothing_written, rose_later}
+use Rattle.gathered_text.proofs.GoingLemmas.{going_start, nothing_written}
 use Rattle.server_forms.proofs.report.write_counted.Goals as goal
 
 pub returns-in_default-clause-written : goal.returns-in_default-clause-written

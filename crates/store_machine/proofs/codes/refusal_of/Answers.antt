@@ -7,5 +7,5 @@ use Rattle.store_machine.proofs.codes.refusal_of.Goals as goal
 pub returns-in-Ok : goal.returns-in-Ok
 returns-in-Ok c = λ refusal h. taken-code refusal (subst (λ (r : Result (Unit {0}) ChannelError). Refuses r refusal) c.in-Ok.is h)
 
-pub returns-in_ok-refused-in-Err : goal.returns-in_ok-refused-in-Err
-returns-in_ok-refused-in-Err c = λ refusal h. refused-code c.in-Err.error refusal _ (subst (λ (r : Result (Unit {0}) ChannelError). Refuses r refusal) c.in-Err.is h) c.in_ok-refused-in-Err.ensures
+pub returns-in_ok-refusal_code-in-Err : goal.returns-in_ok-refusal_code-in-Err
+returns-in_ok-refusal_code-in-Err c = λ refusal h. refused-code c.in-Err.error refusal _ (subst (λ (r : Result (Unit {0}) ChannelError). Refuses r refusal) c.in-Err.is h) c.in_ok-refusal_code-in-Err.ensures

@@ -21,5 +21,5 @@ returns-in-Ok-clause-added c =
       c.in-Ok.ensures.channels ∙ (λ j. changed (place j) (moment j) (what_of (load_act c.args.load)) c.args.channels.now),
     )
 
-pub returns-in_ok-refused-in-Err-clause-code : goal.returns-in_ok-refused-in-Err-clause-code
-returns-in_ok-refused-in-Err-clause-code c = refused-code c.in-Err.error _ _ c.in-Err.ensures.answer c.in_ok-refused-in-Err.ensures
+pub returns-in_ok-refusal_code-in-Err-clause-code : goal.returns-in_ok-refusal_code-in-Err-clause-code
+returns-in_ok-refusal_code-in-Err-clause-code c = refused-code c.in-Err.error _ _ c.in-Err.ensures.answer c.in_ok-refusal_code-in-Err.ensures

@@ -2,7 +2,6 @@ use Rattle.std.proofs.Common.{arith, sym, subst, ap, ◌∙◌, ◌≡◌, ◌�
 use Rattle.std.proofs.lemmas.Grind.{common_steps}
 use Rattle.store_machine.specs.declared.call.Reply.TheVariants as replied
 use Rattle.store_machine.specs.declared.reads.Room.{Room}
-use Rattle.store_machine.specs.declared.reads.TheConstants.{MAX_POINT_BYTES}
 use Rattle.store_machine.specs.Reads.{behind, ranged, whole_room}
 use Rattle.store_machine.proofs.Reading.{nothing-behind, ranges-done}
 use Rattle.store_machine.proofs.reads.ranges.Goals as goal
@@ -10,10 +9,10 @@ use Rattle.store_machine.proofs.reads.ranges.Goals as goal
 pub loop-ask-init : goal.loop-ask-init
 loop-ask-init c =
     let none : c.new-items.result.items ≡ [] = grind (arith, common_steps) in
-    let whole : whole_room.bytes ≤ MAX_POINT_BYTES = omega arith in
+    let whole : whole_room.bytes ≤ 67108864 = omega arith in
     record {
       joins = (λ j. behind (none j) (ranged c.args.channels.now (c.whole-room.ensures j) (c.as_slice-ask-items.ensures j))) ∙ nothing-behind (ranged c.args.channels.now whole_room c.args.asks.now);
-      within = subst (λ (r : Room). r.bytes ≤ MAX_POINT_BYTES) (sym c.whole-room.ensures) whole;
+      within = subst (λ (r : Room). r.bytes ≤ 67108864) (sym c.whole-room.ensures) whole;
     }
 
 pub returns : goal.returns

@@ -5,12 +5,12 @@ use Rattle.channel_store.specs.Told.{sized}
 use Rattle.store_machine.proofs.Reading.{joins-refused}
 use Rattle.store_machine.proofs.reads.take_range.Goals as goal
 
-pub returns-in_ok-refused-in-Err-clause-joins : goal.returns-in_ok-refused-in-Err-clause-joins
-returns-in_ok-refused-in-Err-clause-joins c =
+pub returns-in_ok-refusal_code-in-Err-clause-joins : goal.returns-in_ok-refusal_code-in-Err-clause-joins
+returns-in_ok-refusal_code-in-Err-clause-joins c =
     let a = c.args.ask.now in
     let channel : FitsSigned w64 a.channel = search rules in
     let from : FitsSigned w64 a.from = search rules in
     let to : FitsSigned w64 a.to = search rules in
     let size : Err c.in-Err.error ≡ sized (range_of c.args.channels.now a.channel a.from a.to) =
     c.in-Err.ensures ∙ (λ j. sized (range_of c.args.channels.now (to_z-of_z w64 a.channel channel j) (to_z-of_z w64 a.from from j) (to_z-of_z w64 a.to to j))) in
-    joins-refused c.args.channels.now a c.args.room.now c.args.room.now c.args.items.now.items c.args.items.now.items c.in-Err.error _ size c.in_ok-refused-in-Err.ensures
+    joins-refused c.args.channels.now a c.args.room.now c.args.room.now c.args.items.now.items c.args.items.now.items c.in-Err.error _ size c.in_ok-refusal_code-in-Err.ensures

@@ -13,5 +13,5 @@ returns-in-Err c =
     let array = c.in-Some.array.now in
     let starts = c.args.starts.now in
     let counts = c.args.counts.now in
-    let seen = slice-refused c.refused.result c.in-Err.error (slice_refusal array starts counts) (slice_of (sizes array.dims) (sizes starts) (sizes counts) array.values) c.in-Err.ensures.done c.refused.ensures in
-    subst (λ o. IfOk c.refused.result (λ l. l ≡ slice_seen starts counts (option_copied o))) (sym c.in-Some.is) seen
+    let seen = slice-refused c.memory_or_refused.result c.in-Err.error (slice_refusal array starts counts) (slice_of (sizes array.dims) (sizes starts) (sizes counts) array.values) c.in-Err.ensures.done c.memory_or_refused.ensures in
+    subst (λ o. IfOk c.memory_or_refused.result (λ l. l ≡ slice_seen starts counts (option_copied o))) (sym c.in-Some.is) seen

@@ -13,7 +13,7 @@ returns-in_ok-code-in-Err-clause-value c =
     let counts = c.args.counts.now in
     let values = c.args.values.now in
     let why : c.in-Err.error ≡ unwrap_or (write_refusal array starts counts values) NoMemory = c.in-Err.ensures.done ∙ ap (λ v. unwrap_or (write_refusal array starts counts v) NoMemory) c.in_ok-values.ensures in
-    let kept = patch-refused c.in-Err.error c.in_ok-code-in-Err.code (write_refusal array starts counts values) array (rewritten (patch_array array starts counts values) c.args.at) why (sym c.refused.ensures ∙ c.in_ok-code-in-Err.was) in
+    let kept = patch-refused c.in-Err.error c.in_ok-code-in-Err.code (write_refusal array starts counts values) array (rewritten (patch_array array starts counts values) c.args.at) why (sym c.memory_or_code.ensures ∙ c.in_ok-code-in-Err.was) in
     c.in-Err.ensures.err ∙ kept.0
 
 pub returns-in_ok-code-in-Err-clause-code : goal.returns-in_ok-code-in-Err-clause-code
@@ -23,5 +23,5 @@ returns-in_ok-code-in-Err-clause-code c =
     let counts = c.args.counts.now in
     let values = c.args.values.now in
     let why : c.in-Err.error ≡ unwrap_or (write_refusal array starts counts values) NoMemory = c.in-Err.ensures.done ∙ ap (λ v. unwrap_or (write_refusal array starts counts v) NoMemory) c.in_ok-values.ensures in
-    let kept = patch-refused c.in-Err.error c.in_ok-code-in-Err.code (write_refusal array starts counts values) array (rewritten (patch_array array starts counts values) c.args.at) why (sym c.refused.ensures ∙ c.in_ok-code-in-Err.was) in
+    let kept = patch-refused c.in-Err.error c.in_ok-code-in-Err.code (write_refusal array starts counts values) array (rewritten (patch_array array starts counts values) c.args.at) why (sym c.memory_or_code.ensures ∙ c.in_ok-code-in-Err.was) in
     kept.1

@@ -1,7 +1,6 @@
 use Rattle.std.proofs.Common.{◌≡◌, true, false, length, sym, ap, ◌∙◌, arith}
 use Rattle.std.specs.Prelude.{nat_le}
 use Rattle.std.proofs.lemmas.Grind.{common_steps}
-use Rattle.tx_stage.specs.declared.limits.TheConstants.{MAX_TOUCHED}
 use Rattle.tx_stage.specs.Keys.{space_of}
 use Rattle.tx_stage.specs.Staging.{Transaction, has_space, is_touched}
 use Rattle.tx_stage.proofs.StageLemmas.{found-touched, note-known, note-full}
@@ -29,8 +28,8 @@ returns-then-len-ge-MAX_TOUCHED-clause-answer c =
     let key = c.args.key.now in
     let has : has_space c.args.self.now.spaces (space_of key) ≡ true = ap (has_space c.args.self.now.spaces) (sym c.space.ensures) ∙ sym c.has_space.ensures ∙ c.if-not-has_space.false in
     let fresh : is_touched c.args.self.now.touched key ≡ false = ap (λ (x : Transaction). is_touched x.touched key) (sym c.self.view_is) ∙ sym (found-touched key s.noted.keys s.touched.items c.self.invariant.listed) ∙ sym c.contains.ensures ∙ c.if-contains.false in
-    let held : nat_le MAX_TOUCHED (length s.touched.items) ≡ true = grind (arith, common_steps) in
-    let full : nat_le MAX_TOUCHED (length c.args.self.now.touched) ≡ true = ap (λ (x : Transaction). nat_le MAX_TOUCHED (length x.touched)) (sym c.self.view_is) ∙ held in
+    let held : nat_le 16384 (length s.touched.items) ≡ true = grind (arith, common_steps) in
+    let full : nat_le 16384 (length c.args.self.now.touched) ≡ true = ap (λ (x : Transaction). nat_le 16384 (length x.touched)) (sym c.self.view_is) ∙ held in
     λ other. note-full c.args.self.now key has fresh full
 
 pub note-requires : goal.note-requires
