@@ -26,7 +26,7 @@ class Refused(Exception):
     pass
 
 
-NO_BLOB = "a chunk comes while no message awaits one"
+NO_BLOB = "no message waits for this chunk"
 WRONG_BLOB = "the blob is not an awaited one, or not of one object alone"
 INTERLEAVED = "another blob or message is not whole yet"
 TOO_LONG = "the data pass the limit"

@@ -286,7 +286,7 @@ NODE_LIMIT = 8_388_608
 
 
 class Refusal(Exception):
-    """Why bytes spell no value, in the word of a shown fault, and the place of the first byte of the refused item."""
+    """Bytes that spell no value: the word that a shown fault has for it, and where the refused item begins."""
 
     def __init__(self, why, at):
         super().__init__(why, at)

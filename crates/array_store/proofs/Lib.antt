@@ -1,8 +1,8 @@
-pub mod Applying
-pub mod Counts
-pub mod Gathered
-pub mod Keys
-pub mod Rows
-pub mod Regions
-pub mod Sound
-pub mod Steps
+pub mod ApplyingLemmas
+pub mod CountLemmas
+pub mod GatheredLemmas
+pub mod KeyLemmas
+pub mod RowLemmas
+pub mod RegionLemmas
+pub mod SoundLemmas
+pub mod StepLemmas

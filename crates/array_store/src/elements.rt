@@ -1,5 +1,5 @@
 //! How many elements an array has, and what they count.
-ghost use Rattle.std.specs.Prelude.{◌≡◌, ◌^◌, nat_lt, length};
+ghost use Rattle.std.specs.Prelude.{◌≡◌, nat_lt};
 ghost use Rattle.etp_values.specs.Weight.{capped, weigh, bytes_weight};
 ghost use Rattle.array_store.specs.Arrays.{elements, size_of, kind, is_bytes, is_same_kind, has_numbers};
 ghost use Rattle.array_store.specs.Refusals.{weight_refusal};

@@ -1,7 +1,6 @@
 //! Dimensions, and how many elements they make.
-ghost use Rattle.std.specs.Prelude.{◌≡◌, ◌≤◌, ◌^◌, ℤ, Option, Some, None, if◌then◌else◌, nat_lt, pos, length};
+ghost use Rattle.std.specs.Prelude.{◌≡◌, ◌^◌, Option, Some, None, if◌then◌else◌, nat_lt};
 ghost use Rattle.std.specs.List.{list_any};
-ghost use Rattle.std.specs.Prelude.{◌≤ℤ◌};
 ghost use Rattle.array_store.specs.Shape.{size, sizes, is_negative, volume};
 ghost use Rattle.array_store.specs.Refusals.{dims_of, is_rank};
 

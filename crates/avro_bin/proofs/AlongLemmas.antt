@@ -8,10 +8,10 @@ use Rattle.std.specs.declared.cmp.Ordering.TheVariants.{Less, Equal, Greater}
 use Rattle.std.specs.Cmp.Lexicographic.{slice_cmp}
 use Rattle.std.specs.Map.{lookup}
 use Rattle.std.specs.BTreeMap.{is_at, insert_entry}
+use Rattle.etp_values.specs.Entries.{on_value}
 use Rattle.avro_bin.specs.declared.fault.Why.TheVariants as why
 use Rattle.avro_bin.specs.Value.{Value, Values, VArray, VMap, VUnion, VFields, row, entries}
 use Rattle.avro_bin.specs.Schema.{Schema, Schemas, SArray, SMap, SUnion, SFields, none, more}
-use Rattle.avro_bin.specs.View.{with_value}
 use Rattle.avro_bin.specs.Reading.{Read, Got, Row, Names, ◌>>=◌, listed, mapped, in_branch, element_at, has, entry_at, value_at, fields_at, items_at, blocks_at, after_count, block_at, number_at, text_at, place_at, branch_at, count, sized, under, pushed}
 use Rattle.avro_bin.specs.Along.{along, seen, push_at, put_at, pass_at, mark_at, pass_fields_at}
 
@@ -90,43 +90,43 @@ push_along f value other same s bytes = ap (along (λ x. (map f s.0 ++ x.0 ∷ [
     tail (Ok x) = ap (λ vs. Ok ((vs, x.0.1), x.1)) (sym (map_push f s.0 x.0.0))
     tail (Err e) = refl
 
-found_same : {X Y : Type 0} (b : Bool) (v : X) (w : Y) (r : Option X) (q : Option Y) → is_some r ≡ is_some q → is_some (cond b (Some v) r) ≡ is_some (cond b (Some w) q)
+pub found_same : {X Y : Type 0} (b : Bool) (v : X) (w : Y) (r : Option X) (q : Option Y) → is_some r ≡ is_some q → is_some (cond b (Some v) r) ≡ is_some (cond b (Some w) q)
 found_same true v w r q h = refl
 found_same false v w r q h = h
 
-pub has_along : {X Y : Type 0} (f : X → Y) (k : List ℕ) (es : List (List ℕ × X)) → has k (map (with_value f) es) ≡ has k es
+pub has_along : {X Y : Type 0} (f : X → Y) (k : List ℕ) (es : List (List ℕ × X)) → has k (map (on_value f) es) ≡ has k es
 has_along f k [] = refl
-has_along f k (e ∷ es) = found_same (is_eq (slice_cmp nat_cmp k e.0)) (f e.1) e.1 (lookup (is_at (slice_cmp nat_cmp k)) (map (with_value f) es)) (lookup (is_at (slice_cmp nat_cmp k)) es) (has_along f k es)
+has_along f k (e ∷ es) = found_same (is_eq (slice_cmp nat_cmp k e.0)) (f e.1) e.1 (lookup (is_at (slice_cmp nat_cmp k)) (map (on_value f) es)) (lookup (is_at (slice_cmp nat_cmp k)) es) (has_along f k es)
 
-map_chosen : {X Y : Type 0} (f : X → Y) (o : Ordering) (a b c : List X) → map f (match_ordering o a b c) ≡ match_ordering o (map f a) (map f b) (map f c)
+pub map_chosen : {X Y : Type 0} (f : X → Y) (o : Ordering) (a b c : List X) → map f (match_ordering o a b c) ≡ match_ordering o (map f a) (map f b) (map f c)
 map_chosen f Less a b c = refl
 map_chosen f Equal a b c = refl
 map_chosen f Greater a b c = refl
 
-pub insert_along : {X Y : Type 0} (f : X → Y) (k : List ℕ) (x : X) (es : List (List ℕ × X)) → map (with_value f) (insert_entry (slice_cmp nat_cmp) es k x) ≡ insert_entry (slice_cmp nat_cmp) (map (with_value f) es) k (f x)
+pub insert_along : {X Y : Type 0} (f : X → Y) (k : List ℕ) (x : X) (es : List (List ℕ × X)) → map (on_value f) (insert_entry (slice_cmp nat_cmp) es k x) ≡ insert_entry (slice_cmp nat_cmp) (map (on_value f) es) k (f x)
 insert_along f k x [] = refl
 insert_along {X} {Y} f k x (e ∷ es) =
-    map_chosen (with_value f) (slice_cmp nat_cmp k e.0) ((k, x) ∷ e ∷ es) ((e.0, x) ∷ es) (e ∷ insert_entry (slice_cmp nat_cmp) es k x)
-    ∙ ap (λ (r : List (List ℕ × Y)). match_ordering (slice_cmp nat_cmp k e.0) ((k, f x) ∷ with_value f e ∷ map (with_value f) es) ((e.0, f x) ∷ map (with_value f) es) (with_value f e ∷ r)) (insert_along f k x es)
+    map_chosen (on_value f) (slice_cmp nat_cmp k e.0) ((k, x) ∷ e ∷ es) ((e.0, x) ∷ es) (e ∷ insert_entry (slice_cmp nat_cmp) es k x)
+    ∙ ap (λ (r : List (List ℕ × Y)). match_ordering (slice_cmp nat_cmp k e.0) ((k, f x) ∷ on_value f e ∷ map (on_value f) es) ((e.0, f x) ∷ map (on_value f) es) (on_value f e ∷ r)) (insert_along f k x es)
 
-under_along : {A : Type 0} (f : Value → A) (k : List ℕ) (es : List (List ℕ × Value)) (r : Read Got) → along (λ x. (insert_entry (slice_cmp nat_cmp) (map (with_value f) es) k x.0, x.1)) (along (seen f) r) ≡ along (seen (map (with_value f))) (under k es r)
+under_along : {A : Type 0} (f : Value → A) (k : List ℕ) (es : List (List ℕ × Value)) (r : Read Got) → along (λ x. (insert_entry (slice_cmp nat_cmp) (map (on_value f) es) k x.0, x.1)) (along (seen f) r) ≡ along (seen (map (on_value f))) (under k es r)
 under_along {A} f k es (Ok x) = ap (λ (fs : List (List ℕ × A)). Ok ((fs, x.0.1), x.1)) (sym (insert_along f k x.0.0 es))
 under_along f k es (Err e) = refl
 
 -- entries seen by f, one by one
 pub put_along : {A : Type 0} (f : Value → A) (value : ℕ → List ℕ → Read Got) (other : ℕ → List ℕ → Read (A × ℕ)) → ((n : ℕ) (bytes : List ℕ) → other n bytes ≡ along (seen f) (value n bytes))
-    → (s : Names) (bytes : List ℕ) → put_at other (seen (map (with_value f)) s) bytes ≡ along (seen (map (with_value f))) (entry_at value s bytes)
+    → (s : Names) (bytes : List ℕ) → put_at other (seen (map (on_value f)) s) bytes ≡ along (seen (map (on_value f))) (entry_at value s bytes)
 unfolding put_at entry_at
 put_along {A} f value other same s bytes =
-    then_along (seen (map (with_value f))) (text_at bytes)
+    then_along (seen (map (on_value f))) (text_at bytes)
     (λ k. cond (has k.0 s.0) (Err (why.DoubleKey, length bytes)) (under k.0 s.0 (value s.1 k.1)))
-    (λ k. cond (has k.0 (map (with_value f) s.0)) (Err (why.DoubleKey, length bytes)) (along (λ x. (insert_entry (slice_cmp nat_cmp) (map (with_value f) s.0) k.0 x.0, x.1)) (other s.1 k.1)))
+    (λ k. cond (has k.0 (map (on_value f) s.0)) (Err (why.DoubleKey, length bytes)) (along (λ x. (insert_entry (slice_cmp nat_cmp) (map (on_value f) s.0) k.0 x.0, x.1)) (other s.1 k.1)))
     (λ k.
     let refused : Read (List (List ℕ × A) × ℕ) = Err (why.DoubleKey, length bytes) in
-    ap (λ (b : Bool). cond b refused (along (λ x. (insert_entry (slice_cmp nat_cmp) (map (with_value f) s.0) k.0 x.0, x.1)) (other s.1 k.1))) (has_along f k.0 s.0)
-    ∙ ap (λ (r : Read (A × ℕ)). cond (has k.0 s.0) refused (along (λ x. (insert_entry (slice_cmp nat_cmp) (map (with_value f) s.0) k.0 x.0, x.1)) r)) (same s.1 k.1)
+    ap (λ (b : Bool). cond b refused (along (λ x. (insert_entry (slice_cmp nat_cmp) (map (on_value f) s.0) k.0 x.0, x.1)) (other s.1 k.1))) (has_along f k.0 s.0)
+    ∙ ap (λ (r : Read (A × ℕ)). cond (has k.0 s.0) refused (along (λ x. (insert_entry (slice_cmp nat_cmp) (map (on_value f) s.0) k.0 x.0, x.1)) r)) (same s.1 k.1)
     ∙ ap (λ (r : Read (List (List ℕ × A) × ℕ)). cond (has k.0 s.0) refused r) (under_along f k.0 s.0 (value s.1 k.1))
-    ∙ cond_along (seen (map (with_value f))) (has k.0 s.0) (Err (why.DoubleKey, length bytes)) (under k.0 s.0 (value s.1 k.1)))
+    ∙ cond_along (seen (map (on_value f))) (has k.0 s.0) (Err (why.DoubleKey, length bytes)) (under k.0 s.0 (value s.1 k.1)))
 
 -- ---- without a value
 
@@ -156,8 +156,8 @@ pass_map s n bytes =
     let f : Value → Unit {0} = λ v. tt in
     ap (along (λ x. x.1)) (mapped_is r)
     ∙ along_twice (λ x. x.1) (λ t. (VMap (entries t.0), t.1)) r
-    ∙ sym (along_twice (λ t. t.1) (seen (map (with_value f))) r)
-    ∙ ap (along (λ t. t.1)) (sym (blocks_along (seen (map (with_value f))) (entry_at (value_at s)) (put_at (mark_at (value_at s))) (put_along f (value_at s) (mark_at (value_at s)) (λ m b. refl)) (suc (length bytes)) ([], n) bytes))
+    ∙ sym (along_twice (λ t. t.1) (seen (map (on_value f))) r)
+    ∙ ap (along (λ t. t.1)) (sym (blocks_along (seen (map (on_value f))) (entry_at (value_at s)) (put_at (mark_at (value_at s))) (put_along f (value_at s) (mark_at (value_at s)) (λ m b. refl)) (suc (length bytes)) ([], n) bytes))
 
 pass_fields : (ss : Schemas) (s : Row) (bytes : List ℕ) → pass_fields_at ss s.1 bytes ≡ along allowed (fields_at ss s bytes)
 unfolding pass_fields_at value_at

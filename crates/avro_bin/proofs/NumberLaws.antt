@@ -6,7 +6,7 @@ use Rattle.avro_bin.specs.declared.fault.Why.TheVariants as why
 use Rattle.avro_bin.specs.Number.{IsGroups, group_sum}
 use Rattle.avro_bin.specs.Laws.{IsBytes}
 use Rattle.avro_bin.specs.Reading.{groups_at, more_groups}
-use Rattle.avro_bin.proofs.Groups.{chosen, done, ok_pair, more_ok}
+use Rattle.avro_bin.proofs.GroupLemmas.{chosen, done, ok_pair, more_ok}
 
 pub IsBytes-rest : (b : ℕ) (bytes : List ℕ) → IsBytes (b ∷ bytes) → IsBytes bytes
 IsBytes-rest b bytes h i = h (suc i)

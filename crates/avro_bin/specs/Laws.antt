@@ -24,6 +24,7 @@ abbrev pub counted : ℕ → Read Got → Result (Value × ℕ) Refusal
 counted len (Ok x) = Ok (x.0.0, len - length x.1)
 counted len (Err e) = Err (refusal e.0 (len - e.1))
 
+-- reading a value: which value, and how many bytes it takes, or why and where the bytes spell none
 unfoldable pub read_value : Schema → ℕ → List ℕ → Result (Value × ℕ) Refusal
 read_value s limit bytes = counted (length bytes) (value_at s limit bytes)
 

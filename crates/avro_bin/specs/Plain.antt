@@ -1,5 +1,5 @@
--- The spelling that a writer chooses: no number longer than it must be, one block with a positive count for all items,
--- names in the order of their bytes.
+-- The spelling that a writer chooses: no number longer than it must be, the items of a list or map in one block with a
+-- positive count (where there are none, no block), names in the order of their bytes.
 use Rattle.std.specs.Prelude.{◌≡◌, ℕ, zero, suc, pos, Result, Ok, Err, List, [], ◌∷◌, ◌++◌, length, if◌then◌else◌}
 use Rattle.std.specs.Io.{StartsWith}
 use Rattle.std.specs.Int.{to_le_bytes, w32, w64}

@@ -1,5 +1,6 @@
 -- What a tree stands for.
 use Rattle.std.specs.Prelude.{List, ℕ}
+use Rattle.etp_values.specs.Entries.{on_value}
 use Rattle.avro_bin.specs.Value.{Value, VNull, VBoolean, VInt, VLong, VFloat, VDouble, VBytes, VText, VFixed, VEnum, VArray, VMap, VUnion, VFields, row, entries}
 use Rattle.avro_bin.specs.declared.tree.Tree.{Tree}
 use Rattle.avro_bin.specs.declared.tree.Tree.TheOpen.{Tree-F, Null, Boolean, Int, Long, Float, Double, Bytes, Text, Fixed, Enum, Array, Map, Union, Fields}
@@ -26,10 +27,6 @@ level (Fields l) = VFields (row l)
 abbrev pub value_of : Tree → Value
 value_of = fold-Tree Value level
 
--- the same name, with what its value becomes
-abbrev pub with_value : {K X Y : Type 0} → (X → Y) → K × X → K × Y
-with_value f p = (p.0, f p.1)
-
 -- the entry that a name and a tree stand for
 abbrev pub entry_of : List ℕ × Tree → List ℕ × Value
-entry_of = with_value value_of
+entry_of = on_value value_of

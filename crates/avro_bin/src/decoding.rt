@@ -30,7 +30,7 @@ use std::collections::BTreeMap;
 pub const NODE_LIMIT: u32 = 8_388_608;
 
 /// The value of a node without children.
-#[tactic(auto, using(crate::proofs::Views::values), unfolding(crate::specs::Reading::value_at))]
+#[tactic(auto, using(crate::proofs::ViewLemmas::values), unfolding(crate::specs::Reading::value_at))]
 fn leaf(alloc: Global, node: Node, allowed: u32, bytes: &[u8]) -> Result<(Tree, u32, &[u8]), Fault>
     requires { is_leaf node ≡ true }
     ensures { (at : ℕ → Schema) → Gives (λ x. ((value_of x.0, x.1), x.2.now)) result (value_at (node_schema at node) (suc allowed) bytes.now) }

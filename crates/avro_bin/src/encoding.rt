@@ -22,7 +22,7 @@ pub fn put_blob(out: &mut Vec<u8>, bytes: &[u8]) -> Result<(), NoMemory>
 }
 
 /// Appends a text.
-#[tactic(auto, using(crate::proofs::Texts::text_is))]
+#[tactic(auto, using(crate::proofs::TextLemmas::text_is))]
 pub fn put_text(out: &mut Vec<u8>, text: &Text) -> Result<(), NoMemory>
     ensures written { Writes (plain_blob text.now) out.old.items out.new.items result }
     ensures text { IsText text.now }
@@ -32,7 +32,7 @@ pub fn put_text(out: &mut Vec<u8>, text: &Text) -> Result<(), NoMemory>
 
 /// Appends a value.
 #[cycle(encoding)]
-#[tactic(auto, using(crate::proofs::Views::values, crate::proofs::Plains::plain_array, crate::proofs::Plains::plain_map))]
+#[tactic(auto, using(crate::proofs::ViewLemmas::values, crate::proofs::PlainLemmas::plain_array, crate::proofs::PlainLemmas::plain_map))]
 fn put_value(out: &mut Vec<u8>, tree: &Tree) -> Result<(), NoMemory>
     ensures written { Writes (plain (value_of tree.now)) out.old.items out.new.items result }
     ensures fits { OnOk result (FitsTree (value_of tree.now)) }
@@ -73,7 +73,7 @@ fn put_value(out: &mut Vec<u8>, tree: &Tree) -> Result<(), NoMemory>
 
 /// Appends one block of items, or none, and a count of 0.
 #[cycle(encoding)]
-#[tactic(auto, using(crate::proofs::Plains::block_some, crate::proofs::Plains::block_none))]
+#[tactic(auto, using(crate::proofs::PlainLemmas::block_some, crate::proofs::PlainLemmas::block_none))]
 fn put_array(out: &mut Vec<u8>, trees: &[Tree]) -> Result<(), NoMemory>
     ensures written { Writes (plain_block (length trees.now) (plain_all (row (map value_of trees.now)))) out.old.items out.new.items result }
     ensures fits { OnOk result (FitsTree (VArray (row (map value_of trees.now)))) }
@@ -102,7 +102,7 @@ fn put_all(out: &mut Vec<u8>, trees: &[Tree]) -> Result<(), NoMemory>
 
 /// Appends one block of entries, or none, and a count of 0.
 #[cycle(encoding)]
-#[tactic(auto, using(crate::proofs::Plains::block_some, crate::proofs::Plains::block_none))]
+#[tactic(auto, using(crate::proofs::PlainLemmas::block_some, crate::proofs::PlainLemmas::block_none))]
 fn put_map(out: &mut Vec<u8>, named: &Named<Tree>) -> Result<(), NoMemory>
     ensures written { Writes (plain_block (length named.now) (plain_named (entries (map entry_of named.now)))) out.old.items out.new.items result }
     ensures fits { OnOk result (FitsTree (VMap (entries (map entry_of named.now)))) }

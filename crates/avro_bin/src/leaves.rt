@@ -96,7 +96,7 @@ pub fn double(bytes: &[u8]) -> Result<(u64, &[u8]), Fault>
 }
 
 /// A length, and so many bytes of UTF-8.
-#[tactic(auto, unfolding(crate::specs::Reading::text_at), using(crate::proofs::Texts::valid_is))]
+#[tactic(auto, unfolding(crate::specs::Reading::text_at), using(crate::proofs::TextLemmas::valid_is))]
 pub fn text(bytes: &[u8]) -> Result<(&str, &[u8]), Fault>
     ensures { Gives (λ x. (x.0.now, x.1.now)) result (text_at bytes.now) }
 {

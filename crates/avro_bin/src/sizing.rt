@@ -14,7 +14,7 @@ use etp_values::Named;
 use thiserror::Error;
 
 /// How many groups a number has, of which there are at most `most + 1`.
-#[tactic(auto, using(crate::proofs::Groups::shortest_more))]
+#[tactic(auto, using(crate::proofs::GroupLemmas::shortest_more))]
 fn groups_size(z: u64, most: u8) -> u64
     ensures size { result ≡ length (shortest most z) }
     ensures few { result ≤ most + 1 }
@@ -50,7 +50,7 @@ pub fn blob_size(bytes: &[u8]) -> u64
 
 /// How many bytes a value has, or the greatest number that there is.
 #[cycle(sizing)]
-#[tactic(auto, using(crate::proofs::Views::values, crate::proofs::Plains::plain_array, crate::proofs::Plains::plain_map))]
+#[tactic(auto, using(crate::proofs::ViewLemmas::values, crate::proofs::PlainLemmas::plain_array, crate::proofs::PlainLemmas::plain_map))]
 fn size_of(tree: &Tree) -> u64
     ensures { result ≡ min (length (plain (value_of tree.now))) (2 ^ 64 - 1) }
 {
@@ -74,7 +74,7 @@ fn size_of(tree: &Tree) -> u64
 
 /// The size of one block of items, or none, and a count of 0.
 #[cycle(sizing)]
-#[tactic(auto, using(crate::proofs::Plains::block_size, crate::proofs::Plains::no_block_size))]
+#[tactic(auto, using(crate::proofs::PlainLemmas::block_size, crate::proofs::PlainLemmas::no_block_size))]
 fn array_size(trees: &[Tree]) -> u64
     ensures { result ≡ min (length (plain_block (length trees.now) (plain_all (row (map value_of trees.now))))) (2 ^ 64 - 1) }
 {
@@ -98,7 +98,7 @@ fn all_size(trees: &[Tree]) -> u64
 
 /// The size of one block of entries, or none, and a count of 0.
 #[cycle(sizing)]
-#[tactic(auto, using(crate::proofs::Plains::block_size, crate::proofs::Plains::no_block_size))]
+#[tactic(auto, using(crate::proofs::PlainLemmas::block_size, crate::proofs::PlainLemmas::no_block_size))]
 fn map_size(named: &Named<Tree>) -> u64
     ensures { result ≡ min (length (plain_block (length named.now) (plain_named (entries (map entry_of named.now))))) (2 ^ 64 - 1) }
 {

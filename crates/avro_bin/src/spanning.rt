@@ -5,7 +5,7 @@
 ghost use Rattle.std.specs.Prelude.{◌≡◌, ◌<◌, ℕ, suc, length, map, true};
 ghost use Rattle.std.specs.List.{AllByRecursion};
 ghost use Rattle.avro_bin.specs.Reading.{Gives, value_at, items_at, block_at};
-ghost use Rattle.avro_bin.specs.Along.{pass_at, put_at, mark_at, pass_fields_at};
+ghost use Rattle.avro_bin.specs.Along.{pass_at, put_at, mark_at};
 ghost use Rattle.avro_bin.specs.Schema.{Schema, SFields, SUnion, SArray, SMap, schema, schemas, node_schema, IsTable, is_leaf};
 ghost use Rattle.avro_bin.specs.Laws.{read_value, node_limit};
 ghost use Rattle.avro_bin.specs.Spanning.{Spans};

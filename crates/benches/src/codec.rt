@@ -71,7 +71,7 @@ fn tell_times(rt: &HostRuntime, bytes: usize, times: Times) -> io::Result<()> {
 }
 
 /// Writes and reads a value as a tree, and prints how many bytes it has, and how fast that was where `timed`.
-#[tactic(auto, using(avro_bin::proofs::TableTest::table_is))]
+#[tactic(auto, using(avro_bin::proofs::TableTestLemmas::table_is))]
 fn measure_tree<T: InTree>(rt: &HostRuntime, kind: &str, value: &T, timed: bool) -> io::Result<()> {
     let alloc = rt.alloc();
     let place = place_of(kind);

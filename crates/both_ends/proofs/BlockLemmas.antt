@@ -4,7 +4,8 @@ use Rattle.std.specs.List.{AllByRecursion, find, list_any}
 use Rattle.std.specs.Ordering.{int_eq}
 use Rattle.std.proofs.lemmas.Bool.{false≢true}
 use Rattle.std.proofs.lemmas.Option.{none-some, same_Some}
-use Rattle.etp_values.proofs.Ints.{int_eq_is, int_eq_self}
+use Rattle.std.proofs.Math.Bool.{or-true, and-false}
+use Rattle.etp_values.proofs.IntLemmas.{int_eq_is, int_eq_self}
 use Rattle.channel_rows.specs.Notices.{interval_of, notice_of}
 use Rattle.channel_rows.specs.Points.{items_of}
 use Rattle.channel_store.specs.declared.change.ChannelChange.{ChannelChange}
@@ -63,14 +64,6 @@ use Rattle.both_ends.proofs.PutLemmas.{Agrees, all_at, IsKnown, Rising, channel_
 
 -- ---- tests
 
-and_no : (b : Bool) → (b && false) ≡ false
-and_no true = refl
-and_no false = refl
-
-or_yes : (b : Bool) → (b || true) ≡ true
-or_yes true = refl
-or_yes false = refl
-
 -- ---- a message that comes
 
 -- it is none that a client passes by, that closes or opens a session, or that is an exception
@@ -115,7 +108,7 @@ apart_broken : (n : ℕ) (h : Header) (m : Message) (k : Kept) → h.protocol �
 apart_broken n h m k protocol kind exception apart =
     (λ i. not (int_eq h.correlation k.header.correlation && (exception i || (int_eq (protocol i) k.header.protocol && int_eq (kind i) k.header.kind))))
     ∙ ap (λ b. not (int_eq h.correlation k.header.correlation && b)) apart
-    ∙ ap not (and_no (int_eq h.correlation k.header.correlation))
+    ∙ ap not (and-false (int_eq h.correlation k.header.correlation))
 
 none_kept : (n : ℕ) (h : Header) (m : Message) (o : Option Kept) → h.protocol ≡ pos 21 → h.kind ≡ pos n → is_exception m ≡ false → ((k : Kept) → IsAsideHeader k.header k.message → IsApart k.header n)
     → AsideKept o → is_broken o h m ≡ false → o ≡ None
@@ -345,7 +338,7 @@ live_new : (channel : ℤ) (cs : List Channel) → is_live channel (subscribed c
 live_new channel cs =
     any_more (stands_at channel) (filter (λ f. not (int_eq f.id channel)) cs) (record { id = channel; live = true; copy = [] } ∷ [])
     ∙ ap (λ b. list_any (stands_at channel) (filter (λ f. not (int_eq f.id channel)) cs) || ((b && true) || false)) (int_eq_self channel)
-    ∙ or_yes (list_any (stands_at channel) (filter (λ f. not (int_eq f.id channel)) cs))
+    ∙ or-true (list_any (stands_at channel) (filter (λ f. not (int_eq f.id channel)) cs))
 
 others_live : (c channel : ℤ) → int_eq channel c ≡ false → (cs : List Channel) → list_any (stands_at c) (filter (λ f. not (int_eq f.id channel)) cs) ≡ is_live c cs
 others_live c channel other [] = refl
@@ -484,10 +477,10 @@ quiet_aside m quiet = (refl, refl)
 
 core_under : (protocol : ℤ) (h : Header) (x : CoreMessage) → h.protocol ≡ sent_under protocol (message.Core x) → h.kind ≡ pos (message_body (message.Core x)).number → IsAsideHeader h (message.Core x)
 core_under protocol h (core.ProtocolException x) is kind =
-    let by : (n : ℕ) → int_eq (pos n) (pos 1000) ≡ false → IsApart h n = λ n other. ap (λ z. int_eq (pos 21) h.protocol && int_eq (pos n) z) kind ∙ ap (λ b. int_eq (pos 21) h.protocol && b) other ∙ and_no (int_eq (pos 21) h.protocol) in
+    let by : (n : ℕ) → int_eq (pos n) (pos 1000) ≡ false → IsApart h n = λ n other. ap (λ z. int_eq (pos 21) h.protocol && int_eq (pos n) z) kind ∙ ap (λ b. int_eq (pos 21) h.protocol && b) other ∙ and-false (int_eq (pos 21) h.protocol) in
     (by 4 refl, by 6 refl, by 13 refl, inl (by 12 refl))
 core_under protocol h (core.Acknowledge x) is kind =
-    let by : (n : ℕ) → int_eq (pos n) (pos 1001) ≡ false → IsApart h n = λ n other. ap (λ z. int_eq (pos 21) h.protocol && int_eq (pos n) z) kind ∙ ap (λ b. int_eq (pos 21) h.protocol && b) other ∙ and_no (int_eq (pos 21) h.protocol) in
+    let by : (n : ℕ) → int_eq (pos n) (pos 1001) ≡ false → IsApart h n = λ n other. ap (λ z. int_eq (pos 21) h.protocol && int_eq (pos n) z) kind ∙ ap (λ b. int_eq (pos 21) h.protocol && b) other ∙ and-false (int_eq (pos 21) h.protocol) in
     (by 4 refl, by 6 refl, by 13 refl, inl (by 12 refl))
 core_under protocol h x is kind = let by : (n : ℕ) → IsApart h n = λ n. ap (λ z. int_eq (pos 21) z && int_eq (pos n) h.kind) is in (by 4, by 6, by 13, inl (by 12))
 

@@ -3,7 +3,7 @@ use Rattle.std.proofs.Common.{◌≡◌, ◌≤◌, ℕ, ℤ, zero, suc, Bool, t
 use Rattle.std.specs.Ordering.{int_eq}
 use Rattle.std.proofs.lemmas.Bool.{cases_lt}
 use Rattle.std.proofs.lemmas.List.{drop_all, take_all}
-use Rattle.etp_values.proofs.Ints.{int_eq_is}
+use Rattle.etp_values.proofs.IntLemmas.{int_eq_is}
 use Rattle.server_config.specs.declared.config.Config.{Config}
 use Rattle.channel_store.specs.Channels.{whats_of}
 use Rattle.channel_store.specs.Points.{copy, past}

@@ -5,7 +5,7 @@ use Rattle.std.specs.Ordering.{int_eq}
 use Rattle.std.proofs.lemmas.Bool.{false≢true}
 use Rattle.std.proofs.lemmas.Option.{none-some}
 use Rattle.std.proofs.lemmas.List.{map-append}
-use Rattle.etp_values.proofs.Ints.{int_eq_is, int_eq_self}
+use Rattle.etp_values.proofs.IntLemmas.{int_eq_is, int_eq_self}
 use Rattle.server_config.specs.declared.config.Config.{Config}
 use Rattle.channel_rows.specs.Notices.{stop_response}
 use Rattle.channel_store.specs.declared.change.ChannelChange.{ChannelChange}
@@ -42,7 +42,8 @@ use Rattle.session_core.specs.Machine.{by_phase, unread}
 use Rattle.session_core.specs.Replies.{error_info, refused_message}
 use Rattle.session_core.specs.Run.{Course, asked, first_course, happens, happens_unless, moment_of, run, run_from, takes}
 use Rattle.session_core.specs.Sending.{ended, numbered, outgoing, parts_of}
-use Rattle.session_core.specs.Streams.{HasIds, Rises, RunIsStreamed, RunIsToldAtIdle, heard, is_spent_course, is_spent_phase, owed_to, silence}
+use Rattle.etp_values.specs.Rising.{Rises}
+use Rattle.session_core.specs.Streams.{HasIds, RunIsStreamed, RunIsToldAtIdle, heard, is_spent_course, is_spent_phase, owed_to, silence}
 use Rattle.session_core.specs.Streams.{Heard as Told}
 use Rattle.session_core.specs.declared.state.Addressee.TheVariants as to
 use Rattle.session_core.specs.declared.state.Outgoing.{Outgoing}

@@ -2,7 +2,7 @@
 use Rattle.std.proofs.Common.{◌≡◌, ℕ, ℤ, pos, true, false, ◌&&◌, ◌||◌, List, [], ◌∷◌, ◌++◌, Option, Some, None, fold, map, option_map, if◌then◌else◌, filter, refl, sym, ap, subst, ◌∙◌, append-nil, append_assoc}
 use Rattle.std.specs.List.{list_all}
 use Rattle.std.specs.Ordering.{int_eq}
-use Rattle.etp_values.proofs.Ints.{int_eq_self}
+use Rattle.etp_values.proofs.IntLemmas.{int_eq_self}
 use Rattle.channel_rows.specs.Notices.{interval_of, notice_of}
 use Rattle.channel_rows.specs.Points.{items_of}
 use Rattle.channel_store.specs.declared.change.What.{What}

@@ -6,7 +6,7 @@ use Rattle.std.specs.Ordering.{int_eq}
 use Rattle.std.proofs.lemmas.Bool.{false≢true}
 use Rattle.std.proofs.lemmas.Option.{none-some, same_Some}
 use Rattle.std.proofs.lemmas.List.{map-append}
-use Rattle.etp_values.proofs.Ints.{int_eq_is}
+use Rattle.etp_values.proofs.IntLemmas.{int_eq_is}
 use lib.Signed.{mag}
 use Rattle.client_core.specs.Asking.{asked, asked_by, begun, closed_if, due_of, is_close, is_spent, limit, numbered, pieces, sends_message}
 use Rattle.client_core.specs.Laws.{Asks, Event, Takes, stepped}

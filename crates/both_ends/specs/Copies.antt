@@ -9,7 +9,8 @@ use Rattle.client_core.specs.Laws.{Event as ClientEvent}
 use Rattle.client_core.specs.Notices.{copy_of}
 use Rattle.session_core.specs.Arriving.{Event, Polls}
 use Rattle.session_core.specs.Run.{Course, Heeds, run, takes}
-use Rattle.session_core.specs.Streams.{HasIds, Rises, heard, is_spent_course}
+use Rattle.etp_values.specs.Rising.{Rises}
+use Rattle.session_core.specs.Streams.{HasIds, heard, is_spent_course}
 use Rattle.session_core.specs.declared.state.Live.{Live}
 use Rattle.session_core.specs.declared.state.Phase.TheVariants as phase
 use Rattle.store_machine.specs.Channels.{channel_points}

@@ -20,7 +20,8 @@ use Rattle.etp_schema.specs.declared.body.Side.{Side}
 use Rattle.etp_schema.specs.declared.body.Side.TheVariants.{Client, Server}
 use Rattle.session_core.specs.Arriving.{Event, Receives, Polls}
 use Rattle.session_core.specs.Run.{Heeds, run, takes}
-use Rattle.session_core.specs.Streams.{HasIds, Rises, heard, is_spent_course}
+use Rattle.etp_values.specs.Rising.{Rises}
+use Rattle.session_core.specs.Streams.{HasIds, heard, is_spent_course}
 use Rattle.session_core.specs.declared.state.Live.{Live}
 use Rattle.session_core.specs.declared.state.Outgoing.{Outgoing}
 use Rattle.session_core.specs.declared.state.Phase.TheVariants as phase

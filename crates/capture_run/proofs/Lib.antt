@@ -1,4 +1,4 @@
-pub mod Fronts
-pub mod Begun
-pub mod Going
-pub mod Once
+pub mod FrontLemmas
+pub mod BegunLemmas
+pub mod GoingLemmas
+pub mod OnceLemmas

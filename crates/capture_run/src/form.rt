@@ -1,5 +1,5 @@
 //! What a form of the tool does with the frames of a capture, and why a run over them stops.
-ghost use Rattle.std.specs.Prelude.{◌≡◌, ◌≢◌, ◌≤◌, ◌+◌, ◌++◌, ◌∷◌, [], List, ℕ, Bool, true, false, length, IfOk, OnOk, OnErr};
+ghost use Rattle.std.specs.Prelude.{◌≡◌, ◌≢◌, ◌≤◌, ◌+◌, ◌++◌, [], List, ℕ, length, IfOk, OnOk, OnErr};
 ghost use Rattle.etp_capture.specs.Capture.{end_at};
 ghost use Rattle.etp_capture.specs.Frames.{capture_limit};
 ghost use Rattle.etp_capture.specs.declared.frame.Frame.{Frame};

@@ -2,4 +2,4 @@ pub mod NameLemmas
 pub mod PieceLemmas
 pub mod TableLemmas
 pub mod ValueLemmas
-pub mod Writing
+pub mod WritingLemmas

@@ -26,7 +26,7 @@ pub enum Checked {
 }
 
 /// Appends the line of a message that is refused.
-#[tactic(auto, using(crate::proofs::Writing::writes_after))]
+#[tactic(auto, using(crate::proofs::WritingLemmas::writes_after))]
 fn put_line(into: &mut Vec<u8>, offset: u64, error: &FrameError) -> Result<(), NoMemory>
     ensures { Writes (decimal offset ++ codes " " ++ fault_text error.now ++ codes "\n") into.old.items into.new.items result }
 {

@@ -18,7 +18,7 @@ pub struct Counts {
 }
 
 /// Appends words and a number.
-#[tactic(auto, using(crate::proofs::Writing::writes_after))]
+#[tactic(auto, using(crate::proofs::WritingLemmas::writes_after))]
 fn put_count(into: &mut Vec<u8>, words: &[u8], count: u64) -> Result<(), NoMemory>
     ensures { Writes (counted words.now count) into.old.items into.new.items result }
 {
@@ -28,7 +28,7 @@ fn put_count(into: &mut Vec<u8>, words: &[u8], count: u64) -> Result<(), NoMemor
 
 /// Appends the line of the counts, `frames F messages M refused K`. Where memory is refused, a front of the line may have
 /// been appended.
-#[tactic(auto, using(crate::proofs::Writing::writes_after))]
+#[tactic(auto, using(crate::proofs::WritingLemmas::writes_after))]
 pub fn write_counts(_alloc: Global, counts: &Counts, into: &mut Vec<u8>) -> Result<(), NoMemory>
     ensures { Writes (counts_line counts.now) into.old.items into.new.items result }
 {

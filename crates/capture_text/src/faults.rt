@@ -10,7 +10,7 @@ use etp_frame::FrameError;
 use etp_values::NoMemory;
 
 /// Appends a word and an offset.
-#[tactic(auto, using(crate::proofs::Writing::writes_after))]
+#[tactic(auto, using(crate::proofs::WritingLemmas::writes_after))]
 fn put_at(into: &mut Vec<u8>, word: &[u8], offset: usize) -> Result<(), NoMemory>
     ensures { Writes (word.now ++ decimal offset) into.old.items into.new.items result }
 {
@@ -19,7 +19,7 @@ fn put_at(into: &mut Vec<u8>, word: &[u8], offset: usize) -> Result<(), NoMemory
 }
 
 /// Appends words and a number of the header.
-#[tactic(auto, using(crate::proofs::Writing::writes_after))]
+#[tactic(auto, using(crate::proofs::WritingLemmas::writes_after))]
 fn put_with(into: &mut Vec<u8>, words: &[u8], number: i32) -> Result<(), NoMemory>
     ensures { Writes (words.now ++ signed_decimal number) into.old.items into.new.items result }
 {
@@ -47,7 +47,7 @@ fn put_refusal(into: &mut Vec<u8>, refusal: Refusal) -> Result<(), NoMemory>
 }
 
 /// Appends which part of a message is refused, and why.
-#[tactic(auto, using(crate::proofs::Writing::writes_after))]
+#[tactic(auto, using(crate::proofs::WritingLemmas::writes_after))]
 fn put_part(into: &mut Vec<u8>, part: &[u8], refusal: Refusal) -> Result<(), NoMemory>
     ensures { Writes (part.now ++ refusal_text refusal) into.old.items into.new.items result }
 {

@@ -65,7 +65,7 @@ fn is_shown(byte: u8) -> bool
 }
 
 /// Appends a byte of a text that is not shown as it is.
-#[tactic(auto, using(crate::proofs::Writing::writes_after))]
+#[tactic(auto, using(crate::proofs::WritingLemmas::writes_after))]
 fn put_escape(into: &mut Vec<u8>, byte: u8) -> Result<(), NoMemory>
     ensures { Writes (92 ∷ 120 ∷ hex_byte byte) into.old.items into.new.items result }
 {

@@ -26,7 +26,7 @@ fn put_alone(alloc: Global, value: &DataValue, into: &mut Vec<u8>) -> Result<(),
 }
 
 /// Appends an index and a value as a line.
-#[tactic(auto, using(crate::proofs::Writing::writes_after))]
+#[tactic(auto, using(crate::proofs::WritingLemmas::writes_after))]
 fn put_line(
     alloc: Global,
     index: i64,

@@ -56,7 +56,7 @@ fn put_kind(into: &mut Vec<u8>, kind: u8) -> Result<(), NoMemory>
 }
 
 /// Appends where a frame begins and what it is.
-#[tactic(auto, using(crate::proofs::Writing::writes_after))]
+#[tactic(auto, using(crate::proofs::WritingLemmas::writes_after))]
 fn put_start(into: &mut Vec<u8>, offset: u64, kind: u8) -> Result<(), NoMemory>
     ensures { Writes (start_text offset kind) into.old.items into.new.items result }
 {
@@ -66,7 +66,7 @@ fn put_start(into: &mut Vec<u8>, offset: u64, kind: u8) -> Result<(), NoMemory>
 }
 
 /// Appends a word and a number.
-#[tactic(auto, using(crate::proofs::Writing::writes_after))]
+#[tactic(auto, using(crate::proofs::WritingLemmas::writes_after))]
 fn put_field(into: &mut Vec<u8>, word: &[u8], number: i64) -> Result<(), NoMemory>
     ensures { Writes (labelled word.now number) into.old.items into.new.items result }
 {
@@ -75,7 +75,7 @@ fn put_field(into: &mut Vec<u8>, word: &[u8], number: i64) -> Result<(), NoMemor
 }
 
 /// Appends where a frame begins, what it is, its session and its moment.
-#[tactic(auto, using(crate::proofs::Writing::writes_after))]
+#[tactic(auto, using(crate::proofs::WritingLemmas::writes_after))]
 fn put_front(into: &mut Vec<u8>, offset: u64, frame: &Frame) -> Result<(), NoMemory>
     ensures { Writes (front_text offset frame.now) into.old.items into.new.items result }
 {
@@ -86,7 +86,7 @@ fn put_front(into: &mut Vec<u8>, offset: u64, frame: &Frame) -> Result<(), NoMem
 }
 
 /// Appends the numbers of a header that say which message follows.
-#[tactic(auto, using(crate::proofs::Writing::writes_after))]
+#[tactic(auto, using(crate::proofs::WritingLemmas::writes_after))]
 fn put_kind_numbers(into: &mut Vec<u8>, header: &Header) -> Result<(), NoMemory>
     ensures { Writes (kind_text header.now) into.old.items into.new.items result }
 {
@@ -95,7 +95,7 @@ fn put_kind_numbers(into: &mut Vec<u8>, header: &Header) -> Result<(), NoMemory>
 }
 
 /// Appends the other numbers of a header.
-#[tactic(auto, using(crate::proofs::Writing::writes_after))]
+#[tactic(auto, using(crate::proofs::WritingLemmas::writes_after))]
 fn put_ids(into: &mut Vec<u8>, header: &Header) -> Result<(), NoMemory>
     ensures { Writes (ids_text header.now) into.old.items into.new.items result }
 {
@@ -105,7 +105,7 @@ fn put_ids(into: &mut Vec<u8>, header: &Header) -> Result<(), NoMemory>
 }
 
 /// Appends the numbers of a header.
-#[tactic(auto, using(crate::proofs::Writing::writes_after))]
+#[tactic(auto, using(crate::proofs::WritingLemmas::writes_after))]
 fn put_header(into: &mut Vec<u8>, header: &Header) -> Result<(), NoMemory>
     ensures { Writes (kind_text header.now ++ ids_text header.now) into.old.items into.new.items result }
 {
@@ -114,7 +114,7 @@ fn put_header(into: &mut Vec<u8>, header: &Header) -> Result<(), NoMemory>
 }
 
 /// Appends a message's name and header.
-#[tactic(auto, using(crate::proofs::Writing::writes_after))]
+#[tactic(auto, using(crate::proofs::WritingLemmas::writes_after))]
 fn put_title(into: &mut Vec<u8>, header: &Header, place: u32) -> Result<(), NoMemory>
     ensures { Writes (title_text place header.now) into.old.items into.new.items result }
 {
@@ -124,7 +124,7 @@ fn put_title(into: &mut Vec<u8>, header: &Header, place: u32) -> Result<(), NoMe
 }
 
 /// Appends a message's name, header and body.
-#[tactic(auto, using(crate::proofs::Writing::writes_after))]
+#[tactic(auto, using(crate::proofs::WritingLemmas::writes_after))]
 fn put_message(into: &mut Vec<u8>, header: &Header, place: u32, body: &Tree) -> Result<(), NoMemory>
     ensures { Writes (title_text place header.now ++ codes " " ++ value_text place (value_of body.now)) into.old.items into.new.items result }
 {
@@ -134,7 +134,7 @@ fn put_message(into: &mut Vec<u8>, header: &Header, place: u32, body: &Tree) -> 
 }
 
 /// Appends the cause that refuses a message.
-#[tactic(auto, using(crate::proofs::Writing::writes_after))]
+#[tactic(auto, using(crate::proofs::WritingLemmas::writes_after))]
 fn put_refused(into: &mut Vec<u8>, error: &FrameError) -> Result<(), NoMemory>
     ensures { Writes (codes " refused " ++ fault_text error.now) into.old.items into.new.items result }
 {
@@ -167,7 +167,7 @@ fn put_bytes(alloc: Global, bytes: &[u8], sender: Side, into: &mut Vec<u8>) -> R
 }
 
 /// Appends the bytes of a session's end; a poll and the client's end have none.
-#[tactic(auto, using(crate::proofs::Writing::writes_after))]
+#[tactic(auto, using(crate::proofs::WritingLemmas::writes_after))]
 fn put_end(into: &mut Vec<u8>, frame: &Frame) -> Result<(), NoMemory>
     ensures { Writes (if frame.now.kind == kind_ended then codes " " ++ hex frame.now.bytes else []) into.old.items into.new.items result }
 {
@@ -191,7 +191,7 @@ fn put_rest(alloc: Global, frame: &Frame, into: &mut Vec<u8>) -> Result<(), NoMe
 /// Appends the line that shows this frame, which begins at `offset` of its capture: `OFFSET KIND TAG MOMENT`, and behind
 /// it the message, or the bytes of a session's end. A message that is refused is shown by the cause. Where memory is
 /// refused, a front of the line may have been appended.
-#[tactic(auto, using(crate::proofs::Writing::writing))]
+#[tactic(auto, using(crate::proofs::WritingLemmas::writing))]
 pub fn show_frame(
     alloc: Global,
     offset: u64,

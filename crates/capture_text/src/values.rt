@@ -14,7 +14,7 @@ use avro_bin::Tree;
 use etp_values::{Named, NoMemory, Text};
 
 /// Appends a mark and bytes.
-#[tactic(auto, using(crate::proofs::Writing::writes_after))]
+#[tactic(auto, using(crate::proofs::WritingLemmas::writes_after))]
 fn put_marked(into: &mut Vec<u8>, mark: &[u8], bytes: &[u8]) -> Result<(), NoMemory>
     ensures { Writes (mark.now ++ hex bytes.now) into.old.items into.new.items result }
 {
@@ -23,7 +23,7 @@ fn put_marked(into: &mut Vec<u8>, mark: &[u8], bytes: &[u8]) -> Result<(), NoMem
 }
 
 /// Appends a mark and the place of a symbol or a branch.
-#[tactic(auto, using(crate::proofs::Writing::writes_after))]
+#[tactic(auto, using(crate::proofs::WritingLemmas::writes_after))]
 fn put_place(into: &mut Vec<u8>, mark: &[u8], place: u32) -> Result<(), NoMemory>
     ensures { Writes (mark.now ++ decimal place) into.old.items into.new.items result }
 {
@@ -33,7 +33,7 @@ fn put_place(into: &mut Vec<u8>, mark: &[u8], place: u32) -> Result<(), NoMemory
 
 /// Appends a value of the schema at this place of the table.
 #[cycle(showing)]
-#[tactic(auto, using(avro_bin::proofs::Views::values))]
+#[tactic(auto, using(avro_bin::proofs::ViewLemmas::values))]
 pub fn put_value(into: &mut Vec<u8>, place: u32, tree: &Tree) -> Result<(), NoMemory>
     ensures { Writes (value_text place (value_of tree.now)) into.old.items into.new.items result }
 {
@@ -67,7 +67,7 @@ fn put_boolean(into: &mut Vec<u8>, b: bool) -> Result<(), NoMemory>
 
 /// Appends the place of a branch of the union at a place, and its value.
 #[cycle(showing)]
-#[tactic(auto, using(crate::proofs::Writing::writes_after))]
+#[tactic(auto, using(crate::proofs::WritingLemmas::writes_after))]
 fn put_branch(into: &mut Vec<u8>, place: u32, branch: u32, tree: &Tree) -> Result<(), NoMemory>
     ensures { Writes (codes "#" ++ decimal branch ++ codes " " ++ value_text (child_at place branch) (value_of tree.now)) into.old.items into.new.items result }
 {
@@ -78,7 +78,7 @@ fn put_branch(into: &mut Vec<u8>, place: u32, branch: u32, tree: &Tree) -> Resul
 
 /// Appends an array of values of the schema at this place.
 #[cycle(showing)]
-#[tactic(auto, using(crate::proofs::Writing::writes_after))]
+#[tactic(auto, using(crate::proofs::WritingLemmas::writes_after))]
 fn put_array(into: &mut Vec<u8>, place: u32, trees: &[Tree]) -> Result<(), NoMemory>
     ensures { Writes (codes "[" ++ items_text place 0 (row (map value_of trees.now)) ++ codes "]") into.old.items into.new.items result }
 {
@@ -88,7 +88,7 @@ fn put_array(into: &mut Vec<u8>, place: u32, trees: &[Tree]) -> Result<(), NoMem
 }
 
 #[cycle(showing)]
-#[tactic(auto, using(crate::proofs::Writing::writes_after))]
+#[tactic(auto, using(crate::proofs::WritingLemmas::writes_after))]
 fn put_items(into: &mut Vec<u8>, place: u32, trees: &[Tree]) -> Result<(), NoMemory>
     ensures { Writes (items_text place 0 (row (map value_of trees.now))) into.old.items into.new.items result }
 {
@@ -100,7 +100,7 @@ fn put_items(into: &mut Vec<u8>, place: u32, trees: &[Tree]) -> Result<(), NoMem
 
 /// Appends the `i`-th item of an array.
 #[cycle(showing)]
-#[tactic(auto, using(crate::proofs::Writing::writes_after))]
+#[tactic(auto, using(crate::proofs::WritingLemmas::writes_after))]
 fn put_item(into: &mut Vec<u8>, place: u32, i: usize, tree: &Tree) -> Result<(), NoMemory>
     ensures { Writes (separator i ++ value_text place (value_of tree.now)) into.old.items into.new.items result }
 {
@@ -110,7 +110,7 @@ fn put_item(into: &mut Vec<u8>, place: u32, i: usize, tree: &Tree) -> Result<(),
 
 /// Appends a map of values of the schema at this place.
 #[cycle(showing)]
-#[tactic(auto, using(crate::proofs::Writing::writes_after))]
+#[tactic(auto, using(crate::proofs::WritingLemmas::writes_after))]
 fn put_map(into: &mut Vec<u8>, place: u32, named: &Named<Tree>) -> Result<(), NoMemory>
     ensures { Writes (codes "(" ++ entries_text place 0 (entries (map entry_of named.now)) ++ codes ")") into.old.items into.new.items result }
 {
@@ -120,7 +120,7 @@ fn put_map(into: &mut Vec<u8>, place: u32, named: &Named<Tree>) -> Result<(), No
 }
 
 #[cycle(showing)]
-#[tactic(auto, using(crate::proofs::Writing::writes_after))]
+#[tactic(auto, using(crate::proofs::WritingLemmas::writes_after))]
 fn put_entries(into: &mut Vec<u8>, place: u32, named: &Named<Tree>) -> Result<(), NoMemory>
     ensures { Writes (entries_text place 0 (entries (map entry_of named.now))) into.old.items into.new.items result }
 {
@@ -132,7 +132,7 @@ fn put_entries(into: &mut Vec<u8>, place: u32, named: &Named<Tree>) -> Result<()
 }
 
 /// Appends the name of the `i`-th entry of a map, and what parts it from the value.
-#[tactic(auto, using(crate::proofs::Writing::writes_after))]
+#[tactic(auto, using(crate::proofs::WritingLemmas::writes_after))]
 fn put_key(into: &mut Vec<u8>, i: usize, name: &Text) -> Result<(), NoMemory>
     ensures { Writes (separator i ++ quoted name.now ++ codes ": ") into.old.items into.new.items result }
 {
@@ -142,7 +142,7 @@ fn put_key(into: &mut Vec<u8>, i: usize, name: &Text) -> Result<(), NoMemory>
 }
 
 #[cycle(showing)]
-#[tactic(auto, using(crate::proofs::Writing::writes_after))]
+#[tactic(auto, using(crate::proofs::WritingLemmas::writes_after))]
 fn put_entry(
     into: &mut Vec<u8>,
     place: u32,
@@ -158,7 +158,7 @@ fn put_entry(
 
 /// Appends a record of the schema at this place.
 #[cycle(showing)]
-#[tactic(auto, using(crate::proofs::Writing::writes_after))]
+#[tactic(auto, using(crate::proofs::WritingLemmas::writes_after))]
 fn put_record(into: &mut Vec<u8>, place: u32, trees: &[Tree]) -> Result<(), NoMemory>
     ensures { Writes (codes "{" ++ fields_text place 0 (row (map value_of trees.now)) ++ codes "}") into.old.items into.new.items result }
 {
@@ -168,7 +168,7 @@ fn put_record(into: &mut Vec<u8>, place: u32, trees: &[Tree]) -> Result<(), NoMe
 }
 
 #[cycle(showing)]
-#[tactic(auto, using(crate::proofs::Writing::writes_after))]
+#[tactic(auto, using(crate::proofs::WritingLemmas::writes_after))]
 fn put_fields(into: &mut Vec<u8>, place: u32, trees: &[Tree]) -> Result<(), NoMemory>
     ensures { Writes (fields_text place 0 (row (map value_of trees.now))) into.old.items into.new.items result }
 {
@@ -179,7 +179,7 @@ fn put_fields(into: &mut Vec<u8>, place: u32, trees: &[Tree]) -> Result<(), NoMe
 }
 
 /// Appends the name of the `i`-th field of the record at a place, and what parts it from the value.
-#[tactic(auto, using(crate::proofs::Writing::writes_after))]
+#[tactic(auto, using(crate::proofs::WritingLemmas::writes_after))]
 fn put_name(into: &mut Vec<u8>, place: u32, i: usize) -> Result<(), NoMemory>
     ensures { Writes (separator i ++ field_at place i ++ codes "=") into.old.items into.new.items result }
 {
@@ -189,7 +189,7 @@ fn put_name(into: &mut Vec<u8>, place: u32, i: usize) -> Result<(), NoMemory>
 }
 
 #[cycle(showing)]
-#[tactic(auto, using(crate::proofs::Writing::writes_after))]
+#[tactic(auto, using(crate::proofs::WritingLemmas::writes_after))]
 fn put_field(into: &mut Vec<u8>, place: u32, i: usize, tree: &Tree) -> Result<(), NoMemory>
     ensures { Writes (separator i ++ field_at place i ++ codes "=" ++ value_text (child_at place i) (value_of tree.now)) into.old.items into.new.items result }
 {

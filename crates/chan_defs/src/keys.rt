@@ -1,5 +1,5 @@
 //! What stands at the keys of a TOML table, where it is in its form.
-ghost use Rattle.std.specs.Prelude.{◌≡◌, IfOk, option_map, map, option_and_then};
+ghost use Rattle.std.specs.Prelude.{◌≡◌, IfOk, option_map, map};
 ghost use Rattle.toml.specs.View.{table_view, view, items_view};
 ghost use Rattle.toml.specs.Data.{get_member};
 ghost use Rattle.chan_defs.specs.Keys.{text_at, instance_of, name_of, is_name as is_name_text, within as number_within, number_at, filters_of, types_of, tables_in, tables_of, kind_of, is_unit as is_unit_text, unit_of};

@@ -1,5 +1,4 @@
 //! A configuration from its bytes.
-ghost use Rattle.std.specs.Prelude.{◌≡◌};
 ghost use Rattle.toml.specs.View.{table_view};
 ghost use Rattle.etp_values.specs.Gives.{Gives};
 ghost use Rattle.chan_defs.specs.Config.{config_of, defs};
@@ -8,18 +7,12 @@ use crate::channels::read_channels;
 use crate::error::DefsError;
 use crate::keys::{instance, name, number, tables, types};
 use etp_values::{NoMemory, Shared, Text};
-use server_config::Config;
+use server_config::{Config, MAX_JOURNAL, MAX_LAG};
 use std::alloc::Global;
 use toml::Table;
 
 /// The greatest number of bytes of a configuration.
 pub const MAX_DEFS_LEN: usize = 1_048_576;
-
-/// The greatest lag of a subscription, and the default.
-const MAX_LAG: u64 = 65_536;
-
-/// The greatest number of entries of a journal, and the default.
-const MAX_JOURNAL: u64 = 4_194_304;
 
 fn read_config(alloc: Global, table: &Table) -> Result<Config, DefsError>
     ensures { Gives DefsError.NoMemory result (config_of (table_view table.now)) }

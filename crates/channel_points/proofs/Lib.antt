@@ -1,3 +1,3 @@
 pub mod BlockLemmas
 pub mod ItemLemmas
-pub mod Ordered
+pub mod OrderedLemmas

@@ -1,5 +1,5 @@
-pub mod Begun
-pub mod Calls
-pub mod Flags
-pub mod Points
-pub mod Telling
+pub mod BegunLemmas
+pub mod CallLemmas
+pub mod FlagLemmas
+pub mod PointLemmas
+pub mod TellingLemmas

@@ -13,7 +13,7 @@ use std::alloc::Global;
 use store_machine::StoreCall;
 
 /// What comes of a LoadChannelData: without items nothing is asked and nothing said.
-#[tactic(auto, using(crate::proofs::Calls::none_loaded, crate::proofs::Calls::some_loaded))]
+#[tactic(auto, using(crate::proofs::CallLemmas::none_loaded, crate::proofs::CallLemmas::some_loaded))]
 pub(crate) fn append_outcome(
     alloc: Global,
     opens: &Opens,

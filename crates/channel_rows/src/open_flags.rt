@@ -96,7 +96,7 @@ fn extend(flags: &mut Vec<bool>, place: usize) -> Result<(), NoMemory>
 }
 
 /// Sets the flag at a place.
-#[tactic(auto, using(crate::proofs::Flags::flag_set))]
+#[tactic(auto, using(crate::proofs::FlagLemmas::flag_set))]
 fn set_flag(flags: &mut Vec<bool>, place: usize) -> Result<(), NoMemory>
     ensures { OnOk result (flags.new.items ≡ with_flag flags.old.items place) }
 {

@@ -237,7 +237,7 @@ pub(crate) fn close_request(
 }
 
 /// What comes of one whose keys pass the limits.
-#[tactic(auto, using(keyed_requests::proofs::Cases::by_response))]
+#[tactic(auto, using(keyed_requests::proofs::CaseLemmas::by_response))]
 fn close_outcome(alloc: Global, opens: &mut Opens, ids: Named<i64>) -> Result<LoadOutcome, NoMemory>
     ensures outcome { IfOk result (λ o. o ≡ (close_outcome opens.old ids).outcome) }
     ensures state { OnOk result (opens.new ≡ (close_outcome opens.old ids).opens) }

@@ -231,7 +231,7 @@ impl KeyedReply for SubscribeReply {
 }
 
 /// The points that a subscription starts with, where there are some.
-#[tactic(auto, using(crate::proofs::Calls::none_first, crate::proofs::Calls::some_first))]
+#[tactic(auto, using(crate::proofs::CallLemmas::none_first, crate::proofs::CallLemmas::some_first))]
 fn add_first(
     alloc: Global,
     state: &mut Beginning,

@@ -70,7 +70,7 @@ pub(crate) fn stop_request(
 }
 
 /// What comes of one whose keys pass the limits.
-#[tactic(auto, using(keyed_requests::proofs::Cases::by_response))]
+#[tactic(auto, using(keyed_requests::proofs::CaseLemmas::by_response))]
 fn stop_outcome(
     alloc: Global,
     subs: &mut Subs,

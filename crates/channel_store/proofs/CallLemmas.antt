@@ -11,7 +11,7 @@ use Rattle.channel_store.specs.Refusals.{append_refusal, replace_refusal, trunca
 use Rattle.channel_store.specs.Rows.{Row}
 use Rattle.channel_store.specs.Store.{IsNewPlace, appended, changed, replaced, truncated}
 use Rattle.channel_store.specs.Sweeps.{EndsAs, IsIdle, shown_of}
-use Rattle.channel_store.proofs.Ended.{ends-answer, ends-store, ends-idle, ends-new}
+use Rattle.channel_store.proofs.EndedLemmas.{ends-answer, ends-store, ends-idle, ends-new}
 
 -- what holds after a call on these channels
 pub record Called (r : Result (Unit {0}) ChannelError) (new : List Row) (cs : List Channel) (refusal : Option ChannelError) (place : ℕ) (at : ℤ) (what : ℤ → Option What) : Type 0 where

@@ -6,7 +6,7 @@ use Rattle.std.specs.List.Sorted.{IsPartitionPoint}
 use Rattle.std.proofs.lemmas.Bool.{false≢true}
 use Rattle.std.proofs.lemmas.Bool.Decides.{nat_tests}
 use Rattle.std.proofs.lemmas.Option.{slice_get-get_or}
-use Rattle.channel_points.proofs.Ordered.{partitioned}
+use Rattle.channel_points.proofs.OrderedLemmas.{partitioned}
 use Rattle.channel_store.specs.declared.change.ChannelChange.{ChannelChange}
 use Rattle.channel_store.specs.Channels.{PlacesRise}
 use Rattle.channel_store.specs.Told.{stands_before}

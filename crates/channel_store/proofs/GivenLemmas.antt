@@ -2,7 +2,7 @@
 use Rattle.std.proofs.Common.{refl, ℕ, zero, suc, ◌≡◌, ◌<◌, Bool, true, false, cond, List, [], ◌∷◌, map, length, get_or, ap, sym, ◌∙◌, arith, subst, Option, Some, None, Ok, Err, option_map}
 use Rattle.std.specs.Prelude.{ℤ, slice_set, Result, OnOk}
 use Rattle.std.specs.List.{AllByRecursion}
-use Rattle.channel_store.proofs.Staged.{int_eq-refl}
+use Rattle.etp_values.proofs.IntLemmas.{int_eq_self}
 use Rattle.etp_values.specs.declared.point.Point.{Point}
 use Rattle.etp_values.specs.declared.point.ChannelPoint.{ChannelPoint}
 use Rattle.channel_points.specs.Handles.{of_channel}
@@ -11,11 +11,12 @@ use Rattle.channel_store.specs.declared.change.What.TheVariants.{Replace}
 use Rattle.channel_store.specs.declared.error.ChannelError.{ChannelError}
 use Rattle.channel_store.specs.Channels.{Channel}
 use Rattle.channel_store.specs.Rows.{Row, Becomes}
-use Rattle.channel_store.specs.Refusals.{channel_at, int_eq, is_listed, points_of, Refuses, verdict}
+use Rattle.std.specs.Ordering.{int_eq}
+use Rattle.channel_store.specs.Refusals.{channel_at, is_listed, points_of, Refuses, verdict}
 use Rattle.channel_store.specs.Store.{append_some, appended, replaced}
 use Rattle.channel_store.specs.Sweeps.{Tells, row_at, staged_by, outcome}
 use Rattle.channel_store.specs.Told.{IfGiven, told_by}
-use Rattle.channel_store.proofs.Ended.{row_at-staged, outcome-ok, outcome-err}
+use Rattle.channel_store.proofs.EndedLemmas.{row_at-staged, outcome-ok, outcome-err}
 
 pub set-same : (rows : List Row) (k : ℕ) (r new : Row) → k < length rows → r ≡ get_or rows k r → new ≡ r → slice_set rows k new ≡ rows
 set-same [] k r new h at e = absurd (omega arith)
@@ -30,7 +31,7 @@ on_ok (Err e) f h = h
 pub items-of_one : (id : ℤ) (items : List ChannelPoint) → AllByRecursion (λ i. i.channel ≡ id) items → map (of_channel id) (points_of id items) ≡ items
 items-of_one id [] all = refl
 items-of_one id (i ∷ is) all =
-    let mine : int_eq id i.channel ≡ true = ap (int_eq id) all.0 ∙ int_eq-refl id in
+    let mine : int_eq id i.channel ≡ true = ap (int_eq id) all.0 ∙ int_eq_self id in
     ap (λ b. map (of_channel id) (cond b (i.point ∷ points_of id is) (points_of id is))) mine
     ∙ (λ j. record { channel = sym all.0 j; point = i.point } ∷ items-of_one id is all.1 j)
 

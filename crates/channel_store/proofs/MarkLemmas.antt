@@ -6,6 +6,7 @@ use Rattle.std.specs.List.Sorted.{IsPartitionPoint}
 use Rattle.std.proofs.lemmas.Bool.{false≢true}
 use Rattle.std.proofs.lemmas.Bool.Decides.{nat_tests}
 use Rattle.std.proofs.lemmas.Option.{get_or_from_slice_get, slice_get_within}
+use Rattle.std.proofs.Math.Bool.{or-true}
 use Rattle.channel_store.specs.declared.change.ChannelChange.{ChannelChange}
 use Rattle.channel_store.specs.Channels.{PlacesRise}
 use Rattle.channel_store.specs.Marks.{marked}
@@ -13,17 +14,13 @@ use Rattle.channel_store.specs.Rows.{Row}
 use Rattle.channel_store.specs.Store.{changes_at, changes_in}
 use Rattle.channel_store.specs.Sweeps.{row_at, shown_in, shown_of}
 use Rattle.channel_store.proofs.ChangeLemmas.{none_later}
-use Rattle.channel_store.proofs.Looks.{channel_at-shown}
+use Rattle.channel_store.proofs.LookLemmas.{channel_at-shown}
 use Rattle.channel_store.proofs.RowLemmas.{drop-end, drop-here}
 
 or-none : (b a : Bool) → (b || (a && false)) ≡ b
 or-none true a = refl
 or-none false true = refl
 or-none false false = refl
-
-or-true : (b : Bool) → (b || true) ≡ true
-or-true true = refl
-or-true false = refl
 
 -- no changes set no marks
 marked-nothing : (from first : ℕ) (ms : List Bool) → ms ≡ marked from first [] ms

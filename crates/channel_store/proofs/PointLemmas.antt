@@ -12,11 +12,12 @@ use Rattle.channel_store.specs.declared.error.ChannelError.TheVariants.{Order, O
 use Rattle.channel_store.specs.Points.{at_most, is_within, put_below, outside, inside, after, Rises, last_of, follows}
 use Rattle.channel_store.specs.Channels.{Channel, whats_of, happened, IsKept, IsPastAll}
 use Rattle.std.proofs.lemmas.Bool.{false≢true}
+use Rattle.etp_values.proofs.IntLemmas.{int_lt_trans}
 use Rattle.channel_store.specs.Rows.{Fits, takes, before_next, joins}
 use Rattle.channel_store.specs.Told.{told_by, with_point}
 use Rattle.channel_store.specs.Splits.{IsSplit}
-use Rattle.etp_values.proofs.Each.{all-append}
-use Rattle.channel_points.proofs.Ordered.{all-map, all-push, all-filter, filter-all, all-cross, rises-push, rises-append, rises-filter, none-pass, all-fail, lt_before}
+use Rattle.etp_values.proofs.EachLemmas.{all-append}
+use Rattle.channel_points.proofs.OrderedLemmas.{all-map, all-push, all-filter, filter-all, all-cross, rises-push, rises-append, rises-filter, none-pass, all-fail}
 
 -- ---- tests on indexes
 
@@ -79,7 +80,7 @@ follows-all [] i rises h = tt
 follows-all (x ∷ []) i rises h = (h, tt)
 follows-all (x ∷ y ∷ ys) i rises h =
     let rest = follows-all (y ∷ ys) i rises.1 h in
-    (lt_before i x.index y.index rises.0.0 rest.0, rest)
+    (int_lt_trans x.index y.index i rises.0.0 rest.0, rest)
 
 pub rises-follows : (xs : List Point) (p : Point) → Rises xs → follows xs p.index ≡ true → Rises (xs ++ p ∷ [])
 rises-follows xs p rises h = rises-push _ xs p rises (follows-all xs p.index rises h)

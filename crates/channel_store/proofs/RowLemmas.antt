@@ -12,13 +12,14 @@ use Rattle.channel_store.specs.declared.error.ChannelError.TheVariants.{NoChanne
 use Rattle.channel_store.specs.declared.change.What.{What}
 use Rattle.channel_store.specs.Channels.{Channel}
 use Rattle.channel_store.specs.Rows.{Row, plain, cleared, done, done_by, IsDue, Becomes}
-use Rattle.channel_store.specs.Refusals.{int_eq, is_listed, or_else, first_refusal, verdict}
+use Rattle.std.specs.Ordering.{int_eq}
+use Rattle.channel_store.specs.Refusals.{is_listed, or_else, first_refusal, verdict}
 use Rattle.channel_store.specs.Store.{by_number}
 use Rattle.channel_store.specs.Sweeps.{shown_of, place_in, row_at, step_row, step_at, before_rows, with_row, modify, modify_at, all_done, AllDue, next_rows, steps}
-use Rattle.channel_store.proofs.Ended.{verdict-ok, verdict-err}
-use Rattle.channel_points.proofs.Ordered.{all-at}
-use Rattle.channel_store.proofs.Numbered.{by_number-same, by_number-modify, step_row-set, step_row-fails, step_row-beyond, shown-set, modify-set, modify-beyond}
-use Rattle.channel_store.proofs.Staged.{apart, apart_neg, int_eq-refl}
+use Rattle.channel_store.proofs.EndedLemmas.{verdict-ok, verdict-err}
+use Rattle.channel_points.proofs.OrderedLemmas.{all-at}
+use Rattle.channel_store.proofs.NumberedLemmas.{by_number-same, by_number-modify, step_row-set, step_row-fails, step_row-beyond, shown-set, modify-set, modify-beyond}
+use Rattle.etp_values.proofs.IntLemmas.{int_eq_self, neg_apart, pos_apart}
 
 -- ---- the place of an id
 
@@ -95,10 +96,10 @@ here-first place k at r false = refl
 pub done-first : (place : ℕ) (at id : ℤ) (ids : List ℤ) (rows : List Row) → all_done place at (id ∷ ids) rows ≡ all_done place at ids (modify_at id (done place id at) rows)
 done-first place at (pos k) ids rows =
     sym (by_number-modify (λ j r. cond (int_eq (pos j) (pos k) || is_listed ids (pos j)) (done place (pos j) at r) r) (λ j r. cond (is_listed ids (pos j)) (done place (pos j) at r) r) (done place (pos k) at) 0 k k rows (zero-add k)
-    (λ r. here-first place k at r (is_listed ids (pos k)) ∙ sym (ap (λ b. cond (b || is_listed ids (pos k)) (done place (pos k) at r) r) (int_eq-refl (pos k))))
-    (λ j r h. sym (ap (λ b. cond (b || is_listed ids (pos j)) (done place (pos j) at r) r) (apart j k h))))
+    (λ r. here-first place k at r (is_listed ids (pos k)) ∙ sym (ap (λ b. cond (b || is_listed ids (pos k)) (done place (pos k) at r) r) (int_eq_self (pos k))))
+    (λ j r h. sym (ap (λ b. cond (b || is_listed ids (pos j)) (done place (pos j) at r) r) (pos_apart j k h))))
 done-first place at (negsuc k) ids rows =
-    by_number-same _ _ 0 rows (λ j r l. ap (λ b. cond (b || is_listed ids (pos j)) (done place (pos j) at r) r) (apart_neg j k))
+    by_number-same _ _ 0 rows (λ j r l. ap (λ b. cond (b || is_listed ids (pos j)) (done place (pos j) at r) r) (neg_apart j k))
 
 pub done-none : (place : ℕ) (at : ℤ) (rows : List Row) → all_done place at [] rows ≡ rows
 done-none place at rows = by 0 rows

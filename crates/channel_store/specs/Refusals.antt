@@ -1,5 +1,6 @@
 -- Why a call is refused: the first reason in order.
 use Rattle.std.specs.Prelude.{ℤ, pos, negsuc, Bool, true, false, not, ◌&&◌, List, [], ◌∷◌, ◌++◌, Option, Some, None, is_some, Result, Ok, Err, if◌then◌else◌, slice_get}
+use Rattle.std.specs.Ordering.{int_eq}
 use Rattle.std.specs.List.{list_any}
 use Rattle.etp_values.specs.Gives.{Gives}
 use Rattle.etp_values.specs.declared.data.DataValue.{DataValue}
@@ -12,10 +13,6 @@ use Rattle.channel_store.specs.declared.error.ChannelError.{ChannelError}
 use Rattle.channel_store.specs.declared.error.ChannelError.TheVariants.{NoChannel, Index, Kind, Doubled, Interval, Order, Outside, NoMemory}
 use Rattle.channel_store.specs.Points.{at_most, is_within, follows}
 use Rattle.channel_store.specs.Channels.{Channel}
-
--- two ids are the same
-abbrev pub int_eq : ℤ → ℤ → Bool
-int_eq a b = at_most a b && at_most b a
 
 -- ---- channels and items
 

@@ -12,7 +12,8 @@ use Rattle.channel_store.specs.declared.error.ChannelError.{ChannelError}
 use Rattle.channel_store.specs.declared.error.ChannelError.TheVariants.{NoChannel}
 use Rattle.channel_store.specs.Points.{inside, past}
 use Rattle.channel_store.specs.Channels.{Channel, happened, IsPastAll}
-use Rattle.channel_store.specs.Refusals.{int_eq, is_listed, points_of, points_at, channel_at, range_refusal}
+use Rattle.std.specs.Ordering.{int_eq}
+use Rattle.channel_store.specs.Refusals.{is_listed, points_of, points_at, channel_at, range_refusal}
 
 -- each item of a list with its number
 abbrev pub by_number : {X Y : Type 0} → (ℕ → X → Y) → ℕ → List X → List Y

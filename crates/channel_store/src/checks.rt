@@ -1,7 +1,7 @@
 //! Tests on the items of a call, before anything is made.
 ghost use Rattle.std.specs.Prelude.{◌≡◌};
 ghost use Rattle.std.specs.Option.{option_copied};
-ghost use Rattle.channel_store.specs.Refusals.{cut_refusal, first_refusal, in_range, interval_refusal, is_kind, is_listed, suits, verdict};
+ghost use Rattle.channel_store.specs.Refusals.{cut_refusal, first_refusal, in_range, interval_refusal, is_listed, suits, verdict};
 ghost use Rattle.channel_store.specs.Sweeps.{inside_refusal_in, item_refusal_in, place_in, row_at, shown_of};
 
 use crate::error::ChannelError;

@@ -5,7 +5,7 @@ use etp_values::NoMemory;
 use std::alloc::{AllocError, AllocFailed};
 use thiserror::Error;
 
-/// Why a call was refused, with the channel that it was refused for.
+/// Why a call was refused. A number is the channel that it was refused for.
 #[derive(Clone, Copy, Debug, PartialEq, Eq, Error)]
 pub enum ChannelError {
     /// There is no channel of this id.

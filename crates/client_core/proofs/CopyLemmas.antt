@@ -5,7 +5,7 @@ use Rattle.std.specs.Ordering.{int_eq}
 use Rattle.std.proofs.Common.{ap, sym, ◌∙◌}
 use Rattle.std.proofs.lemmas.Bool.{false≢true}
 use Rattle.std.proofs.lemmas.List.Sums.{fold-append}
-use Rattle.etp_values.proofs.Ints.{int_eq_is, int_eq_self}
+use Rattle.etp_values.proofs.IntLemmas.{int_eq_is, int_eq_self}
 use Rattle.etp_values.specs.declared.point.Point.{Point}
 use Rattle.channel_store.specs.Points.{after, copy}
 use Rattle.channel_store.specs.declared.change.What.{What}

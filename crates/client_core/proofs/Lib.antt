@@ -2,7 +2,6 @@ pub mod AskLemmas
 pub mod ChannelLemmas
 pub mod CopyLemmas
 pub mod FoldLemmas
-pub mod KeyedLemmas
 pub mod NumberingLemmas
 pub mod RefusalLemmas
 pub mod TakeLemmas

@@ -26,10 +26,10 @@ use Rattle.client_forms.specs.declared.stop.Cause.{Cause}
 use Rattle.client_forms.specs.declared.stop.Cause.TheVariants as cause
 use Rattle.client_forms.specs.declared.stop.Stop.{Stop}
 use Rattle.client_forms.specs.declared.stop.Stop.TheVariants as stop
-use Rattle.client_forms.proofs.Growth.{loads_grows, pings_if_grows}
+use Rattle.client_forms.proofs.GrowthLemmas.{loads_grows, pings_if_grows}
 use Rattle.client_forms.proofs.LineLemmas.{first_reading}
-use Rattle.client_forms.proofs.Planning.{given_ask, goes_fronts, plan_alone, plan_ask, plan_given, plan_waits}
-use Rattle.client_forms.proofs.Works.{fronts_grown}
+use Rattle.client_forms.proofs.PlanningLemmas.{given_ask, goes_fronts, plan_alone, plan_ask, plan_given, plan_waits}
+use Rattle.client_forms.proofs.WorkLemmas.{fronts_grown}
 
 -- ---- loading changes nothing of a course that has ended
 

@@ -23,7 +23,7 @@ use Rattle.client_forms.specs.declared.stop.Stop.{Stop}
 use Rattle.client_forms.specs.declared.stop.Stop.TheVariants as stop
 use Rattle.client_forms.specs.declared.watching.WatchStage.{WatchStage}
 use Rattle.client_forms.specs.declared.watching.WatchStage.TheVariants as at
-use Rattle.client_forms.proofs.Planning.{goes_fronts, plan_alone, plan_given}
+use Rattle.client_forms.proofs.PlanningLemmas.{goes_fronts, plan_alone, plan_given}
 
 fold_last : {A B : Type 0} (f : B → A → B) (b : B) (xs : List A) (x : A) → fold f b (xs ++ x ∷ []) ≡ f (fold f b xs) x
 fold_last f b [] x = refl

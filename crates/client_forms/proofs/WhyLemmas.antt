@@ -14,7 +14,7 @@ use Rattle.client_forms.specs.declared.stop.Cause.TheVariants as cause
 use Rattle.client_forms.specs.declared.stop.Stop.{Stop}
 use Rattle.client_forms.specs.declared.stop.Stop.TheVariants as stop
 use Rattle.client_forms.proofs.OwnLemmas.{AreOwn, asks_own, breaks_own, closes_own, none_own}
-use Rattle.client_forms.proofs.Works.{no_less}
+use Rattle.client_forms.proofs.WorkLemmas.{no_less}
 
 pub less_not : (x : Outside) → NoLess x x
 less_not x = record { line = no_less x.line.faults; output = no_less x.output.faults; input = no_less x.input.faults }

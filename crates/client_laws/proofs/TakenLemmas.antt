@@ -1,11 +1,10 @@
 -- Parts that are taken one after the other. For the crates above, too: that a message is taken as a part, and what the headers of parts
 -- say of the whole message's.
-use Rattle.std.proofs.Common.{◌≡◌, ℕ, ℤ, pos, Bool, true, false, not, ◌&&◌, ◌||◌, int_lt, int_rem, List, [], ◌∷◌, Option, Some, None, Ok, fold, map, if◌then◌else◌, refl, sym, ap, subst, ◌∙◌, arith}
+use Rattle.std.proofs.Common.{◌≡◌, ℕ, ℤ, pos, Bool, true, false, not, ◌&&◌, ◌||◌, int_lt, int_rem, List, [], ◌∷◌, Option, Some, None, Ok, fold, map, if◌then◌else◌, refl, sym, ap, subst, ◌∙◌}
 use Rattle.std.specs.List.{AllByRecursion}
 use Rattle.std.specs.Ordering.{int_eq}
 use Rattle.std.proofs.lemmas.Bool.{false≢true, and_parts}
-use Rattle.std.proofs.lemmas.Int.{ints}
-use Rattle.etp_values.proofs.Ints.{int_eq_self}
+use Rattle.etp_values.proofs.IntLemmas.{int_eq_self, int_lt_trans}
 use Rattle.etp_schema.specs.declared.body.Side.TheVariants.{Server}
 use Rattle.etp_frame.specs.Header.{final_part, has_flag}
 use Rattle.etp_frame.specs.Reading.{read_of}
@@ -32,9 +31,6 @@ same_int a b is = ap (λ z. int_eq a z) (sym is) ∙ int_eq_self a
 or_true : (b : Bool) → not (b || true) ≡ false
 or_true true = refl
 or_true false = refl
-
-int_lt_trans : (a b c : ℤ) → int_lt a b ≡ true → int_lt b c ≡ true → int_lt a c ≡ true
-int_lt_trans a b c x y = grind (arith, ints)
 
 fresh_on : (a b c : ℤ) → is_fresh a b ≡ true → is_fresh b c ≡ true → is_fresh a c ≡ true
 fresh_on a b c x y =

@@ -6,7 +6,7 @@ use Rattle.std.specs.Ordering.{int_eq}
 use Rattle.std.proofs.Common.{add-one, ap, append-nil, append_assoc, drop-cons, get_or, sym, ◌∙◌}
 use Rattle.std.proofs.lemmas.List.{drop_all}
 use Rattle.std.proofs.lemmas.Bool.{or_right}
-use Rattle.etp_values.proofs.Ints.{int_eq_self}
+use Rattle.etp_values.proofs.IntLemmas.{int_eq_self}
 use Rattle.etp_values.specs.declared.point.ChannelPoint.{ChannelPoint}
 use Rattle.etp_values.specs.declared.point.Point.{Point}
 use Rattle.channel_store.specs.declared.copy.ChangeMsg.{ChangeMsg}

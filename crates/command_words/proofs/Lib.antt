@@ -1,5 +1,5 @@
-mod Finding
-mod Passes
-mod Settings
-mod Walks
+mod FindingLemmas
+mod PassLemmas
+mod SettingLemmas
+mod WalkLemmas
 pub mod CountLemmas

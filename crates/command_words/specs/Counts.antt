@@ -17,6 +17,6 @@ abbrev pub from_least : ℕ → Option ℕ → Option ℕ
 from_least least None = None
 from_least least (Some n) = if nat_lt n least then None else Some n
 
--- the count that a word spells: from the least one, or 1, to 1,000,000, in decimal, without a sign or a leading zero
+-- the count that a word spells in decimal digits, of which the first is no zero: 1,000,000 at most, at least 1, and at least the least
 abbrev pub count_in : ℕ → List ℕ → Option ℕ
 count_in least word = if begins_none word then None else from_least least (number_on 0 word)

@@ -5,7 +5,8 @@ ghost use Rattle.command_words.specs.Counts.{begins_none, number_on, from_least,
 /// The greatest count.
 const MOST: u32 = 1_000_000;
 
-/// The count that a word spells: from `least`, or 1, to 1,000,000, in decimal, without a sign or a leading zero.
+/// The count that a word spells in decimal digits, of which the first is no zero: 1,000,000 at most, at least 1, and at least
+/// `least`.
 pub fn count_in(word: &str, least: u32) -> Option<u32>
     ensures { result ≡ count_in least word.now }
 {

@@ -1,1 +1,1 @@
-mod TooLong
+mod TooLongLemmas

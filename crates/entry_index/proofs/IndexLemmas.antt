@@ -7,7 +7,7 @@ use Rattle.std.specs.Map.{lookup}
 use Rattle.std.specs.Option.{unwrap_or, option_map}
 use Rattle.std.proofs.lemmas.Bool.{false≢true}
 use Rattle.std.proofs.lemmas.Map.Made.{lookup-map_values}
-use Rattle.etp_values.proofs.Bools.{by_test}
+use Rattle.etp_values.proofs.BoolLemmas.{by_test}
 use Rattle.entry_index.specs.Chains.{chain, last_of}
 use Rattle.entry_index.specs.Index.{ends_at, noted, noted_all, number_in, places_in, with_place, KeepsChains, KeepsIndex}
 use Rattle.entry_index.proofs.ChainLemmas.{chain-push, chain-last, last-push, length-push}

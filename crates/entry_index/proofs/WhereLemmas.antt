@@ -1,7 +1,7 @@
 -- The places of the entries that pass a test, one more entry, and the first from a place on: for this crate and those above it.
 use Rattle.std.proofs.Common.{ℕ, zero, suc, ◌+◌, ◌<◌, ◌≤◌, Bool, true, false, cond, List, [], ◌∷◌, ◌++◌, length, drop, ◌≡◌, Some, refl, sym, ap, ◌∙◌, arith}
 use Rattle.std.specs.Prelude.{find, nat_le}
-use Rattle.etp_values.proofs.Bools.{by_test}
+use Rattle.etp_values.proofs.BoolLemmas.{by_test}
 use Rattle.entry_index.specs.Where.{places_where, first_where, PlacesGoOn, FirstIsFound}
 use Rattle.entry_index.proofs.ChainLemmas.{nat_le-true, nat_le-false}
 

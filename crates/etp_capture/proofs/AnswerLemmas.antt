@@ -5,7 +5,7 @@ use Rattle.std.proofs.lemmas.Bool.{false≢true}
 use Rattle.std.proofs.lemmas.Bool.Decides.{Decides-eqb}
 use Rattle.std.proofs.lemmas.List.Elements.{All-drop}
 use Rattle.std.proofs.lemmas.Slice.Eq.{starts_is}
-use Rattle.etp_values.proofs.Bools.{by_test}
+use Rattle.etp_values.proofs.BoolLemmas.{by_test}
 use Rattle.etp_capture.specs.Frames.{magic, capture_limit, is_kind, is_length, head_bytes, frame_bytes, frame_of, length_in, IsFrame, IsInRange}
 use Rattle.etp_capture.specs.Found.{Found, Whole, NoMore, Bad, found, head_found, length_found, body_found}
 use Rattle.etp_capture.specs.Capture.{frames_bytes, AreFrames, end_at, IsCapture, FailsBehind, CaptureFails}

@@ -2,6 +2,7 @@
 use Rattle.std.proofs.Common.{◌≡◌, ℕ, ◌+◌, ◌-◌, ◌<◌, ◌≤◌, Bool, true, false, not, ◌&&◌, nat_lt, nat_le, if◌then◌else◌, List, [], ◌∷◌, ◌++◌, length, take, drop, arith, refl, ap, ap₂, sym, ◌∙◌, subst, le_refl, take_all, length-take-le, take-append-drop, append_assoc}
 use Rattle.std.proofs.lemmas.Bool.Decides.{nat_tests}
 use Rattle.std.proofs.lemmas.List.Elements.{All-take}
+use Rattle.std.proofs.lemmas.Bool.{not-false}
 use Rattle.etp_capture.specs.Frames.{capture_limit, frame_limit, is_kind, is_length, head_bytes, frame_bytes, frame_of, length_in, IsFrame, IsInRange}
 use Rattle.etp_capture.specs.Found.{Found, Whole, Bad, found, head_found, length_found, body_found}
 use Rattle.etp_capture.specs.Laws.{AreBytes, ReadsBack, WritesBack}
@@ -47,10 +48,6 @@ passed_two true true why other x f r e = absurd (cc)
 passed_two true false why other x f r e = absurd (cc)
 passed_two false c why other x f r e = (refl, e)
 
-not_false : (b : Bool) → not b ≡ false → b ≡ true
-not_false true h = refl
-not_false false h = sym h
-
 pub whole_frame : (f g : Frame) (r s : List ℕ) → Whole f r ≡ Whole g s → f ≡ g
 whole_frame f g r s e = cc
 
@@ -77,7 +74,7 @@ found_parts at k ks f r h =
     let long : 16 ≤ length ks = not_below (length ks) 16 s3.0 in
     let enough : n ≤ length more = not_below (length more) n s6.0 in
     let within : at + 17 + n ≤ capture_limit = not_below capture_limit (at + 17 + n) s7.0 in
-    (not_false (is_kind k) s2.0, long, not_false (is_length k n) s5.0, enough, within, s7.1)
+    (not-false (is_kind k) s2.0, long, not-false (is_length k n) s5.0, enough, within, s7.1)
   where
     not_below : (m n : ℕ) → nat_lt m n ≡ false → n ≤ m
     not_below m n h = grind (arith, nat_tests)

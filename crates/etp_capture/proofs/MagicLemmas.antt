@@ -1,5 +1,5 @@
 -- What stands at the beginning of a capture.
-use Rattle.std.proofs.Common.{◌≡◌, ◌≢◌, ℕ, ◌+◌, ◌<◌, ◌≤◌, Bool, true, false, not, nat_eq, List, [], ◌++◌, length, take, drop, refl, ap, sym, ◌∙◌, take_at, arith}
+use Rattle.std.proofs.Common.{◌≡◌, ◌≢◌, ℕ, ◌+◌, ◌<◌, ◌≤◌, Bool, true, false, nat_eq, List, [], ◌++◌, length, take, drop, refl, ap, sym, ◌∙◌, take_at, arith}
 use Rattle.std.specs.List.{starts_with}
 use Rattle.std.specs.Str.{bytes_eq}
 use Rattle.std.proofs.lemmas.Bool.{false≢true}
@@ -13,10 +13,6 @@ use Rattle.etp_capture.proofs.FoundLemmas.{short_magic}
 never : (b : Bool) → (b ≡ true → ⊥) → b ≡ false
 never true h = absurd (h refl)
 never false h = refl
-
-pub not_true : (b : Bool) → not b ≡ true → b ≡ false
-not_true true h = sym h
-not_true false h = refl
 
 -- fewer than eight bytes don't begin with the magic
 pub short_starts : (got : ℕ) (buf xs ys : List ℕ) → got ≤ length buf → got < 8 → xs ≡ take got buf ++ ys → ys ≡ [] → starts_with nat_eq xs magic ≡ false

@@ -1,5 +1,5 @@
 -- Groups of items.
-use Rattle.std.proofs.Common.{length, ◌==◌, ◌≡◌, ◌∙◌, ◌++◌, ◌+◌, ◌-◌, ◌<◌, ◌≤◌, ◌^◌, min, ℕ, suc, Bool, true, false, cond, ◌&&◌, ◌||◌, List, [], ◌∷◌, map, nat_le, refl, sym, ap, subst, append_assoc, append-nil, drop, arith}
+use Rattle.std.proofs.Common.{length, ◌==◌, ◌≡◌, ◌∙◌, ◌++◌, ◌+◌, ◌-◌, ◌<◌, ◌≤◌, ◌^◌, min, ℕ, Bool, true, false, cond, ◌&&◌, ◌||◌, List, [], ◌∷◌, map, nat_le, refl, sym, ap, subst, append_assoc, append-nil, drop, arith}
 use Rattle.std.proofs.lemmas.Bool.Decides.{nat_tests}
 use Rattle.std.proofs.lemmas.List.{at_drop_all}
 use Rattle.std.specs.Cmp.Lexicographic.{slice_cmp}
@@ -7,6 +7,7 @@ use Rattle.std.specs.List.{AllByRecursion}
 use Rattle.std.specs.List.Sorted.{IsStrictlySortedBy}
 use Rattle.std.specs.Ordering.{nat_cmp}
 use Rattle.std.specs.declared.cmp.Ordering.TheVariants.{Less}
+use Rattle.etp_values.proofs.BoolLemmas.{not_zero}
 use Rattle.etp_schema.specs.Measure.{most, adds}
 use Rattle.etp_schema.specs.declared.measure.Measure.{Measure}
 use Rattle.etp_frame.specs.Grouping.{Amount, total, fits, frame_room, item_nodes, goes_in, groups_from, groups}
@@ -48,13 +49,6 @@ fits_capped limit a small =
     (λ i. b i && k i)
 
 -- ---- one item more
-
-not_zero : (n : ℕ) (t : Bool) → (suc n == 0) ≡ t → t ≡ false
-not_zero n true h = absurd (zero_is n h)
-  where
-    zero_is : (n : ℕ) → (suc n == 0) ≡ true → ⊥
-    zero_is n h = grind (arith, nat_tests)
-not_zero n false h = refl
 
 module _ {A : Type 0} (size : A → Amount) (limit : ℕ) where
   -- whether an item goes in, by the measure of the group with it

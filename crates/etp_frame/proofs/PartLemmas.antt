@@ -1,6 +1,6 @@
 -- The parts of each message are the message.
-use Rattle.std.proofs.Common.{◌≡◌, ◌∙◌, ℕ, Bool, true, false, not, List, Some, Result, Ok, Err, IfOk, refl, sym, ap}
-use Rattle.std.proofs.lemmas.Bool.{false≢true}
+use Rattle.std.proofs.Common.{◌≡◌, ◌∙◌, ℕ, true, false, List, Some, Result, Ok, Err, IfOk, refl, ap}
+use Rattle.std.proofs.lemmas.Bool.{false≢true, not-true}
 use Rattle.std.specs.List.{list_any}
 use Rattle.etp_schema.specs.Form.{text_form, long_form}
 use Rattle.msg_channel.specs.ChannelDataLoad.{open_channel_info_form}
@@ -65,10 +65,6 @@ channel_data_load_whole limit (load.ChannelsClosed x) = all_parts (entry_amount 
 channel_data_load_whole limit (load.TruncateChannelsResponse x) = all_parts (entry_amount long_form) limit (λ g. m.ChannelDataLoad (load.TruncateChannelsResponse (record x { channels_truncated_time = g }))) (λ a b. refl) x.channels_truncated_time
 channel_data_load_whole limit x = refl
 
-not_true : (t : Bool) → not t ≡ true → t ≡ false
-not_true true h = sym h
-not_true false h = refl
-
 result_whole : (limit : ℕ) (x : StoreMessage) → whole (result_parts limit x) ≡ Some (m.Store x)
 result_whole limit (s.PutDataObjectsResponse x) = all_parts (entry_amount put_response_form) limit (λ g. m.Store (s.PutDataObjectsResponse (record x { success = g }))) (λ a b. refl) x.success
 result_whole limit (s.DeleteDataObjectsResponse x) = all_parts (entry_amount array_of_string_form) limit (λ g. m.Store (s.DeleteDataObjectsResponse (record x { deleted_uris = g }))) (λ a b. refl) x.deleted_uris
@@ -76,10 +72,10 @@ result_whole limit x = refl
 
 store_whole : (limit number k : ℕ) (x : StoreMessage) → store_unsent x ≡ true → whole (store_parts limit number k x) ≡ Some (m.Store x)
 store_whole limit number k (s.PutDataObjects x) u =
-    with_chunks_whole (λ g. m.Store (s.PutDataObjects (record x { data_objects = g }))) (λ xs c. refl) (as_sent limit number k x.data_objects) x.data_objects (sent_restored limit number k x.data_objects (not_true (list_any awaits_any x.data_objects) u))
+    with_chunks_whole (λ g. m.Store (s.PutDataObjects (record x { data_objects = g }))) (λ xs c. refl) (as_sent limit number k x.data_objects) x.data_objects (sent_restored limit number k x.data_objects (not-true (list_any awaits_any x.data_objects) u))
 store_whole limit number k (s.GetDataObjectsResponse x) u =
     in_parts_whole limit (λ g. m.Store (s.GetDataObjectsResponse (record x { data_objects = g }))) (λ xs c. refl) (λ a b. refl) (as_sent limit number k x.data_objects) x.data_objects
-    (sent_restored limit number k x.data_objects (not_true (list_any awaits_any x.data_objects) u))
+    (sent_restored limit number k x.data_objects (not-true (list_any awaits_any x.data_objects) u))
 store_whole limit number k (s.Chunk x) u = absurd (false≢true u)
 store_whole limit number k x u = result_whole limit x
 

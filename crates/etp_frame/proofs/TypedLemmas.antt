@@ -13,8 +13,8 @@ use Rattle.avro_bin.specs.Laws.{read_value, node_limit}
 use Rattle.avro_bin.specs.Reading.{Read, Fails, value_at}
 use Rattle.avro_bin.specs.Along.{along, seen}
 use Rattle.avro_bin.proofs.AlongLemmas.{along_twice}
-use Rattle.avro_bin.proofs.Passing.{Fails-along}
-use Rattle.avro_bin.proofs.Steps.{Fails-same}
+use Rattle.avro_bin.proofs.PassingLemmas.{Fails-along}
+use Rattle.avro_bin.proofs.StepLemmas.{Fails-same}
 use Rattle.etp_schema.specs.Bodies.{is_number, row_of}
 use Rattle.etp_schema.specs.Family.{Kind, message, kind_in, read_as}
 use Rattle.etp_schema.specs.Reading.{Reads, kind_at}

@@ -10,9 +10,9 @@ use Rattle.avro_bin.specs.Plain.{plain}
 use Rattle.avro_bin.specs.Shape.{HasSchema}
 use Rattle.avro_bin.specs.Laws.{IsRead, IsBytes, counted, read_value, node_limit}
 use Rattle.avro_bin.specs.declared.refusal.Refusal.{Refusal}
-use Rattle.avro_bin.proofs.Whole.{reads, reads_exactly}
-use Rattle.avro_bin.proofs.Typed.{has_schema}
-use Rattle.avro_bin.proofs.Written.{plain_spells}
+use Rattle.avro_bin.proofs.WholeLemmas.{reads, reads_exactly}
+use Rattle.avro_bin.proofs.TypedLemmas.{has_schema}
+use Rattle.avro_bin.proofs.WrittenLemmas.{plain_spells}
 use Rattle.etp_schema.specs.Bodies.{is_protocol, body_place, body_schema, place_of, row_of}
 use Rattle.etp_schema.specs.Family.{Kind, Body, read_as}
 use Rattle.etp_schema.specs.Shapes.{shape_at}

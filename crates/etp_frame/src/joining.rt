@@ -28,7 +28,7 @@ pub enum Joined {
 #[derive(Clone, Copy, Debug, PartialEq, Eq, Drop, Error)]
 pub enum JoinError {
     /// A chunk that no message waits for.
-    #[error("a chunk comes while no message awaits one")]
+    #[error("no message waits for this chunk")]
     NoBlob,
     /// An object has both data and a blob's identity, two objects have the same blob, or a chunk's blob or correlation is not
     /// an awaited one.

@@ -1,6 +1,6 @@
 pub mod FaultLemmas
-pub mod Parts
+pub mod PartLemmas
 pub mod ToldLemmas
-pub mod Decimals
+pub mod DecimalLemmas
 pub mod StepLemmas
 pub mod LinkLemmas

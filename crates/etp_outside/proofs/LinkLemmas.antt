@@ -2,14 +2,10 @@
 use Rattle.std.proofs.Common.{◌≡◌, ℕ, zero, suc, ◌+◌, List, [], ◌∷◌, ◌++◌, take, drop, Some, refl, ap, sym, ◌∙◌, add-one}
 use Rattle.std.specs.List.{slice_get}
 use Rattle.std.specs.declared.option.Option.{Option}
+use Rattle.etp_values.proofs.ListLemmas.{drop_item}
 use Rattle.etp_outside.specs.Talk.{Talk, Takes}
 use Rattle.etp_outside.specs.declared.link.Address.{Address}
 use Rattle.etp_outside.specs.declared.link.Item.{Item}
-
-drop_item : {X : Type 0} (xs : List X) (i : ℕ) (x : X) → slice_get xs i ≡ Some x → drop i xs ≡ x ∷ drop (suc i) xs
-drop_item [] i x at = absurd (cc at)
-drop_item (y ∷ ys) zero x at = cc at
-drop_item (y ∷ ys) (suc i) x at = drop_item ys i x at
 
 take_item : {X : Type 0} (xs : List X) (i : ℕ) (x : X) → slice_get xs i ≡ Some x → take (suc i) xs ≡ take i xs ++ x ∷ []
 take_item [] i x at = absurd (cc at)

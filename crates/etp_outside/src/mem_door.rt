@@ -1,8 +1,6 @@
 //! A listener in memory.
-ghost use Rattle.std.specs.Prelude.{◌≡◌, ◌+◌, ◌≤◌, ◌||◌, Some, IfOk, IsSome, length, map, []};
-ghost use Rattle.etp_outside.specs.Calls.{after_call, new_script};
+ghost use Rattle.std.specs.Prelude.{◌≡◌, ◌+◌, ◌≤◌, ◌||◌, Some, IfOk, IsSome, length};
 ghost use Rattle.etp_outside.specs.Faults.{Rose};
-ghost use Rattle.etp_outside.specs.Told.{Told};
 ghost use Rattle.etp_outside.specs.Doors.{IfLink, IsAccepted, TakesBack, back_of, is_stop, links};
 ghost use Rattle.etp_outside.specs.MemDoors.{IsListenAnswer, IsNextAnswer, after_back, after_listen, after_next, all_back, first_porch, given_by};
 ghost use Rattle.etp_outside.specs.DoorLaws.{few_back};

@@ -1,8 +1,8 @@
 //! A host in memory.
-ghost use Rattle.std.specs.Prelude.{◌≡◌, ◌<◌, ◌≤◌, ◌==◌, ℕ, List, true, false, Some, None};
+ghost use Rattle.std.specs.Prelude.{◌≡◌, ◌<◌, ◌≤◌, ◌==◌, ℕ, List, Some, None};
 ghost use Rattle.std.specs.Option.{option_copied, option_map};
 ghost use Rattle.etp_outside.specs.Faults.{Rose};
-ghost use Rattle.etp_outside.specs.Calls.{after_call, new_script};
+ghost use Rattle.etp_outside.specs.Calls.{new_script};
 ghost use Rattle.etp_outside.specs.Host.{Opens, OpenCause};
 ghost use Rattle.etp_outside.specs.Memory.{IsOpenAnswer, after_open, after_close, find_file, file_content};
 

@@ -7,19 +7,19 @@ use Rattle.std.specs.Ordering.{nat_cmp}
 use Rattle.std.specs.Cmp.Lexicographic.{slice_cmp}
 use Rattle.std.specs.List.Sorted.{IsStrictlySortedBy}
 use Rattle.std.specs.Map.{keys_of}
+use Rattle.etp_values.specs.Entries.{on_value}
 use Rattle.avro_bin.specs.declared.fault.Fault.{Fault}
 use Rattle.avro_bin.specs.Number.{plain_number}
 use Rattle.avro_bin.specs.Plain.{plain, plain_all, plain_named, plain_block}
 use Rattle.avro_bin.specs.Shape.{FitsTree, AllFit, AllNamedFit}
 use Rattle.avro_bin.specs.Value.{row, list, entries, pairs}
-use Rattle.avro_bin.specs.View.{with_value}
 use Rattle.avro_bin.specs.Reading.{Read, ◌>>=◌, Fails, block_at, blocks_at, items_at, number_at, place_at, sized}
 use Rattle.avro_bin.specs.declared.fault.Why.TheVariants as why
 use Rattle.avro_bin.specs.Along.{along, seen, push_at}
 use Rattle.avro_bin.proofs.AlongLemmas.{along_twice}
-use Rattle.avro_bin.proofs.Passing.{Fails-along}
-use Rattle.avro_bin.proofs.Plains.{block_some}
-use Rattle.avro_bin.proofs.Steps.{blocks_more, blocks_stop, place_below}
+use Rattle.avro_bin.proofs.PassingLemmas.{Fails-along}
+use Rattle.avro_bin.proofs.PlainLemmas.{block_some}
+use Rattle.avro_bin.proofs.StepLemmas.{blocks_more, blocks_stop, place_below}
 use Rattle.etp_schema.specs.Form.{Form, Holds, list_form, named_form, option_form, option_whole, null_form, last, or_at}
 use Rattle.etp_schema.specs.Measure.{counts, measured, measured_behind, measured_named}
 
@@ -99,11 +99,11 @@ module _ {A : Type 0} (f : Form A) where
 
 -- ---- maps
 
-count_entries : {A : Type 0} (f : Form A) (es : List (List ℕ × A)) → length (pairs (entries (map (with_value f.as_value) es))) ≡ length es
+count_entries : {A : Type 0} (f : Form A) (es : List (List ℕ × A)) → length (pairs (entries (map (on_value f.as_value) es))) ≡ length es
 count_entries f [] = refl
 count_entries f (e ∷ es) = ap suc (count_entries f es)
 
-same_keys : {A : Type 0} (f : Form A) (es : List (List ℕ × A)) → keys_of (pairs (entries (map (with_value f.as_value) es))) ≡ keys_of es
+same_keys : {A : Type 0} (f : Form A) (es : List (List ℕ × A)) → keys_of (pairs (entries (map (on_value f.as_value) es))) ≡ keys_of es
 same_keys f [] = refl
 same_keys f (e ∷ es) = ap (λ (ks : List (List ℕ)). e.0 ∷ ks) (same_keys f es)
 
@@ -121,17 +121,17 @@ module _ {A : Type 0} (f : Form A) where
   no_names_fit [] h sorted = (omega arith, sorted, tt)
   no_names_fit (e ∷ es) h sorted = absurd (omega arith)
 
-  pub entries_written : (es : List (List ℕ × A)) (old a b c : List ℕ) → (length es ≡ 0 → ⊥) → a ≡ old ++ plain_number (pos (length es)) → b ≡ a ++ plain_named (entries (map (with_value f.as_value) es)) → c ≡ b ++ plain_number (pos 0) → c ≡ old ++ plain ((named_form f).as_value es)
+  pub entries_written : (es : List (List ℕ × A)) (old a b c : List ℕ) → (length es ≡ 0 → ⊥) → a ≡ old ++ plain_number (pos (length es)) → b ≡ a ++ plain_named (entries (map (on_value f.as_value) es)) → c ≡ b ++ plain_number (pos 0) → c ≡ old ++ plain ((named_form f).as_value es)
   entries_written es old a b c some front back end =
-      let items = plain_named (entries (map (with_value f.as_value) es)) in
+      let items = plain_named (entries (map (on_value f.as_value) es)) in
       let block : plain ((named_form f).as_value es) ≡ plain_number (pos (length es)) ++ items ++ plain_number (pos 0) = ap (λ (k : ℕ). plain_block k items) (count_entries f es) ∙ block_some (length es) items (omega (arith, some)) in
       rw (end, back, front, block) (simp append_assoc)
 
-  pub named_fits : (es : List (List ℕ × A)) → length es < 2 ^ 63 → IsStrictlySortedBy (slice_cmp nat_cmp) (keys_of es) → AllNamedFit (entries (map (with_value f.as_value) es)) → FitsTree ((named_form f).as_value es)
+  pub named_fits : (es : List (List ℕ × A)) → length es < 2 ^ 63 → IsStrictlySortedBy (slice_cmp nat_cmp) (keys_of es) → AllNamedFit (entries (map (on_value f.as_value) es)) → FitsTree ((named_form f).as_value es)
   named_fits es small sorted all = (rw (count_entries f es) small, rw (same_keys f es) sorted, all)
 
-  pub entries_measured : (es : List (List ℕ × A)) → measured_named (counts (length es)) (entries (map (with_value f.as_value) es)) ≡ measured ((named_form f).as_value es)
-  entries_measured es = ap (λ (k : ℕ). measured_named (counts k) (entries (map (with_value f.as_value) es))) (sym (count_entries f es))
+  pub entries_measured : (es : List (List ℕ × A)) → measured_named (counts (length es)) (entries (map (on_value f.as_value) es)) ≡ measured ((named_form f).as_value es)
+  entries_measured es = ap (λ (k : ℕ). measured_named (counts k) (entries (map (on_value f.as_value) es))) (sym (count_entries f es))
 
 -- ---- options
 

@@ -4,8 +4,8 @@ use Rattle.avro_bin.specs.declared.fault.Fault.{Fault}
 use Rattle.avro_bin.specs.Reading.{Fails, value_at}
 use Rattle.avro_bin.specs.Along.{along, seen}
 use Rattle.avro_bin.proofs.AlongLemmas.{along_twice}
-use Rattle.avro_bin.proofs.Steps.{Fails-same}
-use Rattle.avro_bin.proofs.Passing.{Fails-along}
+use Rattle.avro_bin.proofs.StepLemmas.{Fails-same}
+use Rattle.avro_bin.proofs.PassingLemmas.{Fails-along}
 use Rattle.etp_schema.specs.Form.{Form}
 use Rattle.etp_schema.specs.Family.{message}
 use Rattle.etp_schema.specs.Reading.{kind_at}

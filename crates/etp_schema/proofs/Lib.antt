@@ -1,6 +1,6 @@
 pub mod BodyLemmas
-pub mod Parts
-pub mod Measured
+pub mod PartLemmas
+pub mod MeasuredLemmas
 pub mod ItemLemmas
 pub mod TypedLemmas
 pub mod KindLemmas

@@ -1,10 +1,10 @@
--- A record is read as its fields are.
+-- A record is read as its fields are; for the crates above too.
 use Rattle.std.proofs.Common.{◌≡◌, ◌∙◌, refl, ℕ, zero, suc, List, Ok, sym, ap}
 use Rattle.avro_bin.specs.declared.fault.Fault.{Fault}
 use Rattle.avro_bin.specs.Reading.{Fails}
 use Rattle.avro_bin.specs.Along.{along, seen}
-use Rattle.avro_bin.proofs.Passing.{Fails-along}
-use Rattle.avro_bin.proofs.Steps.{Fails-same}
+use Rattle.avro_bin.proofs.PassingLemmas.{Fails-along}
+use Rattle.avro_bin.proofs.StepLemmas.{Fails-same}
 use Rattle.etp_schema.specs.Form.{Row, node_at, record_at}
 
 module _ {A B : Type 0} (r : Row A) (whole : A → B) where

@@ -7,7 +7,7 @@ use Rattle.avro_bin.specs.Reading.{Read, Got, value_at}
 use Rattle.avro_bin.specs.Along.{along, seen}
 use Rattle.avro_bin.specs.Refusing.{refusal}
 use Rattle.avro_bin.specs.Laws.{read_value, counted}
-use Rattle.avro_bin.proofs.Groups.{ok_pair}
+use Rattle.avro_bin.proofs.GroupLemmas.{ok_pair}
 use Rattle.etp_schema.specs.Form.{Form}
 
 some_ok : {A : Type 0} (f : Value → A) (len : ℕ) (r : Read Got) (x : A) (left : ℕ) (rest : List ℕ) → along (seen f) r ≡ Ok ((x, left), rest) → (v : Value) × (counted len r ≡ Ok (v, len - length rest)) × (x ≡ f v)

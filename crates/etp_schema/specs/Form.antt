@@ -8,12 +8,14 @@ use Rattle.etp_values.specs.declared.bits.Bits32.{Bits32}
 use Rattle.etp_values.specs.declared.bits.Bits64.{Bits64}
 use Rattle.avro_bin.specs.Value.{Value, Values, Entries, VNull, VBoolean, VInt, VLong, VFloat, VDouble, VBytes, VText, VFixed, VEnum, VArray, VMap, VUnion, VFields, row, list, entries, pairs}
 use Rattle.avro_bin.specs.Value as v
-use Rattle.avro_bin.specs.View.{with_value}
 use Rattle.avro_bin.specs.Schema.{Schema, Schemas, SNull, SBoolean, SInt, SLong, SFloat, SDouble, SBytes, SText, SFixed, SEnum, SArray, SMap, SUnion, SFields}
 use Rattle.avro_bin.specs.Schema as s
 use Rattle.avro_bin.specs.Shape.{HasSchema, FieldsHave, BranchHas}
 use Rattle.avro_bin.specs.declared.fault.Why.TheVariants as why
 use Rattle.std.specs.Int.{w32, w64}
+use Rattle.etp_values.specs.Entries.{on_value}
+use Rattle.avro_bin.proofs.AgainLemmas.{row_list}
+use Rattle.avro_bin.proofs.FoundLemmas.{list_row}
 use Rattle.avro_bin.specs.Reading.{Read, Got, Row as Values_so_far, Names, ◌>>=◌, places, count, with, in_branch, element_at, entry_at, pushed, value_at, fields_at, branch_at, blocks_at, boolean_at, int_at, number_at, fixed_number_at, blob_at, text_at, bytes_at, place_at}
 use Rattle.avro_bin.specs.Along.{along, seen, push_at, put_at}
 use Rattle.avro_bin.proofs.AlongLemmas.{along_twice, along_same, then_along, blocks_along, push_along, put_along, listed_is, mapped_is, in_branch_is, fields_front}
@@ -258,17 +260,9 @@ symbols all past place again order few = record {
   at_is = symbol_at_is all past;
 }
 
-pub list_row : (vs : List Value) → list (row vs) ≡ vs
-list_row [] = refl
-list_row (x ∷ xs) = λ i. x ∷ list_row xs i
-
 pub pairs_entries : (ps : List (List ℕ × Value)) → pairs (entries ps) ≡ ps
 pairs_entries [] = refl
 pairs_entries (p ∷ ps) = λ i. p ∷ pairs_entries ps i
-
-pub row_list : (vs : Values) → row (list vs) ≡ vs
-row_list v.none = refl
-row_list (v.more x vs) = λ i. v.more x (row_list vs i)
 
 pub list_back : {A : Type 0} (f : Form A) (xs : List A) → AllByRecursion (HasSchema f.schema) (list (row (map f.as_value xs))) → map f.from_value (list (row (map f.as_value xs))) ≡ xs
 list_back f [] h = refl
@@ -308,15 +302,15 @@ list_form f = record {
   at_is = list_at_is f;
 }
 
-pub named_back : {A : Type 0} (f : Form A) (xs : List (List ℕ × A)) → AllByRecursion (λ e. HasSchema f.schema e.1) (pairs (entries (map (with_value f.as_value) xs))) → map (with_value f.from_value) (pairs (entries (map (with_value f.as_value) xs))) ≡ xs
+pub named_back : {A : Type 0} (f : Form A) (xs : List (List ℕ × A)) → AllByRecursion (λ e. HasSchema f.schema e.1) (pairs (entries (map (on_value f.as_value) xs))) → map (on_value f.from_value) (pairs (entries (map (on_value f.as_value) xs))) ≡ xs
 named_back f [] h = refl
 named_back f (x ∷ xs) h = λ i. (x.0, f.back x.1 h.0 i) ∷ named_back f xs h.1 i
 
-pub entries_there : {A : Type 0} (f : Form A) (es : Entries) → AllByRecursion (λ e. HasSchema f.schema e.1) (pairs es) → entries (map (with_value f.as_value) (map (with_value f.from_value) (pairs es))) ≡ es
+pub entries_there : {A : Type 0} (f : Form A) (es : Entries) → AllByRecursion (λ e. HasSchema f.schema e.1) (pairs es) → entries (map (on_value f.as_value) (map (on_value f.from_value) (pairs es))) ≡ es
 entries_there f v.none_named h = refl
 entries_there f (v.more_named n x es) h = λ i. v.more_named n (f.there x h.0 i) (entries_there f es h.1 i)
 
-pub named_there : {A : Type 0} (f : Form A) (x : Value) → HasSchema (SMap f.schema) x → VMap (entries (map (with_value f.as_value) (map (with_value f.from_value) (named_in x)))) ≡ x
+pub named_there : {A : Type 0} (f : Form A) (x : Value) → HasSchema (SMap f.schema) x → VMap (entries (map (on_value f.as_value) (map (on_value f.from_value) (named_in x)))) ≡ x
 named_there f (VMap es) h = ap VMap (entries_there f es h)
 named_there f x h = absurd h
 
@@ -324,22 +318,22 @@ named_there f x h = absurd h
 abbrev pub named_at : {A : Type 0} → Form A → ℕ → List ℕ → Read (List (List ℕ × A) × ℕ)
 named_at f n bytes = blocks_at (put_at f.at) (suc (length bytes)) ([], n) bytes
 
-pub named_at_is : {A : Type 0} (f : Form A) (n : ℕ) (bytes : List ℕ) → node_at (named_at f) n bytes ≡ along (seen (λ x. map (with_value f.from_value) (named_in x))) (value_at (SMap f.schema) n bytes)
+pub named_at_is : {A : Type 0} (f : Form A) (n : ℕ) (bytes : List ℕ) → node_at (named_at f) n bytes ≡ along (seen (λ x. map (on_value f.from_value) (named_in x))) (value_at (SMap f.schema) n bytes)
 unfolding value_at
 named_at_is f zero bytes = refl
 named_at_is {A} f (suc n) bytes =
     let r : Read Names = blocks_at (entry_at (value_at f.schema)) (suc (length bytes)) ([], n) bytes in
-    blocks_along (seen (map (with_value f.from_value))) (entry_at (value_at f.schema)) (put_at f.at) (put_along f.from_value (value_at f.schema) f.at f.at_is) (suc (length bytes)) ([], n) bytes
-    ∙ along_same (seen (map (with_value f.from_value))) (λ s. (map (with_value f.from_value) (pairs (entries s.0)), s.1)) r (λ s. ap (λ (es : List (List ℕ × Value)). (map (with_value f.from_value) es, s.1)) (sym (pairs_entries s.0)))
-    ∙ sym (along_twice (seen (λ x. map (with_value f.from_value) (named_in x))) (λ s. (VMap (entries s.0), s.1)) r)
-    ∙ ap (along (seen (λ x. map (with_value f.from_value) (named_in x)))) (sym (mapped_is r))
+    blocks_along (seen (map (on_value f.from_value))) (entry_at (value_at f.schema)) (put_at f.at) (put_along f.from_value (value_at f.schema) f.at f.at_is) (suc (length bytes)) ([], n) bytes
+    ∙ along_same (seen (map (on_value f.from_value))) (λ s. (map (on_value f.from_value) (pairs (entries s.0)), s.1)) r (λ s. ap (λ (es : List (List ℕ × Value)). (map (on_value f.from_value) es, s.1)) (sym (pairs_entries s.0)))
+    ∙ sym (along_twice (seen (λ x. map (on_value f.from_value) (named_in x))) (λ s. (VMap (entries s.0), s.1)) r)
+    ∙ ap (along (seen (λ x. map (on_value f.from_value) (named_in x)))) (sym (mapped_is r))
 
 -- values under names
 abbrev pub named_form : {A : Type 0} → Form A → Form (List (List ℕ × A))
 named_form f = record {
   schema = SMap f.schema;
-  as_value = λ xs. VMap (entries (map (with_value f.as_value) xs));
-  from_value = λ x. map (with_value f.from_value) (named_in x);
+  as_value = λ xs. VMap (entries (map (on_value f.as_value) xs));
+  from_value = λ x. map (on_value f.from_value) (named_in x);
   back = named_back f;
   there = named_there f;
   at = node_at (named_at f);

@@ -1,5 +1,5 @@
 //! Data values and arrays of any kind from and to bytes.
-ghost use Rattle.std.specs.Prelude.{◌≡◌, OnOk, [], ◌∷◌};
+ghost use Rattle.std.specs.Prelude.{OnOk, [], ◌∷◌};
 ghost use Rattle.avro_bin.specs.Plain.{plain, Writes};
 ghost use Rattle.avro_bin.specs.Shape.{FitsTree};
 ghost use Rattle.avro_bin.specs.Value.{VNull, VUnion, VFields, row};

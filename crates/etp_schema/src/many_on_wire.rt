@@ -1,13 +1,13 @@
 //! Lists, maps, optional and boxed values from and to bytes.
 ghost use Rattle.std.specs.Prelude.{◌≡◌, ◌++◌, ◌∷◌, [], ◌<◌, ◌^◌, IfOk, IfSome, Ok, OnOk, length, map, pos};
 ghost use Rattle.std.specs.List.{AllByRecursion};
+ghost use Rattle.etp_values.specs.Entries.{on_value};
 ghost use Rattle.avro_bin.specs.Number.{plain_number};
 ghost use Rattle.avro_bin.specs.Plain.{plain, plain_all, plain_named, plain_blob, Writes};
 ghost use Rattle.avro_bin.specs.Reading.{items_at, block_at};
 ghost use Rattle.avro_bin.specs.Along.{push_at, put_at};
 ghost use Rattle.avro_bin.specs.Shape.{FitsTree, IsText, AllFit, AllNamedFit};
 ghost use Rattle.avro_bin.specs.Value.{VUnion, row, entries};
-ghost use Rattle.avro_bin.specs.View.{with_value};
 ghost use Rattle.etp_schema.specs.Form.{Holds, list_form, list_at, named_at};
 ghost use Rattle.etp_schema.specs.Measure.{counts, measured_behind, measured_named};
 ghost use Rattle.etp_schema.specs.Reading.{Reads, ReadsOn};
@@ -309,9 +309,9 @@ fn write_entry<T: OnWire>(name: &Text, value: &T, into: &mut Vec<u8>) -> Result<
 }
 
 fn write_entries<T: OnWire>(named: &Named<T>, into: &mut Vec<u8>) -> Result<(), NoMemory>
-    ensures written { Writes (plain_named (entries (map (with_value T.form.as_value) named.now))) into.old.items into.new.items result }
+    ensures written { Writes (plain_named (entries (map (on_value T.form.as_value) named.now))) into.old.items into.new.items result }
     ensures typed { OnOk result (AllByRecursion (λ e. Holds T.form e.1) named.now) }
-    ensures fits { OnOk result (AllNamedFit (entries (map (with_value T.form.as_value) named.now))) }
+    ensures fits { OnOk result (AllNamedFit (entries (map (on_value T.form.as_value) named.now))) }
 {
     for i in 0..named.len() {
         let (name, value) = named.at(i);
@@ -321,7 +321,7 @@ fn write_entries<T: OnWire>(named: &Named<T>, into: &mut Vec<u8>) -> Result<(), 
 }
 
 fn measure_entries<T: OnWire>(named: &Named<T>) -> Measure
-    ensures { result ≡ measured_named (counts (length named.now)) (entries (map (with_value T.form.as_value) named.now)) }
+    ensures { result ≡ measured_named (counts (length named.now)) (entries (map (on_value T.form.as_value) named.now)) }
 {
     let mut measure = Measure::of_count(named.len());
     for i in 0..named.len() {

@@ -117,7 +117,7 @@ impl Measure {
 }
 
 /// How many bytes a count has: ten, where it has more than 63 bits.
-#[tactic(auto, using(crate::proofs::Measured::longest))]
+#[tactic(auto, using(crate::proofs::MeasuredLemmas::longest))]
 fn count_size(count: usize) -> u64
     ensures size { result ≡ length (plain_number (pos count)) }
     ensures few { result ≤ 10 }

@@ -13,7 +13,7 @@ use std::alloc::Global;
 const SIZE_LIMIT: u64 = 1 << 40;
 
 /// How many bytes the written spelling of the value has, and how many nodes. It takes no memory.
-#[tactic(auto, using(crate::proofs::Measured::measured_is))]
+#[tactic(auto, using(crate::proofs::MeasuredLemmas::measured_is))]
 pub fn measure_of<T: OnWire>(value: &T) -> Measure
     ensures { result ≡ size_of (T.form.as_value value.now) }
 {

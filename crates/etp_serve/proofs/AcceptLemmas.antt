@@ -5,8 +5,8 @@ use Rattle.std.specs.Prelude.{IfSome, IsSome}
 use Rattle.std.specs.List.{AllByRecursion}
 use Rattle.std.specs.declared.option.Option.{Option}
 use mathlib.Core.List.{IsPrefix}
-use Rattle.etp_values.proofs.Each.{all-append}
-use Rattle.etp_values.proofs.Prefixes.{prefix_self, prefix_trans, prefix_length}
+use Rattle.etp_values.proofs.EachLemmas.{all-append}
+use Rattle.etp_values.proofs.PrefixLemmas.{prefix_self, prefix_trans, prefix_length}
 use Rattle.server_config.specs.declared.config.Config.{Config}
 use Rattle.store_machine.specs.declared.journal.Act.TheVariants.{Enter}
 use Rattle.store_machine.specs.declared.journal.Entry.{Entry}
@@ -18,7 +18,8 @@ use Rattle.etp_outside.specs.Told.{Told}
 use Rattle.etp_outside.specs.Talk.{Talk}
 use Rattle.etp_outside.specs.declared.link.Item.{Item}
 use Rattle.etp_outside.proofs.ToldLemmas.{told_self}
-use Rattle.turn_book.specs.Lists.{Each, Rises, own}
+use Rattle.etp_values.specs.Rising.{Rises}
+use Rattle.turn_book.specs.Lists.{Each, own}
 use Rattle.turn_book.specs.Rules.{IsSettled}
 use Rattle.turn_book.specs.Steps.{met_of}
 use Rattle.turn_book.specs.declared.view.Met.{Met}
@@ -40,9 +41,9 @@ use Rattle.etp_serve.specs.declared.ended.Ended.{Ended}
 use Rattle.etp_serve.specs.declared.served.Served.{Served}
 use Rattle.etp_serve.specs.declared.served.Served.TheVariants.{Stopped, ListenFault, NoMemory}
 use Rattle.etp_serve.specs.declared.thread.Started.{Started}
-use Rattle.etp_serve.proofs.Rans.{within_all}
-use Rattle.etp_serve.proofs.RunLaws.{is_cut, is_serial, is_streamed, is_told_at_idle}
-use Rattle.etp_serve.proofs.Turns.{sent_all}
+use Rattle.etp_serve.proofs.RansLemmas.{within_all}
+use Rattle.etp_serve.proofs.RunLemmas.{is_cut, is_serial, is_streamed, is_told_at_idle}
+use Rattle.etp_serve.proofs.TurnLemmas.{sent_all}
 
 -- ---- a session that was served over a history was served so over a longer one
 

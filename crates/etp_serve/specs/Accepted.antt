@@ -54,8 +54,8 @@ pub record IsDone (test : List ℤ → Bool) (config : Config) (n : ℕ) (v : Kn
 
 -- ---- what became of each link
 
--- a session that was served to its end: what its pass knew when it was met, how it ended, the items that its link gave, the
--- moments that its clock told, and the messages that it was sent
+-- a session that was served to its end: what its pass knew when it was met, how it ended, what its link gave and its clock
+-- told, and the messages that it was sent
 pub record Session : Type 0 where
   pub met : Met Entry
   pub end : Ended

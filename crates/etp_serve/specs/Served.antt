@@ -6,7 +6,8 @@ use Rattle.store_machine.specs.declared.journal.Entry.{Entry}
 use Rattle.etp_outside.specs.Told.{Told}
 use Rattle.etp_outside.specs.Talk.{Talk}
 use Rattle.etp_outside.specs.declared.link.Item.{Item}
-use Rattle.turn_book.specs.Lists.{own, Rises}
+use Rattle.etp_values.specs.Rising.{Rises}
+use Rattle.turn_book.specs.Lists.{own}
 use Rattle.store_hub.specs.Words.{Known, by_of, enters_of}
 use Rattle.session_core.specs.Arriving.{Event}
 use Rattle.session_core.specs.Run.{run, Heeds}
@@ -64,13 +65,13 @@ IsCutInEvent config n h places es = (messages : List (List ℕ)) → IsPrefix me
 
 -- ---- the session as a whole
 
--- The session of this number was served over a history, with its calls answered at these places, the items that its link
--- gave, the moments that its clock told, and the lengths of the journal that its polls found. Its own entries are those
--- of the run; the run ended so, and used all places, which never fall; each poll found no less than was seen before; and
--- no event came after the session's end. Whatever other sessions did between these places, each transaction that it
--- committed was answered as if it had stood alone at the place of its commit, and of each channel it was told the stream of
--- its subscription in this history, which at a poll that asked nothing is all that there was. Where its link failed, what the
--- link was given ends within what one event sends
+-- The session of this number was served over a history: these are the places where its calls were answered, the moments that
+-- its clock told, the lengths of the journal that its polls found, and the items that its link gave. The history has for the
+-- session's own entries those of the run; the run ended so, and used all places, which never fall; no poll found less than
+-- was seen before; and behind the session's end there was no event. Whatever other sessions did between these places, each
+-- transaction that it committed was answered as if it had stood alone at the place of its commit, and of each channel it was
+-- told the stream of its subscription in this history, which at a poll that asked nothing is all that there was. Where its link
+-- failed, what the link was given ends within what one event sends
 pub record IsServed (end : Ended) (config : Config) (n : ℕ) (h : List Entry) (places : List ℕ) (moments : List ℤ) (fronts : List ℕ) (taken : List Item) : Type 0 where
   pub own : Owns end n (own by_of n h) places (run config n h places (events taken moments fronts)).made
   pub ends : EndsAs end (run config n h places (events taken moments fronts))

@@ -7,5 +7,6 @@ pub mod Weight
 pub mod formers
 pub mod Gives
 pub mod IdText
+pub mod Rising
 pub mod SameUri
 pub mod Uri

@@ -24,9 +24,9 @@ same_name-equiv = and_equiv (on_equiv (λ n. n.domain) nat_list_eq_equiv) (and_e
 pub same_uri-equiv : IsEquivalence same_uri
 same_uri-equiv = and_equiv (on_equiv (λ u. u.space) nat_list_eq_equiv) (on_equiv (λ u. u.object) (options_equiv same_name-equiv))
 
--- ---- what is the same is equal
+-- ---- what is the same is equal; for the crates above too
 
-text_is : (x y : List ℕ) → bytes_eq x y ≡ true → x ≡ y
+pub text_is : (x y : List ℕ) → bytes_eq x y ≡ true → x ≡ y
 text_is x y h = (bytes_eq-Decides x y).0 h
 
 pub same_name-is : (a b : ObjectName) → same_name a b ≡ true → a ≡ b

@@ -1,5 +1,5 @@
--- The weight of values against the limits of a journal, in bytes: a text or bytes weigh 8 more than their length, and
--- whatever else there is in them, a list too, weighs 8.
+-- What values weigh against the limits of a journal: a text or a run of bytes 8 more than its length, a list 8 more than
+-- its items together, and anything else 8.
 use Rattle.std.specs.Prelude.{ℕ, ◌+◌, ◌-◌, ◌^◌, min, List, [], ◌∷◌, length}
 use Rattle.etp_values.specs.declared.data.AnyArray.{AnyArray}
 use Rattle.etp_values.specs.declared.data.AnyArray.TheVariants as any

@@ -39,8 +39,8 @@ const SPACE_PARTS: usize = 20;
 /// How many bytes an object adds to the text besides its two names.
 const OBJECT_PARTS: usize = ID_TEXT_LEN + 4;
 
-/// What names an object in its dataspace: `DOMAIN.NAME(ID)`. The domain is lower-case letters and then two digits, the
-/// name a letter and then letters, digits and underscores.
+/// What names an object in its dataspace: `DOMAIN.NAME(ID)`. A domain is lower-case letters with two digits behind them; a
+/// name begins with a letter and goes on with letters, digits and underscores.
 #[derive(Debug, Drop, PartialEq, Eq, PartialOrd, Ord, Hash)]
 pub struct ObjectName {
     pub domain: Text,

@@ -1,6 +1,6 @@
 //! What values count towards the limits of a journal.
-ghost use Rattle.std.specs.Prelude.{◌≡◌, ◌+◌, length};
-ghost use Rattle.etp_values.specs.Weight.{capped, weigh, plain_weight, bytes_weight, list_weight, array_weight, subarray_weight, value_weight, custom_weight_of};
+ghost use Rattle.std.specs.Prelude.{◌≡◌, ◌+◌};
+ghost use Rattle.etp_values.specs.Weight.{capped, plain_weight, bytes_weight, list_weight, array_weight, subarray_weight, value_weight, custom_weight_of};
 
 use crate::blob::Blob;
 use crate::data::{AnyArray, AnySubarray, DataValue};

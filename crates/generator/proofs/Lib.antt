@@ -1,4 +1,3 @@
-pub mod Given
-pub mod Headers
-pub mod Single
-pub mod Steps
+pub mod GivenLemmas
+pub mod HeaderLemmas
+pub mod StepLemmas

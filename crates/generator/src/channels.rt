@@ -4,7 +4,7 @@ ghost use Rattle.std.specs.List.{range_with_len};
 ghost use Rattle.generator.specs.Channels.{id_ending, channel_uri, channel, generator_config};
 
 use etp_values::{Id16, List, NoMemory, ObjectName, Shared, StoreUri, Text};
-use server_config::{ChannelDef, Config, ValueKind};
+use server_config::{ChannelDef, Config, MAX_JOURNAL, MAX_LAG, ValueKind};
 use std::alloc::Global;
 
 /// How many channels there are, and sessions of the load.
@@ -20,8 +20,8 @@ pub fn generator_config(alloc: Global) -> Result<Config, NoMemory>
     Ok(Config {
         instance: id_ending(1),
         name,
-        lag: 65_536,
-        journal: 4_194_304,
+        lag: MAX_LAG,
+        journal: MAX_JOURNAL,
         types: None,
         channels: Shared::new(alloc, channels)?,
     })

@@ -1,4 +1,4 @@
-pub mod Cases
-pub mod Order
-pub mod Once
-pub mod Split
+pub mod CaseLemmas
+pub mod OrderLemmas
+pub mod OnceLemmas
+pub mod SplitLemmas

@@ -84,7 +84,8 @@ granted items = flat_map (λ x. granted_one x.0 x.1) items
 abbrev pub refused_keys : {B : Type 0} → List (List ℕ × Decision B) → List (List ℕ × ErrorCode)
 refused_keys items = flat_map (λ x. refused_one x.0 x.1) items
 
--- the response with the granted keys, and then the refused ones; with no key at all, the empty response
+-- what goes out: the granted keys in the response, where there are some, then the refused ones, where there are some; to no
+-- keys at all, a response that tells none
 abbrev pub keyed_replies : {R M : Type 0} → (List (List ℕ × R) → M) → List (List ℕ × R) → List (List ℕ × ErrorCode) → List (Sending M)
 keyed_replies response [] [] = Reply (response []) ∷ []
 keyed_replies response [] (r ∷ rs) = RefusedKeys (r ∷ rs) ∷ []

@@ -1,5 +1,5 @@
 //! The first half of a request: its keys are checked, and what is granted is called for.
-ghost use Rattle.std.specs.Prelude.{◌≡◌, List as Items, [], ◌∷◌, ◌++◌, IfOk, OnOk};
+ghost use Rattle.std.specs.Prelude.{◌≡◌, [], ◌∷◌, ◌++◌, IfOk, OnOk};
 ghost use Rattle.keyed_requests.specs.Keyed.{called, checked, checked_state, kept, kept_one, request_outcome, sent, sent_one};
 
 use crate::keys::Decision;

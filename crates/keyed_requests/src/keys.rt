@@ -1,5 +1,5 @@
 //! The keys of a request.
-ghost use Rattle.std.specs.Prelude.{◌≡◌, length, nat_lt};
+ghost use Rattle.std.specs.Prelude.{◌≡◌};
 ghost use Rattle.std.specs.List.{list_any};
 ghost use Rattle.keyed_requests.specs.Keys.{is_long, keys_refusal};
 

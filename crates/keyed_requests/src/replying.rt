@@ -1,5 +1,5 @@
 //! The second half of a request: its granted keys are finished, and its reply is made.
-ghost use Rattle.std.specs.Prelude.{◌≡◌, [], ◌∷◌, ◌++◌, IfOk, OnOk, take, drop};
+ghost use Rattle.std.specs.Prelude.{◌≡◌, ◌++◌, IfOk, OnOk, take, drop};
 ghost use Rattle.keyed_requests.specs.Keyed.{finished, finished_one, finished_state, granted, granted_one, refused_keys, refused_one, request_reply, keyed_replies, response_unless_refused, unasked, width_of};
 
 use crate::keys::Decision;
@@ -108,7 +108,7 @@ where
 }
 
 /// The response, and behind it the refused keys, if there are some; these alone where no key is granted.
-#[tactic(auto, using(crate::proofs::Cases::both_given, crate::proofs::Cases::none_given))]
+#[tactic(auto, using(crate::proofs::CaseLemmas::both_given, crate::proofs::CaseLemmas::none_given))]
 pub fn response_unless_refused<M>(
     alloc: Global,
     is_granted: bool,
@@ -128,7 +128,7 @@ where
     response_and_refused(alloc, response, refused)
 }
 
-#[tactic(auto, using(crate::proofs::Cases::both_sent))]
+#[tactic(auto, using(crate::proofs::CaseLemmas::both_sent))]
 fn reply_with<A: KeyedReply>(
     alloc: Global,
     reply: &A,

@@ -1,5 +1,5 @@
-pub mod Changes
-pub mod Counting
-pub mod Ending
-pub mod Tallies
-pub mod Sizes
+pub mod ChangeLemmas
+pub mod CountingLemmas
+pub mod EndingLemmas
+pub mod TallyLemmas
+pub mod SizeLemmas

@@ -1,1 +1,1 @@
-mod LastKind
+mod LastKindLemmas

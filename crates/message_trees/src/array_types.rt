@@ -7,7 +7,7 @@ use msg_store::{AnyArrayType, AnyLogicalArrayType};
 use std::alloc::Global;
 
 impl InTree for AnyArrayType {
-    #[tactic(auto, using(avro_bin::proofs::Views::values), unfolding(etp_schema::specs::Form::Holds))]
+    #[tactic(auto, using(avro_bin::proofs::ViewLemmas::values), unfolding(etp_schema::specs::Form::Holds))]
     fn to_tree(&self, _alloc: Global) -> Result<Tree, NoMemory> {
         match self {
             AnyArrayType::ArrayOfBoolean => Ok(Tree::Enum(0)),
@@ -38,7 +38,7 @@ impl InTree for AnyArrayType {
 }
 
 impl InTree for AnyLogicalArrayType {
-    #[tactic(auto, using(avro_bin::proofs::Views::values), unfolding(etp_schema::specs::Form::Holds))]
+    #[tactic(auto, using(avro_bin::proofs::ViewLemmas::values), unfolding(etp_schema::specs::Form::Holds))]
     fn to_tree(&self, _alloc: Global) -> Result<Tree, NoMemory> {
         match self {
             AnyLogicalArrayType::ArrayOfBoolean => Ok(Tree::Enum(0)),

@@ -11,7 +11,7 @@ use msg_channel::{
 use std::alloc::Global;
 
 impl InTree for ChannelIndexKind {
-    #[tactic(auto, using(avro_bin::proofs::Views::values), unfolding(etp_schema::specs::Form::Holds))]
+    #[tactic(auto, using(avro_bin::proofs::ViewLemmas::values), unfolding(etp_schema::specs::Form::Holds))]
     fn to_tree(&self, _alloc: Global) -> Result<Tree, NoMemory> {
         match self {
             ChannelIndexKind::DateTime => Ok(Tree::Enum(0)),
@@ -44,7 +44,7 @@ impl InTree for ChannelIndexKind {
 }
 
 impl InTree for IndexDirection {
-    #[tactic(auto, using(avro_bin::proofs::Views::values), unfolding(etp_schema::specs::Form::Holds))]
+    #[tactic(auto, using(avro_bin::proofs::ViewLemmas::values), unfolding(etp_schema::specs::Form::Holds))]
     fn to_tree(&self, _alloc: Global) -> Result<Tree, NoMemory> {
         match self {
             IndexDirection::Increasing => Ok(Tree::Enum(0)),
@@ -67,7 +67,7 @@ impl InTree for IndexDirection {
 }
 
 impl InTree for ChannelDataKind {
-    #[tactic(auto, using(avro_bin::proofs::Views::values), unfolding(etp_schema::specs::Form::Holds))]
+    #[tactic(auto, using(avro_bin::proofs::ViewLemmas::values), unfolding(etp_schema::specs::Form::Holds))]
     fn to_tree(&self, _alloc: Global) -> Result<Tree, NoMemory> {
         match self {
             ChannelDataKind::DateTime => Ok(Tree::Enum(0)),

@@ -10,7 +10,7 @@ use etp_values::NoMemory;
 use std::alloc::Global;
 
 /// The record whose one field is this branch of a union.
-#[tactic(auto, using(avro_bin::proofs::Views::values))]
+#[tactic(auto, using(avro_bin::proofs::ViewLemmas::values))]
 pub fn branch_record(alloc: Global, place: u32, value: Tree) -> Result<Tree, NoMemory>
     ensures { IfOk result (λ t. value_of t ≡ VFields (row (VUnion place (value_of value) ∷ []))) }
 {
@@ -27,7 +27,7 @@ pub fn branch_of(alloc: Global, tree: Tree) -> (u32, Tree)
 }
 
 /// The same of a union.
-#[tactic(auto, using(avro_bin::proofs::Views::values))]
+#[tactic(auto, using(avro_bin::proofs::ViewLemmas::values))]
 fn union_of(tree: Tree) -> (u32, Tree)
     ensures place { result.0 ≡ branch_in (value_of tree) }
     ensures value { value_of result.1 ≡ chosen_in (value_of tree) }

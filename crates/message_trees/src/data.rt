@@ -12,7 +12,7 @@ use etp_values::{AnyArray, AnySubarray, Bits32, Bits64, Blob, Boxed, DataValue, 
 use std::alloc::Global;
 
 impl InTree for AnyArray {
-    #[tactic(auto, using(avro_bin::proofs::Views::values), unfolding(etp_schema::specs::Form::Holds))]
+    #[tactic(auto, using(avro_bin::proofs::ViewLemmas::values), unfolding(etp_schema::specs::Form::Holds))]
     fn to_tree(&self, alloc: Global) -> Result<Tree, NoMemory> {
         match self {
             AnyArray::ArrayOfBoolean(items) => branch_record(alloc, 0, wrapped(alloc, items)?),
@@ -55,7 +55,7 @@ impl InTree for AnySubarray {
 }
 
 impl InTree for DataValue {
-    #[tactic(auto, using(avro_bin::proofs::Views::values), unfolding(etp_schema::specs::Form::Holds))]
+    #[tactic(auto, using(avro_bin::proofs::ViewLemmas::values), unfolding(etp_schema::specs::Form::Holds))]
     fn to_tree(&self, alloc: Global) -> Result<Tree, NoMemory> {
         match self {
             DataValue::Null => branch_record(alloc, 0, Tree::Null),

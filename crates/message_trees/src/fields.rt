@@ -30,7 +30,7 @@ impl Fields {
     }
 
     /// The tree of the next field, and null where there is none more.
-    #[tactic(auto, using(avro_bin::proofs::Views::values))]
+    #[tactic(auto, using(avro_bin::proofs::ViewLemmas::values))]
     pub fn next(&mut self) -> Tree
         ensures value { value_of result ≡ first (left self.old) }
         ensures others { left self.new ≡ rest (left self.old) }
@@ -51,7 +51,7 @@ impl Fields {
     }
 }
 
-#[tactic(auto, using(etp_schema::proofs::Parts::parts))]
+#[tactic(auto, using(etp_schema::proofs::PartLemmas::parts))]
 fn trees_of(alloc: Global, tree: Tree) -> Vec<Tree>
     ensures { map value_of result.items ≡ fields_in (value_of tree) }
 {
@@ -62,7 +62,7 @@ fn trees_of(alloc: Global, tree: Tree) -> Vec<Tree>
 }
 
 /// A record of these fields.
-#[tactic(auto, using(avro_bin::proofs::Views::values))]
+#[tactic(auto, using(avro_bin::proofs::ViewLemmas::values))]
 pub fn record_of(fields: Vec<Tree>) -> Tree
     ensures { value_of result ≡ VFields (row (map value_of fields.items)) }
 {

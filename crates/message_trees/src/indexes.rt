@@ -9,7 +9,7 @@ use msg_channel::{IndexInterval, IndexValue, PassDirection, PassIndexedDepth};
 use std::alloc::Global;
 
 impl InTree for PassDirection {
-    #[tactic(auto, using(avro_bin::proofs::Views::values), unfolding(etp_schema::specs::Form::Holds))]
+    #[tactic(auto, using(avro_bin::proofs::ViewLemmas::values), unfolding(etp_schema::specs::Form::Holds))]
     fn to_tree(&self, _alloc: Global) -> Result<Tree, NoMemory> {
         match self {
             PassDirection::Up => Ok(Tree::Enum(0)),
@@ -48,7 +48,7 @@ impl InTree for PassIndexedDepth {
 }
 
 impl InTree for IndexValue {
-    #[tactic(auto, using(avro_bin::proofs::Views::values), unfolding(etp_schema::specs::Form::Holds))]
+    #[tactic(auto, using(avro_bin::proofs::ViewLemmas::values), unfolding(etp_schema::specs::Form::Holds))]
     fn to_tree(&self, alloc: Global) -> Result<Tree, NoMemory> {
         match self {
             IndexValue::Null => branch_record(alloc, 0, Tree::Null),

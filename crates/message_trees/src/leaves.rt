@@ -10,12 +10,12 @@ use etp_values::{Bits32, Bits64, Blob, Copied, Id16, NoMemory, Text};
 use std::alloc::Global;
 
 impl InTree for bool {
-    #[tactic(auto, using(avro_bin::proofs::Views::values), unfolding(etp_schema::specs::Form::Holds))]
+    #[tactic(auto, using(avro_bin::proofs::ViewLemmas::values), unfolding(etp_schema::specs::Form::Holds))]
     fn to_tree(&self, _alloc: Global) -> Result<Tree, NoMemory> {
         Ok(Tree::Boolean(*self))
     }
 
-    #[tactic(auto, using(avro_bin::proofs::Views::values))]
+    #[tactic(auto, using(avro_bin::proofs::ViewLemmas::values))]
     fn from_tree(_alloc: Global, tree: Tree) -> Result<bool, NoMemory> {
         match tree {
             Tree::Boolean(value) => Ok(value),
@@ -25,12 +25,12 @@ impl InTree for bool {
 }
 
 impl InTree for i32 {
-    #[tactic(auto, using(avro_bin::proofs::Views::values), unfolding(etp_schema::specs::Form::Holds))]
+    #[tactic(auto, using(avro_bin::proofs::ViewLemmas::values), unfolding(etp_schema::specs::Form::Holds))]
     fn to_tree(&self, _alloc: Global) -> Result<Tree, NoMemory> {
         Ok(Tree::Int(*self))
     }
 
-    #[tactic(auto, using(avro_bin::proofs::Views::values))]
+    #[tactic(auto, using(avro_bin::proofs::ViewLemmas::values))]
     fn from_tree(_alloc: Global, tree: Tree) -> Result<i32, NoMemory> {
         match tree {
             Tree::Int(value) => Ok(value),
@@ -40,12 +40,12 @@ impl InTree for i32 {
 }
 
 impl InTree for i64 {
-    #[tactic(auto, using(avro_bin::proofs::Views::values), unfolding(etp_schema::specs::Form::Holds))]
+    #[tactic(auto, using(avro_bin::proofs::ViewLemmas::values), unfolding(etp_schema::specs::Form::Holds))]
     fn to_tree(&self, _alloc: Global) -> Result<Tree, NoMemory> {
         Ok(Tree::Long(*self))
     }
 
-    #[tactic(auto, using(avro_bin::proofs::Views::values))]
+    #[tactic(auto, using(avro_bin::proofs::ViewLemmas::values))]
     fn from_tree(_alloc: Global, tree: Tree) -> Result<i64, NoMemory> {
         match tree {
             Tree::Long(value) => Ok(value),
@@ -55,12 +55,12 @@ impl InTree for i64 {
 }
 
 impl InTree for Bits32 {
-    #[tactic(auto, using(avro_bin::proofs::Views::values), unfolding(etp_schema::specs::Form::Holds))]
+    #[tactic(auto, using(avro_bin::proofs::ViewLemmas::values), unfolding(etp_schema::specs::Form::Holds))]
     fn to_tree(&self, _alloc: Global) -> Result<Tree, NoMemory> {
         Ok(Tree::Float(*self))
     }
 
-    #[tactic(auto, using(avro_bin::proofs::Views::values))]
+    #[tactic(auto, using(avro_bin::proofs::ViewLemmas::values))]
     fn from_tree(_alloc: Global, tree: Tree) -> Result<Bits32, NoMemory> {
         match tree {
             Tree::Float(value) => Ok(value),
@@ -70,12 +70,12 @@ impl InTree for Bits32 {
 }
 
 impl InTree for Bits64 {
-    #[tactic(auto, using(avro_bin::proofs::Views::values), unfolding(etp_schema::specs::Form::Holds))]
+    #[tactic(auto, using(avro_bin::proofs::ViewLemmas::values), unfolding(etp_schema::specs::Form::Holds))]
     fn to_tree(&self, _alloc: Global) -> Result<Tree, NoMemory> {
         Ok(Tree::Double(*self))
     }
 
-    #[tactic(auto, using(avro_bin::proofs::Views::values))]
+    #[tactic(auto, using(avro_bin::proofs::ViewLemmas::values))]
     fn from_tree(_alloc: Global, tree: Tree) -> Result<Bits64, NoMemory> {
         match tree {
             Tree::Double(value) => Ok(value),
@@ -85,12 +85,12 @@ impl InTree for Bits64 {
 }
 
 impl InTree for Text {
-    #[tactic(auto, using(avro_bin::proofs::Views::values), unfolding(etp_schema::specs::Form::Holds))]
+    #[tactic(auto, using(avro_bin::proofs::ViewLemmas::values), unfolding(etp_schema::specs::Form::Holds))]
     fn to_tree(&self, alloc: Global) -> Result<Tree, NoMemory> {
         Ok(Tree::Text(self.copy(alloc)?))
     }
 
-    #[tactic(auto, using(avro_bin::proofs::Views::values))]
+    #[tactic(auto, using(avro_bin::proofs::ViewLemmas::values))]
     fn from_tree(alloc: Global, tree: Tree) -> Result<Text, NoMemory> {
         match tree {
             Tree::Text(text) => Ok(text),
@@ -100,12 +100,12 @@ impl InTree for Text {
 }
 
 impl InTree for Blob {
-    #[tactic(auto, using(avro_bin::proofs::Views::values), unfolding(etp_schema::specs::Form::Holds))]
+    #[tactic(auto, using(avro_bin::proofs::ViewLemmas::values), unfolding(etp_schema::specs::Form::Holds))]
     fn to_tree(&self, _alloc: Global) -> Result<Tree, NoMemory> {
         Ok(Tree::Bytes(self.share()?))
     }
 
-    #[tactic(auto, using(avro_bin::proofs::Views::values))]
+    #[tactic(auto, using(avro_bin::proofs::ViewLemmas::values))]
     fn from_tree(_alloc: Global, tree: Tree) -> Result<Blob, NoMemory> {
         match tree {
             Tree::Bytes(bytes) => Ok(bytes),
@@ -115,12 +115,12 @@ impl InTree for Blob {
 }
 
 impl InTree for Id16 {
-    #[tactic(auto, using(avro_bin::proofs::Views::values), unfolding(etp_schema::specs::Form::Holds))]
+    #[tactic(auto, using(avro_bin::proofs::ViewLemmas::values), unfolding(etp_schema::specs::Form::Holds))]
     fn to_tree(&self, alloc: Global) -> Result<Tree, NoMemory> {
         Ok(Tree::Fixed(Blob::copy(alloc, self.as_bytes())?))
     }
 
-    #[tactic(auto, using(avro_bin::proofs::Views::values))]
+    #[tactic(auto, using(avro_bin::proofs::ViewLemmas::values))]
     fn from_tree(_alloc: Global, tree: Tree) -> Result<Id16, NoMemory> {
         match tree {
             Tree::Fixed(bytes) => Ok(id_from(bytes.as_bytes())),
@@ -137,7 +137,7 @@ pub fn symbol_of<T: Copy>(tree: Tree, symbols: &[T], past: T) -> T
     symbol_at(place_of(tree), symbols, past)
 }
 
-#[tactic(auto, using(avro_bin::proofs::Views::values))]
+#[tactic(auto, using(avro_bin::proofs::ViewLemmas::values))]
 fn place_of(tree: Tree) -> u32
     ensures { result ≡ symbol_in (value_of tree) }
 {

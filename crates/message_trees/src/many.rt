@@ -1,7 +1,8 @@
 //! Lists, maps, optional and boxed values as trees.
 ghost use Rattle.std.specs.Prelude.{◌≡◌, IfOk, OnOk, map};
 ghost use Rattle.std.specs.List.{AllByRecursion};
-ghost use Rattle.avro_bin.specs.View.{value_of, entry_of, with_value};
+ghost use Rattle.etp_values.specs.Entries.{on_value};
+ghost use Rattle.avro_bin.specs.View.{value_of, entry_of};
 ghost use Rattle.etp_schema.specs.Form.{Holds, list_form, list_in, named_in};
 
 use crate::in_tree::InTree;
@@ -36,7 +37,7 @@ impl<T: InTree> InTree for Few<T> {
 }
 
 impl<T: InTree> InTree for Named<T> {
-    #[tactic(auto, using(etp_schema::proofs::Parts::parts))]
+    #[tactic(auto, using(etp_schema::proofs::PartLemmas::parts))]
     fn to_tree(&self, alloc: Global) -> Result<Tree, NoMemory> {
         let trees = trees_of_named(alloc, self)?;
         Ok(Tree::Map(trees))
@@ -52,7 +53,7 @@ impl<T: InTree> InTree for Named<T> {
 }
 
 impl<T: InTree> InTree for Option<T> {
-    #[tactic(auto, using(etp_schema::proofs::Parts::parts))]
+    #[tactic(auto, using(etp_schema::proofs::PartLemmas::parts))]
     fn to_tree(&self, alloc: Global) -> Result<Tree, NoMemory> {
         match self {
             None => Ok(Tree::Union(0, Box::new(alloc, Tree::Null)?)),
@@ -60,7 +61,7 @@ impl<T: InTree> InTree for Option<T> {
         }
     }
 
-    #[tactic(auto, using(etp_schema::proofs::Parts::parts))]
+    #[tactic(auto, using(etp_schema::proofs::PartLemmas::parts))]
     fn from_tree(alloc: Global, tree: Tree) -> Result<Option<T>, NoMemory> {
         match tree {
             Tree::Union(0, _) => Ok(None),
@@ -90,7 +91,7 @@ impl<T: InTree> InTree for Shared<T> {
     }
 }
 
-#[tactic(auto, using(etp_schema::proofs::Parts::parts, etp_schema::proofs::Parts::list_holds))]
+#[tactic(auto, using(etp_schema::proofs::PartLemmas::parts, etp_schema::proofs::PartLemmas::list_holds))]
 fn tree_of_items<T: InTree>(alloc: Global, items: &[T]) -> Result<Tree, NoMemory>
     ensures value { IfOk result (λ tree. value_of tree ≡ (list_form T.form).as_value items.now) }
     ensures typed { OnOk result (Holds (list_form T.form) items.now) }
@@ -110,7 +111,7 @@ fn trees_of_items<T: InTree>(alloc: Global, items: &[T]) -> Result<Vec<Tree>, No
     Ok(trees)
 }
 
-#[tactic(auto, using(etp_schema::proofs::Parts::parts))]
+#[tactic(auto, using(etp_schema::proofs::PartLemmas::parts))]
 fn items_of(alloc: Global, tree: Tree) -> Vec<Tree>
     ensures { map value_of result.items ≡ list_in (value_of tree) }
 {
@@ -121,7 +122,7 @@ fn items_of(alloc: Global, tree: Tree) -> Vec<Tree>
 }
 
 fn trees_of_named<T: InTree>(alloc: Global, named: &Named<T>) -> Result<Named<Tree>, NoMemory>
-    ensures value { IfOk result (λ trees. map entry_of trees ≡ map (with_value T.form.as_value) named.now) }
+    ensures value { IfOk result (λ trees. map entry_of trees ≡ map (on_value T.form.as_value) named.now) }
     ensures typed { OnOk result (AllByRecursion (λ e. Holds T.form e.1) named.now) }
 {
     let mut trees = Vec::new(alloc);
@@ -131,7 +132,7 @@ fn trees_of_named<T: InTree>(alloc: Global, named: &Named<T>) -> Result<Named<Tr
     Ok(Named::from_sorted(trees))
 }
 
-#[tactic(auto, using(etp_schema::proofs::Parts::parts))]
+#[tactic(auto, using(etp_schema::proofs::PartLemmas::parts))]
 fn named_of(alloc: Global, tree: Tree) -> Named<Tree>
     ensures { map entry_of result ≡ named_in (value_of tree) }
 {

@@ -7,7 +7,7 @@ use etp_values::NoMemory;
 use std::alloc::Global;
 
 impl InTree for ActiveStatusKind {
-    #[tactic(auto, using(avro_bin::proofs::Views::values), unfolding(etp_schema::specs::Form::Holds))]
+    #[tactic(auto, using(avro_bin::proofs::ViewLemmas::values), unfolding(etp_schema::specs::Form::Holds))]
     fn to_tree(&self, _alloc: Global) -> Result<Tree, NoMemory> {
         match self {
             ActiveStatusKind::Active => Ok(Tree::Enum(0)),

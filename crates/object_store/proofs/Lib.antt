@@ -1,2 +1,2 @@
-pub mod Gathered
-pub mod Listed
+pub mod GatheredLemmas
+pub mod ListedLemmas

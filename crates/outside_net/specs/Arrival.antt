@@ -42,6 +42,7 @@ error_arrival (error.Protocol cause) = protocol_arrival cause
 error_arrival error.OutOfMemory = arrival.NoMemory
 error_arrival e = arrival.Fault
 
+-- a read, whichever way it went
 abbrev pub arrival_of : Result Message Error → Arrival
 arrival_of (Ok m) = message_arrival m
 arrival_of (Err e) = error_arrival e

@@ -1,5 +1,5 @@
 //! How long a peer may be silent.
-ghost use Rattle.std.specs.Prelude.{◌≡◌, ◌↔◌, ◌+◌, ◌<◌, ◌≤◌};
+ghost use Rattle.std.specs.Prelude.{◌≡◌, ◌↔◌, ◌<◌, ◌≤◌};
 ghost use Rattle.outside_net.specs.Silence.{lasts};
 
 /// After so many milliseconds in which nothing came the peer is sent a ping.
@@ -41,8 +41,8 @@ impl Silence {
     pub fn after(&mut self, heard: u64, wait: u64) -> Call
         ensures heard { self.new.heard ≡ heard }
         ensures lasted { self.new.lasted ≡ lasts self.old heard wait }
-        ensures gone { (result ≡ Call.GiveUp) ↔ (GONE_AFTER ≤ self.new.lasted) }
-        ensures ping { (result ≡ Call.Ping) ↔ ((self.old.lasted < PING_AFTER) × (PING_AFTER ≤ self.new.lasted) × (self.new.lasted < GONE_AFTER)) }
+        ensures gone { (result ≡ Call.GiveUp) ↔ (90000 ≤ self.new.lasted) }
+        ensures ping { (result ≡ Call.Ping) ↔ ((self.old.lasted < 30000) × (30000 ≤ self.new.lasted) × (self.new.lasted < 90000)) }
     {
         let before = self.lasted;
         self.lasted = self.lasts(heard, wait);

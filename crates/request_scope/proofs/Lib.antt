@@ -1,1 +1,1 @@
-pub mod Paying
+pub mod PayingLemmas

@@ -60,7 +60,7 @@ impl Scope {
     }
 
     /// The same for the elements of an array.
-    #[tactic(auto, using(crate::proofs::Paying::pays_capped, crate::proofs::Paying::paying_capped))]
+    #[tactic(auto, using(crate::proofs::PayingLemmas::pays_capped, crate::proofs::PayingLemmas::paying_capped))]
     pub fn pay_elements(&mut self, values: &AnyArray) -> bool
         ensures paid { result ≡ pays self.old (size_of values.now) }
         ensures state { self.new ≡ paying self.old (size_of values.now) }

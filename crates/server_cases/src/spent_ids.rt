@@ -1,6 +1,6 @@
 //! Sessions that have few ids left. None of their messages asks the store. A session that has ended says so after each message.
 use etp_values::{Id16, List, NoMemory, Shared, Text};
-use server_config::Config;
+use server_config::{Config, MAX_JOURNAL, MAX_LAG};
 use session_core::Session;
 use std::alloc::{AllocError, Global};
 use std::io;
@@ -14,8 +14,8 @@ fn configuration(alloc: Global) -> Result<Config, NoMemory> {
     Ok(Config {
         instance: Id16::from_bytes(instance),
         name: Text::copy(alloc, "wd")?,
-        lag: 65_536,
-        journal: 4_194_304,
+        lag: MAX_LAG,
+        journal: MAX_JOURNAL,
         types: None,
         channels: Shared::new(alloc, List::new(alloc))?,
     })

@@ -2,6 +2,12 @@
 use etp_values::{Copied, Id16, List, NoMemory, Shared, StoreUri, Text};
 use std::alloc::Global;
 
+/// The greatest lag of a subscription, in entries of the journal, and what it is where a configuration doesn't say.
+pub const MAX_LAG: u64 = 65_536;
+
+/// The greatest number of entries of a journal, and what it is where a configuration doesn't say.
+pub const MAX_JOURNAL: u64 = 4_194_304;
+
 /// What a channel's values are.
 #[derive(Clone, Copy, Debug, PartialEq, Eq)]
 pub enum ValueKind {

@@ -1,3 +1,3 @@
-pub mod Countings
-pub mod Lines
-pub mod Serving
+pub mod CountingLemmas
+pub mod LineLemmas
+pub mod ServingLemmas

@@ -31,7 +31,7 @@ use store_machine::Store;
 /// many links, 1 to 1,000,000. Then the report goes to the output; it follows a listener's failure and want of memory too,
 /// as far as there is memory for it. The first cause stands: where the listener failed, a report that could not be written
 /// changes nothing.
-#[tactic(auto, using(crate::proofs::Serving::at_most_same, crate::proofs::Serving::no_memory, crate::proofs::Serving::untouched))]
+#[tactic(auto, using(crate::proofs::ServingLemmas::at_most_same, crate::proofs::ServingLemmas::no_memory, crate::proofs::ServingLemmas::untouched))]
 pub fn run_server<H: Host, A: Listener, W: Sink, C: Clock, G: Gate, R: Threads + Wait + Sync>(
     rt: &R,
     alloc: Global,

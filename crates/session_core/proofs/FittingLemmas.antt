@@ -86,8 +86,8 @@ use Rattle.session_rows.specs.declared.objects.ObjectPending.{ObjectPending}
 use Rattle.session_rows.specs.declared.opening.Opening.TheVariants as opens
 use Rattle.session_rows.specs.declared.transactions.TransactionPending.TheVariants as commits
 use Rattle.store_machine.proofs.CutLemmas.{names-cuts}
-use Rattle.store_machine.proofs.Judging.{names-verdicts}
-use Rattle.store_machine.proofs.Reading.{names-metas}
+use Rattle.store_machine.proofs.JudgingLemmas.{names-verdicts}
+use Rattle.store_machine.proofs.ReadingLemmas.{names-metas}
 use Rattle.store_machine.specs.Answers.{answer, answered, commit_reply, has_room, ranges_after, seen_after, starts_after, verdicts, wanted, written}
 use Rattle.store_machine.specs.Channels.{channels_of, code_of}
 use Rattle.store_machine.specs.Clash.{conflict}

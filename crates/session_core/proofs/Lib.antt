@@ -6,27 +6,27 @@ pub mod FittingLemmas
 pub mod WritableLemmas
 pub mod JoiningLemmas
 pub mod NotingLemmas
-pub mod ChannelCalls
-mod Retouched
-mod Asking
-mod Marked
-mod Beside
-mod Named
-mod Alone
-mod Requesting
-mod Committed
-mod Reached
-pub mod MessageParts
-mod Hearing
-pub mod Telling
-mod Owing
-pub mod Standing
-pub mod Starting
-pub mod Stopping
-pub mod Moving
-mod Newsing
-pub mod Walking
-pub mod Arrivals
-pub mod Subscribing
-pub mod Streaming
-mod Fronts
+pub mod ChannelCallLemmas
+mod RetouchedLemmas
+mod AskingLemmas
+mod MarkedLemmas
+mod BesideLemmas
+mod NamedLemmas
+mod AloneLemmas
+mod RequestingLemmas
+mod CommittedLemmas
+mod ReachedLemmas
+pub mod MessagePartLemmas
+mod HearingLemmas
+pub mod TellingLemmas
+mod OwingLemmas
+pub mod StandingLemmas
+pub mod StartingLemmas
+pub mod StoppingLemmas
+pub mod MovingLemmas
+mod NewsingLemmas
+pub mod WalkingLemmas
+pub mod ArrivalLemmas
+pub mod SubscribingLemmas
+pub mod StreamingLemmas
+mod FrontLemmas

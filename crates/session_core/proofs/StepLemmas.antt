@@ -69,7 +69,7 @@ use Rattle.session_core.specs.declared.state.Phase.TheVariants as phase
 use Rattle.session_core.specs.State.{State}
 use Rattle.session_core.specs.Arriving.{arrived, request_of}
 use Rattle.session_core.specs.Machine.{taken, acknowledged, by_phase, by_event, no_call, on_arrays, on_dataspaces, on_join, on_joined, on_loads_by, on_message, on_objects, on_poll, on_protocol, on_received, on_row, on_store, on_subscriptions_by, on_transactions_by, on_whole, protocol_refusal, put_request, refuses, accepting, given_to}
-use Rattle.session_core.proofs.ChannelCalls.{CallsOfChannels, channels_ask, of_load_message, of_subscribe_message}
+use Rattle.session_core.proofs.ChannelCallLemmas.{CallsOfChannels, channels_ask, of_load_message, of_subscribe_message}
 use Rattle.session_core.specs.Run.{takes, hears, Asks, TakingAsks, AnswersAreLast}
 
 -- ---- the calls of a session, at any history

@@ -38,7 +38,8 @@ use Rattle.session_core.specs.Machine.{unread}
 use Rattle.session_core.specs.Replies.{receipt, sayings_of}
 use Rattle.session_core.specs.Run.{run}
 use Rattle.session_core.specs.Sending.{is_spent, numbered, parts_of}
-use Rattle.session_core.specs.Streams.{HasIds, Rises, is_spent_course}
+use Rattle.etp_values.specs.Rising.{Rises}
+use Rattle.session_core.specs.Streams.{HasIds, is_spent_course}
 
 -- ---- messages
 

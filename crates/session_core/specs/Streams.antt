@@ -1,9 +1,10 @@
 -- What a client hears of a channel in the messages that a session sent, and what it is to hear: of a subscription the points that
 -- were there and each later change, in their order, of the one history.
-use Rattle.std.specs.Prelude.{ℕ, ℤ, ◌≡◌, ◌≤◌, ◌<◌, ◌^◌, Bool, true, false, List, [], ◌∷◌, ◌++◌, Option, Some, None, fold, length, take, drop, max, if◌then◌else◌}
+use Rattle.std.specs.Prelude.{ℕ, ℤ, ◌≡◌, ◌<◌, ◌^◌, Bool, true, false, List, [], ◌∷◌, ◌++◌, Option, Some, None, fold, length, take, drop, max, if◌then◌else◌}
 use Rattle.std.specs.List.{flat_map, list_any}
 use Rattle.std.specs.Ordering.{int_eq}
 use mathlib.Core.List.{IsPrefix}
+use Rattle.etp_values.specs.Rising.{Rises}
 use Rattle.server_config.specs.declared.config.Config.{Config}
 use Rattle.channel_rows.specs.Notices.{reason_of}
 use Rattle.channel_rows.specs.Points.{ends_of, long_in}
@@ -127,11 +128,6 @@ abbrev pub owed : List Entry → Subbed → ℤ → List What
 owed h v channel = owed_to h v.cursor (sub_of channel v.subs)
 
 -- ---- the laws
-
--- these places never fall: the first is not below `low`, and none is above `high`
-abbrev pub Rises : ℕ → List ℕ → ℕ → Type 0
-Rises low [] high = low ≤ high
-Rises low (p ∷ ps) high = (low ≤ p) × Rises p ps high
 
 -- a session's message ids are spent
 abbrev pub is_spent_phase : Phase → Bool

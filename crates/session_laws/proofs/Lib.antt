@@ -1,6 +1,6 @@
-mod Deciding
-mod Speaking
-mod Replying
-mod Granting
+mod DecidingLemmas
+mod SpeakingLemmas
+mod ReplyingLemmas
+mod GrantingLemmas
 mod StagedLemmas
-mod Witness
+mod WitnessLemmas

@@ -74,7 +74,7 @@ use Rattle.session_core.specs.Replies.{receipt}
 use Rattle.session_core.specs.Run.{Course, answered_at, asked, at_place, happens, happens_unless, moment_of, own_number, run_from, takes}
 use Rattle.session_core.specs.Sending.{said}
 use Rattle.session_core.specs.Staged.{CallsWithin, CommitsNothing, IsCallWithin, IsCommitOf, IsListing, IsLookAt, IsOfChannels, LooksAddNothing, StaysUncommitted, UncommittedIsUnseen, changes_keys, key_entries}
-use Rattle.session_core.proofs.ChannelCalls.{CallsOfChannels, of_load_message, of_subscribe_message}
+use Rattle.session_core.proofs.ChannelCallLemmas.{CallsOfChannels, of_load_message, of_subscribe_message}
 
 -- ---- the calls of a session in which this transaction is open
 

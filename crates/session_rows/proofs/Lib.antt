@@ -1,3 +1,2 @@
-pub mod Cases
-pub mod Single
-pub mod Paths
+pub mod CaseLemmas
+pub mod PathLemmas

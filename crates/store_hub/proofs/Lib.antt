@@ -1,5 +1,5 @@
-pub mod Counts
-pub mod Keeping
-pub mod Asked
-pub mod Entered
-pub mod Reading
+pub mod CountLemmas
+pub mod KeepingLemmas
+pub mod AskedLemmas
+pub mod EnteredLemmas
+pub mod ReadingLemmas

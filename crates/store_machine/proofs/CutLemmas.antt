@@ -7,7 +7,8 @@ use Rattle.std.proofs.lemmas.Bool.{or_parts}
 use Rattle.channel_store.specs.declared.error.ChannelError.{ChannelError}
 use Rattle.channel_store.specs.declared.error.ChannelError.TheVariants.{NoChannel, Index, Doubled}
 use Rattle.channel_store.specs.Channels.{Channel}
-use Rattle.channel_store.specs.Refusals.{channel_at, cut_refusal, in_range, int_eq, is_listed, or_else, truncate_refusal, unless}
+use Rattle.std.specs.Ordering.{int_eq}
+use Rattle.channel_store.specs.Refusals.{channel_at, cut_refusal, in_range, is_listed, or_else, truncate_refusal, unless}
 use Rattle.store_machine.specs.declared.call.Cutting.{Cutting}
 use Rattle.store_machine.specs.declared.call.Verdict.{Verdict}
 use Rattle.store_machine.specs.Channels.{cut_of}

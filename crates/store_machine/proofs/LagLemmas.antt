@@ -2,6 +2,7 @@
 use Rattle.std.specs.Prelude.{ℕ, zero, suc, ◌≡◌, ◌+◌, ◌-◌, ◌==◌, ◌&&◌, ◌||◌, nat_le, Bool, true, false, cond, List, [], ◌∷◌, ◌++◌, Option, Some, None, if◌then◌else◌, is_some, length, filter, find, replicate, refl}
 use Rattle.std.specs.Option.{option_to_list}
 use Rattle.std.proofs.Common.{ap, sym, ◌∙◌, arith}
+use Rattle.std.proofs.Math.Bool.{or-false}
 use Rattle.channel_store.specs.declared.change.ChannelChange.{ChannelChange}
 use Rattle.channel_store.specs.Channels.{Channel}
 use Rattle.channel_store.specs.Marks.{marked}
@@ -17,10 +18,6 @@ abbrev with_due : List Channel → List Followed → ℕ → List Bool → List 
 with_due cs fs place [] = []
 with_due cs fs place (b ∷ bs) = (b || is_some_due (due_at cs fs place)) ∷ with_due cs fs (place + 1) bs
 
-or-none : (b : Bool) → (b || false) ≡ b
-or-none true = refl
-or-none false = refl
-
 or-assoc : (a b c : Bool) → ((a || b) || c) ≡ (a || (b || c))
 or-assoc true b c = refl
 or-assoc false b c = refl
@@ -33,7 +30,7 @@ any-due false o ds = refl
 
 nobody : (cs : List Channel) (place : ℕ) (bs : List Bool) → with_due cs [] place bs ≡ bs
 nobody cs place [] = refl
-nobody cs place (b ∷ bs) = (λ j. or-none b j ∷ nobody cs (place + 1) bs j)
+nobody cs place (b ∷ bs) = (λ j. or-false b j ∷ nobody cs (place + 1) bs j)
 
 one-more : (cs : List Channel) (f : Followed) (fs : List Followed) (place : ℕ) (bs : List Bool) → with_due cs fs place (marked f.from place (changes_at cs f.channel) bs) ≡ with_due cs (f ∷ fs) place bs
 one-more cs f fs place [] = refl

@@ -15,7 +15,7 @@ use tx_stage::{ops_bytes, touched_bytes};
 pub const MAX_JOURNAL_BYTES: u64 = 536_870_912;
 
 /// What an entry counts besides its items.
-const ENTRY_BYTES: u64 = 64;
+pub(crate) const ENTRY_BYTES: u64 = 64;
 
 /// What an item counts besides its texts and values.
 const ITEM_BYTES: u64 = 64;

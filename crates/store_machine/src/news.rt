@@ -56,7 +56,7 @@ fn same_from(followed: &[Followed], place: usize, sub: &Sub) -> Option<u64>
 }
 
 /// Follows the channel of a further subscription.
-#[tactic(auto, using(crate::proofs::Following::put_same, crate::proofs::Following::put_new, crate::proofs::Following::place_within))]
+#[tactic(auto, using(crate::proofs::FollowingLemmas::put_same, crate::proofs::FollowingLemmas::put_new, crate::proofs::FollowingLemmas::place_within))]
 fn follow(followed: &mut Vec<Followed>, sub: &Sub) -> Result<(), NoMemory>
     ensures { OnOk result (followed.new.items ≡ followed_with followed.old.items sub.now) }
 {
@@ -210,7 +210,7 @@ struct Taken {
 }
 
 /// Whether so many changes are taken behind others, if all of them then count so many bytes. The first always are.
-#[tactic(auto, using(crate::proofs::Taking::fits_empty, crate::proofs::Taking::fits_first, crate::proofs::Taking::fits_by_numbers))]
+#[tactic(auto, using(crate::proofs::TakingLemmas::fits_empty, crate::proofs::TakingLemmas::fits_first, crate::proofs::TakingLemmas::fits_by_numbers))]
 fn fits(taken: usize, count: usize, bytes: u64) -> bool
     ensures { (b : ℕ) (due : Items AChange) → count ≡ length due → bytes ≡ capped (b + weigh change_bytes due)
         → result ≡ fits_behind taken b due }
@@ -285,7 +285,7 @@ fn take_from(
 
 /// What subscriptions are to be told of from `cursor` on, where the journal has the length `mark`. Where more than `limit`
 /// entries have such changes, it is none of them.
-#[tactic(auto, using(crate::proofs::Taking::news_lagged, crate::proofs::Taking::news_told))]
+#[tactic(auto, using(crate::proofs::TakingLemmas::news_lagged, crate::proofs::TakingLemmas::news_told))]
 pub(crate) fn news(
     alloc: Global,
     channels: &ChannelStore,

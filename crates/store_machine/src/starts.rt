@@ -129,7 +129,7 @@ fn start(channels: &ChannelStore, ask: &StartAsk, room: &mut Room) -> Result<Sta
 }
 
 /// Where subscriptions start, in order.
-#[tactic(auto, using(crate::proofs::Beginning::started_step))]
+#[tactic(auto, using(crate::proofs::BeginningLemmas::started_step))]
 pub(crate) fn starts(
     alloc: Global,
     channels: &ChannelStore,

@@ -11,7 +11,7 @@ ghost use Rattle.store_machine.specs.declared.call.StoreCall.TheVariants as call
 
 use crate::alterations::Alterations;
 use crate::call::{Answer, Cutting, RangeAsk, Reply, SpacePut, StartAsk, StoreCall};
-use crate::counted::{bytes_after, bytes_with, cuts_bytes};
+use crate::counted::{ENTRY_BYTES, bytes_after, bytes_with, cuts_bytes};
 use crate::cuts::{add_cuts, draft_cuts};
 use crate::draft::{draft_drops, draft_ops, draft_puts, plan_ops};
 use crate::journal::{Act, Entry, add_entry, push_entry};
@@ -90,7 +90,7 @@ impl Store {
         Ok(Store {
             config,
             journal,
-            bytes: 64,
+            bytes: ENTRY_BYTES,
             contents,
             channels,
             alterations,

@@ -4,7 +4,7 @@ use Rattle.std.proofs.Common.{ap, arith}
 use Rattle.std.proofs.lemmas.List.{drop_all}
 use Rattle.store_machine.specs.declared.journal.Entry.{Entry}
 use Rattle.store_machine.specs.Legal.{own}
-use Rattle.store_machine.proofs.Numbers.{own-step}
+use Rattle.store_machine.proofs.NumberLemmas.{own-step}
 
 -- a count over the whole journal
 pub counted_all : (by : ℕ) (log : List Entry) (count place : ℕ) → length log ≤ place → count + length (own by (drop place log)) ≡ length (own by log) → count ≡ length (own by log)

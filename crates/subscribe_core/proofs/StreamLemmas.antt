@@ -7,7 +7,7 @@ use Rattle.std.proofs.lemmas.Bool.{false≢true}
 use Rattle.std.proofs.lemmas.List.{map-append}
 use Rattle.std.proofs.lemmas.List.Concat.{flat_map-append}
 use Rattle.std.proofs.lemmas.List.Elements.{filter-append}
-use Rattle.etp_values.proofs.Ints.{int_eq_is}
+use Rattle.etp_values.proofs.IntLemmas.{int_eq_is}
 use Rattle.channel_store.specs.declared.change.ChannelChange.{ChannelChange}
 use Rattle.channel_store.specs.declared.change.What.{What}
 use Rattle.channel_store.specs.Points.{append_of, past, view}

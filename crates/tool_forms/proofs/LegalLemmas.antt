@@ -22,7 +22,7 @@ use Rattle.tool_forms.specs.declared.tag.OpenSession.{OpenSession}
 use Rattle.tool_forms.specs.declared.tag.TagState.{TagState}
 use Rattle.tool_forms.specs.declared.tag.TagState.TheVariants.{Ended, Open}
 use Rattle.session_core.proofs.StepLemmas.{asks_call}
-use Rattle.tool_forms.proofs.Soundness.{Laws, enter_next, first_fits}
+use Rattle.tool_forms.proofs.SoundnessLemmas.{Laws, enter_next, first_fits}
 
 after_legal : (c : Config) (f : Frame) (t : Turn) (o : Option End) → Legal c t.journal → Legal c (effect_after f t o).journal
 after_legal c f t None legal = legal

@@ -1,10 +1,10 @@
-pub mod Replaying
-pub mod Tags
-pub mod Growth
+pub mod ReplayingLemmas
+pub mod TagLemmas
+pub mod GrowthLemmas
 pub mod OwnLemmas
 pub mod LegalLemmas
 pub mod TagRunLemmas
-pub mod Soundness
-pub mod Entering
-pub mod Loading
-pub mod Telling
+pub mod SoundnessLemmas
+pub mod EnteringLemmas
+pub mod LoadingLemmas
+pub mod TellingLemmas

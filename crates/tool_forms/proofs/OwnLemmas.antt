@@ -6,7 +6,7 @@ use Rattle.std.specs.Map.{values_of}
 use Rattle.std.specs.Ordering.{nat_cmp}
 use Rattle.std.specs.BTreeMap.{is_at}
 use mathlib.Core.List.{IsPrefix, prefix-append}
-use Rattle.etp_values.proofs.Prefixes.{prefix_get}
+use Rattle.etp_values.proofs.PrefixLemmas.{prefix_get}
 use Rattle.etp_capture.specs.declared.frame.Frame.{Frame}
 use Rattle.server_config.specs.declared.config.Config.{Config}
 use Rattle.store_machine.specs.Answers.{answered, added, has_room, wanted}
@@ -24,10 +24,10 @@ use Rattle.tool_forms.specs.TagRuns.{TagRun, first_run, run_with, run_entered, r
 use Rattle.tool_forms.specs.declared.tag.OpenSession.{OpenSession}
 use Rattle.tool_forms.specs.declared.tag.TagState.{TagState}
 use Rattle.tool_forms.specs.declared.tag.TagState.TheVariants.{Ended, Open}
-use Rattle.tool_forms.proofs.Growth.{By, Grows, entry_last, own_all, own_kept, own_more}
-use Rattle.etp_values.proofs.Bools.{by_test}
-use Rattle.tool_forms.proofs.Soundness.{TagFits, entering, let_in, number_below, number_in, number_put, open_next}
-use Rattle.tool_forms.proofs.Tags.{at_same, put_found}
+use Rattle.tool_forms.proofs.GrowthLemmas.{By, Grows, entry_last, own_all, own_kept, own_more}
+use Rattle.etp_values.proofs.BoolLemmas.{by_test}
+use Rattle.tool_forms.proofs.SoundnessLemmas.{TagFits, entering, let_in, number_below, number_in, number_put, open_next}
+use Rattle.tool_forms.proofs.TagLemmas.{at_same, put_found}
 
 -- ---- places
 

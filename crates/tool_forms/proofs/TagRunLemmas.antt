@@ -10,7 +10,7 @@ use Rattle.std.proofs.lemmas.List.Elements.{filter-append}
 use Rattle.std.proofs.lemmas.Bool.{false≢true}
 use Rattle.std.proofs.lemmas.Bool.Decides.{nat_tests}
 use mathlib.Core.List.{IsPrefix, prefix-append}
-use Rattle.etp_values.proofs.Prefixes.{prefix_self, prefix_trans, prefix_length, prefix_get}
+use Rattle.etp_values.proofs.PrefixLemmas.{prefix_self, prefix_trans, prefix_length, prefix_get}
 use Rattle.etp_capture.specs.declared.frame.Frame.{Frame}
 use Rattle.server_config.specs.declared.config.Config.{Config}
 use Rattle.store_machine.specs.Answers.{answered, added, has_room, wanted}
@@ -37,12 +37,12 @@ use Rattle.tool_forms.specs.declared.tag.TagState.TheVariants.{Ended, Open}
 use Rattle.tool_forms.specs.declared.tag.OpenSession.{OpenSession}
 use Rattle.tool_forms.specs.declared.tag.Ending.{Ending}
 use Rattle.tool_forms.specs.declared.tag.Ending.TheVariants.{Session, PeerEnd, JournalFull}
-use Rattle.tool_forms.proofs.Growth.{Grows, entry_within}
+use Rattle.tool_forms.proofs.GrowthLemmas.{Grows, entry_within}
 use Rattle.tool_forms.proofs.LegalLemmas.{at_legal}
 use Rattle.tool_forms.proofs.OwnLemmas.{IsApart, IsBelow, OwnStays, entered-wrote, fall-higher, fall-turned, other_apart, own_apart, own_stays, values-placed, wrote-longer, wrote-more}
 use Rattle.session_core.proofs.StepLemmas.{asks_call}
-use Rattle.tool_forms.proofs.Soundness.{Laws, TagFits, by_added, effect_fits, number_in, sound_put}
-use Rattle.tool_forms.proofs.Tags.{put_found, at_other, at_self}
+use Rattle.tool_forms.proofs.SoundnessLemmas.{Laws, TagFits, by_added, effect_fits, number_in, sound_put}
+use Rattle.tool_forms.proofs.TagLemmas.{put_found, at_other, at_self}
 
 -- ---- what goes to a tag
 

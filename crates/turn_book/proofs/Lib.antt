@@ -2,5 +2,5 @@ pub mod ListLemmas
 pub mod OwnLemmas
 pub mod PlaceLemmas
 pub mod RuleLemmas
-pub mod Kept
-pub mod Told
+pub mod KeptLemmas
+pub mod ToldLemmas

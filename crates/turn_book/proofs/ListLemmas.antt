@@ -4,7 +4,9 @@ use mathlib.Core.Option.{some, some-injective, some-ne-none}
 use lib.ListN.{get_elem?}
 use Rattle.std.proofs.Math.ListN.{set}
 use Rattle.atomic_table.proofs.Lists.{at_snoc}
-use Rattle.turn_book.specs.Lists.{Each, sum_over, one_if, occurrences, Rises, last}
+use Rattle.etp_values.specs.Rising.{Rises}
+use Rattle.etp_values.proofs.RisingLemmas.{rises_bound}
+use Rattle.turn_book.specs.Lists.{Each, sum_over, one_if, occurrences, last}
 
 -- the sum after a change of one element
 pub sum_over_set : {X : Type 0} (f : X → ℕ) (xs : List X) (i : ℕ) (x y : X) → get_elem? xs i ≡ some x → sum_over f (set xs i y) + f x ≡ sum_over f xs + f y
@@ -84,10 +86,6 @@ rises_snoc low (x ∷ xs) high n top r a b = (r.0, rises_snoc x xs high n top r.
 pub rises_wider : (low : ℕ) (xs : List ℕ) (high top : ℕ) → Rises low xs high → high ≤ top → Rises low xs top
 rises_wider low [] high top r a = omega arith
 rises_wider low (x ∷ xs) high top r a = (r.0, rises_wider x xs high top r.1 a)
-
-pub rises_bound : (low : ℕ) (xs : List ℕ) (high : ℕ) → Rises low xs high → low ≤ high
-rises_bound low [] high r = r
-rises_bound low (x ∷ xs) high r = let up = rises_bound x xs high r.1 in omega arith
 
 -- each is at most the upper bound
 pub rises_each : (low : ℕ) (xs : List ℕ) (high : ℕ) → Rises low xs high → Each (λ x. x ≤ high) xs

@@ -7,10 +7,12 @@ use mathlib.Core.Logic.{dite}
 use mathlib.Core.List.{IsPrefix, map-append}
 use native.Mathlib.Decide.{ℕ_discrete}
 use lib.ListN.{get_elem?}
-use Rattle.turn_book.specs.Lists.{Each, Rises, without, without_each, own_from, own, own_places}
+use Rattle.etp_values.specs.Rising.{Rises}
+use Rattle.turn_book.specs.Lists.{Each, without, without_each, own_from, own, own_places}
 use Rattle.turn_book.specs.Rules.{IsDated}
-use Rattle.etp_values.proofs.Prefixes.{prefix_get}
-use Rattle.turn_book.proofs.ListLemmas.{each_none, each_snoc, rises_bound}
+use Rattle.etp_values.proofs.PrefixLemmas.{prefix_get}
+use Rattle.etp_values.proofs.RisingLemmas.{rises_bound}
+use Rattle.turn_book.proofs.ListLemmas.{each_none, each_snoc}
 use Rattle.turn_book.proofs.OwnLemmas.{own_grown}
 
 -- at p, counted from k, the list has an entry by n

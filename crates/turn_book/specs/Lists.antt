@@ -1,5 +1,5 @@
 -- Lists of numbers, and of entries with their writers.
-use Rattle.std.specs.Prelude.{◌≡◌, ◌==◌, ℕ, ◌+◌, ◌≤◌, leb, cond, List, [], ◌∷◌, map, length, Option, Some, None, if◌then◌else◌}
+use Rattle.std.specs.Prelude.{◌≡◌, ◌==◌, ℕ, ◌+◌, leb, cond, List, [], ◌∷◌, map, length, Option, Some, None, if◌then◌else◌}
 use mathlib.Core.Option.{some}
 use lib.ListN.{get_elem?}
 
@@ -19,11 +19,6 @@ one_if n x = if x == n then 1 else 0
 -- how often n stands in the list
 abbrev pub occurrences : ℕ → List ℕ → ℕ
 occurrences n xs = sum_over (one_if n) xs
-
--- from low on the list never falls, and high is not below it
-abbrev pub Rises : ℕ → List ℕ → ℕ → Type 0
-Rises low [] high = low ≤ high
-Rises low (x ∷ xs) high = (low ≤ x) × Rises x xs high
 
 -- the list without the first n in it
 abbrev pub without : ℕ → List ℕ → List ℕ

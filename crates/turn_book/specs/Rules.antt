@@ -6,7 +6,8 @@ use mathlib.Core.List.{IsPrefix}
 use lib.ListN.{get_elem?}
 use Rattle.atomic_table.specs.Table.{State}
 use Rattle.turn_book.specs.declared.view.View.{View}
-use Rattle.turn_book.specs.Lists.{Each, sum_over, occurrences, Rises, without_each, longer, own, own_places}
+use Rattle.etp_values.specs.Rising.{Rises}
+use Rattle.turn_book.specs.Lists.{Each, sum_over, occurrences, without_each, longer, own, own_places}
 
 -- the turn is free and the book is at home, or the seat of this place has the turn and the book
 pub data Turn (B : Type 0) : Type 0 where

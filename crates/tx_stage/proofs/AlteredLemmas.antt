@@ -2,6 +2,7 @@
 use Rattle.std.proofs.Common.{Bool, true, false, cond, ◌&&◌, ◌||◌, List, [], ◌∷◌, ◌++◌, ◌≡◌, Option, refl, sym, ap, ◌∙◌, filter, fold, true≢false}
 use Rattle.std.specs.List.{list_any}
 use Rattle.std.proofs.lemmas.Bool.{or_parts}
+use Rattle.std.proofs.Math.Bool.{and-false}
 use Rattle.indexmap.specs.IndexSet.{insert_key}
 use Rattle.etp_values.specs.declared.uri.StoreUri.{StoreUri}
 use Rattle.etp_values.specs.SameUri.{same_uri, same_uri-equiv, same_uri-is}
@@ -69,17 +70,13 @@ along gone own (SetArray r) key h = (h, refl)
 along gone own (Patch ss cs vs) key h = (h, refl)
 along gone own Gone key h = along-removed gone own key h
 
-suits-not : (a : Bool) → (a && false) ≡ false
-suits-not true = refl
-suits-not false = refl
-
 pub finds-next : (a : Altered) (ops : List Op) (o : Op) → FindsAltered a ops → FindsAltered (with_op a o) (ops ++ o ∷ [])
 finds-next a ops o found key none =
     let parts = or_parts (list_any (same_key key) (with_op a o).own) (is_array_of_any (with_op a o).gone key) none in
     let own = inserted same_key same_key-is a.own o.key key parts.0 in
     let gone = along a.gone o.key o.what key parts.1 in
     let before : may_alter a key ≡ false = ap (λ b. b || is_array_of_any a.gone key) own.0 ∙ gone.0 in
-    let last : op_alters o key ≡ false = (λ j. suits o.key o.what && (own.1 j || gone.1 j)) ∙ suits-not (suits o.key o.what) in
+    let last : op_alters o key ≡ false = (λ j. suits o.key o.what && (own.1 j || gone.1 j)) ∙ and-false (suits o.key o.what) in
     any-none (λ (o : Op). op_alters o key) ops o (found key before) last
 
 -- ---- where none is found

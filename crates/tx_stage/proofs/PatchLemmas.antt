@@ -23,7 +23,7 @@ use Rattle.array_store.specs.Operations.{array_after, put_unless}
 use Rattle.array_store.specs.Refusals.{record_refusal}
 use Rattle.array_store.specs.Arrays.{has_numbers, is_bytes}
 use Rattle.array_store.specs.Table.{array_in, is_of_object, is_in_space, patch_array, patched_at, patched_in_place, rewritten, same_key, unless_refused}
-use Rattle.array_store.proofs.Keys.{same_key-is}
+use Rattle.array_store.proofs.KeyLemmas.{same_key-is}
 use Rattle.tx_stage.specs.declared.contents.Contents.{Contents}
 use Rattle.tx_stage.specs.declared.key.Key.TheVariants.{Space, Object, Array}
 use Rattle.tx_stage.specs.declared.op.OpWhat.TheVariants.{Patch}

@@ -25,7 +25,7 @@ use Rattle.array_store.specs.Refusals.{record_refusal, write_refusal}
 use Rattle.array_store.specs.Table as table
 use Rattle.array_store.specs.Arrays.{is_bytes}
 use Rattle.array_store.specs.Table.{array_in, is_of_object, is_in_space, patch_array, patched_at, patched_in_place, rewritten, unless_refused}
-use Rattle.array_store.proofs.Keys.{same_key-is}
+use Rattle.array_store.proofs.KeyLemmas.{same_key-is}
 use Rattle.object_store.specs.declared.op.ObjectOp.{ObjectOp}
 use Rattle.object_store.specs.declared.op.ObjectOp.TheVariants as op
 use Rattle.object_store.specs.declared.records.ObjectRecord.{ObjectRecord}

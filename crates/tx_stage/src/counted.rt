@@ -11,6 +11,21 @@ use crate::touch::Touch;
 use array_store::array_bytes;
 use etp_values::{ID_TEXT_LEN, List, ObjectName, StoreUri, Text, custom_weight};
 
+/// How long the text of the default dataspace is, `eml:///`.
+const DEFAULT_LEN: u64 = 7;
+
+/// How long the text of another dataspace is besides its path, `eml:///dataspace('')`.
+const SPACE_PARTS: u64 = 20;
+
+/// What an operation counts that sets or patches, besides texts and values.
+const SET_BYTES: u64 = 256;
+
+/// What a removal counts besides the texts of its key.
+const REMOVAL_BYTES: u64 = 64;
+
+/// What a touched key counts besides its texts.
+const TOUCH_BYTES: u64 = 64;
+
 /// How long a path is with its quotes doubled.
 fn doubled_len(path: &[u8]) -> u64
     ensures { result ≡ capped (length (doubled path.now)) }
@@ -44,9 +59,9 @@ fn space_len(path: &Text) -> u64
     ensures { result ≡ capped (length (space_text path.now)) }
 {
     if path.is_empty() {
-        return 7;
+        return DEFAULT_LEN;
     }
-    doubled_len(path.as_bytes()).saturating_add(20)
+    doubled_len(path.as_bytes()).saturating_add(SPACE_PARTS)
 }
 
 /// How long the canonical text of a URI is.
@@ -94,14 +109,14 @@ fn what_bytes(what: &OpWhat) -> u64
             let held = custom_weight(&object.custom).saturating_add(object.payload.len() as u64);
             let format = (object.format.len() as u64).saturating_add(held);
             let named = (object.name.len() as u64).saturating_add(format);
-            256u64.saturating_add(text_bytes(&object.others).saturating_add(named))
+            SET_BYTES.saturating_add(text_bytes(&object.others).saturating_add(named))
         }
         OpWhat::SetArray(array) => {
             let held = array_bytes(&array.values).saturating_add(custom_weight(&array.custom));
-            256u64.saturating_add(held)
+            SET_BYTES.saturating_add(held)
         }
-        OpWhat::Patch { values, .. } => 256u64.saturating_add(array_bytes(values)),
-        OpWhat::Gone => 64,
+        OpWhat::Patch { values, .. } => SET_BYTES.saturating_add(array_bytes(values)),
+        OpWhat::Gone => REMOVAL_BYTES,
     }
 }
 
@@ -129,7 +144,7 @@ pub fn touched_bytes(touched: &List<Touch>) -> u64
 {
     let mut sum = 0u64;
     for touch in touched.as_slice() {
-        sum = sum.saturating_add(64u64.saturating_add(key_bytes(&touch.key)));
+        sum = sum.saturating_add(TOUCH_BYTES.saturating_add(key_bytes(&touch.key)));
     }
     sum
 }

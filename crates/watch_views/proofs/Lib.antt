@@ -1,3 +1,3 @@
 pub mod BoardLemmas
 pub mod PointLemmas
-pub mod Texts
+pub mod TextLemmas

@@ -137,7 +137,7 @@ impl Board {
     }
 
     /// Appends the lines of all views. Where memory is refused, nothing is appended.
-    #[tactic(auto, using(crate::proofs::Texts::whole_ok, crate::proofs::Texts::whole_err))]
+    #[tactic(auto, using(crate::proofs::TextLemmas::whole_ok, crate::proofs::TextLemmas::whole_err))]
     pub fn print(&self, alloc: Global, into: &mut Vec<u8>) -> Result<(), NoMemory>
         ensures ok { OnOk result (into.new.items ≡ into.old.items ++ lines_of (reading (λ s. s.channel) (λ s. (⟦<dyn View as View>⟧ s.view.vtable).held s.view.value) (λ s. (⟦<dyn View as View>⟧ s.view.vtable).step s.view.value) (λ s. (⟦<dyn View as View>⟧ s.view.vtable).shown s.view.value)) self.now.shelves.items) }
         ensures err { OnErr result (into.new.items ≡ into.old.items) }

@@ -47,7 +47,7 @@ impl Counts {
         }
     }
 
-    #[tactic(auto, using(capture_text::proofs::Writing::writes_after))]
+    #[tactic(auto, using(capture_text::proofs::WritingLemmas::writes_after))]
     fn write(&self, into: &mut Vec<u8>) -> Result<(), NoMemory>
         ensures { Writes (counts_line (numbers_of self.now)) into.old.items into.new.items result }
     {
@@ -72,7 +72,7 @@ impl View for Counts {
         Ok(())
     }
 
-    #[tactic(auto, using(crate::proofs::Texts::whole_ok, crate::proofs::Texts::whole_err))]
+    #[tactic(auto, using(crate::proofs::TextLemmas::whole_ok, crate::proofs::TextLemmas::whole_err))]
     fn lines(&self, _alloc: Global, into: &mut Vec<u8>) -> Result<(), NoMemory> {
         let len = into.len();
         let written = self.write(into);

@@ -54,7 +54,7 @@ impl Latest {
         }
     }
 
-    #[tactic(auto, using(capture_text::proofs::Writing::writes_after))]
+    #[tactic(auto, using(capture_text::proofs::WritingLemmas::writes_after))]
     fn write(&self, alloc: Global, into: &mut Vec<u8>) -> Result<(), NoMemory>
         ensures { Writes (latest_line (option_to_list self.now.point)) into.old.items into.new.items result }
     {
@@ -81,7 +81,7 @@ impl View for Latest {
         Ok(())
     }
 
-    #[tactic(auto, using(crate::proofs::Texts::whole_ok, crate::proofs::Texts::whole_err))]
+    #[tactic(auto, using(crate::proofs::TextLemmas::whole_ok, crate::proofs::TextLemmas::whole_err))]
     fn lines(&self, alloc: Global, into: &mut Vec<u8>) -> Result<(), NoMemory> {
         let len = into.len();
         let written = self.write(alloc, into);

@@ -25,7 +25,7 @@ pub fn put_number(into: &mut Vec<u8>, n: u64) -> Result<(), NoMemory>
 }
 
 /// Appends a space and a number.
-#[tactic(auto, using(capture_text::proofs::Writing::writes_after))]
+#[tactic(auto, using(capture_text::proofs::WritingLemmas::writes_after))]
 fn put_spaced(into: &mut Vec<u8>, n: u64) -> Result<(), NoMemory>
     ensures { Writes (spaced n) into.old.items into.new.items result }
 {

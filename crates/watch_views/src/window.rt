@@ -91,7 +91,7 @@ fn put_points(alloc: Global, points: &[Point], into: &mut Vec<u8>) -> Result<(),
 }
 
 /// Appends a line for each point that is kept.
-#[tactic(auto, using(capture_text::proofs::Writing::writes_after))]
+#[tactic(auto, using(capture_text::proofs::WritingLemmas::writes_after))]
 fn put_ring(
     alloc: Global,
     ring: &HeapCircularBuffer<Point>,
@@ -133,7 +133,7 @@ impl Window {
         Ok(())
     }
 
-    #[tactic(auto, using(capture_text::proofs::Writing::writes_after))]
+    #[tactic(auto, using(capture_text::proofs::WritingLemmas::writes_after))]
     fn write(&self, alloc: Global, into: &mut Vec<u8>) -> Result<(), NoMemory>
         ensures { Writes (window_lines self.now.ring.items) into.old.items into.new.items result }
     {
@@ -159,7 +159,7 @@ impl View for Window {
         Ok(())
     }
 
-    #[tactic(auto, using(crate::proofs::Texts::whole_ok, crate::proofs::Texts::whole_err))]
+    #[tactic(auto, using(crate::proofs::TextLemmas::whole_ok, crate::proofs::TextLemmas::whole_err))]
     fn lines(&self, alloc: Global, into: &mut Vec<u8>) -> Result<(), NoMemory> {
         let len = into.len();
         let written = self.write(alloc, into);

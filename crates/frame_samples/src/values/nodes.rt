@@ -29,12 +29,12 @@ static NODES: Table = Table {
 /// The place of the lists of bytes.
 const BLOBS: u32 = 17;
 
-#[tactic(auto, using(avro_bin::proofs::TableTest::table_is))]
+#[tactic(auto, using(avro_bin::proofs::TableTestLemmas::table_is))]
 fn read(alloc: Global, id: u32, bytes: &[u8]) -> Result<(Tree, usize), Refusal> {
     decode(alloc, &NODES, id % 18, bytes)
 }
 
-#[tactic(auto, using(avro_bin::proofs::TableTest::table_is))]
+#[tactic(auto, using(avro_bin::proofs::TableTestLemmas::table_is))]
 fn length(alloc: Global, id: u32, bytes: &[u8]) -> Result<usize, Refusal> {
     span(alloc, &NODES, id % 18, bytes)
 }

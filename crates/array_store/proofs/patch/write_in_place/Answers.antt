@@ -1,5 +1,5 @@
 use Rattle.std.proofs.Common.{sym, ◌∙◌}
-use Rattle.array_store.proofs.Sound.{kept-in-place}
+use Rattle.array_store.proofs.SoundLemmas.{kept-in-place}
 use Rattle.array_store.proofs.patch.write_in_place.Goals as goal
 
 pub returns-else-is_ok-clause-value : goal.returns-else-is_ok-clause-value

@@ -1,6 +1,6 @@
 use Rattle.std.proofs.Common.{◌≡◌, None, rules, ap, ◌∙◌}
 use Rattle.array_store.specs.Refusals.{record_refusal, patch_refusal}
-use Rattle.array_store.proofs.Sound.{on_ok_both, done-refusal, refusal-patch_array}
+use Rattle.array_store.proofs.SoundLemmas.{on_ok_both, done-refusal, refusal-patch_array}
 use Rattle.array_store.proofs.patch.write_patch.Goals as goal
 
 pub returns-clause-sound : goal.returns-clause-sound

@@ -1,6 +1,6 @@
 use Rattle.std.proofs.Common.{◌≡◌, None, sym, ap, ◌∙◌}
 use Rattle.array_store.specs.Refusals.{first_refusal, record_refusal, region_refusal, values_refusal}
-use Rattle.array_store.proofs.Sound.{refusal-numbers}
+use Rattle.array_store.proofs.SoundLemmas.{refusal-numbers}
 use Rattle.array_store.proofs.refusals.numbers_refusal.Goals as goal
 
 pub returns : goal.returns

@@ -3,7 +3,7 @@ use Rattle.std.proofs.lemmas.Bool.Decides.{nat_tests}
 use Rattle.std.proofs.lemmas.List.{append-nil}
 use Rattle.array_store.specs.Shape.{sizes}
 use Rattle.array_store.specs.Region.{sliced}
-use Rattle.array_store.proofs.Steps.{on_ok, sizes-empty, part-of, region-within, sliced-run, sliced-none, read-first, read-next, row-width, row-fits}
+use Rattle.array_store.proofs.StepLemmas.{on_ok, sizes-empty, part-of, region-within, sliced-run, sliced-none, read-first, read-next, row-width, row-fits}
 use Rattle.array_store.proofs.region.+read_region.Goals as goal
 
 pub returns-then-is_empty : goal.returns-then-is_empty

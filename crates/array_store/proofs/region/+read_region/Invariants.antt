@@ -1,7 +1,7 @@
 use Rattle.std.proofs.Common.{length, ◌≡◌, ◌++◌, ◌+◌, ◌-◌, ◌*◌, drop}
 use Rattle.array_store.specs.Shape.{sizes}
 use Rattle.array_store.specs.Region.{sliced}
-use Rattle.array_store.proofs.Rows.{rows_read}
+use Rattle.array_store.proofs.RowLemmas.{rows_read}
 use Rattle.array_store.proofs.region.+read_region.Given as goal
 
 abbrev pub decreases-read_region : goal.decreases-read_region

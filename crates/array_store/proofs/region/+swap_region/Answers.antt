@@ -4,8 +4,8 @@ use Rattle.std.proofs.lemmas.List.{nil_from_length}
 use borrow.Rule.Slice.PartMut.{put_mid}
 use Rattle.array_store.specs.Shape.{sizes}
 use Rattle.array_store.specs.Region.{sliced, patched}
-use Rattle.array_store.proofs.Regions.{length-patched, length-sliced, patched-more}
-use Rattle.array_store.proofs.Steps.{sizes-empty, part-of, region-within, sliced-run, sliced-none, patched-run, patched-none, no-values, row-width, row-part, row-fits, part-fits, parts-end, swap-first, swap-next, swap-last}
+use Rattle.array_store.proofs.RegionLemmas.{length-patched, length-sliced, patched-more}
+use Rattle.array_store.proofs.StepLemmas.{sizes-empty, part-of, region-within, sliced-run, sliced-none, patched-run, patched-none, no-values, row-width, row-part, row-fits, part-fits, parts-end, swap-first, swap-next, swap-last}
 use Rattle.array_store.proofs.region.+swap_region.Goals as goal
 
 pub returns-then-is_empty-clause-items : goal.returns-then-is_empty-clause-items

@@ -1,7 +1,7 @@
 use Rattle.std.proofs.Common.{length, ◌+◌, ◌-◌, ◌*◌}
 use Rattle.array_store.specs.Shape.{sizes}
 use Rattle.array_store.specs.Region.{sliced, patched}
-use Rattle.array_store.proofs.Steps.{Swapping}
+use Rattle.array_store.proofs.StepLemmas.{Swapping}
 use Rattle.array_store.proofs.region.+swap_region.Given as goal
 
 abbrev pub decreases-swap_region : goal.decreases-swap_region

@@ -2,10 +2,10 @@ use Rattle.std.specs.Prelude.{◌≡◌, not, filter, length}
 use Rattle.std.specs.Map.{lookup}
 use Rattle.std.proofs.Common.{rules, ap, ◌∙◌, arith}
 use Rattle.indexmap.proofs.CallerLemmas.{filter-RetainsPairs}
-use Rattle.etp_values.proofs.Lookups.{lookup-filter}
+use Rattle.etp_values.proofs.LookupLemmas.{lookup-filter}
 use Rattle.array_store.specs.Table.{same_key, is_in_space}
-use Rattle.array_store.proofs.Counts.{counted}
-use Rattle.array_store.proofs.Keys.{same_key-is}
+use Rattle.array_store.proofs.CountLemmas.{counted}
+use Rattle.array_store.proofs.KeyLemmas.{same_key-is}
 use Rattle.array_store.proofs.table.drop_space.Goals as goal
 
 pub returns-clause-each : goal.returns-clause-each

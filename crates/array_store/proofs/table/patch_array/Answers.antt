@@ -11,9 +11,9 @@ use Rattle.array_store.specs.Arrays.{is_bytes}
 use Rattle.array_store.specs.Refusals.{record_refusal, patch_refusal, Refuses}
 use Rattle.array_store.specs.Table as table
 use Rattle.array_store.specs.Table.{same_key}
-use Rattle.array_store.proofs.Keys.{found_is, written_is}
-use Rattle.array_store.proofs.Steps.{on_ok}
-use Rattle.array_store.proofs.Sound.{sound-set, sound-call, on_ok_both, on_err, done-refusal, refusal-patch_array}
+use Rattle.array_store.proofs.KeyLemmas.{found_is, written_is}
+use Rattle.array_store.proofs.StepLemmas.{on_ok}
+use Rattle.array_store.proofs.SoundLemmas.{sound-set, sound-call, on_ok_both, on_err, done-refusal, refusal-patch_array}
 use Rattle.array_store.proofs.table.patch_array.Goals as goal
 
 pub patch_record-requires : goal.patch_record-requires

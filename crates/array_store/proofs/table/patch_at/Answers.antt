@@ -4,8 +4,8 @@ use Rattle.std.proofs.Common.{sym, ap, ◌∙◌, w64}
 use Rattle.std.proofs.lemmas.Int.{to_z-of_z}
 use Rattle.array_store.specs.contracts.key.ArrayKeyPartialEq.TheImpl.{ghosts}
 use Rattle.array_store.specs.Table.{patched_in_place}
-use Rattle.array_store.proofs.Keys.{found_is, written_is, none_written, patch_written}
-use Rattle.array_store.proofs.Sound.{sound-set}
+use Rattle.array_store.proofs.KeyLemmas.{found_is, written_is, none_written, patch_written}
+use Rattle.array_store.proofs.SoundLemmas.{sound-set}
 use Rattle.array_store.proofs.table.patch_at.Goals as goal
 
 pub returns-in_default-clause-each : goal.returns-in_default-clause-each

@@ -6,9 +6,9 @@ use Rattle.array_store.specs.contracts.key.ArrayKeyPartialEq.TheImpl.{ghosts}
 use Rattle.array_store.specs.declared.error.ArrayError.TheVariants.{NoMemory}
 use Rattle.array_store.specs.Table as table
 use Rattle.array_store.specs.Table.{same_key}
-use Rattle.etp_values.proofs.Lookups.{found_set}
-use Rattle.array_store.proofs.Keys.{key_test, same_key-equiv}
-use Rattle.array_store.proofs.Sound.{sound-set, sound-same, refusal-put_array}
+use Rattle.etp_values.proofs.LookupLemmas.{found_set}
+use Rattle.array_store.proofs.KeyLemmas.{key_test, same_key-equiv}
+use Rattle.array_store.proofs.SoundLemmas.{sound-set, sound-same, refusal-put_array}
 use Rattle.array_store.proofs.table.put_array.Goals as goal
 
 pub returns-in-Ok-clause-each : goal.returns-in-Ok-clause-each

@@ -2,10 +2,10 @@ use Rattle.std.specs.Prelude.{◌≡◌, not, filter}
 use Rattle.std.specs.Map.{lookup}
 use Rattle.std.proofs.Common.{rules, ap, ◌∙◌}
 use Rattle.indexmap.proofs.CallerLemmas.{filter-RetainsPairs}
-use Rattle.etp_values.proofs.Lookups.{lookup-filter}
+use Rattle.etp_values.proofs.LookupLemmas.{lookup-filter}
 use Rattle.array_store.specs.Going.{goes}
 use Rattle.array_store.specs.Table.{same_key}
-use Rattle.array_store.proofs.Keys.{same_key-is}
+use Rattle.array_store.proofs.KeyLemmas.{same_key-is}
 use Rattle.array_store.proofs.table.retain_staying.Goals as goal
 
 pub returns-clause-each : goal.returns-clause-each

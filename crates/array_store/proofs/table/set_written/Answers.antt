@@ -6,8 +6,8 @@ use Rattle.array_store.specs.contracts.key.ArrayKeyPartialEq.TheImpl.{ghosts}
 use Rattle.array_store.specs.declared.key.ArrayKey.{ArrayKey}
 use Rattle.array_store.specs.Table as table
 use Rattle.array_store.specs.Table.{same_key}
-use Rattle.array_store.proofs.Keys.{found_is, written_is}
-use Rattle.array_store.proofs.Sound.{sound-set}
+use Rattle.array_store.proofs.KeyLemmas.{found_is, written_is}
+use Rattle.array_store.proofs.SoundLemmas.{sound-set}
 use Rattle.array_store.proofs.table.set_written.Goals as goal
 
 pub returns-clause-each : goal.returns-clause-each

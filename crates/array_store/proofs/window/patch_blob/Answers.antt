@@ -1,5 +1,5 @@
 use Rattle.array_store.specs.Shape.{sizes}
-use Rattle.array_store.proofs.Regions.{length-patched}
+use Rattle.array_store.proofs.RegionLemmas.{length-patched}
 use Rattle.array_store.proofs.window.patch_blob.Goals as goal
 
 pub returns-in-Ok-clause-len : goal.returns-in-Ok-clause-len

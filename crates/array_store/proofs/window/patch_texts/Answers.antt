@@ -3,8 +3,8 @@ use Rattle.etp_values.specs.Weight.{weigh, bytes_weight}
 use Rattle.array_store.specs.Shape.{sizes}
 use Rattle.array_store.specs.Region.{sliced, patched}
 use Rattle.array_store.specs.declared.error.ArrayError.TheVariants.{TooLarge}
-use Rattle.array_store.proofs.Regions.{patched-back}
-use Rattle.array_store.proofs.Steps.{region-within}
+use Rattle.array_store.proofs.RegionLemmas.{patched-back}
+use Rattle.array_store.proofs.StepLemmas.{region-within}
 use Rattle.array_store.proofs.window.patch_texts.Goals as goal
 
 pub returns-then-are_too_large : goal.returns-then-are_too_large

@@ -1,8 +1,8 @@
 use Rattle.std.proofs.Common.{◌≡◌, Some, ap, sym, ◌∙◌, arith}
 use Rattle.std.proofs.lemmas.Bool.Decides.{nat_tests}
 use Rattle.array_store.specs.Shape.{sizes, volume}
-use Rattle.array_store.proofs.Regions.{sliced-empty, told-number}
-use Rattle.array_store.proofs.Steps.{region-within}
+use Rattle.array_store.proofs.RegionLemmas.{sliced-empty, told-number}
+use Rattle.array_store.proofs.StepLemmas.{region-within}
 use Rattle.array_store.proofs.window.slice_items.Goals as goal
 
 pub returns-in-Some-eq0 : goal.returns-in-Some-eq0

@@ -2,8 +2,8 @@ use Rattle.std.proofs.Common.{◌≡◌, length, sym, ◌∙◌, arith}
 use Rattle.std.proofs.lemmas.Bool.Decides.{nat_tests}
 use Rattle.std.proofs.lemmas.List.{nil_from_length}
 use Rattle.array_store.specs.Shape.{sizes}
-use Rattle.array_store.proofs.Regions.{sliced-empty, patched-empty}
-use Rattle.array_store.proofs.Steps.{region-within}
+use Rattle.array_store.proofs.RegionLemmas.{sliced-empty, patched-empty}
+use Rattle.array_store.proofs.StepLemmas.{region-within}
 use Rattle.array_store.proofs.window.swap_items.Goals as goal
 
 pub returns-then-is_empty-clause-items : goal.returns-then-is_empty-clause-items

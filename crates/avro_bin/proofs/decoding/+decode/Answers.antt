@@ -9,9 +9,9 @@ use Rattle.std.specs.BTreeMap.{insert_entry}
 use Rattle.avro_bin.specs.Schema.{schema}
 use Rattle.avro_bin.specs.View.{value_of, entry_of}
 use Rattle.avro_bin.specs.declared.schema.Node.TheVariants as n
-use Rattle.avro_bin.proofs.Views.{value_array, value_map, value_fields, value_union}
-use Rattle.avro_bin.proofs.Schemas.{at_node, below, leaf_is}
-use Rattle.avro_bin.proofs.Steps.{Fails-listed, Fails-mapped, Fails-in_branch, Fails-then, Fails-element, element_is, items_next, items_fail, items_done, blocks_stop, blocks_more, blocks_ends, blocks_none, blocks_fail, is_zero, count_is, branch_is, all_at, place_below, fields_next, fields_fail, fields_end, has_map, insert_map, entry_no_key, entry_double, entry_fails, entry_is}
+use Rattle.avro_bin.proofs.ViewLemmas.{value_array, value_map, value_fields, value_union}
+use Rattle.avro_bin.proofs.SchemaLemmas.{at_node, below, leaf_is}
+use Rattle.avro_bin.proofs.StepLemmas.{Fails-listed, Fails-mapped, Fails-in_branch, Fails-then, Fails-element, element_is, items_next, items_fail, items_done, blocks_stop, blocks_more, blocks_ends, blocks_none, blocks_fail, is_zero, count_is, branch_is, all_at, place_below, fields_next, fields_fail, fields_end, has_map, insert_map, entry_no_key, entry_double, entry_fails, entry_is}
 use Rattle.avro_bin.proofs.decoding.+decode.Goals as goal
 
 pub array-returns-in_err-count : goal.array-returns-in_err-count

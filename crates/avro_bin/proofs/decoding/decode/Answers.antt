@@ -4,9 +4,9 @@ use Rattle.avro_bin.specs.Value.{nodes}
 use Rattle.avro_bin.specs.Schema.{schema}
 use Rattle.avro_bin.specs.Reading.{value_at}
 use Rattle.avro_bin.specs.View.{value_of}
-use Rattle.avro_bin.proofs.Found.{triple_ok}
-use Rattle.avro_bin.proofs.Whole.{is_read, reads, is_refused, refuses, same_refusal, never}
-use Rattle.avro_bin.proofs.Typed.{has_schema}
+use Rattle.avro_bin.proofs.FoundLemmas.{triple_ok}
+use Rattle.avro_bin.proofs.WholeLemmas.{is_read, reads, is_refused, refuses, same_refusal, never}
+use Rattle.avro_bin.proofs.TypedLemmas.{has_schema}
 use Rattle.avro_bin.specs.Laws.{read_value, node_limit}
 use Rattle.avro_bin.proofs.decoding.decode.Goals as goal
 

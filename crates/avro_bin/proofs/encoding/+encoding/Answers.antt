@@ -2,8 +2,8 @@ use Rattle.std.proofs.Common.{◌≡◌, ◌<◌, ◌^◌, length, arith, rules,
 use Rattle.std.proofs.Transfers.{starts_with_trans, starts_with_of_append}
 use Rattle.std.proofs.lemmas.Result.{err_from_is_err_and}
 use Rattle.std.proofs.lemmas.Int.{ints}
-use Rattle.avro_bin.proofs.Views.{value_union}
-use Rattle.avro_bin.proofs.Plains.{array_fits, map_fits}
+use Rattle.avro_bin.proofs.ViewLemmas.{value_union}
+use Rattle.avro_bin.proofs.PlainLemmas.{array_fits, map_fits}
 use Rattle.avro_bin.proofs.encoding.+encoding.Goals as goal
 
 pub put_value-returns-in_ok-put_value-in-Union-clause-written : goal.put_value-returns-in_ok-put_value-in-Union-clause-written

@@ -1,6 +1,6 @@
 use Rattle.avro_bin.specs.Schema.{schema}
 use Rattle.avro_bin.specs.View.{value_of}
-use Rattle.avro_bin.proofs.Written.{plain_spells}
+use Rattle.avro_bin.proofs.WrittenLemmas.{plain_spells}
 use Rattle.avro_bin.proofs.encoding.encode.Goals as goal
 
 pub returns-in-Ok-clause-spelled : goal.returns-in-Ok-clause-spelled

@@ -1,4 +1,4 @@
-use Rattle.avro_bin.proofs.Whole.{some_outcome, not_both, one_refusal}
+use Rattle.avro_bin.proofs.WholeLemmas.{some_outcome, not_both, one_refusal}
 use Rattle.avro_bin.proofs.laws.one_outcome.Goals as goal
 
 pub returns-clause-some : goal.returns-clause-some

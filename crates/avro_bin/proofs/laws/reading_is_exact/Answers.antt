@@ -1,4 +1,4 @@
-use Rattle.avro_bin.proofs.Whole.{reads_exactly, refuses_exactly}
+use Rattle.avro_bin.proofs.WholeLemmas.{reads_exactly, refuses_exactly}
 use Rattle.avro_bin.proofs.laws.reading_is_exact.Goals as goal
 
 pub returns-clause-read : goal.returns-clause-read

@@ -1,4 +1,4 @@
-use Rattle.avro_bin.proofs.Written.{plain_spells, reads_back_is}
+use Rattle.avro_bin.proofs.WrittenLemmas.{plain_spells, reads_back_is}
 use Rattle.avro_bin.proofs.laws.reads_back.Goals as goal
 
 pub returns-clause-spelled : goal.returns-clause-spelled

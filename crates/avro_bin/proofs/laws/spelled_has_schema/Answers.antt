@@ -1,4 +1,4 @@
-use Rattle.avro_bin.proofs.Typed.{has_schema}
+use Rattle.avro_bin.proofs.TypedLemmas.{has_schema}
 use Rattle.avro_bin.proofs.laws.spelled_has_schema.Goals as goal
 
 pub returns : goal.returns

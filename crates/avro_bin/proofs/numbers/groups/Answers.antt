@@ -1,5 +1,5 @@
 use Rattle.std.proofs.Common.{ℕ, List, Bor, ◌+◌, ◌*◌, ◌%◌, ◌^◌, get_or, Ok, sym, ap, ◌∙◌, arith}
-use Rattle.avro_bin.proofs.GroupSteps.{group_fits, groups_step, groups_last, whole_rest, pow_next, nine, tenth}
+use Rattle.avro_bin.proofs.GroupStepLemmas.{group_fits, groups_step, groups_last, whole_rest, pow_next, nine, tenth}
 use Rattle.avro_bin.proofs.numbers.groups.Goals as goal
 
 pub overflow_mul-result : goal.overflow_mul-result

@@ -1,7 +1,7 @@
 use Rattle.std.proofs.Common.{◌≡◌, ◌+◌, ◌%◌, to_z, of_z, w64, to_z-of_z, sym, ap, ◌∙◌, arith, rules}
 use Rattle.std.proofs.lemmas.List.{length-set}
 use Rattle.avro_bin.specs.Number.{plain_number}
-use Rattle.avro_bin.proofs.GroupSteps.{put_begin, put_step, put_last, put_tenth, top_less, nine}
+use Rattle.avro_bin.proofs.GroupStepLemmas.{put_begin, put_step, put_last, put_tenth, top_less, nine}
 use Rattle.avro_bin.proofs.numbers.groups_of.Goals as goal
 
 pub loop-i-init : goal.loop-i-init

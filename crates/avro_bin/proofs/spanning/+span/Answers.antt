@@ -7,10 +7,10 @@ use Rattle.avro_bin.specs.Reading.{value_at, has}
 use Rattle.avro_bin.specs.Along.{pass_at, put_at, mark_at}
 use Rattle.avro_bin.specs.Schema.{schema}
 use Rattle.avro_bin.specs.declared.schema.Node.TheVariants as n
-use Rattle.avro_bin.proofs.Schemas.{below, leaf_is}
-use Rattle.avro_bin.proofs.Steps.{items_next, items_fail, items_done, blocks_stop, blocks_more, blocks_ends, blocks_none, blocks_fail, is_zero, all_at, place_below}
+use Rattle.avro_bin.proofs.SchemaLemmas.{below, leaf_is}
+use Rattle.avro_bin.proofs.StepLemmas.{items_next, items_fail, items_done, blocks_stop, blocks_more, blocks_ends, blocks_none, blocks_fail, is_zero, all_at, place_below}
 use Rattle.avro_bin.proofs.AlongLemmas.{pass_array, pass_map, pass_record}
-use Rattle.avro_bin.proofs.Passing.{Fails-along, Fails-again, pass_zero, pass_node, union_fails, union_goes, put_no_key, put_double, put_fails, put_is, mark_is, pass_next, pass_fail, pass_end}
+use Rattle.avro_bin.proofs.PassingLemmas.{Fails-along, Fails-again, pass_zero, pass_node, union_fails, union_goes, put_no_key, put_double, put_fails, put_is, mark_is, pass_next, pass_fail, pass_end}
 use Rattle.avro_bin.proofs.spanning.+span.Goals as goal
 
 pub array-returns-in_err-count : goal.array-returns-in_err-count

@@ -1,7 +1,7 @@
 use Rattle.std.proofs.Common.{inr}
 use Rattle.avro_bin.specs.Schema.{schema}
 use Rattle.avro_bin.specs.Laws.{node_limit}
-use Rattle.avro_bin.proofs.Spanned.{spans_ok, spans_err}
+use Rattle.avro_bin.proofs.SpannedLemmas.{spans_ok, spans_err}
 use Rattle.avro_bin.proofs.spanning.span.Goals as goal
 
 pub returns-in-Ok : goal.returns-in-Ok

@@ -1,4 +1,4 @@
-use Rattle.capture_run.proofs.Once.{stops_once}
+use Rattle.capture_run.proofs.OnceLemmas.{stops_once}
 use Rattle.capture_run.proofs.laws.run_stops_once.Goals as goal
 
 pub returns : goal.returns

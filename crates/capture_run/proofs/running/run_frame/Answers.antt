@@ -7,7 +7,7 @@ use Rattle.etp_capture.specs.declared.frame.Frame.{Frame}
 use Rattle.capture_run.specs.Form.{Takes}
 use Rattle.capture_run.specs.Running.{Halts, between}
 use Rattle.capture_run.specs.declared.form.Stop.{Stop}
-use Rattle.capture_run.proofs.Going.{halts_error, halts_end, halts_unclosed, halts_refused, halts_untaken, goes_on, halts_on}
+use Rattle.capture_run.proofs.GoingLemmas.{halts_error, halts_end, halts_unclosed, halts_refused, halts_untaken, goes_on, halts_on}
 use Rattle.capture_run.proofs.running.run_frame.Goals as goal
 
 pub returns-in-Ok-clause-halts : goal.returns-in-Ok-clause-halts

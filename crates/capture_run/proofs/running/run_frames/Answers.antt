@@ -2,8 +2,8 @@ use Rattle.std.proofs.Common.{arith, ◌≡◌, ◌∙◌, ℕ, List, ap, sym, s
 use Rattle.etp_capture.specs.Reader.{Reader}
 use Rattle.capture_run.specs.Form.{Plan}
 use Rattle.capture_run.specs.Running.{Going, Halts, Finishes, between}
-use Rattle.capture_run.proofs.Begun.{magic_told, begun_reader}
-use Rattle.capture_run.proofs.Going.{going_first, stops_first, finished}
+use Rattle.capture_run.proofs.BegunLemmas.{magic_told, begun_reader}
+use Rattle.capture_run.proofs.GoingLemmas.{going_first, stops_first, finished}
 use Rattle.capture_run.proofs.running.run_frames.Goals as goal
 
 pub loop-stop-init : goal.loop-stop-init

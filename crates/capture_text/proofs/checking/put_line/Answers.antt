@@ -1,7 +1,7 @@
 use Rattle.std.proofs.Common.{◌≡◌, ◌++◌, codes}
 use Rattle.std.specs.Fmt.{decimal}
 use Rattle.capture_text.specs.Faults.{fault_text}
-use Rattle.capture_text.proofs.Writing.{writes_after, joined}
+use Rattle.capture_text.proofs.WritingLemmas.{writes_after, joined}
 use Rattle.capture_text.proofs.checking.put_line.Goals as goal
 
 pub returns : goal.returns

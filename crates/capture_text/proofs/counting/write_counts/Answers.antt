@@ -1,6 +1,6 @@
 use Rattle.std.proofs.Common.{◌≡◌, ◌++◌, codes}
 use Rattle.capture_text.specs.Lines.{counted}
-use Rattle.capture_text.proofs.Writing.{writes_after, joined}
+use Rattle.capture_text.proofs.WritingLemmas.{writes_after, joined}
 use Rattle.capture_text.proofs.counting.write_counts.Goals as goal
 
 pub returns : goal.returns

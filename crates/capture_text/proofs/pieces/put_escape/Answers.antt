@@ -1,6 +1,6 @@
 use Rattle.std.proofs.Common.{[], ◌∷◌}
 use Rattle.capture_text.specs.Pieces.{hex_byte}
-use Rattle.capture_text.proofs.Writing.{writes_after}
+use Rattle.capture_text.proofs.WritingLemmas.{writes_after}
 use Rattle.capture_text.proofs.pieces.put_escape.Goals as goal
 
 pub returns : goal.returns

@@ -2,7 +2,7 @@ use Rattle.std.proofs.Common.{◌≡◌, ◌++◌, codes, w64, to_z, of_z, rules
 use Rattle.std.proofs.lemmas.Int.{to_z-of_z}
 use Rattle.std.specs.Fmt.{decimal}
 use Rattle.capture_text.specs.Lines.{start_text, labelled}
-use Rattle.capture_text.proofs.Writing.{writes_after, joined}
+use Rattle.capture_text.proofs.WritingLemmas.{writes_after, joined}
 use Rattle.capture_text.proofs.showing.put_front.Goals as goal
 
 pub returns : goal.returns

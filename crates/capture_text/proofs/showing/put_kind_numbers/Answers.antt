@@ -1,7 +1,7 @@
 use Rattle.std.proofs.Common.{◌≡◌, ◌++◌, codes, w32, w64, to_z, of_z, rules}
 use Rattle.std.proofs.lemmas.Int.{to_z-of_z}
 use Rattle.capture_text.specs.Lines.{labelled}
-use Rattle.capture_text.proofs.Writing.{writes_after}
+use Rattle.capture_text.proofs.WritingLemmas.{writes_after}
 use Rattle.capture_text.proofs.showing.put_kind_numbers.Goals as goal
 
 pub returns : goal.returns

@@ -2,7 +2,7 @@ use Rattle.std.proofs.Common.{◌≡◌, ◌++◌, codes}
 use Rattle.avro_bin.specs.View.{value_of}
 use Rattle.capture_text.specs.Lines.{title_text}
 use Rattle.capture_text.specs.Values.{value_text}
-use Rattle.capture_text.proofs.Writing.{writes_after, joined}
+use Rattle.capture_text.proofs.WritingLemmas.{writes_after, joined}
 use Rattle.capture_text.proofs.showing.put_message.Goals as goal
 
 pub returns : goal.returns

@@ -1,6 +1,6 @@
 use Rattle.std.proofs.Common.{◌≡◌, ◌++◌, codes}
 use Rattle.capture_text.specs.Faults.{fault_text}
-use Rattle.capture_text.proofs.Writing.{writes_after}
+use Rattle.capture_text.proofs.WritingLemmas.{writes_after}
 use Rattle.capture_text.proofs.showing.put_refused.Goals as goal
 
 pub returns : goal.returns

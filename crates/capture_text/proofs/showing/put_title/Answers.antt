@@ -1,7 +1,7 @@
 use Rattle.std.proofs.Common.{◌≡◌, ◌++◌, codes}
 use Rattle.capture_text.specs.Names.{message_at}
 use Rattle.capture_text.specs.Lines.{kind_text, ids_text}
-use Rattle.capture_text.proofs.Writing.{writes_after, joined}
+use Rattle.capture_text.proofs.WritingLemmas.{writes_after, joined}
 use Rattle.capture_text.proofs.showing.put_title.Goals as goal
 
 pub returns : goal.returns

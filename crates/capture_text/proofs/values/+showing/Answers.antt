@@ -1,4 +1,4 @@
-use Rattle.avro_bin.proofs.Views.{value_double}
+use Rattle.avro_bin.proofs.ViewLemmas.{value_double}
 use Rattle.capture_text.proofs.values.+showing.Goals as goal
 
 pub put_value-returns-in-Double : goal.put_value-returns-in-Double

@@ -1,6 +1,6 @@
 use Rattle.std.proofs.Common.{◌≡◌, ◌++◌, codes, append_assoc}
 use Rattle.capture_text.specs.Pieces.{separator, quoted}
-use Rattle.capture_text.proofs.Writing.{writes_after}
+use Rattle.capture_text.proofs.WritingLemmas.{writes_after}
 use Rattle.capture_text.proofs.values.put_key.Goals as goal
 
 pub returns : goal.returns

@@ -2,7 +2,7 @@ use Rattle.std.proofs.Common.{◌≡◌, ap, ◌∙◌, arith, true, false, Some
 use Rattle.std.proofs.lemmas.Int.{to_z-of_z, ints}
 use Rattle.std.proofs.Math.IntN.{nat_abs}
 use Rattle.std.specs.Prelude.{int_lt, pos}
-use Rattle.channel_rows.proofs.Flags.{its_place, no_place}
+use Rattle.channel_rows.proofs.FlagLemmas.{its_place, no_place}
 use Rattle.channel_rows.proofs.ids.place_of.Goals as goal
 
 pub returns-then-channel-lt0 : goal.returns-then-channel-lt0

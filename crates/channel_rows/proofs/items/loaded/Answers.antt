@@ -2,7 +2,7 @@ use Rattle.std.proofs.Common.{◌≡◌, ◌∙◌, sym, subst, rules, None, Som
 use Rattle.std.proofs.lemmas.Int.{to_z-of_z}
 use Rattle.std.specs.Vec.Iter.{into_iter_items}
 use Rattle.channel_rows.specs.Points.{loaded, put_behind}
-use Rattle.channel_rows.proofs.Points.{loaded_more}
+use Rattle.channel_rows.proofs.PointLemmas.{loaded_more}
 use Rattle.channel_rows.proofs.items.loaded.Goals as goal
 
 pub loop-item-preserved : goal.loop-item-preserved

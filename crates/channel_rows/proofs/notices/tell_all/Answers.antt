@@ -3,7 +3,7 @@ use Rattle.std.specs.Vec.Iter.{into_iter_items}
 use Rattle.subscribe_core.specs.Subscriptions.{Subbed}
 use Rattle.subscribe_core.specs.Views.{told}
 use Rattle.channel_rows.specs.Notices.{notice}
-use Rattle.channel_rows.proofs.Telling.{told_more}
+use Rattle.channel_rows.proofs.TellingLemmas.{told_more}
 use Rattle.channel_rows.proofs.notices.tell_all.Goals as goal
 
 pub loop-change-preserved : goal.loop-change-preserved

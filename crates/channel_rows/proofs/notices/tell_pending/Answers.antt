@@ -4,7 +4,7 @@ use Rattle.keyed_requests.specs.declared.sending.Sending.TheVariants.{Notice}
 use Rattle.msg_channel.specs.declared.channel_subscribe_messages.ChannelSubscribeMessage.{ChannelSubscribeMessage}
 use Rattle.subscribe_core.specs.Subscriptions.{Subbed}
 use Rattle.channel_rows.specs.Notices.{notice}
-use Rattle.channel_rows.proofs.Telling.{all_told, fewer_left, next_told, none_left}
+use Rattle.channel_rows.proofs.TellingLemmas.{all_told, fewer_left, next_told, none_left}
 use Rattle.channel_rows.proofs.notices.tell_pending.Goals as goal
 
 pub loop-told-preserved : goal.loop-told-preserved

@@ -1,4 +1,4 @@
-use Rattle.channel_rows.proofs.Flags.{flags_more, length_more}
+use Rattle.channel_rows.proofs.FlagLemmas.{flags_more, length_more}
 use Rattle.channel_rows.proofs.open_flags.extend.Goals as goal
 
 pub loop-len-preserved : goal.loop-len-preserved

@@ -1,6 +1,6 @@
 use Rattle.std.proofs.Common.{◌∙◌}
 use Rattle.channel_rows.specs.Subscriptions.{begin_one}
-use Rattle.channel_rows.proofs.Begun.{begun_reply}
+use Rattle.channel_rows.proofs.BegunLemmas.{begun_reply}
 use Rattle.channel_rows.proofs.subscribing.begin_reply.Goals as goal
 
 pub returns-clause-sendings : goal.returns-clause-sendings

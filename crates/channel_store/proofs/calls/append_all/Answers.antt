@@ -3,7 +3,7 @@ use Rattle.std.proofs.lemmas.Int.{to_z-of_z}
 use Rattle.channel_store.specs.Refusals.{append_refusal}
 use Rattle.channel_store.specs.Store.{appended}
 use Rattle.channel_store.specs.Sweeps.{shown_of, staged_by, all_done, ids_of}
-use Rattle.channel_store.proofs.Ended.{outcome-err, outcome-ok, all-due, done-all, cleared-is, appended-none}
+use Rattle.channel_store.proofs.EndedLemmas.{outcome-err, outcome-ok, all-due, done-all, cleared-is, appended-none}
 use Rattle.channel_store.proofs.calls.append_all.Goals as goal
 
 pub returns-in-Err-clause-ends : goal.returns-in-Err-clause-ends

@@ -4,7 +4,7 @@ use Rattle.channel_store.specs.Rows.{Becomes}
 use Rattle.channel_store.specs.Store.{appended}
 use Rattle.channel_store.specs.Sweeps.{shown_of, staged_by}
 use Rattle.channel_store.specs.Told.{ending}
-use Rattle.channel_store.proofs.Ended.{outcome-ok}
+use Rattle.channel_store.proofs.EndedLemmas.{outcome-ok}
 use Rattle.channel_store.proofs.GivenLemmas.{tells-appended}
 use Rattle.channel_store.proofs.calls.ready_append.Goals as goal
 

@@ -5,7 +5,7 @@ use Rattle.channel_store.specs.Rows.{Becomes}
 use Rattle.channel_store.specs.Store.{replaced}
 use Rattle.channel_store.specs.Sweeps.{shown_of, staged_by, outcome}
 use Rattle.channel_store.specs.Told.{ending}
-use Rattle.channel_store.proofs.Ended.{outcome-ok}
+use Rattle.channel_store.proofs.EndedLemmas.{outcome-ok}
 use Rattle.channel_store.proofs.GivenLemmas.{tells-replaced}
 use Rattle.channel_store.proofs.calls.ready_replace.Goals as goal
 

@@ -3,7 +3,7 @@ use Rattle.std.proofs.lemmas.Int.{to_z-of_z}
 use Rattle.channel_store.specs.Refusals.{replace_refusal}
 use Rattle.channel_store.specs.Store.{replaced}
 use Rattle.channel_store.specs.Sweeps.{shown_of, outcome, staged_by, all_done}
-use Rattle.channel_store.proofs.Ended.{outcome-err, outcome-ok, all-due, done-all, cleared-is, replaced-none}
+use Rattle.channel_store.proofs.EndedLemmas.{outcome-err, outcome-ok, all-due, done-all, cleared-is, replaced-none}
 use Rattle.channel_store.proofs.calls.replace_all.Goals as goal
 
 pub returns-in-Err-clause-ends : goal.returns-in-Err-clause-ends

@@ -1,7 +1,7 @@
 use Rattle.channel_store.specs.Refusals.{append_refusal}
 use Rattle.channel_store.specs.Store.{appended}
 use Rattle.channel_store.specs.Sweeps.{shown_of, staged_by}
-use Rattle.channel_store.proofs.Ended.{cleared-is}
+use Rattle.channel_store.proofs.EndedLemmas.{cleared-is}
 use Rattle.channel_store.proofs.GivenLemmas.{becomes-refuses}
 use Rattle.channel_store.proofs.calls.test_append.Goals as goal
 

@@ -3,7 +3,7 @@ use Rattle.std.proofs.lemmas.Int.{to_z-of_z}
 use Rattle.channel_store.specs.Refusals.{Refuses, replace_refusal}
 use Rattle.channel_store.specs.Store.{replaced}
 use Rattle.channel_store.specs.Sweeps.{shown_of, staged_by}
-use Rattle.channel_store.proofs.Ended.{cleared-is}
+use Rattle.channel_store.proofs.EndedLemmas.{cleared-is}
 use Rattle.channel_store.proofs.GivenLemmas.{becomes-refuses}
 use Rattle.channel_store.proofs.calls.test_replace.Goals as goal
 

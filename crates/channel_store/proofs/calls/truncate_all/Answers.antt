@@ -5,7 +5,7 @@ use Rattle.channel_store.specs.Store.{truncated}
 use Rattle.channel_store.specs.Sweeps.{shown_of, staged_by, all_done}
 use Rattle.std.proofs.Common.{[]}
 use Rattle.std.specs.Prelude.{zip}
-use Rattle.channel_store.proofs.Ended.{outcome-err, outcome-ok, all-due, done-all, cleared-is, truncated-none, cut-outcome}
+use Rattle.channel_store.proofs.EndedLemmas.{outcome-err, outcome-ok, all-due, done-all, cleared-is, truncated-none, cut-outcome}
 use Rattle.channel_store.proofs.calls.truncate_all.Goals as goal
 
 pub returns-in-Err : goal.returns-in-Err

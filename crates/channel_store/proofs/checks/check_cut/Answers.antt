@@ -6,7 +6,7 @@ use Rattle.std.proofs.lemmas.Int.{to_z-of_z}
 use Rattle.channel_store.specs.declared.error.ChannelError.TheVariants.{NoChannel, Index, Doubled}
 use Rattle.channel_store.specs.Refusals.{channel_at, in_range, is_listed}
 use Rattle.channel_store.specs.Sweeps.{row_at, shown_in, shown_of}
-use Rattle.channel_store.proofs.Looks.{channel_at-shown, cut-is}
+use Rattle.channel_store.proofs.LookLemmas.{channel_at-shown, cut-is}
 use Rattle.std.proofs.Common.{refl}
 use Rattle.channel_store.proofs.checks.check_cut.Goals as goal
 

@@ -1,4 +1,4 @@
-use Rattle.channel_store.proofs.Accepted.{appends-rise, replaces-rise, replaces-within, truncates-rise}
+use Rattle.channel_store.proofs.AcceptedLemmas.{appends-rise, replaces-rise, replaces-within, truncates-rise}
 use Rattle.channel_store.proofs.laws.accepted_calls.Goals as goal
 
 pub returns : goal.returns

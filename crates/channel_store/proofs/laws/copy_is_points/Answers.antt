@@ -1,4 +1,4 @@
-use Rattle.channel_store.proofs.Copies.{copy-stream}
+use Rattle.channel_store.proofs.CopyLemmas.{copy-stream}
 use Rattle.channel_store.proofs.laws.copy_is_points.Goals as goal
 
 pub returns : goal.returns

@@ -1,7 +1,7 @@
 use Rattle.std.proofs.Common.{rules}
 use Rattle.channel_store.specs.Points.{at_most}
 use Rattle.std.proofs.lemmas.List.Sorted.{IsPartitionPoint-from_clause}
-use Rattle.channel_points.proofs.Ordered.{partitioned, split-point}
+use Rattle.channel_points.proofs.OrderedLemmas.{partitioned, split-point}
 use Rattle.channel_store.proofs.PointLemmas.{at_most_before}
 use Rattle.channel_store.proofs.points.count_to.Goals as goal
 

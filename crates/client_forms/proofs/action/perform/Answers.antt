@@ -3,7 +3,7 @@ use Rattle.etp_outside.specs.declared.status.Status.TheVariants.{Done}
 use Rattle.client_forms.specs.Ctl.{closes, writes}
 use Rattle.client_forms.specs.Plans.{acts}
 use Rattle.client_forms.specs.Work.{Goes, Stops, Works, line, output, outside, place}
-use Rattle.client_forms.proofs.Refits.{goes_nothing}
+use Rattle.client_forms.proofs.RefitLemmas.{goes_nothing}
 use Rattle.client_forms.proofs.action.perform.Goals as goal
 
 pub returns-in-Wait : goal.returns-in-Wait

@@ -3,7 +3,7 @@ use Rattle.client_forms.specs.Ctl.{Opening}
 use Rattle.client_forms.specs.Jobs.{HasRead}
 use Rattle.client_forms.specs.Plans.{ActsOn, acts}
 use Rattle.client_forms.specs.Work.{Why, input, line, output, outside, place}
-use Rattle.client_forms.proofs.Doings.{act_stops, more_acts, read_quietly}
+use Rattle.client_forms.proofs.DoingLemmas.{act_stops, more_acts, read_quietly}
 use Rattle.etp_outside.specs.declared.status.Status.TheVariants as status
 use Rattle.client_forms.specs.declared.stop.Stop.TheVariants as stop
 use Rattle.client_forms.proofs.WhyLemmas.{acts_own, stops_why, wants_why, works_less}

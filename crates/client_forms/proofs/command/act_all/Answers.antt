@@ -6,7 +6,7 @@ use Rattle.client_forms.proofs.ReadLemmas.{act_err, all_stop}
 use Rattle.client_forms.specs.Plans.{ActsOn}
 use Rattle.client_forms.specs.Jobs.{HasRead}
 use Rattle.client_forms.specs.Work.{input, line, output, outside}
-use Rattle.client_forms.proofs.Doings.{gives_up}
+use Rattle.client_forms.proofs.DoingLemmas.{gives_up}
 use Rattle.client_forms.proofs.command.act_all.Goals as goal
 
 pub returns-in-Ok-None-clause-steps : goal.returns-in-Ok-None-clause-steps

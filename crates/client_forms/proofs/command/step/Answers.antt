@@ -1,7 +1,7 @@
 use Rattle.client_forms.specs.Ctl.{goes_by}
 use Rattle.client_forms.specs.Jobs.{HasRead}
 use Rattle.client_forms.specs.Work.{input, line, output, outside, place}
-use Rattle.client_forms.proofs.Doings.{first_doing, plan_stops, read_quietly}
+use Rattle.client_forms.proofs.DoingLemmas.{first_doing, plan_stops, read_quietly}
 use Rattle.etp_outside.specs.declared.status.Status.TheVariants as status
 use Rattle.client_forms.specs.declared.stop.Stop.TheVariants as stop
 use Rattle.client_forms.proofs.WhyLemmas.{gives_up_why, reads_less, why_later}

@@ -1,9 +1,9 @@
 use Rattle.std.proofs.Common.{sym, ◌∙◌}
 use Rattle.client_forms.specs.Ctl.{breaks, closes}
 use Rattle.client_forms.specs.Work.{line, outside, place}
-use Rattle.client_forms.proofs.Breaking.{breaks_open, breaks_opening}
-use Rattle.client_forms.proofs.Works.{late_may}
-use Rattle.client_forms.proofs.Refits.{stops_refit}
+use Rattle.client_forms.proofs.BreakingLemmas.{breaks_open, breaks_opening}
+use Rattle.client_forms.proofs.WorkLemmas.{late_may}
+use Rattle.client_forms.proofs.RefitLemmas.{stops_refit}
 use Rattle.client_forms.proofs.hear.break_off.Goals as goal
 
 pub returns-then-opening : goal.returns-then-opening

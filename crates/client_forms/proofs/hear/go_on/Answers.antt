@@ -1,7 +1,7 @@
 use Rattle.std.proofs.Common.{arith}
 use Rattle.std.proofs.lemmas.List.{take_all}
 use Rattle.client_forms.specs.Work.{input, line, output, outside, place}
-use Rattle.client_forms.proofs.Hearing.{gone_all, gone_none, gone_more, gone_last}
+use Rattle.client_forms.proofs.HearingLemmas.{gone_all, gone_none, gone_more, gone_last}
 use Rattle.client_forms.proofs.WhyLemmas.{less_both, less_not, stop_later}
 use Rattle.client_forms.proofs.hear.go_on.Goals as goal
 

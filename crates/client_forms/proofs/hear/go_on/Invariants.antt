@@ -4,7 +4,7 @@ use Rattle.client_forms.specs.Ctl.{Job, Stage}
 use Rattle.client_forms.specs.Shown.{seen_on}
 use Rattle.client_forms.specs.Work.{Comes, NoLess, input, line, output, outside, place}
 use Rattle.watch_views.specs.Boards.{reading}
-use Rattle.client_forms.proofs.Hearing.{all_of}
+use Rattle.client_forms.proofs.HearingLemmas.{all_of}
 use Rattle.client_forms.proofs.hear.go_on.Given as goal
 
 -- the answers so far were gone through

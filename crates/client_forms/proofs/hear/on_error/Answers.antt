@@ -2,7 +2,7 @@ use Rattle.std.proofs.Common.{not, ◌≡◌, ℤ, rules, sym, subst, ◌∙◌,
 use Rattle.etp_outside.specs.declared.status.Status.TheVariants.{Refused}
 use Rattle.client_forms.specs.Ctl.{breaks}
 use Rattle.client_forms.specs.Work.{FailsOn, Stops, line, output, outside, place}
-use Rattle.client_forms.proofs.Hearing.{by_error, other_fails}
+use Rattle.client_forms.proofs.HearingLemmas.{by_error, other_fails}
 use Rattle.client_forms.specs.Jobs.{stage_of}
 use Rattle.client_forms.proofs.WhyLemmas.{breaks_own_by, opening_is, stops_why}
 use Rattle.client_forms.proofs.hear.on_error.Goals as goal

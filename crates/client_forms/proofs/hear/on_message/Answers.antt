@@ -3,7 +3,7 @@ use Rattle.client_core.specs.Taking.{FailsBy, takes}
 use Rattle.etp_outside.specs.declared.status.Status.TheVariants as status
 use Rattle.client_forms.specs.declared.stop.Stop.TheVariants as stop
 use Rattle.client_forms.specs.Work.{input, line, output, outside, place}
-use Rattle.client_forms.proofs.Hearing.{err_same, steps_along, steps_by, stops_by, undone}
+use Rattle.client_forms.proofs.HearingLemmas.{err_same, steps_along, steps_by, stops_by, undone}
 use Rattle.client_forms.proofs.hear.on_message.Goals as goal
 
 pub returns-in-Ok-clause-steps : goal.returns-in-Ok-clause-steps

@@ -2,9 +2,9 @@ use Rattle.std.proofs.Common.{not, ◌≡◌, ◌++◌, ap, sym, ◌∙◌}
 use Rattle.etp_outside.specs.declared.status.Status.TheVariants.{Stopped}
 use Rattle.client_forms.specs.Ctl.{breaks, showing, writes}
 use Rattle.client_forms.specs.Work.{line, output, outside, place}
-use Rattle.client_forms.proofs.Breaking.{shown_grows}
-use Rattle.client_forms.proofs.Courses.{set_at}
-use Rattle.client_forms.proofs.Refits.{breaks_at_once, stops_refit}
+use Rattle.client_forms.proofs.BreakingLemmas.{shown_grows}
+use Rattle.client_forms.proofs.CourseLemmas.{set_at}
+use Rattle.client_forms.proofs.RefitLemmas.{breaks_at_once, stops_refit}
 use Rattle.client_forms.specs.Jobs.{stage_of}
 use Rattle.client_forms.proofs.WhyLemmas.{opening_is, shows_own, stops_why}
 use Rattle.client_forms.proofs.hear.stop.Goals as goal

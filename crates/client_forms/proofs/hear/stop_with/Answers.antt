@@ -2,9 +2,9 @@ use Rattle.std.proofs.Common.{refl, sym, subst}
 use Rattle.etp_outside.specs.declared.status.Status.TheVariants.{Stopped}
 use Rattle.client_forms.specs.Ctl.{breaks, writes}
 use Rattle.client_forms.specs.Work.{Stops, line, output, outside, place}
-use Rattle.client_forms.proofs.Breaking.{cut_short, stopped_late}
-use Rattle.client_forms.proofs.Chains.{goes_stops}
-use Rattle.client_forms.proofs.Works.{write_goes}
+use Rattle.client_forms.proofs.BreakingLemmas.{cut_short, stopped_late}
+use Rattle.client_forms.proofs.ChainLemmas.{goes_stops}
+use Rattle.client_forms.proofs.WorkLemmas.{write_goes}
 use Rattle.client_forms.proofs.hear.stop_with.Goals as goal
 
 pub returns-in-Done : goal.returns-in-Done

@@ -1,7 +1,7 @@
 use Rattle.std.proofs.Common.{◌≡◌, ℤ, rules, subst, FitsSigned, w64, to_z, of_z, to_z-of_z}
 use Rattle.client_core.specs.Asking.{begun}
 use Rattle.client_forms.specs.Work.{input, line, output}
-use Rattle.client_forms.proofs.Running.{not_begun}
+use Rattle.client_forms.proofs.RunningLemmas.{not_begun}
 use Rattle.client_forms.proofs.run.converse.Goals as goal
 
 pub returns-in-Ok-clause-ended : goal.returns-in-Ok-clause-ended

@@ -1,7 +1,7 @@
 use Rattle.client_forms.specs.Ctl.{ctl}
 use Rattle.client_forms.specs.Top.{dials, server_of}
 use Rattle.client_forms.specs.Work.{input, output}
-use Rattle.client_forms.proofs.Dialing.{cause_earlier, dialed_to, failed_dial, no_room}
+use Rattle.client_forms.proofs.DialingLemmas.{cause_earlier, dialed_to, failed_dial, no_room}
 use Rattle.client_forms.proofs.run.run_at.Goals as goal
 
 pub returns-in-Link-clause-runs : goal.returns-in-Link-clause-runs

@@ -3,7 +3,7 @@ use Rattle.etp_outside.proofs.FaultLemmas.{rose_later}
 use Rattle.client_forms.specs.Ctl.{ctl}
 use Rattle.client_forms.specs.Top.{HasCause, Runs, dials, world}
 use Rattle.client_forms.specs.Work.{input, line, output, outside}
-use Rattle.client_forms.proofs.Dialing.{caused, done_over, ran_over, told_from}
+use Rattle.client_forms.proofs.DialingLemmas.{caused, done_over, ran_over, told_from}
 use Rattle.client_forms.proofs.run.run_over.Goals as goal
 
 pub returns-clause-runs : goal.returns-clause-runs

@@ -1,5 +1,5 @@
 use Rattle.client_forms.specs.Work.{input, line, output, outside}
-use Rattle.client_forms.proofs.Running.{send_why, start_cut, started}
+use Rattle.client_forms.proofs.RunningLemmas.{send_why, start_cut, started}
 use Rattle.client_forms.proofs.WhyLemmas.{hears_less, stop_later}
 use Rattle.client_forms.proofs.run.start.Goals as goal
 

@@ -1,7 +1,8 @@
 use Rattle.std.proofs.Common.{refl, ◌∙◌}
+use Rattle.std.proofs.Math.Bool.{or-true}
 use Rattle.client_forms.specs.Work.{input, line, output, outside}
 use Rattle.client_forms.specs.declared.stop.Cause.TheVariants as cause
-use Rattle.client_forms.proofs.Running.{cut_off, heard, left_alone, or_true, went_idle}
+use Rattle.client_forms.proofs.RunningLemmas.{cut_off, heard, left_alone, went_idle}
 use Rattle.client_forms.proofs.WhyLemmas.{hears_less, why_later}
 use Rattle.client_forms.proofs.run.turn.Goals as goal
 
@@ -22,7 +23,7 @@ pub returns-in-End-clause-turns : goal.returns-in-End-clause-turns
 returns-in-End-clause-turns g c = λ shown job x h.
     let y = outside (line (g.L.Link.talk c.args.link.now) (g.L.Link.faults c.args.link.now) (g.L.Link.ended c.args.link.now)) (g.C.Clock.told c.args.clock.now) (output (g.W.Sink.held c.args.out.now) (g.W.Sink.faults c.args.out.now)) (input (g.R.Source.left c.args.from.now) (g.R.Source.faults c.args.from.now)) in
     let m = line (g.L.Link.talk c.recv.new.self) (g.L.Link.faults c.recv.new.self) (g.L.Link.ended c.recv.new.self) in
-    left_alone _ shown job c.args.client.now x y h m c.in-End.ensures.talk c.in-End.ensures.kept (c.in-End.ensures.ended ∙ or_true (g.L.Link.ended c.args.link.now))
+    left_alone _ shown job c.args.client.now x y h m c.in-End.ensures.talk c.in-End.ensures.kept (c.in-End.ensures.ended ∙ or-true (g.L.Link.ended c.args.link.now))
 
 pub returns-in-Failed-clause-turns : goal.returns-in-Failed-clause-turns
 returns-in-Failed-clause-turns g c = λ shown job x h.

@@ -3,7 +3,7 @@ use Rattle.client_core.specs.Asking.{asked}
 use Rattle.client_core.specs.Taking.{FailsBy}
 use Rattle.client_forms.specs.Ctl.{asks}
 use Rattle.client_forms.specs.Work.{Stops, Works, line, outside, place}
-use Rattle.client_forms.proofs.Works.{ask_sent, ask_failed}
+use Rattle.client_forms.proofs.WorkLemmas.{ask_sent, ask_failed}
 use Rattle.client_forms.proofs.talk.ask.Goals as goal
 
 pub returns-in-Ok : goal.returns-in-Ok

@@ -4,7 +4,7 @@ use Rattle.client_core.specs.Taking.{FailsBy}
 use Rattle.client_core.specs.declared.ask.Ask.TheVariants as ask
 use Rattle.client_forms.specs.Ctl.{closes}
 use Rattle.client_forms.specs.Work.{Stops, line, outside, place}
-use Rattle.client_forms.proofs.Works.{close_sent, close_failed}
+use Rattle.client_forms.proofs.WorkLemmas.{close_sent, close_failed}
 use Rattle.client_forms.proofs.talk.close.Goals as goal
 
 pub returns-in-Ok : goal.returns-in-Ok

@@ -2,9 +2,9 @@ use Rattle.std.proofs.Common.{refl}
 use Rattle.etp_outside.specs.declared.status.Status.TheVariants.{Done}
 use Rattle.client_forms.specs.Ctl.{closes, writes}
 use Rattle.client_forms.specs.Work.{line, output, outside, place}
-use Rattle.client_forms.proofs.Courses.{closes_grows}
-use Rattle.client_forms.proofs.Chains.{breaks_later, goes_stops}
-use Rattle.client_forms.proofs.Works.{write_goes, write_breaks}
+use Rattle.client_forms.proofs.CourseLemmas.{closes_grows}
+use Rattle.client_forms.proofs.ChainLemmas.{breaks_later, goes_stops}
+use Rattle.client_forms.proofs.WorkLemmas.{write_goes, write_breaks}
 use Rattle.client_forms.proofs.talk.report.Goals as goal
 
 pub returns-in-Done : goal.returns-in-Done

@@ -6,8 +6,8 @@ use Rattle.clap.specs.Walk.{rows_of}
 use Rattle.clap.specs.Matches.{found_of}
 use Rattle.clap.specs.Simple.{App}
 use Rattle.clap.specs.Takes.{takes}
-use Rattle.command_words.proofs.Finding.{read}
-use Rattle.command_words.proofs.Passes.{taken}
+use Rattle.command_words.proofs.FindingLemmas.{read}
+use Rattle.command_words.proofs.PassLemmas.{taken}
 use Rattle.command_words.proofs.parsing.parsed.Goals as goal
 
 pub returns-clause-values : goal.returns-clause-values

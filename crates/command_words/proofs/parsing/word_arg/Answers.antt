@@ -1,6 +1,6 @@
 use Rattle.std.proofs.Common.{◌∙◌, ap}
 use Rattle.clap.specs.Walk.{Rule, rule_of}
-use Rattle.command_words.proofs.Settings.{some_and}
+use Rattle.command_words.proofs.SettingLemmas.{some_and}
 use Rattle.command_words.proofs.parsing.word_arg.Goals as goal
 
 pub returns-clause-rule : goal.returns-clause-rule

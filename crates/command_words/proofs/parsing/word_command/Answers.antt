@@ -1,7 +1,7 @@
 use Rattle.std.proofs.Common.{◌∙◌, ap, ap₂}
 use Rattle.std.proofs.lemmas.Result.{IfOk-weaker}
 use Rattle.clap.specs.Simple.{with_rule}
-use Rattle.command_words.proofs.Settings.{nameless, nameless_app, helpless, helpless_app}
+use Rattle.command_words.proofs.SettingLemmas.{nameless, nameless_app, helpless, helpless_app}
 use Rattle.command_words.proofs.parsing.word_command.Goals as goal
 
 pub returns : goal.returns

@@ -1,4 +1,4 @@
-use Rattle.config_file.proofs.TooLong.{unread_config}
+use Rattle.config_file.proofs.TooLongLemmas.{unread_config}
 use Rattle.config_file.proofs.reading.read_config.Goals as goal
 
 pub returns-in-Err-clause-config : goal.returns-in-Err-clause-config

@@ -1,7 +1,8 @@
 use Rattle.std.proofs.Common.{◌≡◌, ◌<◌, ◌∙◌, ◌++◌, arith, ap, sym, length, take, take_all}
 use Rattle.etp_outside.proofs.ToldLemmas.{told_weaker}
-use Rattle.etp_capture.proofs.MagicLemmas.{short_starts, other_starts, not_true}
+use Rattle.etp_capture.proofs.MagicLemmas.{short_starts, other_starts}
 use Rattle.std.specs.Str.{bytes_eq}
+use Rattle.std.proofs.lemmas.Bool.{not-true}
 use Rattle.etp_capture.specs.Frames.{magic}
 use Rattle.etp_capture.proofs.reader.read_magic.Goals as goal
 
@@ -15,5 +16,5 @@ returns-then-ne-clause-bytes g c =
     let buf = c.read_up.new.buf in
     let long : length buf ≡ 8 = omega (arith, c.read_up.auto.buf) in
     let whole : take c.in-Some.got buf ≡ buf = take_all c.in-Some.got buf (omega arith) in
-    let other = not_true (bytes_eq buf magic) (sym c.ne.ensures ∙ c.if-ne.true) in
+    let other = not-true (bytes_eq buf magic) (sym c.ne.ensures ∙ c.if-ne.true) in
     told_weaker _ _ _ _ (λ xs ys e. other_starts buf xs ys long (e.0 ∙ ap (λ l. l ++ ys) whole) other) c.in-Some.ensures.bytes

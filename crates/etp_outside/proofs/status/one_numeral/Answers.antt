@@ -1,4 +1,4 @@
-use Rattle.etp_outside.proofs.Decimals.{decimal_IsDecimal, IsDecimal_decimal}
+use Rattle.etp_outside.proofs.DecimalLemmas.{decimal_IsDecimal, IsDecimal_decimal}
 use Rattle.etp_outside.proofs.status.one_numeral.Goals as goal
 
 pub returns-clause-is_one : goal.returns-clause-is_one

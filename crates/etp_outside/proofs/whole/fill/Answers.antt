@@ -2,7 +2,7 @@ use Rattle.std.proofs.Common.{rules, ◌-◌, length, le_refl, sym, subst, rules
 use Rattle.std.proofs.lemmas.Slice.{take-put_mid_below}
 use Rattle.std.specs.Io.KnownBytes.{Consumes}
 use Rattle.std.proofs.KnownBytes.{Consumes-trans, Consumes-kept}
-use Rattle.etp_outside.proofs.Parts.{take_put}
+use Rattle.etp_outside.proofs.PartLemmas.{take_put}
 use Rattle.etp_outside.proofs.whole.fill.Goals as goal
 
 pub loop-at-preserved : goal.loop-at-preserved

@@ -1,7 +1,7 @@
 use Rattle.std.proofs.Common.{rules, subst, rules}
 use Rattle.std.specs.Io.KnownBytes.{Appends}
 use Rattle.std.proofs.KnownBytes.{Appends-trans}
-use Rattle.etp_outside.proofs.Parts.{take_range}
+use Rattle.etp_outside.proofs.PartLemmas.{take_range}
 use Rattle.etp_outside.proofs.whole.write_all.Goals as goal
 
 pub loop-at-preserved : goal.loop-at-preserved

@@ -1,6 +1,6 @@
 use Rattle.std.proofs.lemmas.Result.{err_from_is_err_and}
 use Rattle.avro_bin.specs.Along.{put_at}
-use Rattle.avro_bin.proofs.Steps.{items_next, items_fail, items_done}
+use Rattle.avro_bin.proofs.StepLemmas.{items_next, items_fail, items_done}
 use Rattle.etp_schema.proofs.many_on_wire.read_entries.Goals as goal
 
 pub returns-in_err-read_entry : goal.returns-in_err-read_entry

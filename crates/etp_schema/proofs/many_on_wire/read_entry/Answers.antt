@@ -1,7 +1,7 @@
 use Rattle.std.proofs.Common.{◌≡◌, true, false, sym}
 use Rattle.std.proofs.lemmas.Result.{err_from_is_err_and}
 use Rattle.avro_bin.specs.Reading.{has}
-use Rattle.avro_bin.proofs.Passing.{put_no_key, put_double, put_fails, put_is}
+use Rattle.avro_bin.proofs.PassingLemmas.{put_no_key, put_double, put_fails, put_is}
 use Rattle.etp_schema.proofs.many_on_wire.read_entry.Goals as goal
 
 pub returns-in_err-name : goal.returns-in_err-name

@@ -1,6 +1,6 @@
 use Rattle.std.proofs.lemmas.Result.{err_from_is_err_and}
 use Rattle.avro_bin.specs.Along.{push_at}
-use Rattle.avro_bin.proofs.Steps.{items_next, items_fail, items_done}
+use Rattle.avro_bin.proofs.StepLemmas.{items_next, items_fail, items_done}
 use Rattle.etp_schema.proofs.ItemLemmas.{push_is, push_fails}
 use Rattle.etp_schema.proofs.many_on_wire.read_items.Goals as goal
 

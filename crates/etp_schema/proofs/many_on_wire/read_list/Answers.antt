@@ -1,7 +1,7 @@
 use Rattle.std.proofs.Common.{◌≡◌, ◌+◌, ◌<◌, ◌≤◌, length, rules, FitsSigned, w64, of_z, to_z, to_z-of_z}
 use Rattle.std.proofs.lemmas.Result.{err_from_is_err_and}
 use Rattle.avro_bin.specs.Along.{push_at}
-use Rattle.avro_bin.proofs.Steps.{blocks_stop, blocks_more, blocks_ends, blocks_none, blocks_fail, is_zero}
+use Rattle.avro_bin.proofs.StepLemmas.{blocks_stop, blocks_more, blocks_ends, blocks_none, blocks_fail, is_zero}
 use Rattle.etp_schema.proofs.many_on_wire.read_list.Goals as goal
 
 pub returns-in_err-count : goal.returns-in_err-count

@@ -1,6 +1,6 @@
 use Rattle.std.proofs.lemmas.Result.{err_from_is_err_and}
 use Rattle.etp_schema.proofs.ItemLemmas.{no_items, empty_holds, empty_fits, items_written, list_fits}
-use Rattle.etp_schema.proofs.Parts.{list_holds, on_ok}
+use Rattle.etp_schema.proofs.PartLemmas.{list_holds, on_ok}
 use Rattle.etp_schema.proofs.WritingLemmas.{grown}
 use Rattle.etp_schema.proofs.many_on_wire.write_list.Goals as goal
 

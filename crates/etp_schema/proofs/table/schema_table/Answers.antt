@@ -1,4 +1,4 @@
-use Rattle.avro_bin.proofs.TableTest.{table_is}
+use Rattle.avro_bin.proofs.TableTestLemmas.{table_is}
 use Rattle.avro_bin.specs.Schema.{schema}
 use Rattle.etp_schema.specs.Shapes.{nodes_of}
 use Rattle.etp_schema.proofs.BodyLemmas.{bodies_are, schemas_are}

@@ -2,8 +2,8 @@ use Rattle.std.proofs.Common.{pos, ap, sym, ◌∙◌, refl}
 use Rattle.store_hub.specs.Passes.{known, config_of}
 use Rattle.store_hub.specs.Words.{Known}
 use Rattle.session_core.proofs.StepLemmas.{asks_call}
-use Rattle.etp_serve.proofs.Turns.{poll_fails}
-use Rattle.etp_serve.proofs.Tails.{poll_goes, poll_ends}
+use Rattle.etp_serve.proofs.TurnLemmas.{poll_fails}
+use Rattle.etp_serve.proofs.TailLemmas.{poll_goes, poll_ends}
 use Rattle.etp_serve.proofs.serving.poll.Goals as goal
 
 pub returns-in_default-clause-stops : goal.returns-in_default-clause-stops

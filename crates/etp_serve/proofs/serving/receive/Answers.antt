@@ -1,15 +1,15 @@
 use Rattle.std.proofs.Common.{◌≡◌, ℕ, ℤ, List, ap, sym, ◌∙◌, refl, w64, to_z, of_z, rules, FitsSigned}
 use Rattle.std.proofs.lemmas.Int.{to_z-of_z}
+use Rattle.std.proofs.Math.Bool.{or-true}
 use Rattle.etp_outside.proofs.FaultLemmas.{rose_later}
 use Rattle.store_hub.specs.Passes.{known, config_of}
 use Rattle.session_core.specs.Arriving.{Event, Receives}
 use Rattle.session_core.specs.Run.{takes}
 use Rattle.session_core.specs.State.{State}
 use Rattle.etp_serve.specs.declared.ended.Ended.TheVariants.{PeerEnd, LinkFault, NoMemory}
-use Rattle.etp_serve.proofs.Causes.{or_true}
 use Rattle.session_core.proofs.StepLemmas.{asks_call}
-use Rattle.etp_serve.proofs.Turns.{run_stops, run_idle, message_fails}
-use Rattle.etp_serve.proofs.Tails.{message_goes, message_ends}
+use Rattle.etp_serve.proofs.TurnLemmas.{run_stops, run_idle, message_fails}
+use Rattle.etp_serve.proofs.TailLemmas.{message_goes, message_ends}
 use Rattle.etp_serve.proofs.serving.receive.Goals as goal
 
 pub returns-in-Idle-clause-goes : goal.returns-in-Idle-clause-goes
@@ -63,7 +63,7 @@ returns-clause-stops g c =
     (asks_call c.in-Ok.call (known c.args.pass.now).seen c.in-Ok.ensures.asks) c.args.pass.now.kept.2 (to_z-of_z w64 m fits) c.carry_out.result c.carry_out.ensures.stops
 
 pub returns-in-End-clause-ended : goal.returns-in-End-clause-ended
-returns-in-End-clause-ended g c = λ is. c.in-End.ensures.ended ∙ or_true (g.L.Link.ended c.args.link.now)
+returns-in-End-clause-ended g c = λ is. c.in-End.ensures.ended ∙ or-true (g.L.Link.ended c.args.link.now)
 
 pub returns-in-Failed-clause-cause : goal.returns-in-Failed-clause-cause
 returns-in-Failed-clause-cause g c = λ is. c.in-Failed.ensures.cause refl

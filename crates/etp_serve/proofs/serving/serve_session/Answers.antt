@@ -6,9 +6,9 @@ use Rattle.store_hub.specs.Passes.{known, config_of}
 use Rattle.etp_serve.specs.Served.{Serves, IsBeforeTurn, IsWithinTurn}
 use Rattle.etp_serve.specs.declared.ended.Ended.TheVariants.{NoMemory}
 use Rattle.etp_outside.proofs.ToldLemmas.{told_self}
-use Rattle.etp_serve.proofs.Causes.{cause_by}
-use Rattle.etp_serve.proofs.RunLaws.{each_has_one}
-use Rattle.etp_serve.proofs.Turns.{run_start, run_stops}
+use Rattle.etp_serve.proofs.CauseLemmas.{cause_by}
+use Rattle.etp_serve.proofs.RunLemmas.{each_has_one}
+use Rattle.etp_serve.proofs.TurnLemmas.{run_start, run_stops}
 use Rattle.etp_serve.proofs.serving.serve_session.Goals as goal
 
 pub returns-in_default-clause-serves : goal.returns-in_default-clause-serves

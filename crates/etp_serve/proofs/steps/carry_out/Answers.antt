@@ -2,7 +2,7 @@ use Rattle.std.proofs.Common.{refl, inl, inr}
 use Rattle.session_core.specs.Session.{end_of}
 use Rattle.store_hub.specs.Passes.{known, config_of}
 use Rattle.etp_serve.specs.Steps.{Does}
-use Rattle.etp_serve.proofs.Settling.{if_none_all, goes_by, peer_by, fault_by, stops_by}
+use Rattle.etp_serve.proofs.SettlingLemmas.{if_none_all, goes_by, peer_by, fault_by, stops_by}
 use Rattle.etp_serve.proofs.TalkLemmas.{told_none}
 use Rattle.etp_serve.proofs.steps.carry_out.Goals as goal
 

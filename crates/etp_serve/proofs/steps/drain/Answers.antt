@@ -1,6 +1,6 @@
 use Rattle.std.proofs.Common.{arith, ◌∙◌, sym, refl}
 use Rattle.etp_outside.proofs.FaultLemmas.{rose_later}
-use Rattle.etp_serve.proofs.Drained.{drain_start, drain_step, drain_smaller, drain_done, drain_cut, drain_stopped}
+use Rattle.etp_serve.proofs.DrainedLemmas.{drain_start, drain_step, drain_smaller, drain_done, drain_cut, drain_stopped}
 use Rattle.etp_serve.proofs.steps.drain.Goals as goal
 
 pub loop-message-init : goal.loop-message-init

@@ -1,5 +1,5 @@
 use Rattle.std.proofs.Common.{◌≡◌, ◌≤◌, length}
-use Rattle.etp_serve.proofs.Drained.{Draining}
+use Rattle.etp_serve.proofs.DrainedLemmas.{Draining}
 use Rattle.etp_serve.proofs.steps.drain.Given as goal
 
 abbrev pub invariant-loop-message : goal.invariant-loop-message

@@ -1,8 +1,8 @@
 use Rattle.std.proofs.Common.{ap}
 use Rattle.std.specs.Str.{bytes_eq}
 use Rattle.std.proofs.lemmas.Slice.Eq.{bytes_eq-Decides}
-use Rattle.etp_values.proofs.Lookups.{lookup-filter}
-use Rattle.etp_values.proofs.Names.{found_alike}
+use Rattle.etp_values.proofs.LookupLemmas.{lookup-filter}
+use Rattle.etp_values.proofs.NameLemmas.{found_alike}
 use Rattle.etp_values.proofs.laws.lookup_laws.Goals as goal
 
 pub returns : goal.returns

@@ -1,4 +1,4 @@
-use Rattle.etp_values.proofs.Prefixes.{prefix_self, prefix_grown, prefix_trans, prefix_length, prefix_get, prefix_shorter}
+use Rattle.etp_values.proofs.PrefixLemmas.{prefix_self, prefix_grown, prefix_trans, prefix_length, prefix_get, prefix_shorter}
 use Rattle.etp_values.proofs.laws.prefix_laws.Goals as goal
 
 pub returns : goal.returns

@@ -1,7 +1,7 @@
 use Rattle.std.proofs.Common.{rules, arith, ◌≡◌, true, false}
 use Rattle.std.specs.Ordering.{nat_cmp, is_lt}
 use Rattle.std.specs.Cmp.Lexicographic.{slice_cmp}
-use Rattle.etp_values.proofs.Rising.{rises_more, still_at, sorted_from_rising}
+use Rattle.etp_values.proofs.RisingLemmas.{rises_more, still_at, sorted_from_rising}
 use Rattle.std.proofs.lemmas.List.{length-map}
 use Rattle.etp_values.proofs.named.rises.Goals as goal
 

@@ -1,6 +1,6 @@
 use Rattle.std.proofs.Common.{◌≤◌, ◌-◌, length}
 use Rattle.std.specs.Map.{keys_of}
-use Rattle.etp_values.proofs.Rising.{RisesBelow}
+use Rattle.etp_values.proofs.RisingLemmas.{RisesBelow}
 use Rattle.etp_values.proofs.named.rises.Given as goal
 
 abbrev pub invariant-loop-i : goal.invariant-loop-i

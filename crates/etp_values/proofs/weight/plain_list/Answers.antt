@@ -1,5 +1,5 @@
 use Rattle.std.proofs.Common.{arith}
-use Rattle.etp_values.proofs.Weights.{weigh-plain}
+use Rattle.etp_values.proofs.WeightLemmas.{weigh-plain}
 use Rattle.etp_values.proofs.weight.plain_list.Goals as goal
 
 pub returns : goal.returns

@@ -1,6 +1,6 @@
 use Rattle.std.proofs.Common.{subst}
 use Rattle.etpctl.specs.Progress.{IsWritten}
-use Rattle.etpctl.proofs.Pieces.{piece_written, piece_lost}
+use Rattle.etpctl.proofs.PieceLemmas.{piece_written, piece_lost}
 use Rattle.etpctl.proofs.progress.write_behind.Goals as goal
 
 pub returns-in-Done : goal.returns-in-Done

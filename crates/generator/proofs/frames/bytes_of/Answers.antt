@@ -1,7 +1,7 @@
 use Rattle.std.proofs.Common.{◌≡◌, IfOk, subst}
 use Rattle.etp_frame.specs.Wire.{message_bytes}
 use Rattle.etp_frame.specs.declared.header.Header.{Header}
-use Rattle.generator.proofs.Headers.{names, plain}
+use Rattle.generator.proofs.HeaderLemmas.{names, plain}
 use Rattle.generator.proofs.frames.bytes_of.Goals as goal
 
 pub write_message-requires-clause-names : goal.write_message-requires-clause-names

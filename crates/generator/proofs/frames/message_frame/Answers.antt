@@ -1,4 +1,4 @@
-use Rattle.generator.proofs.Steps.{framed}
+use Rattle.generator.proofs.StepLemmas.{framed}
 use Rattle.generator.proofs.frames.message_frame.Goals as goal
 
 pub returns : goal.returns

@@ -1,5 +1,5 @@
 use Rattle.keyed_requests.specs.Keyed.{kept_one}
-use Rattle.keyed_requests.proofs.Order.{ordered_front, ordered_mapped, ordered_sent}
+use Rattle.keyed_requests.proofs.OrderLemmas.{ordered_front, ordered_mapped, ordered_sent}
 use Rattle.keyed_requests.proofs.asking.divide_all.Goals as goal
 
 pub from_sorted-requires : goal.from_sorted-requires

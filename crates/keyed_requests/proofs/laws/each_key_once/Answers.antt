@@ -1,4 +1,4 @@
-use Rattle.keyed_requests.proofs.Once.{answers_each}
+use Rattle.keyed_requests.proofs.OnceLemmas.{answers_each}
 use Rattle.keyed_requests.proofs.laws.each_key_once.Goals as goal
 
 pub returns : goal.returns

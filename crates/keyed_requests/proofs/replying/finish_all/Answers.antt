@@ -1,4 +1,4 @@
-use Rattle.keyed_requests.proofs.Order.{ordered_front, ordered_finished}
+use Rattle.keyed_requests.proofs.OrderLemmas.{ordered_front, ordered_finished}
 use Rattle.keyed_requests.proofs.replying.finish_all.Goals as goal
 
 pub from_sorted-requires : goal.from_sorted-requires

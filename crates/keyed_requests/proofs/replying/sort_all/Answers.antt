@@ -1,4 +1,4 @@
-use Rattle.keyed_requests.proofs.Order.{ordered_front, ordered_sent, ordered_refused}
+use Rattle.keyed_requests.proofs.OrderLemmas.{ordered_front, ordered_sent, ordered_refused}
 use Rattle.keyed_requests.proofs.replying.sort_all.Goals as goal
 
 pub from_sorted-requires : goal.from_sorted-requires

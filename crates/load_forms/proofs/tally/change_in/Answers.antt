@@ -2,7 +2,7 @@ use Rattle.std.proofs.Common.{ap, sym, ◌∙◌}
 use Rattle.etp_frame.specs.Reading.{tree_of}
 use Rattle.etp_schema.specs.declared.body.Side.TheVariants as side
 use Rattle.load_forms.specs.Tally.{change_in}
-use Rattle.load_forms.proofs.Changes.{no_change_in}
+use Rattle.load_forms.proofs.ChangeLemmas.{no_change_in}
 use Rattle.load_forms.proofs.tally.change_in.Goals as goal
 
 pub returns-in-Ok : goal.returns-in-Ok

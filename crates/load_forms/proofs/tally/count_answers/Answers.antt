@@ -1,5 +1,5 @@
 use Rattle.std.proofs.Common.{◌<◌, ◌^◌, length, drop, arith}
-use Rattle.load_forms.proofs.Counting.{all_counted, one_fits, room_left}
+use Rattle.load_forms.proofs.CountingLemmas.{all_counted, one_fits, room_left}
 use Rattle.load_forms.proofs.tally.count_answers.Goals as goal
 
 pub count_frame-requires-clause-sent : goal.count_frame-requires-clause-sent

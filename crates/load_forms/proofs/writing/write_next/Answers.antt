@@ -4,8 +4,8 @@ use Rattle.etp_capture.specs.Frames.{frame_bytes}
 use Rattle.gathered_text.specs.Writing.{Going, Writes}
 use Rattle.gathered_text.specs.declared.writing.Wrote.{Wrote}
 use Rattle.gathered_text.proofs.GoingLemmas.{going_as, going_cut}
-use Rattle.generator.proofs.Given.{none_given, two_given}
-use Rattle.load_forms.proofs.Ending.{fewer, goes_on, ends, fault_of}
+use Rattle.generator.proofs.GivenLemmas.{none_given, two_given}
+use Rattle.load_forms.proofs.EndingLemmas.{fewer, goes_on, ends, fault_of}
 use Rattle.load_forms.proofs.writing.write_next.Goals as goal
 
 pub returns-in-Err-clause-ends : goal.returns-in-Err-clause-ends

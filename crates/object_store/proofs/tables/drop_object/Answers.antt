@@ -1,5 +1,5 @@
 use Rattle.etp_values.specs.SameUri.{same_uri, same_uri-equiv}
-use Rattle.etp_values.proofs.Lookups.{found_taken}
+use Rattle.etp_values.proofs.LookupLemmas.{found_taken}
 use Rattle.object_store.proofs.tables.drop_object.Goals as goal
 
 pub returns-clause-each : goal.returns-clause-each

@@ -2,7 +2,7 @@ use Rattle.std.specs.Prelude.{◌≡◌, cond, Some}
 use Rattle.std.specs.Map.{lookup}
 use Rattle.std.proofs.Common.{rules}
 use Rattle.etp_values.specs.SameUri.{same_uri, same_uri-equiv, same_uri-is}
-use Rattle.etp_values.proofs.Lookups.{found_put}
+use Rattle.etp_values.proofs.LookupLemmas.{found_put}
 use Rattle.object_store.specs.Changes.{object_made}
 use Rattle.object_store.proofs.tables.put_object.Goals as goal
 

@@ -4,7 +4,7 @@ use Rattle.std.proofs.Common.{rules, ap, ◌∙◌}
 use Rattle.indexmap.proofs.CallerLemmas.{filter-RetainsPairs}
 use Rattle.etp_values.specs.declared.uri.StoreUri.{StoreUri}
 use Rattle.etp_values.specs.SameUri.{same_uri, same_uri-is}
-use Rattle.etp_values.proofs.Lookups.{lookup-filter}
+use Rattle.etp_values.proofs.LookupLemmas.{lookup-filter}
 use Rattle.object_store.specs.Going.{goes}
 use Rattle.object_store.proofs.tables.retain_objects.Goals as goal
 

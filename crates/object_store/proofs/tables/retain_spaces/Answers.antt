@@ -4,7 +4,7 @@ use Rattle.std.specs.Str.{bytes_eq}
 use Rattle.std.proofs.Common.{rules, ap, ◌∙◌}
 use Rattle.std.proofs.lemmas.Slice.Eq.{bytes_eq-Decides}
 use Rattle.indexmap.proofs.CallerLemmas.{filter-RetainsPairs}
-use Rattle.etp_values.proofs.Lookups.{lookup-filter}
+use Rattle.etp_values.proofs.LookupLemmas.{lookup-filter}
 use Rattle.object_store.specs.Going.{goes}
 use Rattle.object_store.proofs.tables.retain_spaces.Goals as goal
 

@@ -1,6 +1,6 @@
 use Rattle.std.proofs.Common.{rules, ◌≡◌, ◌<◌, ◌+◌, ◌^◌, length, ap, sym, ◌∙◌, subst, arith}
 use Rattle.server_forms.specs.Counts.{CountsSoFar}
-use Rattle.server_forms.proofs.Countings.{back_whole, counts_next}
+use Rattle.server_forms.proofs.CountingLemmas.{back_whole, counts_next}
 use Rattle.server_forms.proofs.report.counts.Goals as goal
 
 pub loop-place-preserved : goal.loop-place-preserved

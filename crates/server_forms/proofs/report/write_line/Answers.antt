@@ -2,7 +2,7 @@ use Rattle.std.proofs.Common.{ℕ, List, ◌++◌, subst, ◌∙◌}
 use Rattle.store_machine.specs.Laws.{is_enter}
 use Rattle.server_forms.specs.Report.{line_at, line_if}
 use Rattle.gathered_text.specs.Writing.{Going}
-use Rattle.server_forms.proofs.Lines.{line_is}
+use Rattle.server_forms.proofs.LineLemmas.{line_is}
 use Rattle.gathered_text.proofs.GoingLemmas.{going_cut, going_pushed}
 use Rattle.server_forms.proofs.report.write_line.Goals as goal
 

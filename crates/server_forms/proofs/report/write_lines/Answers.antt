@@ -1,7 +1,7 @@
 use Rattle.std.proofs.Common.{◌<◌, ◌≤◌, ◌+◌, ◌++◌, [], length, drop, sym, arith, refl}
 use Rattle.etp_outside.proofs.FaultLemmas.{rose_later}
 use Rattle.server_forms.specs.Report.{line_at, lines_from}
-use Rattle.server_forms.proofs.Lines.{lines_end, lines_next}
+use Rattle.server_forms.proofs.LineLemmas.{lines_end, lines_next}
 use Rattle.gathered_text.proofs.GoingLemmas.{going_as}
 use Rattle.server_forms.proofs.report.write_lines.Goals as goal
 

@@ -2,7 +2,7 @@ use Rattle.std.proofs.Common.{Err, ap, inl, refl}
 use Rattle.etp_outside.specs.declared.status.Status.TheVariants.{Done, Usage, ReadFault, WriteFault, ListenFault}
 use Rattle.server_forms.specs.Commands.{as_command}
 use Rattle.server_forms.specs.Top.{door_of, output_of}
-use Rattle.server_forms.proofs.Serving.{fulfils_of, most_same, never, no_read_fault, no_usage, tries_not, untouched}
+use Rattle.server_forms.proofs.ServingLemmas.{fulfils_of, most_same, never, no_read_fault, no_usage, tries_not, untouched}
 use Rattle.server_forms.proofs.run.run.Goals as goal
 
 pub returns-in-Ok-clause-form : goal.returns-in-Ok-clause-form

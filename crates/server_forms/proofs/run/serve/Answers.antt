@@ -1,6 +1,6 @@
 use Rattle.std.proofs.Common.{refl, sym, ◌∙◌, inl, inr}
 use Rattle.store_hub.specs.Passes.{known, config_of}
-use Rattle.server_forms.proofs.Serving.{done_is, listen_fault_is, most_same, serves_with, untouched, write_fault_is}
+use Rattle.server_forms.proofs.ServingLemmas.{done_is, listen_fault_is, most_same, serves_with, untouched, write_fault_is}
 use Rattle.server_forms.proofs.run.serve.Goals as goal
 
 pub returns-in_default-clause-tries : goal.returns-in_default-clause-tries

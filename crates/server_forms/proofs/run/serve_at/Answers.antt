@@ -1,7 +1,7 @@
 use Rattle.std.proofs.Common.{◌≡◌, true, refl, arith}
 use Rattle.etp_outside.proofs.FaultLemmas.{rose_later}
 use Rattle.store_hub.specs.Passes.{known, config_of}
-use Rattle.server_forms.proofs.Serving.{most_from, most_same, reached_from, served_from, served_none}
+use Rattle.server_forms.proofs.ServingLemmas.{most_from, most_same, reached_from, served_from, served_none}
 use Rattle.server_forms.proofs.run.serve_at.Goals as goal
 
 pub returns-in-Done-clause-all : goal.returns-in-Done-clause-all

@@ -1,5 +1,5 @@
-use Rattle.session_core.proofs.Fronts.{front_is_streamed}
-use Rattle.session_core.proofs.Streaming.{run_is_streamed, run_is_told_at_idle}
+use Rattle.session_core.proofs.FrontLemmas.{front_is_streamed}
+use Rattle.session_core.proofs.StreamingLemmas.{run_is_streamed, run_is_told_at_idle}
 use Rattle.session_core.proofs.laws.run_streams.Goals as goal
 
 pub returns-clause-streams : goal.returns-clause-streams

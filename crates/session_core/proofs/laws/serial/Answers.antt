@@ -1,6 +1,6 @@
-use Rattle.session_core.proofs.Committed.{committed_is_serial}
+use Rattle.session_core.proofs.CommittedLemmas.{committed_is_serial}
 use Rattle.session_core.proofs.FittingLemmas.{answers_fit}
-use Rattle.session_core.proofs.Reached.{run_is_serial}
+use Rattle.session_core.proofs.ReachedLemmas.{run_is_serial}
 use Rattle.session_core.proofs.StepLemmas.{answers_are_last}
 use Rattle.session_core.proofs.laws.serial.Goals as goal
 

@@ -1,4 +1,4 @@
-use Rattle.keyed_requests.proofs.Order.{ordered_front, ordered_mapped}
+use Rattle.keyed_requests.proofs.OrderLemmas.{ordered_front, ordered_mapped}
 use Rattle.session_core.specs.Replies.{error_info}
 use Rattle.session_core.proofs.replies.refused_message.Goals as goal
 

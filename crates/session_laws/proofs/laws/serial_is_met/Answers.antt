@@ -1,4 +1,4 @@
-use Rattle.session_laws.proofs.Witness.{serial_is_met}
+use Rattle.session_laws.proofs.WitnessLemmas.{serial_is_met}
 use Rattle.session_laws.proofs.laws.serial_is_met.Goals as goal
 
 pub returns : goal.returns

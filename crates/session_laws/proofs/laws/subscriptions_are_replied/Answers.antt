@@ -1,4 +1,4 @@
-use Rattle.session_laws.proofs.Granting.{subscriptions_replied}
+use Rattle.session_laws.proofs.GrantingLemmas.{subscriptions_replied}
 use Rattle.session_laws.proofs.laws.subscriptions_are_replied.Goals as goal
 
 pub returns : goal.returns

@@ -1,5 +1,5 @@
-use Rattle.session_rows.proofs.Single.{ordered_single}
 use Rattle.session_rows.proofs.opening.capabilities.Goals as goal
+use Rattle.etp_values.proofs.RisingLemmas.{rises_alone}
 
 pub from_sorted-requires : goal.from_sorted-requires
-from_sorted-requires c = ordered_single _ _ _ c.in_ok-push.ensures.items c.new-items.ensures.items
+from_sorted-requires c = rises_alone _ _ _ c.in_ok-push.ensures.items c.new-items.ensures.items

@@ -2,7 +2,7 @@ use Rattle.std.proofs.Common.{◌≡◌, ◌≢◌, ◌∙◌, sym, length, arit
 use Rattle.session_rows.specs.Formats.{formats_of}
 use Rattle.session_rows.specs.Opening.{accepted_protocols, opening_with, open_session, part_limit}
 use Rattle.session_rows.specs.declared.opening.Opening.TheVariants.{Opened}
-use Rattle.session_rows.proofs.Cases.{opened}
+use Rattle.session_rows.proofs.CaseLemmas.{opened}
 use Rattle.session_rows.proofs.opening.opening_of.Goals as goal
 
 pub returns : goal.returns

@@ -1,7 +1,7 @@
 use Rattle.std.proofs.Common.{◌∙◌, ap, sym}
 use Rattle.std.specs.Vec.Iter.{into_iter_items}
 use Rattle.session_rows.specs.Spaces.{space_path}
-use Rattle.session_rows.proofs.Paths.{paths_more}
+use Rattle.session_rows.proofs.PathLemmas.{paths_more}
 use Rattle.session_rows.proofs.transactions.space_paths.Goals as goal
 
 pub loop-text-preserved : goal.loop-text-preserved

@@ -2,7 +2,7 @@
 use Rattle.std.proofs.Common.{◌≡◌}
 use Rattle.std.specs.Vec.Iter.{into_iter_items}
 use Rattle.session_rows.specs.Transactions.{space_paths}
-use Rattle.session_rows.proofs.Paths.{paths_behind}
+use Rattle.session_rows.proofs.PathLemmas.{paths_behind}
 use Rattle.session_rows.proofs.transactions.space_paths.Given as goal
 
 abbrev pub invariant-loop-text : goal.invariant-loop-text

@@ -1,4 +1,4 @@
-use Rattle.store_hub.proofs.Reading.{reads}
+use Rattle.store_hub.proofs.ReadingLemmas.{reads}
 use Rattle.store_hub.proofs.laws.answers_read.Goals as goal
 
 pub returns : goal.returns

@@ -1,4 +1,4 @@
-use Rattle.store_hub.proofs.Reading.{fresh_entered}
+use Rattle.store_hub.proofs.ReadingLemmas.{fresh_entered}
 use Rattle.store_hub.proofs.laws.pass_laws.Goals as goal
 
 pub returns : goal.returns

@@ -3,7 +3,7 @@ use Rattle.std.proofs.lemmas.Int.{to_z-of_z}
 use Rattle.store_machine.specs.declared.call.Answer.{Answer}
 use Rattle.store_machine.specs.Answers.{answered}
 use Rattle.store_hub.specs.Turns.{Adds}
-use Rattle.store_hub.proofs.Asked.{asked_as}
+use Rattle.store_hub.proofs.AskedLemmas.{asked_as}
 use Rattle.store_hub.proofs.turns.ask_as.Goals as goal
 
 pub returns-clause-ok : goal.returns-clause-ok

@@ -1,5 +1,5 @@
 use Rattle.std.proofs.Common.{arith, rules}
-use Rattle.store_hub.proofs.Counts.{legal_begun, counted_all, counted_on}
+use Rattle.store_hub.proofs.CountLemmas.{legal_begun, counted_all, counted_on}
 use Rattle.store_hub.proofs.turns.door_entries.Goals as goal
 
 pub loop-place-preserved : goal.loop-place-preserved

@@ -7,7 +7,7 @@ use Rattle.turn_book.specs.Words.{view}
 use Rattle.store_hub.specs.declared.error.EnterError.TheVariants.{JournalFull}
 use Rattle.store_hub.specs.Words.{Known}
 use Rattle.store_hub.specs.Notes.{Meets}
-use Rattle.store_hub.proofs.Entered.{kept_entered, sees_more}
+use Rattle.store_hub.proofs.EnteredLemmas.{kept_entered, sees_more}
 use Rattle.store_hub.proofs.turns.enter.Goals as goal
 
 pub returns-in-Ok-clause-new : goal.returns-in-Ok-clause-new

@@ -1,5 +1,5 @@
 use Rattle.std.proofs.Common.{◌≡◌, length, arith}
-use Rattle.store_hub.proofs.Entered.{lets_in}
+use Rattle.store_hub.proofs.EnteredLemmas.{lets_in}
 use Rattle.store_hub.proofs.turns.enter_store.Goals as goal
 
 pub returns-clause-ok : goal.returns-clause-ok

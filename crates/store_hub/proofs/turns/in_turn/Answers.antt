@@ -6,7 +6,7 @@ use Rattle.turn_book.specs.Hands.{Waits}
 use Rattle.store_hub.specs.Words.{Known}
 use Rattle.store_hub.specs.Notes.{Answers}
 use Rattle.store_hub.specs.Kept.{IsKept}
-use Rattle.store_hub.proofs.Asked.{sees, next_of, turned}
+use Rattle.store_hub.proofs.AskedLemmas.{sees, next_of, turned}
 use Rattle.store_hub.proofs.turns.in_turn.Goals as goal
 
 pub ask_as-answer-requires-clause-next : goal.ask_as-answer-requires-clause-next

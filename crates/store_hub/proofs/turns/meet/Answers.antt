@@ -1,5 +1,5 @@
 use Rattle.turn_book.specs.Words.{view}
-use Rattle.store_hub.proofs.Keeping.{met_by, keeps_met}
+use Rattle.store_hub.proofs.KeepingLemmas.{met_by, keeps_met}
 use Rattle.store_hub.proofs.turns.meet.Goals as goal
 
 pub returns-clause-met : goal.returns-clause-met

@@ -1,7 +1,7 @@
 use Rattle.std.proofs.Common.{subst, Result}
 use Rattle.channel_store.specs.declared.error.ChannelError.{ChannelError}
 use Rattle.channel_store.specs.Refusals.{Refuses}
-use Rattle.store_machine.proofs.Loading.{refused-code, taken-code}
+use Rattle.store_machine.proofs.LoadingLemmas.{refused-code, taken-code}
 use Rattle.store_machine.proofs.codes.refusal_of.Goals as goal
 
 pub returns-in-Ok : goal.returns-in-Ok

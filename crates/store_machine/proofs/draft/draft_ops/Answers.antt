@@ -1,7 +1,7 @@
 use Rattle.std.proofs.Common.{arith, rules, ◌≡◌, ◌∷◌, []}
 use Rattle.std.proofs.lemmas.Grind.{common_steps}
 use Rattle.std.specs.Vec.Iter.{into_iter_items}
-use Rattle.store_machine.proofs.Judging.{drafting-first, drafting-step, items-done, verdicts-done}
+use Rattle.store_machine.proofs.JudgingLemmas.{drafting-first, drafting-step, items-done, verdicts-done}
 use Rattle.store_machine.proofs.draft.draft_ops.Goals as goal
 
 pub loop-name-init : goal.loop-name-init

@@ -5,7 +5,7 @@ use Rattle.std.specs.Map.{values_of}
 use Rattle.std.specs.Vec.Iter.{into_iter_items}
 use Rattle.store_machine.specs.History.{set_space}
 use Rattle.store_machine.specs.Kept.{Plans}
-use Rattle.store_machine.proofs.Judging.{accepted-moment, drafting-first, drafting-step, items-done, verdicts-done, verdicts-moment}
+use Rattle.store_machine.proofs.JudgingLemmas.{accepted-moment, drafting-first, drafting-step, items-done, verdicts-done, verdicts-moment}
 use Rattle.store_machine.proofs.draft.draft_puts.Goals as goal
 
 pub loop-name-init : goal.loop-name-init

@@ -1,6 +1,6 @@
 use Rattle.std.proofs.Common.{◌≡◌, true, false, sym, ◌∙◌}
 use Rattle.store_machine.specs.History.{is_default}
-use Rattle.store_machine.proofs.Judging.{drop_denied, drop_missing, drop_planned}
+use Rattle.store_machine.proofs.JudgingLemmas.{drop_denied, drop_missing, drop_planned}
 use Rattle.store_machine.proofs.draft.judge_drop.Goals as goal
 
 pub returns-then-is_empty : goal.returns-then-is_empty

@@ -1,4 +1,4 @@
-use Rattle.store_machine.proofs.Judging.{op_accepted, op_refused}
+use Rattle.store_machine.proofs.JudgingLemmas.{op_accepted, op_refused}
 use Rattle.store_machine.proofs.draft.judge_op.Goals as goal
 
 pub returns-in-None : goal.returns-in-None

@@ -2,7 +2,7 @@ use Rattle.std.proofs.Common.{◌≡◌, true, false, sym, subst, ◌∙◌, w64
 use Rattle.std.proofs.lemmas.Int.{to_z-of_z}
 use Rattle.tx_stage.specs.State.{PutsSpace}
 use Rattle.store_machine.specs.History.{is_default}
-use Rattle.store_machine.proofs.Judging.{put_denied, put_planned}
+use Rattle.store_machine.proofs.JudgingLemmas.{put_denied, put_planned}
 use Rattle.store_machine.proofs.draft.judge_put.Goals as goal
 
 pub returns-then-is_empty : goal.returns-then-is_empty

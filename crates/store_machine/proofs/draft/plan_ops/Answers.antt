@@ -1,7 +1,7 @@
 use Rattle.std.proofs.Common.{arith, subst, ◌≡◌, ◌∷◌, ◌+◌, [], drop}
 use Rattle.std.proofs.lemmas.Grind.{common_steps}
 use Rattle.store_machine.specs.Kept.{PlansOn}
-use Rattle.store_machine.proofs.Committing.{plans-all, plans-none, plans-step}
+use Rattle.store_machine.proofs.CommittingLemmas.{plans-all, plans-none, plans-step}
 use Rattle.store_machine.proofs.draft.plan_ops.Goals as goal
 
 pub loop-op-init : goal.loop-op-init

@@ -1,4 +1,4 @@
-use Rattle.store_machine.proofs.Judging.{takes-noted}
+use Rattle.store_machine.proofs.JudgingLemmas.{takes-noted}
 use Rattle.store_machine.proofs.draft.take_drop.Goals as goal
 
 pub returns : goal.returns

@@ -2,7 +2,7 @@ use Rattle.std.proofs.Common.{◌≡◌, subst, w64, to_z, of_z}
 use Rattle.std.proofs.lemmas.Int.{to_z-of_z}
 use Rattle.store_machine.specs.History.{set_space}
 use Rattle.store_machine.specs.Kept.{Takes}
-use Rattle.store_machine.proofs.Judging.{takes-noted}
+use Rattle.store_machine.proofs.JudgingLemmas.{takes-noted}
 use Rattle.store_machine.proofs.draft.take_put.Goals as goal
 
 pub returns : goal.returns

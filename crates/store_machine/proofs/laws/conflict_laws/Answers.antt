@@ -1,4 +1,4 @@
-use Rattle.store_machine.proofs.Conflicts.{conflict-first, conflict-free}
+use Rattle.store_machine.proofs.ConflictLemmas.{conflict-first, conflict-free}
 use Rattle.store_machine.proofs.laws.conflict_laws.Goals as goal
 
 pub returns-clause-free : goal.returns-clause-free

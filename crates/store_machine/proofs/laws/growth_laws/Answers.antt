@@ -1,4 +1,4 @@
-use Rattle.store_machine.proofs.Lawful.{legal-call}
+use Rattle.store_machine.proofs.LawfulLemmas.{legal-call}
 use Rattle.store_machine.proofs.laws.growth_laws.Goals as goal
 
 pub returns : goal.returns

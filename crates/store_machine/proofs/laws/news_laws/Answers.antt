@@ -1,4 +1,4 @@
-use Rattle.store_machine.proofs.Due.{news-due, news-of_each, news-within}
+use Rattle.store_machine.proofs.DueLemmas.{news-due, news-of_each, news-within}
 use Rattle.store_machine.proofs.laws.news_laws.Goals as goal
 
 pub returns-clause-bound : goal.returns-clause-bound

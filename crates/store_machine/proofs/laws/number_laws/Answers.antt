@@ -1,4 +1,4 @@
-use Rattle.store_machine.proofs.Numbers.{fresh-number, door-session, number-stays, entries-of_session, may_ask, call-stays, entries-one, enter-is}
+use Rattle.store_machine.proofs.NumberLemmas.{fresh-number, door-session, number-stays, entries-of_session, may_ask, call-stays, entries-one, enter-is}
 use Rattle.store_machine.proofs.laws.number_laws.Goals as goal
 
 pub returns-clause-door : goal.returns-clause-door

@@ -1,4 +1,4 @@
-use Rattle.store_machine.proofs.Room.{full-stays}
+use Rattle.store_machine.proofs.RoomLemmas.{full-stays}
 use Rattle.store_machine.proofs.laws.room_laws.Goals as goal
 
 pub returns : goal.returns

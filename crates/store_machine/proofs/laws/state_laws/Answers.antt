@@ -1,5 +1,5 @@
-use Rattle.store_machine.proofs.Conflicts.{values-between}
-use Rattle.store_machine.proofs.Values.{value-unaltered, value_after-push, default-stays}
+use Rattle.store_machine.proofs.ConflictLemmas.{values-between}
+use Rattle.store_machine.proofs.ValueLemmas.{value-unaltered, value_after-push, default-stays}
 use Rattle.store_machine.proofs.laws.state_laws.Goals as goal
 
 pub returns-clause-changes : goal.returns-clause-changes

@@ -1,4 +1,4 @@
-use Rattle.store_machine.proofs.Streams.{stream-copied}
+use Rattle.store_machine.proofs.StreamLemmas.{stream-copied}
 use Rattle.store_machine.proofs.laws.stream_laws.Goals as goal
 
 pub returns : goal.returns

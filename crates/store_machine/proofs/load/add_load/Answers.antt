@@ -4,7 +4,7 @@ use Rattle.std.proofs.lemmas.Int.{to_z-of_z}
 use Rattle.channel_store.specs.Store.{changed}
 use Rattle.store_machine.specs.Channels.{what_of}
 use Rattle.store_machine.specs.Loads.{load_act}
-use Rattle.store_machine.proofs.Loading.{refused-code, taken-code}
+use Rattle.store_machine.proofs.LoadingLemmas.{refused-code, taken-code}
 use Rattle.store_machine.proofs.load.add_load.Goals as goal
 
 pub returns-in-Ok-clause-code : goal.returns-in-Ok-clause-code

@@ -1,4 +1,4 @@
-use Rattle.store_machine.proofs.Lawful.{seen-tables}
+use Rattle.store_machine.proofs.LawfulLemmas.{seen-tables}
 use Rattle.store_machine.proofs.looks.looked.Goals as goal
 
 pub returns : goal.returns

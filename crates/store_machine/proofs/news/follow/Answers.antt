@@ -1,7 +1,7 @@
 use Rattle.std.proofs.Common.{◌≡◌, ◌∙◌, ap, Some, slice_get, slice_set, rules, FitsSigned, w64}
 use Rattle.std.proofs.lemmas.Int.{to_z-of_z}
 use Rattle.store_machine.specs.Telling.{below, same_from}
-use Rattle.store_machine.proofs.Following.{put_same}
+use Rattle.store_machine.proofs.FollowingLemmas.{put_same}
 use Rattle.store_machine.proofs.news.follow.Goals as goal
 
 pub returns-in-Some : goal.returns-in-Some

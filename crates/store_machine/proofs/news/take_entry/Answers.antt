@@ -4,7 +4,7 @@ use Rattle.etp_values.specs.Weight.{capped, weigh}
 use Rattle.channel_store.specs.Told.{change_bytes}
 use Rattle.store_machine.specs.News.{fits_behind}
 use Rattle.store_machine.specs.Telling.{due_at}
-use Rattle.store_machine.proofs.Taking.{bytes_of, bytes_with, takes_none, takes_some}
+use Rattle.store_machine.proofs.TakingLemmas.{bytes_of, bytes_with, takes_none, takes_some}
 use Rattle.store_machine.proofs.news.take_entry.Goals as goal
 
 pub returns-then-not-fits-clause-takes : goal.returns-then-not-fits-clause-takes

@@ -1,6 +1,6 @@
 use Rattle.std.proofs.Common.{◌<◌, ◌≤◌, ◌-◌, subst, arith}
 use Rattle.store_machine.specs.Telling.{Takes, due_at, dues_at}
-use Rattle.store_machine.proofs.Taking.{bytes_first, dues_end, dues_step, takes_end, takes_first, takes_next, takes_stop}
+use Rattle.store_machine.proofs.TakingLemmas.{bytes_first, dues_end, dues_step, takes_end, takes_first, takes_next, takes_stop}
 use Rattle.store_machine.proofs.news.take_from.Goals as goal
 
 pub loop-from-init : goal.loop-from-init

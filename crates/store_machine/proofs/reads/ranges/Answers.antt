@@ -3,7 +3,7 @@ use Rattle.std.proofs.lemmas.Grind.{common_steps}
 use Rattle.store_machine.specs.declared.call.Reply.TheVariants as replied
 use Rattle.store_machine.specs.declared.reads.Room.{Room}
 use Rattle.store_machine.specs.Reads.{behind, ranged, whole_room}
-use Rattle.store_machine.proofs.Reading.{nothing-behind, ranges-done}
+use Rattle.store_machine.proofs.ReadingLemmas.{nothing-behind, ranges-done}
 use Rattle.store_machine.proofs.reads.ranges.Goals as goal
 
 pub loop-ask-init : goal.loop-ask-init

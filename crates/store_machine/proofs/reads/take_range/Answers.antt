@@ -2,7 +2,7 @@ use Rattle.std.proofs.Common.{rules, ◌≡◌, ◌∙◌, Err, FitsSigned, w64}
 use Rattle.std.proofs.lemmas.Int.{to_z-of_z}
 use Rattle.channel_store.specs.Store.{range_of}
 use Rattle.channel_store.specs.Told.{sized}
-use Rattle.store_machine.proofs.Reading.{joins-refused}
+use Rattle.store_machine.proofs.ReadingLemmas.{joins-refused}
 use Rattle.store_machine.proofs.reads.take_range.Goals as goal
 
 pub returns-in_ok-refusal_code-in-Err-clause-joins : goal.returns-in_ok-refusal_code-in-Err-clause-joins

@@ -1,4 +1,4 @@
-use Rattle.store_machine.proofs.Reading.{joins-full, joins-pushed}
+use Rattle.store_machine.proofs.ReadingLemmas.{joins-full, joins-pushed}
 use Rattle.store_machine.proofs.reads.take_sized.Goals as goal
 
 pub returns-in_default-clause-joins : goal.returns-in_default-clause-joins

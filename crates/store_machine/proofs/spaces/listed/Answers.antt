@@ -2,7 +2,7 @@ use Rattle.std.specs.Prelude.{filter, ◌≡◌}
 use Rattle.std.proofs.Common.{rules, ap, ◌∙◌}
 use Rattle.std.proofs.lemmas.Fn.{filter_same}
 use Rattle.store_machine.specs.Dataspaces.{is_newer}
-use Rattle.store_machine.proofs.Standing.{stands-is}
+use Rattle.store_machine.proofs.StandingLemmas.{stands-is}
 use Rattle.store_machine.proofs.spaces.listed.Goals as goal
 
 pub returns : goal.returns

@@ -5,7 +5,7 @@ use Rattle.std.specs.List.Sorted.{IsSortedBy}
 use Rattle.std.proofs.lemmas.List.MinMax.{ranks_by}
 use Rattle.std.proofs.lemmas.Fn.{always_returns_same}
 use Rattle.object_store.specs.declared.records.SpaceRecord.{SpaceRecord}
-use Rattle.store_machine.proofs.Sorting.{stands-sorted}
+use Rattle.store_machine.proofs.SortingLemmas.{stands-sorted}
 use Rattle.store_machine.proofs.spaces.sorted.Goals as goal
 
 pub returns : goal.returns

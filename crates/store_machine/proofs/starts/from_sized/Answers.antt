@@ -3,7 +3,7 @@ use Rattle.std.proofs.lemmas.Int.{to_z-of_z}
 use Rattle.channel_store.specs.Refusals.{channel_at}
 use Rattle.channel_store.specs.Store.{tail_of}
 use Rattle.store_machine.specs.declared.call.StartReply.TheVariants.{From}
-use Rattle.store_machine.proofs.Beginning.{room_left, start_fits, start_full}
+use Rattle.store_machine.proofs.BeginningLemmas.{room_left, start_fits, start_full}
 use Rattle.store_machine.proofs.starts.from_sized.Goals as goal
 
 pub returns-in_default-clause-reply : goal.returns-in_default-clause-reply

@@ -4,7 +4,7 @@ use Rattle.std.proofs.Common.{w64}
 use Rattle.channel_store.specs.Refusals.{channel_at}
 use Rattle.channel_store.specs.Store.{tail_of}
 use Rattle.channel_store.specs.Told.{sized}
-use Rattle.store_machine.proofs.Beginning.{tail_there}
+use Rattle.store_machine.proofs.BeginningLemmas.{tail_there}
 use Rattle.store_machine.proofs.starts.from_start.Goals as goal
 
 pub returns-in-Err-clause-reply : goal.returns-in-Err-clause-reply

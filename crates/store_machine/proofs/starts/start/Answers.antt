@@ -2,7 +2,7 @@ use Rattle.std.proofs.Common.{◌≡◌, ◌∙◌, sym, ap, subst, IfOk, is_som
 use Rattle.std.proofs.lemmas.Int.{to_z-of_z}
 use Rattle.channel_store.specs.Refusals.{channel_at, points_at}
 use Rattle.store_machine.specs.Starts.{begun, start_of}
-use Rattle.store_machine.proofs.Beginning.{begun_nowhere, begun_there, begun_wrong, ended_at}
+use Rattle.store_machine.proofs.BeginningLemmas.{begun_nowhere, begun_there, begun_wrong, ended_at}
 use Rattle.store_machine.proofs.starts.start.Goals as goal
 
 pub returns-then-not-has-clause-reply : goal.returns-then-not-has-clause-reply

@@ -2,7 +2,7 @@ use Rattle.std.proofs.Common.{subst}
 use Rattle.std.specs.Prelude.{ℕ, IfSome}
 use Rattle.std.specs.declared.option.Option.{Option}
 use Rattle.store_machine.specs.Legal.{IsNext}
-use Rattle.store_machine.proofs.Numbers.{may_ask}
+use Rattle.store_machine.proofs.NumberLemmas.{may_ask}
 use Rattle.store_samples.proofs.sessions.ask.Goals as goal
 
 pub ask-requires : goal.ask-requires

@@ -1,7 +1,7 @@
 use Rattle.std.proofs.Common.{refl}
 use Rattle.tool_forms.specs.Replay.{replay_plan}
 use Rattle.capture_listing.specs.Listing.{show_plan, check_plan}
-use Rattle.tool_forms.proofs.Replaying.{replay_forward}
+use Rattle.tool_forms.proofs.ReplayingLemmas.{replay_forward}
 use Rattle.tool_forms.proofs.laws.input_has_one_answer.Goals as goal
 
 pub returns : goal.returns

@@ -1,4 +1,4 @@
-use Rattle.tool_forms.proofs.Soundness.{Laws}
+use Rattle.tool_forms.proofs.SoundnessLemmas.{Laws}
 use Rattle.tool_forms.proofs.TagRunLemmas.{play_is_runs}
 use Rattle.tool_forms.proofs.laws.tags_are_runs.Goals as goal
 

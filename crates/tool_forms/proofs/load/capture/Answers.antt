@@ -2,7 +2,7 @@ use Rattle.std.proofs.Common.{◌++◌}
 use Rattle.etp_capture.specs.Capture.{frames_bytes}
 use Rattle.etp_capture.specs.Frames.{magic}
 use Rattle.generator.specs.Generator.{frames}
-use Rattle.tool_forms.proofs.Telling.{tells, no_usage, no_read_fault, write_fault}
+use Rattle.tool_forms.proofs.TellingLemmas.{tells, no_usage, no_read_fault, write_fault}
 use Rattle.tool_forms.proofs.load.capture.Goals as goal
 
 pub returns-clause-told : goal.returns-clause-told

@@ -1,7 +1,7 @@
 use Rattle.std.proofs.Common.{List, ℕ, ◌∙◌, subst}
 use Rattle.gathered_text.specs.Writing.{Writes}
 use Rattle.tool_forms.specs.Summary.{summary}
-use Rattle.tool_forms.proofs.Telling.{tells, no_usage, no_read_fault, write_fault, unwritten}
+use Rattle.tool_forms.proofs.TellingLemmas.{tells, no_usage, no_read_fault, write_fault, unwritten}
 use Rattle.tool_forms.proofs.load.generate.Goals as goal
 
 pub returns-in-Ok-clause-told : goal.returns-in-Ok-clause-told

@@ -1,9 +1,9 @@
 use Rattle.std.proofs.Common.{◌≡◌, ◌<◌, ◌^◌, ◌+◌, ◌∷◌, [], Bool, not, length, ap, arith, rules, subst}
 use Rattle.generator.specs.Generator.{frames}
-use Rattle.generator.proofs.Given.{none_given, two_given}
+use Rattle.generator.proofs.GivenLemmas.{none_given, two_given}
 use Rattle.tool_forms.specs.Loads.{IsAt}
 use Rattle.tool_forms.specs.Play.{play_from}
-use Rattle.tool_forms.proofs.Loading.{left_more, left_none, left_refused, room_first, room_less, room_two}
+use Rattle.tool_forms.proofs.LoadingLemmas.{left_more, left_none, left_refused, room_first, room_less, room_two}
 use Rattle.tool_forms.proofs.load.play_load.Goals as goal
 
 pub loop-two-init : goal.loop-two-init

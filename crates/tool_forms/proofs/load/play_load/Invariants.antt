@@ -5,7 +5,7 @@ use Rattle.load_forms.specs.Tally.{nothing_sent, HasRoom}
 use Rattle.tool_forms.specs.Play.{Played, play_from}
 use Rattle.tool_forms.specs.Sound.{IsSound}
 use Rattle.tool_forms.specs.Loads.{IsAt}
-use Rattle.tool_forms.proofs.Loading.{Left}
+use Rattle.tool_forms.proofs.LoadingLemmas.{Left}
 use Rattle.tool_forms.proofs.load.play_load.Given as goal
 
 abbrev pub invariant-loop-two : goal.invariant-loop-two

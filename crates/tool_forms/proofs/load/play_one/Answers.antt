@@ -1,4 +1,4 @@
-use Rattle.tool_forms.proofs.Loading.{one_counted}
+use Rattle.tool_forms.proofs.LoadingLemmas.{one_counted}
 use Rattle.std.proofs.Common.{List, ap, ◌∙◌}
 use Rattle.etp_capture.specs.declared.frame.Frame.{Frame}
 use Rattle.load_forms.specs.Tally.{plus, tally}

@@ -2,7 +2,7 @@ use Rattle.std.proofs.Common.{◌+◌, Bool, not, arith, subst}
 use Rattle.tool_forms.specs.Loads.{IsAt}
 use Rattle.tool_forms.specs.Play.{happens}
 use Rattle.tool_forms.specs.declared.load.Counted.{Counted}
-use Rattle.tool_forms.proofs.Loading.{room_less, second_counted, second_room, stays_refused}
+use Rattle.tool_forms.proofs.LoadingLemmas.{room_less, second_counted, second_room, stays_refused}
 use Rattle.tool_forms.proofs.load.play_two.Goals as goal
 
 pub play_one-requires-clause-room : goal.play_one-requires-clause-room

@@ -1,7 +1,7 @@
 use Rattle.std.proofs.Common.{◌∙◌, ap}
 use Rattle.generator.specs.Channels.{generator_config}
 use Rattle.tool_forms.specs.Play.{first, first_world}
-use Rattle.tool_forms.proofs.Loading.{first_at, summary_is}
+use Rattle.tool_forms.proofs.LoadingLemmas.{first_at, summary_is}
 use Rattle.tool_forms.proofs.load.summary.Goals as goal
 
 pub returns : goal.returns

@@ -11,8 +11,8 @@ use Rattle.tool_forms.specs.declared.tag.OpenSession.{OpenSession}
 use Rattle.tool_forms.specs.Plays.{Meets}
 use Rattle.tool_forms.specs.Turns.{effect_open}
 use Rattle.tool_forms.specs.Sound.{FitsOpen}
-use Rattle.tool_forms.proofs.Entering.{place_is, meets_new, meets_full}
-use Rattle.tool_forms.proofs.Soundness.{enter_next}
+use Rattle.tool_forms.proofs.EnteringLemmas.{place_is, meets_new, meets_full}
+use Rattle.tool_forms.proofs.SoundnessLemmas.{enter_next}
 use Rattle.tool_forms.proofs.turns.enter.Goals as goal
 
 pub play_open-requires : goal.play_open-requires

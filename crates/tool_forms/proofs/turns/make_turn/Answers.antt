@@ -3,7 +3,7 @@ use Rattle.std.specs.Prelude.{IfSome}
 use Rattle.std.specs.declared.option.Option.{Option}
 use Rattle.store_machine.specs.declared.call.StoreCall.{StoreCall}
 use Rattle.session_core.specs.Run.{Asks}
-use Rattle.tool_forms.proofs.Growth.{own_fits}
+use Rattle.tool_forms.proofs.GrowthLemmas.{own_fits}
 use Rattle.tool_forms.proofs.turns.make_turn.Goals as goal
 
 -- the own entries are no more than all, and the journal's length is a number of the machine

@@ -1,4 +1,4 @@
-use Rattle.tool_forms.proofs.Entering.{meets_ended}
+use Rattle.tool_forms.proofs.EnteringLemmas.{meets_ended}
 use Rattle.tool_forms.proofs.turns.play_open.Goals as goal
 
 pub returns-then-frame-eq-END-clause-effect : goal.returns-then-frame-eq-END-clause-effect

@@ -2,7 +2,7 @@ use Rattle.std.proofs.Common.{◌≡◌, ◌++◌, ◌∙◌, ap, sym, subst, So
 use Rattle.session_core.specs.Session.{end_of}
 use Rattle.tool_forms.specs.Turns.{messages}
 use Rattle.tool_forms.specs.declared.tag.OpenSession.{OpenSession}
-use Rattle.tool_forms.proofs.Entering.{meets_closed}
+use Rattle.tool_forms.proofs.EnteringLemmas.{meets_closed}
 use Rattle.tool_forms.proofs.turns.settle.Goals as goal
 
 pub returns-in_ok-push_end-in-Some : goal.returns-in_ok-push_end-in-Some

@@ -1,4 +1,4 @@
-use Rattle.turn_book.proofs.Kept.{turn_with_one}
+use Rattle.turn_book.proofs.KeptLemmas.{turn_with_one}
 use Rattle.turn_book.proofs.laws.turn_is_with_one.Goals as goal
 
 pub returns : goal.returns

@@ -3,7 +3,7 @@ use Rattle.std.proofs.lemmas.Grind.{flat_map-append}
 use Rattle.std.specs.List.{flat_map}
 use Rattle.avro_bin.specs.Plain.{Writes}
 use Rattle.capture_text.specs.Points.{point_line}
-use Rattle.capture_text.proofs.Writing.{writes_after}
+use Rattle.capture_text.proofs.WritingLemmas.{writes_after}
 use Rattle.watch_views.proofs.window.put_ring.Goals as goal
 
 pub returns : goal.returns

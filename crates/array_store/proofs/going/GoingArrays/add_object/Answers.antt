@@ -6,7 +6,7 @@ use Rattle.indexmap.specs.IndexSet.{spare}
 use Rattle.etp_values.specs.SameUri.{same_uri}
 use Rattle.array_store.specs.Going.{Going, goes}
 use Rattle.array_store.specs.Table.{is_of_object}
-use Rattle.array_store.proofs.Gathered.{took-too, of-done}
+use Rattle.array_store.proofs.GatheredLemmas.{took-too, of-done}
 use Rattle.array_store.proofs.going.GoingArrays.add_object.Goals as goal
 
 pub returns-clause-each : goal.returns-clause-each

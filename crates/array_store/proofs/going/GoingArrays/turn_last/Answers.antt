@@ -1,4 +1,4 @@
-use Rattle.array_store.proofs.Gathered.{turned}
+use Rattle.array_store.proofs.GatheredLemmas.{turned}
 use Rattle.array_store.proofs.going.GoingArrays.turn_last.Goals as goal
 
 pub returns-clause-each : goal.returns-clause-each

@@ -1,7 +1,7 @@
 use Rattle.std.proofs.Common.{◌∷◌, sym, ap, ◌∙◌, w64}
 use Rattle.std.proofs.lemmas.Int.{to_z-of_z}
 use Rattle.array_store.specs.declared.op.ArrayOp.TheVariants.{PatchArray}
-use Rattle.array_store.proofs.Gathered.{patch-gone, patch-left}
+use Rattle.array_store.proofs.GatheredLemmas.{patch-gone, patch-left}
 use Rattle.array_store.proofs.going.GoingArrays.turn_patch.Goals as goal
 
 pub returns-then-has-clause-each : goal.returns-then-has-clause-each

@@ -1,5 +1,5 @@
 use Rattle.std.proofs.Common.{sym, ◌∙◌}
-use Rattle.array_store.proofs.Gathered.{set-gone, set-left}
+use Rattle.array_store.proofs.GatheredLemmas.{set-gone, set-left}
 use Rattle.array_store.proofs.going.GoingArrays.turn_set.Goals as goal
 
 pub returns-then-has-clause-each : goal.returns-then-has-clause-each

@@ -4,7 +4,7 @@ use Rattle.std.proofs.lemmas.Int.{to_z-of_z}
 use Rattle.array_store.specs.Refusals.{record_refusal}
 use Rattle.array_store.specs.Operations.{Applies}
 use Rattle.array_store.specs.Table.{PatchesAmong}
-use Rattle.array_store.proofs.Applying.{put_done}
+use Rattle.array_store.proofs.ApplyingLemmas.{put_done}
 use Rattle.array_store.proofs.store.ArrayStore.apply_one.Goals as goal
 
 pub returns-in-SetArray-clause-each : goal.returns-in-SetArray-clause-each

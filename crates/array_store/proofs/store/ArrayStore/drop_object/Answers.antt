@@ -1,7 +1,7 @@
 use Rattle.std.proofs.Common.{◌≡◌, cond, None, subst}
 use Rattle.std.specs.Map.{lookup}
 use Rattle.array_store.specs.Table.{same_key, array_in, is_of_object}
-use Rattle.array_store.proofs.Sound.{sound-drop}
+use Rattle.array_store.proofs.SoundLemmas.{sound-drop}
 use Rattle.array_store.proofs.store.ArrayStore.drop_object.Goals as goal
 
 pub invariant_of-self : goal.invariant_of-self

@@ -1,7 +1,7 @@
 use Rattle.std.proofs.Common.{rules, ◌≡◌, Some, subst}
 use Rattle.std.specs.Map.{lookup}
 use Rattle.array_store.specs.contracts.key.ArrayKeyPartialEq.TheImpl.{ghosts}
-use Rattle.array_store.proofs.Keys.{key_test}
+use Rattle.array_store.proofs.KeyLemmas.{key_test}
 use Rattle.array_store.proofs.store.ArrayStore.slice.Goals as goal
 
 pub slice_record-requires : goal.slice_record-requires

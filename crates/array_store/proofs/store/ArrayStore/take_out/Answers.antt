@@ -2,7 +2,7 @@ use Rattle.std.proofs.Common.{ap, ◌∙◌, fold}
 use Rattle.array_store.specs.Going.{goes}
 use Rattle.array_store.specs.Operations.{array_after}
 use Rattle.array_store.specs.Table.{Arrays, array_among, array_in}
-use Rattle.array_store.proofs.Sound.{sound-drop}
+use Rattle.array_store.proofs.SoundLemmas.{sound-drop}
 use Rattle.array_store.proofs.store.ArrayStore.take_out.Goals as goal
 
 pub invariant_of-self : goal.invariant_of-self

@@ -4,7 +4,7 @@ use Rattle.channel_store.specs.Sweeps.{shown_of}
 use Rattle.std.proofs.Common.{map}
 use Rattle.channel_store.specs.Channels.{fresh}
 use Rattle.channel_store.specs.Sweeps.{IsIdle}
-use Rattle.channel_store.proofs.Ended.{is-idle, shown-plain, new-fresh}
+use Rattle.channel_store.proofs.EndedLemmas.{is-idle, shown-plain, new-fresh}
 use Rattle.channel_store.proofs.store.ChannelStore.new.Goals as goal
 
 pub invariant_of-result : goal.invariant_of-result

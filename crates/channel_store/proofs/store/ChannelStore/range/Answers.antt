@@ -6,7 +6,7 @@ use Rattle.std.proofs.lemmas.Int.{ints}
 use Rattle.channel_store.specs.Points.{at_most, inside}
 use Rattle.channel_store.specs.Store.{range_of}
 use Rattle.channel_store.specs.Sweeps.{row_at}
-use Rattle.channel_store.proofs.Looks.{range-ok}
+use Rattle.channel_store.proofs.LookLemmas.{range-ok}
 use Rattle.channel_store.proofs.store.ChannelStore.range.Goals as goal
 
 pub returns : goal.returns

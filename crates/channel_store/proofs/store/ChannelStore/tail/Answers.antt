@@ -4,7 +4,7 @@ use Rattle.std.specs.Option.{option_copied}
 use Rattle.channel_store.specs.Points.{past}
 use Rattle.channel_store.specs.Store.{tail_of}
 use Rattle.channel_store.specs.Sweeps.{row_at}
-use Rattle.channel_store.proofs.Looks.{tail-ok}
+use Rattle.channel_store.proofs.LookLemmas.{tail-ok}
 use Rattle.channel_store.proofs.store.ChannelStore.tail.Goals as goal
 
 pub returns : goal.returns

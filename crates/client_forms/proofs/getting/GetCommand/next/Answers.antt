@@ -5,7 +5,7 @@ use Rattle.client_forms.specs.Jobs.{HasRead, IsGet, stage_of}
 use Rattle.client_forms.specs.Plans.{Waits, standing}
 use Rattle.client_forms.specs.Work.{input, outside, place}
 use Rattle.client_forms.specs.declared.action.Action.TheVariants as action
-use Rattle.client_forms.proofs.Planning.{get_reads, goes_fronts, plan_given}
+use Rattle.client_forms.proofs.PlanningLemmas.{get_reads, goes_fronts, plan_given}
 use Rattle.client_forms.proofs.getting.GetCommand.next.Goals as goal
 
 pub returns-in-Object-clause-plans : goal.returns-in-Object-clause-plans

@@ -5,7 +5,7 @@ use Rattle.client_forms.specs.Jobs.{HasRead, IsPut, stage_of}
 use Rattle.client_forms.specs.Plans.{Waits, standing}
 use Rattle.client_forms.specs.Work.{input, outside, place}
 use Rattle.client_forms.specs.declared.action.Action.TheVariants as action
-use Rattle.client_forms.proofs.Planning.{put_reads, goes_fronts, plan_given}
+use Rattle.client_forms.proofs.PlanningLemmas.{put_reads, goes_fronts, plan_given}
 use Rattle.client_forms.proofs.putting.PutCommand.next.Goals as goal
 
 pub returns-in-Done-clause-plans : goal.returns-in-Done-clause-plans

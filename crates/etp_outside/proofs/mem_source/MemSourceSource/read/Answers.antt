@@ -1,6 +1,6 @@
 use Rattle.std.proofs.Common.{◌≤◌, ◌+◌, ◌∙◌, arith, drop, length, slice_range, ap, sym}
 use Rattle.etp_outside.specs.Input.{Input}
-use Rattle.etp_outside.proofs.Parts.{read_part}
+use Rattle.etp_outside.proofs.PartLemmas.{read_part}
 use Rattle.etp_outside.proofs.mem_source.MemSourceSource.read.Goals as goal
 
 pub returns-clause-bytes : goal.returns-clause-bytes

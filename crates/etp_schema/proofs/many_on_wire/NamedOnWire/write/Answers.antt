@@ -1,7 +1,7 @@
 use Rattle.std.proofs.Common.{◌≡◌, length, arith}
 use Rattle.std.proofs.lemmas.Result.{err_from_is_err_and}
 use Rattle.etp_schema.proofs.ItemLemmas.{no_entries, no_names_hold, no_names_fit, entries_written, named_fits}
-use Rattle.etp_schema.proofs.Parts.{named_holds, on_ok}
+use Rattle.etp_schema.proofs.PartLemmas.{named_holds, on_ok}
 use Rattle.etp_schema.proofs.WritingLemmas.{grown}
 use Rattle.etp_schema.proofs.many_on_wire.NamedOnWire.write.Goals as goal
 

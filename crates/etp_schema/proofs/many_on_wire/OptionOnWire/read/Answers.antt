@@ -1,8 +1,8 @@
 use Rattle.std.proofs.Common.{◌∙◌, Some, ap, sym}
 use Rattle.std.proofs.lemmas.Result.{err_from_is_err_and}
 use Rattle.avro_bin.specs.Along.{along, seen}
-use Rattle.avro_bin.proofs.Passing.{Fails-along}
-use Rattle.avro_bin.proofs.Steps.{Fails-same}
+use Rattle.avro_bin.proofs.PassingLemmas.{Fails-along}
+use Rattle.avro_bin.proofs.StepLemmas.{Fails-same}
 use Rattle.etp_schema.proofs.ItemLemmas.{option_some}
 use Rattle.etp_schema.proofs.many_on_wire.OptionOnWire.read.Goals as goal
 

@@ -1,4 +1,4 @@
-use Rattle.etp_schema.proofs.Parts.{none_holds, some_holds, on_ok, on_ok_by}
+use Rattle.etp_schema.proofs.PartLemmas.{none_holds, some_holds, on_ok, on_ok_by}
 use Rattle.etp_schema.proofs.many_on_wire.OptionOnWire.write.Goals as goal
 
 pub returns-in-None-clause-typed : goal.returns-in-None-clause-typed

@@ -1,4 +1,4 @@
-use Rattle.avro_bin.proofs.Steps.{place_below}
+use Rattle.avro_bin.proofs.StepLemmas.{place_below}
 use Rattle.etp_schema.proofs.reader.Reader.place.Goals as goal
 
 pub returns-clause-below : goal.returns-clause-below

@@ -6,7 +6,7 @@ use Rattle.std.specs.List.Sorted.{IsSortedBy}
 use Rattle.std.proofs.lemmas.List.MinMax.{ranks_by}
 use Rattle.std.proofs.lemmas.Fn.{always_returns_same}
 use Rattle.etp_values.specs.Named.{StandsStill}
-use Rattle.etp_values.proofs.Repeats.{repeats}
+use Rattle.etp_values.proofs.RepeatLemmas.{repeats}
 use Rattle.etp_values.proofs.named.Named.from_pairs.Goals as goal
 
 pub returns-else-rises : goal.returns-else-rises

@@ -1,4 +1,4 @@
-use Rattle.etp_values.proofs.UriGrammar.{uri_of-long, read_body_gives, read_prefix_gives, read_form}
+use Rattle.etp_values.proofs.UriGrammarLemmas.{uri_of-long, read_body_gives, read_prefix_gives, read_form}
 use Rattle.etp_values.proofs.uri.StoreUri.read.Goals as goal
 
 pub returns-then-text-gt-MAX_URI_LEN-clause-said : goal.returns-then-text-gt-MAX_URI_LEN-clause-said

@@ -1,6 +1,6 @@
 use Rattle.std.proofs.Common.{rules, ap, ◌≡◌, ◌↔◌, IsTrue}
 use Rattle.etp_values.specs.Uri.{plain_uri}
-use Rattle.etp_values.proofs.UriGrammar.{plain_uri-once}
+use Rattle.etp_values.proofs.UriGrammarLemmas.{plain_uri-once}
 use Rattle.etp_values.proofs.uri.StoreUri.same.Goals as goal
 
 pub returns-clause-texts : goal.returns-clause-texts

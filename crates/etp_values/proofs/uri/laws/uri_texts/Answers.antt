@@ -1,4 +1,4 @@
-use Rattle.etp_values.proofs.UriGrammar.{uri_of-says, uri_of-text, uri_of-plain_uri, plain_uri-once}
+use Rattle.etp_values.proofs.UriGrammarLemmas.{uri_of-says, uri_of-text, uri_of-plain_uri, plain_uri-once}
 use Rattle.etp_values.proofs.uri.laws.uri_texts.Goals as goal
 
 pub returns-clause-said : goal.returns-clause-said

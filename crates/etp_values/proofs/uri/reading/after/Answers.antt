@@ -1,4 +1,4 @@
-use Rattle.etp_values.proofs.UriParts.{after_gives}
+use Rattle.etp_values.proofs.UriPartLemmas.{after_gives}
 use Rattle.etp_values.proofs.uri.reading.after.Goals as goal
 
 pub returns : goal.returns

@@ -1,4 +1,4 @@
-use Rattle.etp_values.proofs.UriParts.{parted_gives}
+use Rattle.etp_values.proofs.UriPartLemmas.{parted_gives}
 use Rattle.etp_values.proofs.uri.reading.parted.Goals as goal
 
 pub returns : goal.returns

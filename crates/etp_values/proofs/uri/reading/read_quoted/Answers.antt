@@ -1,6 +1,6 @@
 use Rattle.std.proofs.Common.{rules, lit<, ◌++◌, ◌∷◌, [], ℕ, List, Some, None, ap, ◌∙◌, string_bytes}
 use Rattle.std.proofs.lemmas.Str.Pattern.{strip_prefix_char}
-use Rattle.etp_values.proofs.UriParts.{IsParted, quoted_end, quoted_more, quoted_none, parts_round, no_parts}
+use Rattle.etp_values.proofs.UriPartLemmas.{IsParted, quoted_end, quoted_more, quoted_none, parts_round, no_parts}
 use Rattle.etp_values.proofs.uri.reading.read_quoted.Goals as goal
 
 pub returns-in_default-strip_prefix : goal.returns-in_default-strip_prefix

@@ -2,7 +2,7 @@ use Rattle.std.proofs.Common.{◌≡◌, option_map, false, length}
 use Rattle.std.specs.String.{string_bytes}
 use Rattle.std.specs.Str.{IsUtf8}
 use Rattle.etp_values.specs.Uri.{unquoted}
-use Rattle.etp_values.proofs.UriParts.{behind_piece}
+use Rattle.etp_values.proofs.UriPartLemmas.{behind_piece}
 use Rattle.etp_values.proofs.uri.reading.read_quoted.Given as goal
 
 abbrev pub invariant-loop-piece : goal.invariant-loop-piece

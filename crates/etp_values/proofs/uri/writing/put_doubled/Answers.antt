@@ -1,5 +1,5 @@
 use Rattle.std.proofs.Common.{rules, lit<, ◌++◌, ◌∷◌, [], ℕ, List, ap, ◌∙◌, sym, string_bytes}
-use Rattle.etp_values.proofs.UriParts.{IsParted, put_piece, doubled_plain, parts_round, no_parts}
+use Rattle.etp_values.proofs.UriPartLemmas.{IsParted, put_piece, doubled_plain, parts_round, no_parts}
 use Rattle.etp_values.proofs.uri.writing.put_doubled.Goals as goal
 
 pub loop-piece-preserved : goal.loop-piece-preserved

@@ -1,5 +1,5 @@
 use Rattle.std.proofs.Common.{string_bytes, sym, ◌∙◌}
-use Rattle.etp_values.proofs.UriParts.{space_pieces}
+use Rattle.etp_values.proofs.UriPartLemmas.{space_pieces}
 use Rattle.etp_values.proofs.uri.writing.put_space.Goals as goal
 
 pub returns : goal.returns

@@ -1,4 +1,4 @@
-use Rattle.keyed_requests.proofs.Split.{split-front, split-rest}
+use Rattle.keyed_requests.proofs.SplitLemmas.{split-front, split-rest}
 use Rattle.keyed_requests.proofs.request.Findings.split.Goals as goal
 
 pub loop-i-preserved : goal.loop-i-preserved

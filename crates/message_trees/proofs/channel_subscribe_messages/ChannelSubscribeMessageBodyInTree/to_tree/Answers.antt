@@ -3,7 +3,7 @@ use Rattle.std.proofs.Common.{sym, subst}
 use Rattle.avro_bin.specs.Shape.{HasSchema}
 use Rattle.msg_channel.specs.ChannelSubscribe.{channel_subscribe_body, range_replaced_form}
 use Rattle.msg_channel.specs.declared.channel_subscribe_messages.ChannelSubscribeMessage.{ChannelSubscribeMessage}
-use Rattle.etp_schema.proofs.Parts.{typed_as}
+use Rattle.etp_schema.proofs.PartLemmas.{typed_as}
 use Rattle.message_trees.proofs.channel_subscribe_messages.ChannelSubscribeMessageBodyInTree.to_tree.Goals as goal
 
 pub returns-in-RangeReplaced-clause-typed : goal.returns-in-RangeReplaced-clause-typed

@@ -3,7 +3,7 @@ use Rattle.avro_bin.specs.View.{value_of}
 use Rattle.etp_values.specs.declared.data.DataValue.TheVariants.{AnySparseArray}
 use Rattle.etp_schema.specs.Form.{branch_in, chosen_in, fields_in, first}
 use Rattle.etp_schema.specs.AnyArray.{array_of, any_subarray_form}
-use Rattle.message_trees.proofs.LastKind.{last_kind}
+use Rattle.message_trees.proofs.LastKindLemmas.{last_kind}
 use Rattle.message_trees.proofs.data.DataValueInTree.from_tree.Goals as goal
 
 pub returns-in_ok-unwrapped-in_default : goal.returns-in_ok-unwrapped-in_default

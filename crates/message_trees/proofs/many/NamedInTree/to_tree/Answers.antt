@@ -1,4 +1,4 @@
-use Rattle.etp_schema.proofs.Parts.{named_holds}
+use Rattle.etp_schema.proofs.PartLemmas.{named_holds}
 use Rattle.message_trees.proofs.many.NamedInTree.to_tree.Goals as goal
 
 pub returns-clause-typed : goal.returns-clause-typed

@@ -1,4 +1,4 @@
-use Rattle.etp_schema.proofs.Parts.{none_holds, some_holds}
+use Rattle.etp_schema.proofs.PartLemmas.{none_holds, some_holds}
 use Rattle.message_trees.proofs.many.OptionInTree.to_tree.Goals as goal
 
 pub returns-in_ok-new-in-None-clause-typed : goal.returns-in_ok-new-in-None-clause-typed

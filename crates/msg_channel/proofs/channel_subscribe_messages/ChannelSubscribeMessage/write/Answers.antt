@@ -4,7 +4,7 @@ use Rattle.avro_bin.specs.Plain.{plain, Writes}
 use Rattle.avro_bin.specs.Shape.{HasSchema, FitsTree}
 use Rattle.msg_channel.specs.ChannelSubscribe.{channel_subscribe_body, range_replaced_form}
 use Rattle.msg_channel.specs.declared.channel_subscribe_messages.ChannelSubscribeMessage.{ChannelSubscribeMessage}
-use Rattle.etp_schema.proofs.Parts.{typed_as}
+use Rattle.etp_schema.proofs.PartLemmas.{typed_as}
 use Rattle.msg_channel.proofs.channel_subscribe_messages.ChannelSubscribeMessage.write.Goals as goal
 
 pub returns-in-RangeReplaced-clause-written : goal.returns-in-RangeReplaced-clause-written

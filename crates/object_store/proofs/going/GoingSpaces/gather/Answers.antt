@@ -1,5 +1,5 @@
 use Rattle.std.proofs.Common.{rules}
-use Rattle.object_store.proofs.Gathered.{gathering-first}
+use Rattle.object_store.proofs.GatheredLemmas.{gathering-first}
 use Rattle.object_store.proofs.going.GoingSpaces.gather.Goals as goal
 
 pub loop-n-init : goal.loop-n-init

@@ -1,4 +1,4 @@
-use Rattle.object_store.proofs.Gathered.{turned}
+use Rattle.object_store.proofs.GatheredLemmas.{turned}
 use Rattle.object_store.proofs.going.GoingSpaces.turn_last.Goals as goal
 
 pub returns-clause-each : goal.returns-clause-each

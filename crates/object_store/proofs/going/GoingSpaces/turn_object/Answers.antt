@@ -1,5 +1,5 @@
 use Rattle.std.proofs.Common.{rules}
-use Rattle.object_store.proofs.Gathered.{object-gone, object-left}
+use Rattle.object_store.proofs.GatheredLemmas.{object-gone, object-left}
 use Rattle.object_store.proofs.going.GoingSpaces.turn_object.Goals as goal
 
 pub returns-then-has-clause-each : goal.returns-then-has-clause-each

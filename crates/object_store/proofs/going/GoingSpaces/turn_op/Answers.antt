@@ -1,6 +1,6 @@
 use Rattle.std.proofs.Common.{sym, subst}
 use Rattle.object_store.specs.Going.{Turns}
-use Rattle.object_store.proofs.Gathered.{drop-gone, removal-left}
+use Rattle.object_store.proofs.GatheredLemmas.{drop-gone, removal-left}
 use Rattle.object_store.proofs.going.GoingSpaces.turn_op.Goals as goal
 
 pub returns-in-DropSpace-clause-each : goal.returns-in-DropSpace-clause-each

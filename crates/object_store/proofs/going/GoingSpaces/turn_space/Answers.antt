@@ -1,5 +1,5 @@
 use Rattle.std.proofs.Common.{rules}
-use Rattle.object_store.proofs.Gathered.{space-gone, space-left}
+use Rattle.object_store.proofs.GatheredLemmas.{space-gone, space-left}
 use Rattle.object_store.proofs.going.GoingSpaces.turn_space.Goals as goal
 
 pub returns-then-has-clause-each : goal.returns-then-has-clause-each

@@ -1,6 +1,6 @@
 use Rattle.std.proofs.Common.{◌∙◌, subst}
 use Rattle.object_store.specs.Tables.{ListsSpaces}
-use Rattle.object_store.proofs.Listed.{lists_spaces}
+use Rattle.object_store.proofs.ListedLemmas.{lists_spaces}
 use Rattle.object_store.proofs.store.ObjectStore.spaces.Goals as goal
 
 pub returns : goal.returns

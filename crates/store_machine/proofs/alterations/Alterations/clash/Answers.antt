@@ -1,6 +1,6 @@
 use Rattle.std.proofs.Common.{sym, ◌∙◌}
 use Rattle.store_machine.specs.Clash.{least}
-use Rattle.store_machine.proofs.Marked.{clash-is}
+use Rattle.store_machine.proofs.MarkedLemmas.{clash-is}
 use Rattle.store_machine.proofs.alterations.Alterations.clash.Goals as goal
 
 pub returns : goal.returns

@@ -1,7 +1,7 @@
 use Rattle.std.proofs.Common.{arith, ap, sym, ◌∙◌, ◌≡◌, ◌∷◌, ◌+◌, [], drop}
 use Rattle.std.proofs.lemmas.Grind.{common_steps}
 use Rattle.store_machine.specs.Clash.{conflict, least}
-use Rattle.store_machine.proofs.Marked.{conflict-step, least-none}
+use Rattle.store_machine.proofs.MarkedLemmas.{conflict-step, least-none}
 use Rattle.store_machine.proofs.alterations.Alterations.conflict.Goals as goal
 
 pub loop-touch-init : goal.loop-touch-init

@@ -1,4 +1,4 @@
-use Rattle.store_machine.proofs.Marked.{marks-first}
+use Rattle.store_machine.proofs.MarkedLemmas.{marks-first}
 use Rattle.store_machine.proofs.alterations.Alterations.new.Goals as goal
 
 pub returns : goal.returns

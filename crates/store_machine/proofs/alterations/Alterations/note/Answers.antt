@@ -1,4 +1,4 @@
-use Rattle.store_machine.proofs.Marked.{marks-step}
+use Rattle.store_machine.proofs.MarkedLemmas.{marks-step}
 use Rattle.store_machine.proofs.alterations.Alterations.note.Goals as goal
 
 pub returns : goal.returns

@@ -1,5 +1,5 @@
 use Rattle.std.proofs.Common.{◌∙◌}
-use Rattle.store_machine.proofs.Marked.{finds-own}
+use Rattle.store_machine.proofs.MarkedLemmas.{finds-own}
 use Rattle.store_machine.proofs.alterations.Alterations.own_first.Goals as goal
 
 pub returns : goal.returns

@@ -1,5 +1,5 @@
 use Rattle.std.proofs.Common.{◌∙◌}
-use Rattle.store_machine.proofs.Marked.{finds-whole}
+use Rattle.store_machine.proofs.MarkedLemmas.{finds-whole}
 use Rattle.store_machine.proofs.alterations.Alterations.removed_first.Goals as goal
 
 pub returns : goal.returns

@@ -1,5 +1,5 @@
 use Rattle.std.proofs.Common.{refl}
-use Rattle.store_machine.proofs.Marked.{marks-same}
+use Rattle.store_machine.proofs.MarkedLemmas.{marks-same}
 use Rattle.store_machine.proofs.alterations.Alterations.reserve.Goals as goal
 
 pub returns-in_err-reserve-clause-marks : goal.returns-in_err-reserve-clause-marks

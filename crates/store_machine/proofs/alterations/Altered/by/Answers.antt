@@ -1,7 +1,7 @@
 use Rattle.std.proofs.Common.{sym, subst, ℤ, IfOk, map}
 use Rattle.store_machine.specs.History.{DropSpace, Operate, changes_by}
 use Rattle.store_machine.specs.Marking.{Alters}
-use Rattle.store_machine.proofs.Marked.{at-all}
+use Rattle.store_machine.proofs.MarkedLemmas.{at-all}
 use Rattle.store_machine.proofs.alterations.Altered.by.Goals as goal
 
 pub returns-in-Enter : goal.returns-in-Enter

@@ -1,7 +1,7 @@
 use Rattle.std.proofs.Common.{sym, subst, map}
 use Rattle.store_machine.specs.History.{DropSpace}
 use Rattle.store_machine.specs.Marking.{Alters}
-use Rattle.store_machine.proofs.Marked.{keys-dropped}
+use Rattle.store_machine.proofs.MarkedLemmas.{keys-dropped}
 use Rattle.store_machine.proofs.alterations.Altered.by_drops.Goals as goal
 
 pub returns : goal.returns

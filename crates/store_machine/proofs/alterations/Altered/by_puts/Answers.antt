@@ -2,7 +2,7 @@ use Rattle.std.proofs.Common.{arith, sym, subst, ◌≡◌, [], map}
 use Rattle.std.proofs.lemmas.Grind.{common_steps}
 use Rattle.store_machine.specs.History.{set_space}
 use Rattle.store_machine.specs.Marking.{Alters}
-use Rattle.store_machine.proofs.Marked.{keys-put}
+use Rattle.store_machine.proofs.MarkedLemmas.{keys-put}
 use Rattle.store_machine.proofs.alterations.Altered.by_puts.Goals as goal
 
 pub returns : goal.returns

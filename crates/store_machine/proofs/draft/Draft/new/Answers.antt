@@ -1,4 +1,4 @@
-use Rattle.store_machine.proofs.Judging.{plans-first}
+use Rattle.store_machine.proofs.JudgingLemmas.{plans-first}
 use Rattle.store_machine.proofs.draft.Draft.new.Goals as goal
 
 pub returns-clause-plan : goal.returns-clause-plan

@@ -2,7 +2,7 @@ use Rattle.std.proofs.Common.{arith, ap, sym, append-nil, ◌∙◌, ◌≡◌, 
 use Rattle.std.proofs.lemmas.Grind.{common_steps}
 use Rattle.store_machine.specs.declared.call.Reply.TheVariants as replied
 use Rattle.store_machine.specs.Clash.{conflict}
-use Rattle.store_machine.proofs.Committing.{commit-conflicts}
+use Rattle.store_machine.proofs.CommittingLemmas.{commit-conflicts}
 use Rattle.store_machine.proofs.store.Store.commit.Goals as goal
 
 pub returns-in-Some-clause-answer : goal.returns-in-Some-clause-answer

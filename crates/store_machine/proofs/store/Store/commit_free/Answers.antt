@@ -11,8 +11,8 @@ use Rattle.store_machine.specs.History.{Operate, changes_of}
 use Rattle.store_machine.specs.Legal.{IsNext}
 use Rattle.store_machine.specs.Kept.{Keeps, Plans}
 use Rattle.store_machine.specs.Marking.{Marks}
-use Rattle.store_machine.proofs.Committing.{commit-done, commit-empty, commit-full, empty-is, granted-whole, some-is}
-use Rattle.store_machine.proofs.Lawful.{keeps-commit, keeps-kept, no_room, with_room}
+use Rattle.store_machine.proofs.CommittingLemmas.{commit-done, commit-empty, commit-full, empty-is, granted-whole, some-is}
+use Rattle.store_machine.proofs.LawfulLemmas.{keeps-commit, keeps-kept, no_room, with_room}
 use Rattle.store_machine.proofs.store.Store.commit_free.Goals as goal
 
 pub add_entry-requires : goal.add_entry-requires

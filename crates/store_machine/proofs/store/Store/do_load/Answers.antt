@@ -4,9 +4,9 @@ use Rattle.store_machine.specs.Answers.{has_room_for}
 use Rattle.store_machine.specs.Counted.{counted, counted_act}
 use Rattle.store_machine.specs.Legal.{IsNext}
 use Rattle.store_machine.specs.Loads.{load_act}
-use Rattle.store_machine.proofs.Channeled.{next-is_new}
-use Rattle.store_machine.proofs.Lawful.{keeps-kept}
-use Rattle.store_machine.proofs.Loading.{load-kept, load-left}
+use Rattle.store_machine.proofs.ChanneledLemmas.{next-is_new}
+use Rattle.store_machine.proofs.LawfulLemmas.{keeps-kept}
+use Rattle.store_machine.proofs.LoadingLemmas.{load-kept, load-left}
 use Rattle.store_machine.proofs.store.Store.do_load.Goals as goal
 
 pub add_load-requires : goal.add_load-requires

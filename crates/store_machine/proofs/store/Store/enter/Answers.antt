@@ -6,7 +6,7 @@ use Rattle.store_machine.specs.declared.journal.Act.TheVariants.{Enter}
 use Rattle.store_machine.specs.Counted.{bytes_with}
 use Rattle.store_machine.specs.Answers.{entries_of}
 use Rattle.store_machine.specs.Kept.{Keeps}
-use Rattle.store_machine.proofs.Lawful.{keeps-enter, keeps-kept, with_room}
+use Rattle.store_machine.proofs.LawfulLemmas.{keeps-enter, keeps-kept, with_room}
 use Rattle.store_machine.proofs.store.Store.enter.Goals as goal
 
 pub invariant_of-self : goal.invariant_of-self

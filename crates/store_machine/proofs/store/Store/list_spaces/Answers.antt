@@ -3,7 +3,7 @@ use Rattle.std.proofs.lemmas.Grind.{common_steps}
 use Rattle.store_machine.specs.declared.call.StoreCall.TheVariants as call
 use Rattle.store_machine.specs.History.{changes_of}
 use Rattle.store_machine.specs.Answers.{answer}
-use Rattle.store_machine.proofs.Lawful.{listed-answer}
+use Rattle.store_machine.proofs.LawfulLemmas.{listed-answer}
 use Rattle.store_machine.proofs.store.Store.list_spaces.Goals as goal
 
 pub returns-clause-answer : goal.returns-clause-answer

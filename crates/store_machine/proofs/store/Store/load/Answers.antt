@@ -5,8 +5,8 @@ use Rattle.store_machine.specs.Answers.{has_room_for}
 use Rattle.store_machine.specs.Counted.{counted, counted_act}
 use Rattle.store_machine.specs.Legal.{Legal}
 use Rattle.store_machine.specs.Loads.{adds_entry, load_act, unless_refused}
-use Rattle.store_machine.proofs.Lawful.{no_room_found, room_found}
-use Rattle.store_machine.proofs.Loading.{added-is, load-ended, load-full, load-legal, load-none}
+use Rattle.store_machine.proofs.LawfulLemmas.{no_room_found, room_found}
+use Rattle.store_machine.proofs.LoadingLemmas.{added-is, load-ended, load-full, load-legal, load-none}
 use Rattle.store_machine.proofs.store.Store.load.Goals as goal
 
 -- ---- what do_load asks for: there is room, and what the entries count then

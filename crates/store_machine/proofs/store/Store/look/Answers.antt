@@ -2,7 +2,7 @@ use Rattle.std.proofs.Common.{arith, ap, ◌∙◌, ◌≡◌, length}
 use Rattle.std.proofs.lemmas.Grind.{common_steps}
 use Rattle.store_machine.specs.declared.call.StoreCall.TheVariants as call
 use Rattle.store_machine.specs.Answers.{answer}
-use Rattle.store_machine.proofs.Lawful.{seen-answer}
+use Rattle.store_machine.proofs.LawfulLemmas.{seen-answer}
 use Rattle.store_machine.proofs.store.Store.look.Goals as goal
 
 pub returns-clause-answer : goal.returns-clause-answer

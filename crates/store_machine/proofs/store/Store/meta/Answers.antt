@@ -6,7 +6,7 @@ use Rattle.std.specs.Map.{keys_of}
 use Rattle.store_machine.specs.declared.call.StoreCall.TheVariants as call
 use Rattle.store_machine.specs.Answers.{answer}
 use Rattle.store_machine.specs.Reads.{meta_under}
-use Rattle.store_machine.proofs.Reading.{metas-answer, names-metas}
+use Rattle.store_machine.proofs.ReadingLemmas.{metas-answer, names-metas}
 use Rattle.store_machine.proofs.store.Store.meta.Goals as goal
 
 pub from_sorted-requires : goal.from_sorted-requires

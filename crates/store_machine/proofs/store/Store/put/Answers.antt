@@ -10,8 +10,8 @@ use Rattle.store_machine.specs.Answers.{verdicts, accepted}
 use Rattle.store_machine.specs.Legal.{IsNext}
 use Rattle.store_machine.specs.Kept.{Keeps, Plans}
 use Rattle.store_machine.specs.Marking.{Marks}
-use Rattle.store_machine.proofs.Judging.{names-verdicts}
-use Rattle.store_machine.proofs.Lawful.{keeps-ops, keeps-kept, with_room}
+use Rattle.store_machine.proofs.JudgingLemmas.{names-verdicts}
+use Rattle.store_machine.proofs.LawfulLemmas.{keeps-ops, keeps-kept, with_room}
 use Rattle.store_machine.proofs.store.Store.put.Goals as goal
 
 pub from_sorted-verdicts-requires : goal.from_sorted-verdicts-requires

@@ -2,7 +2,7 @@ use Rattle.std.proofs.Common.{arith, ap, ◌∙◌, ◌≡◌, length}
 use Rattle.std.proofs.lemmas.Grind.{common_steps}
 use Rattle.store_machine.specs.declared.call.StoreCall.TheVariants as call
 use Rattle.store_machine.specs.Answers.{answer}
-use Rattle.store_machine.proofs.Reading.{ranges-answer}
+use Rattle.store_machine.proofs.ReadingLemmas.{ranges-answer}
 use Rattle.store_machine.proofs.store.Store.range.Goals as goal
 
 pub returns-clause-answer : goal.returns-clause-answer

@@ -7,8 +7,8 @@ use Rattle.store_machine.specs.declared.call.StoreCall.TheVariants as call
 use Rattle.store_machine.specs.Answers.{answer}
 use Rattle.store_machine.specs.Reads.{whole_room}
 use Rattle.store_machine.specs.Starts.{EndsInRange, started}
-use Rattle.store_machine.proofs.Beginning.{names-started, starts-answer}
-use Rattle.store_machine.proofs.Ranged.{ends-in_range}
+use Rattle.store_machine.proofs.BeginningLemmas.{names-started, starts-answer}
+use Rattle.store_machine.proofs.RangedLemmas.{ends-in_range}
 use Rattle.store_machine.proofs.store.Store.subscribe.Goals as goal
 
 pub starts-requires : goal.starts-requires

@@ -15,10 +15,10 @@ use Rattle.store_machine.specs.Answers.{answer, entries_of}
 use Rattle.store_machine.specs.Cuts.{cut_verdicts, cuts_accepted}
 use Rattle.store_machine.specs.Kept.{Keeps}
 use Rattle.store_machine.specs.Legal.{IsNext}
-use Rattle.store_machine.proofs.Channeled.{next-is_new}
+use Rattle.store_machine.proofs.ChanneledLemmas.{next-is_new}
 use Rattle.store_machine.proofs.CutLemmas.{cuts-unrefused, names-cuts}
-use Rattle.store_machine.proofs.Lawful.{keeps-cuts, keeps-kept, room_found}
-use Rattle.store_machine.proofs.Truncating.{cuts-done, cuts-full}
+use Rattle.store_machine.proofs.LawfulLemmas.{keeps-cuts, keeps-kept, room_found}
+use Rattle.store_machine.proofs.TruncatingLemmas.{cuts-done, cuts-full}
 use Rattle.store_machine.proofs.store.Store.truncate.Goals as goal
 
 pub from_sorted-verdicts-requires : goal.from_sorted-verdicts-requires

@@ -1,4 +1,4 @@
-use Rattle.tool_forms.proofs.Soundness.{sound_first}
+use Rattle.tool_forms.proofs.SoundnessLemmas.{sound_first}
 use Rattle.tool_forms.proofs.player.Player.new.Goals as goal
 
 pub returns-clause-sound : goal.returns-clause-sound

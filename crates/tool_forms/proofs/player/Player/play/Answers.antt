@@ -3,7 +3,7 @@ use Rattle.std.specs.declared.option.Option.{Option}
 use Rattle.tool_forms.specs.Play.{World, effect, is_refused, has_ended, state_of, world_after}
 use Rattle.tool_forms.specs.Sound.{FitsTag, IsSound}
 use Rattle.tool_forms.specs.declared.tag.TagState.{TagState}
-use Rattle.tool_forms.proofs.Soundness.{Laws, sound_played, world_played, not_refused}
+use Rattle.tool_forms.proofs.SoundnessLemmas.{Laws, sound_played, world_played, not_refused}
 use Rattle.tool_forms.proofs.player.Player.play.Goals as goal
 
 pub play_at-requires-clause-fresh : goal.play_at-requires-clause-fresh

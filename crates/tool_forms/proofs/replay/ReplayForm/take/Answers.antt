@@ -1,4 +1,4 @@
-use Rattle.tool_forms.proofs.Replaying.{plays_takes}
+use Rattle.tool_forms.proofs.ReplayingLemmas.{plays_takes}
 use Rattle.tool_forms.proofs.replay.ReplayForm.take.Goals as goal
 
 pub returns-clause-taken : goal.returns-clause-taken

@@ -1,4 +1,4 @@
-use Rattle.turn_book.proofs.Told.{ends}
+use Rattle.turn_book.proofs.ToldLemmas.{ends}
 use Rattle.turn_book.proofs.turn.TurnBook.close.Goals as goal
 
 pub returns-clause-rule : goal.returns-clause-rule

@@ -1,6 +1,6 @@
 use Rattle.std.proofs.Common.{rules, ap, ◌∙◌}
 use Rattle.turn_book.specs.Hands.{hand_of}
-use Rattle.turn_book.proofs.Kept.{joins}
+use Rattle.turn_book.proofs.KeptLemmas.{joins}
 use Rattle.turn_book.proofs.turn.TurnBook.join.Goals as goal
 
 pub join_seat-requires : goal.join_seat-requires

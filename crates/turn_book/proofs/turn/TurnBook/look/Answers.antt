@@ -1,5 +1,5 @@
 use Rattle.std.proofs.Common.{rules}
-use Rattle.turn_book.proofs.Kept.{looks}
+use Rattle.turn_book.proofs.KeptLemmas.{looks}
 use Rattle.turn_book.proofs.turn.TurnBook.look.Goals as goal
 
 pub load-requires : goal.load-requires

@@ -3,7 +3,7 @@ use Rattle.atomic_table.specs.Table.{opening}
 use Rattle.turn_book.specs.Rules.{Ruled}
 use Rattle.turn_book.specs.Hands.{IsBegun}
 use Rattle.turn_book.specs.Steps.{first_view}
-use Rattle.turn_book.proofs.Kept.{opens}
+use Rattle.turn_book.proofs.KeptLemmas.{opens}
 use Rattle.turn_book.proofs.turn.TurnBook.new.Goals as goal
 
 pub new-requires : goal.new-requires

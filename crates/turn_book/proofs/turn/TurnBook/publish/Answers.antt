@@ -1,8 +1,8 @@
 use Rattle.std.proofs.Common.{rules, ◌<◌, ◌^◌, ◌+◌, [], ◌∷◌, length, ap, ◌∙◌, arith, length-append}
 use Rattle.turn_book.specs.Lists.{last}
 use Rattle.turn_book.proofs.ListLemmas.{last_snoc}
-use Rattle.turn_book.proofs.Kept.{publishes}
-use Rattle.turn_book.proofs.Told.{published_view, published_held, published_hand, published_length}
+use Rattle.turn_book.proofs.KeptLemmas.{publishes}
+use Rattle.turn_book.proofs.ToldLemmas.{published_view, published_held, published_hand, published_length}
 use Rattle.turn_book.proofs.turn.TurnBook.publish.Goals as goal
 
 pub fetch_add-requires : goal.fetch_add-requires

@@ -1,7 +1,7 @@
 use Rattle.std.proofs.Common.{rules, ◌∷◌, Some, ap, ◌∙◌}
 use Rattle.atomic_table.specs.Table.{rest}
 use Rattle.turn_book.specs.Hands.{hand_of}
-use Rattle.turn_book.proofs.Kept.{gives_turn_at}
+use Rattle.turn_book.proofs.KeptLemmas.{gives_turn_at}
 use Rattle.turn_book.proofs.turn.TurnBook.put.Goals as goal
 
 pub store-requires : goal.store-requires

@@ -1,5 +1,5 @@
 use Rattle.std.proofs.Common.{rules}
-use Rattle.turn_book.proofs.Kept.{splits}
+use Rattle.turn_book.proofs.KeptLemmas.{splits}
 use Rattle.turn_book.proofs.turn.TurnBook.split.Goals as goal
 
 pub split_seat-seat-requires : goal.split_seat-seat-requires

@@ -1,4 +1,4 @@
-use Rattle.turn_book.proofs.Told.{knows_missed}
+use Rattle.turn_book.proofs.ToldLemmas.{knows_missed}
 use Rattle.turn_book.proofs.turn.TurnBook.take.Goals as goal
 
 pub returns-in-Some-try_take-clause-knows : goal.returns-in-Some-try_take-clause-knows

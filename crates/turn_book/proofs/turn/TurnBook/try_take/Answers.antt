@@ -1,7 +1,7 @@
 use Rattle.std.proofs.Common.{rules, ◌∷◌, Some, ap, ◌∙◌}
 use Rattle.atomic_table.specs.Table.{rest}
 use Rattle.turn_book.specs.Hands.{hand_of}
-use Rattle.turn_book.proofs.Kept.{takes_turn_at}
+use Rattle.turn_book.proofs.KeptLemmas.{takes_turn_at}
 use Rattle.turn_book.proofs.turn.TurnBook.try_take.Goals as goal
 
 pub compare_exchange-found-requires : goal.compare_exchange-found-requires
