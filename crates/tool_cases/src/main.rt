@@ -5,7 +5,7 @@
 //! READ fails and the write of number WRITE, where they are not 0. The tool is run on the capture and on each of its fronts that is
 //! up to CUT bytes shorter. Of an input that was made for the case, and of an output of 400,000 bytes or more, the length and a
 //! digest are printed. The cases and what is expected of them were made by a program that shares nothing with this one
-//! (`bench/tool_cases.py`).
+//! (`bench/tool_cases.py`). Behind the cases the tool is run over a system that fails, and the program ends as that does.
 #![tactic(auto)]
 
 mod captures;
@@ -15,9 +15,11 @@ mod runs;
 use crate::captures::read_capture;
 use crate::digest::digest;
 use crate::runs::{Faults, run_case};
-use etp_outside::{StdSink, Written};
+use etp_outside::{Status, StdSink, Written};
+use faulty_system::FaultySystem;
 use std::io::{self, BufRead, BufReader, Write};
-use tool_forms::tell;
+use std::process::ExitCode;
+use tool_forms::{run_program, tell};
 
 /// The number of bytes from which on an output is printed as its digest.
 const LONG: usize = 400_000;
@@ -96,11 +98,30 @@ fn run_line(rt: &HostRuntime, line: &str) -> io::Result<()> {
     Ok(())
 }
 
-fn main(rt: HostRuntime) -> io::Result<()> {
+fn run_lines(rt: &HostRuntime) -> io::Result<()> {
     let lines = BufReader::new(rt.alloc(), rt.reader())?.lines(rt.alloc());
     for line in lines {
         let line = line?;
-        run_line(&rt, line.as_str())?;
+        run_line(rt, line.as_str())?;
     }
     Ok(())
+}
+
+/// Runs the tool over a system whose output takes nothing and whose files get no memory: it ends with status 5 where it has a
+/// capture to show, and with status 6 where it has a configuration to read. Gives the second, after the first.
+fn run_over_faults(rt: &HostRuntime) -> ExitCode {
+    let words = ["etptool", "show"];
+    let shown = run_program(&FaultySystem::new(rt, &words), rt.stderr());
+    if shown != ExitCode::from(Status::WriteFault.number()) {
+        return ExitCode::FAILURE;
+    }
+    let words = ["etptool", "replay", "server.toml"];
+    run_program(&FaultySystem::new(rt, &words), rt.stderr())
+}
+
+fn main(rt: HostRuntime) -> ExitCode {
+    match run_lines(&rt) {
+        Ok(()) => run_over_faults(&rt),
+        Err(_) => ExitCode::FAILURE,
+    }
 }
