@@ -1,7 +1,8 @@
 -- What a message that is not sent yet holds, and what it takes.
-use Rattle.std.proofs.Common.{◌≡◌, ◌+◌, ◌<◌, ◌&&◌, ◌||◌, ℕ, ℤ, suc, Bool, true, false, nat_lt, nat_le, List, [], ◌∷◌, ◌++◌, length, refl, ap, sym, ◌∙◌, arith}
+use Rattle.std.proofs.Common.{◌≡◌, ◌+◌, ◌<◌, ◌&&◌, ◌||◌, ℕ, ℤ, suc, Bool, false, nat_lt, nat_le, List, [], ◌∷◌, ◌++◌, length, refl, ap, sym, ◌∙◌, arith}
 use Rattle.std.proofs.lemmas.Bool.Decides.{nat_tests}
 use Rattle.std.proofs.lemmas.List.{length-append, map-append}
+use Rattle.std.proofs.lemmas.Bool.{lt-ltb}
 use Rattle.channel_points.specs.Bytes.{point_bytes}
 use Rattle.etp_values.specs.Weight.{capped, weigh}
 use Rattle.etp_values.specs.declared.point.ChannelPoint.{ChannelPoint}
@@ -46,9 +47,6 @@ some_held : (held : List Point) (n : ℕ) → n ≡ length held → (n ≡ 0 →
 some_held [] n is some = absurd (some is)
 some_held (p ∷ ps) n is some = refl
 
-lt_true : (n m : ℕ) → n < m → nat_lt n m ≡ true
-lt_true n m h = grind (arith, nat_tests, h)
-
 pub takes_within : (held : List Point) (p : Point) (n sum : ℕ) → n ≡ length held → (n ≡ 0 → ⊥) → n < 1000 → sum ≡ capped (weigh point_bytes (held ++ p ∷ [])) → nat_le sum 8388608 ≡ takes held p
 takes_within held p n sum is some few total =
-    ap (λ (b : Bool). b && nat_le sum 8388608) (sym (lt_true n 1000 few)) ∙ room_held held p n sum is total ∙ ap (λ (b : Bool). b || fits (held ++ p ∷ [])) (sym (some_held held n is some))
+    ap (λ (b : Bool). b && nat_le sum 8388608) (sym (lt-ltb n 1000 few)) ∙ room_held held p n sum is total ∙ ap (λ (b : Bool). b || fits (held ++ p ∷ [])) (sym (some_held held n is some))
