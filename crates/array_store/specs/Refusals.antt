@@ -68,7 +68,7 @@ first_refusal (Some e) later = Some e
 abbrev pub patch_refusal : ArrayRecord → List ℤ → List ℤ → AnyArray → Option ArrayError
 patch_refusal r ss cs values = first_refusal (region_refusal r.dims ss cs) (first_refusal (values_refusal r.values cs values) (weight_refusal (patch_of (sizes r.dims) (sizes ss) (sizes cs) r.values values)))
 
--- why a slice of a record is refused: what is no array has none
+-- why a slice of a record is refused: the record itself, or else the region
 abbrev pub slice_refusal : ArrayRecord → List ℤ → List ℤ → Option ArrayError
 slice_refusal r ss cs = first_refusal (record_refusal r) (region_refusal r.dims ss cs)
 

@@ -12,7 +12,7 @@ use Rattle.avro_bin.specs.Number.{signed, Number}
 use Rattle.avro_bin.specs.Reading.{Read, Got, Row, Names, ◌>>=◌, groups_at, placed, number_at, boolean_at, int_at, fits_32, bytes_at, blob_at, of_length, is_utf8, text_at, place_at, below, fixed_number_at, with, listed, mapped, pushed, element_at, under, entry_at, has, in_branch, places, count, value_at, fields_at, branch_at, items_at, block_at, blocks_at, after_count, sized}
 use Rattle.avro_bin.specs.Grammar.{BytesSpelled, Items, Sized, Block, SomeBlocks, PlaceSpelled, EntrySpelled, InSomeOrder, Spells, AreFields, IsBranch}
 use Rattle.avro_bin.proofs.GroupLemmas.{chosen, done, ok_is, ok_pair, Groups}
-use Rattle.avro_bin.proofs.NumberLaws.{IsBytes-rest, groups_found, groups_again}
+use Rattle.avro_bin.proofs.NumberLawLemmas.{IsBytes-rest, groups_found, groups_again}
 use Rattle.avro_bin.proofs.StepLemmas.{bind_ok}
 use Rattle.avro_bin.specs.Steps.{Push, Put, Steps}
 use Rattle.avro_bin.proofs.OrderLemmas.{steps_append, steps_row, steps_names, sizes, sizes_named-permutation, nodes_entries, pairs-entries}

@@ -1,7 +1,7 @@
 pub mod ViewLemmas
 pub mod GroupLemmas
 pub mod GroupStepLemmas
-pub mod NumberLaws
+pub mod NumberLawLemmas
 pub mod TextLemmas
 pub mod StepLemmas
 pub mod AlongLemmas

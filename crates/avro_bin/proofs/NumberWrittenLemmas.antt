@@ -3,7 +3,7 @@ use Rattle.std.proofs.Common.{◌≡◌, ℕ, zero, suc, ◌+◌, ◌*◌, ◌/�
 use Rattle.std.proofs.lemmas.Bool.{ltb-true, ltb-false, le-ltb, lt-ltb}
 use Rattle.std.proofs.lemmas.Bool.Decides.{nat_tests}
 use Rattle.avro_bin.specs.Number.{IsGroups, group_sum, signed, unsigned, Number, top, shortest, plain_number}
-use Rattle.avro_bin.proofs.NumberLaws.{IsLast, last_more, last_none, last_one, IsGroups-more}
+use Rattle.avro_bin.proofs.NumberLawLemmas.{IsLast, last_more, last_none, last_one, IsGroups-more}
 
 -- a number of one group, or of a group and others
 either : (z : ℕ) → (z < 128) ⊎ (128 ≤ z)

@@ -1,24 +1,16 @@
 -- Messages that are read, and refusals.
 use Rattle.std.specs.Prelude.{◌≡◌, ℕ, true, false, List, None, Ok, Err}
-use Rattle.std.proofs.Common.{ap, subst, ◌∙◌}
+use Rattle.std.proofs.Common.{ap, ◌∙◌}
 use Rattle.etp_schema.specs.declared.body.Side.TheVariants.{Server}
 use Rattle.etp_frame.specs.Joining.{joins}
 use Rattle.etp_frame.specs.Reading.{read_of}
 use Rattle.etp_frame.specs.declared.error.FrameError.{FrameError}
-use Rattle.etp_frame.specs.declared.error.FrameError.TheVariants as frame
 use Rattle.etp_frame.specs.declared.header.Header.{Header}
 use Rattle.etp_frame.specs.declared.joining.JoinError.{JoinError}
-use Rattle.etp_frame.specs.declared.joining.JoinError.TheVariants as join
 use Rattle.etp_frame.specs.declared.message.Message.{Message}
 use Rattle.client_core.specs.State.{Heard, is_ended}
-use Rattle.client_core.specs.Taking.{IsFault, IsJoinFault, by_kind, by_phase, fails, hears, on_bytes, on_joined, on_read}
+use Rattle.client_core.specs.Taking.{by_kind, by_phase, fails, hears, on_bytes, on_joined, on_read}
 use Rattle.client_core.specs.declared.got.ClientError.TheVariants as error
-
-pub no_join_memory : (e : JoinError) → IsJoinFault e → e ≡ join.NoMemory → ⊥
-no_join_memory e fault is = subst IsJoinFault is fault
-
-pub no_frame_memory : (e : FrameError) → IsFault e → e ≡ frame.NoMemory → ⊥
-no_frame_memory e fault is = subst IsFault is fault
 
 pub join_refused : (h : Header) (m : Message) (e : JoinError) (s : Heard) → joins s.joiner h m ≡ Err e → by_kind true h m s ≡ fails (error.Join e) (record s { joiner = None })
 join_refused h m e s is = ap (λ r. on_joined h r s) is

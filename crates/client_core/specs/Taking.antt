@@ -8,7 +8,6 @@ use Rattle.etp_frame.specs.Header.{final_part, has_flag}
 use Rattle.etp_frame.specs.Joining.{Awaited, joins}
 use Rattle.etp_frame.specs.Reading.{read_of}
 use Rattle.etp_frame.specs.declared.error.FrameError.{FrameError}
-use Rattle.etp_frame.specs.declared.error.FrameError.TheVariants as frame
 use Rattle.etp_frame.specs.declared.header.Header.{Header}
 use Rattle.etp_frame.specs.declared.joining.JoinError.{JoinError}
 use Rattle.etp_frame.specs.declared.joining.JoinError.TheVariants as join
@@ -199,15 +198,6 @@ by_phase false bytes s = on_bytes (read_of Server bytes) s
 -- what a client does with the bytes of a message
 unfoldable pub hears : Heard → List ℕ → Taken
 hears s bytes = by_phase (is_ended s.phase) bytes s
-
--- the message is at fault, and not the memory
-abbrev pub IsFault : FrameError → Type 0
-IsFault frame.NoMemory = ⊥
-IsFault e = Unit {0}
-
-abbrev pub IsJoinFault : JoinError → Type 0
-IsJoinFault join.NoMemory = ⊥
-IsJoinFault e = Unit {0}
 
 -- ---- the client
 

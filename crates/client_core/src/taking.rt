@@ -3,9 +3,11 @@ ghost use Rattle.std.specs.Prelude.{◌≡◌, ◌∷◌, [], Some, Ok, true, If
 ghost use Rattle.client_core.specs.Answers.{answer, due_at, settled};
 ghost use Rattle.client_core.specs.Joining.{grown};
 ghost use Rattle.client_core.specs.Notices.{notice};
-ghost use Rattle.client_core.specs.Taking.{IsFault, IsJoinFault, by_answer, by_changes, by_kind, code_of, core_closes, core_opens, core_silent, core_whole, fails, first_code, has_objects, hears, in_order, is_closing, is_fresh, is_opening, is_silent, may_come, on_message, on_part, on_read, on_whole, refusal, stops, store_joins, subscribe_whole, told};
+ghost use Rattle.client_core.specs.Taking.{by_answer, by_changes, by_kind, code_of, core_closes, core_opens, core_silent, core_whole, fails, first_code, has_objects, hears, in_order, is_closing, is_fresh, is_opening, is_silent, may_come, on_message, on_part, on_read, on_whole, refusal, stops, store_joins, subscribe_whole, told};
 ghost use Rattle.client_core.specs.declared.got.ClientError.TheVariants as refused;
 ghost use Rattle.client_core.specs.declared.got.Got.TheVariants as got;
+ghost use Rattle.etp_frame.specs.Joining.{IsJoinFault};
+ghost use Rattle.etp_frame.specs.Reading.{IsFault};
 
 use crate::answers::answer;
 use crate::got::{ClientError, Got};

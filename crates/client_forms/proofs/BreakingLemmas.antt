@@ -2,6 +2,7 @@
 use Rattle.std.proofs.Common.{◌≡◌, ◌≤◌, ℕ, ℤ, Bool, true, false, List, [], ◌∷◌, ◌++◌, take, drop, Option, None, Some, if◌then◌else◌, Result, Ok, Err, inr, refl, ap, sym, subst, ◌∙◌, append_assoc}
 use Rattle.std.proofs.lemmas.List.{append-nil, take-append-drop}
 use Rattle.std.specs.Io.KnownBytes.{Appends}
+use Rattle.std.proofs.lemmas.Option.{none-some, same_Some}
 use mathlib.Core.List.{IsPrefix, prefix-append}
 use Rattle.etp_values.proofs.PrefixLemmas.{prefix_self, prefix_trans}
 use Rattle.etp_outside.specs.Faults.{Rose}
@@ -120,21 +121,16 @@ cut_short stop.Left g late bytes p l m told later o q i less f rose h = absurd h
 
 -- ---- a command that was stopped ends so
 
-same_status : (a b : Status) → Some a ≡ Some b → a ≡ b
-same_status a b h = cc
-
 by_close_stopped : (r : Result ℤ ClientError) (s : State) (c : Course) (st : Status) → (by_close status.Stopped r s c).status ≡ Some st → status.Stopped ≡ st
-by_close_stopped (Ok id) s c st e = same_status status.Stopped st e
-by_close_stopped (Err x) s c st e = same_status status.Stopped st e
+by_close_stopped (Ok id) s c st e = same_Some status.Stopped st e
+by_close_stopped (Err x) s c st e = same_Some status.Stopped st e
 
 closes_stopped : (ms : List ℤ) (c : Course) (st : Status) → c.status ≡ None → (closes_at status.Stopped ms c).status ≡ Some st → status.Stopped ≡ st
-closes_stopped [] c st going e = absurd (none_some (sym going ∙ e)) where
-  none_some : {A : Type 0} {x : A} → None ≡ Some x → ⊥
-  none_some h = cc
+closes_stopped [] c st going e = absurd (none-some st (sym going ∙ e))
 closes_stopped (t ∷ ts) c st going e = let s = asked c.at.client ask.Close t in by_close_stopped s.result s.state (record c { moments = ts }) st e
 
 breaks_stopped : (b : Bool) (c : Course) (st : Status) → c.status ≡ None → (if b then ends status.Stopped c else closes status.Stopped c).status ≡ Some st → status.Stopped ≡ st
-breaks_stopped true c st going e = same_status status.Stopped st e
+breaks_stopped true c st going e = same_Some status.Stopped st e
 breaks_stopped false c st going e = closes_stopped c.moments c st going e
 
 pub stopped_late : (st : Status) (p : Place) (x y : Outside) → Ends (breaks status.Stopped) st p x y → IsLate st

@@ -2,6 +2,7 @@
 use Rattle.std.proofs.Common.{◌≡◌, ◌<◌, ◌+◌, ℕ, ℤ, Bool, true, false, if◌then◌else◌, List, [], ◌∷◌, ◌++◌, Option, None, Some, Result, Ok, Err, fold, length, get_or, take, drop, refl, ap, sym, subst, ◌∙◌}
 use Rattle.std.proofs.lemmas.List.{take-append-drop}
 use Rattle.std.proofs.lemmas.List.Sums.{fold_more, fold-append}
+use Rattle.std.proofs.lemmas.Option.{none-some, same_Some}
 use Rattle.channel_store.specs.declared.copy.ChangeMsg.{ChangeMsg}
 use Rattle.client_core.specs.State.{State}
 use Rattle.client_core.specs.Taking.{FailsBy, takes}
@@ -137,9 +138,7 @@ module _ (shown : ℤ → List ChangeMsg → List ℕ) (job : Job) where
 -- ---- a refusal never leaves a command done
 
 none_done : (st : Status) → (st ≡ status.Done → ⊥) → (u : Option Status) → u ≡ Some st → u ≡ Some status.Done → ⊥
-none_done st n u e f = n (some_same (sym e ∙ f)) where
-  some_same : Some st ≡ Some status.Done → st ≡ status.Done
-  some_same h = cc
+none_done st n u e f = n (same_Some st status.Done (sym e ∙ f))
 
 module _ (st : Status) (n : st ≡ status.Done → ⊥) (m : unclosed st ≡ status.Done → ⊥) where
   by_close_undone : (r : Result ℤ ClientError) (s : State) (c : Course) → (by_close st r s c).status ≡ Some status.Done → ⊥
@@ -147,9 +146,7 @@ module _ (st : Status) (n : st ≡ status.Done → ⊥) (m : unclosed st ≡ sta
   by_close_undone (Err x) s c e = none_done (unclosed st) m (Some (unclosed st)) refl e
 
   closes_undone : (ms : List ℤ) (c : Course) → c.status ≡ None → (closes_at st ms c).status ≡ Some status.Done → ⊥
-  closes_undone [] c going e = none_some (sym going ∙ e) where
-    none_some : {A : Type 0} {x : A} → None ≡ Some x → ⊥
-    none_some h = cc
+  closes_undone [] c going e = none-some status.Done (sym going ∙ e)
   closes_undone (t ∷ ts) c going e = let s = asked c.at.client ask.Close t in by_close_undone s.result s.state (record c { moments = ts }) e
 
   breaks_undone : (b : Bool) (c : Course) → c.status ≡ None → (if b then ends st c else closes st c).status ≡ Some status.Done → ⊥

@@ -1,5 +1,6 @@
 -- A command ends its course with a status of its own: no fault, and no words in no form.
 use Rattle.std.proofs.Common.{◌≡◌, ◌==◌, ◌+◌, nat_lt, ℕ, ℤ, Bool, true, false, List, [], ◌∷◌, ◌++◌, Option, None, Some, Result, Ok, Err, if◌then◌else◌, fold, length, refl, subst}
+use Rattle.std.proofs.lemmas.Option.{none-some, same_Some}
 use Rattle.channel_store.specs.declared.copy.ChangeMsg.{ChangeMsg}
 use Rattle.client_core.specs.Asking.{asked}
 use Rattle.client_core.specs.State.{State}
@@ -24,14 +25,10 @@ abbrev pub AreOwn : Option Status → Type 0
 AreOwn o = (st : Status) → o ≡ Some st → IsOwn st
 
 pub none_own : AreOwn None
-none_own st e = absurd (none_some e) where
-  none_some : {A : Type 0} {x : A} → None ≡ Some x → ⊥
-  none_some h = cc
+none_own st e = absurd (none-some st e)
 
 some_own : (a : Status) → IsOwn a → AreOwn (Some a)
-some_own a own st e = subst IsOwn (same e) own where
-  same : {A : Type 0} {x y : A} → Some x ≡ Some y → x ≡ y
-  same h = cc
+some_own a own st e = subst IsOwn (same_Some a st e) own
 
 -- ---- asks and the close
 

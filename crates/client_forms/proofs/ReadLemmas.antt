@@ -1,5 +1,6 @@
 -- A command that is done has reported, and so has read what it was to read.
 use Rattle.std.proofs.Common.{◌≡◌, ℕ, ℤ, List, [], ◌∷◌, ◌++◌, Option, None, Some, Result, Ok, Err, refl, ap, subst, sym, ◌∙◌}
+use Rattle.std.proofs.lemmas.Option.{none-some}
 use Rattle.etp_outside.specs.declared.status.Status.TheVariants as status
 use Rattle.client_core.specs.Asking.{asked}
 use Rattle.client_core.specs.State.{State}
@@ -29,15 +30,12 @@ all_stop a b e = cc
 
 -- ---- an ask never ends a command well
 
-none_done : None ≡ Some status.Done → ⊥
-none_done h = cc
-
 by_ask_undone : (r : Result ℤ ClientError) (s : State) (c : Course) → c.status ≡ None → (by_ask r s c).status ≡ Some status.Done → ⊥
-by_ask_undone (Ok id) s c going e = none_done (sym going ∙ e)
+by_ask_undone (Ok id) s c going e = none-some status.Done (sym going ∙ e)
 by_ask_undone (Err x) s c going e = cc
 
 asks_at_undone : (a : Ask) (ms : List ℤ) (c : Course) → c.status ≡ None → (asks_at a ms c).status ≡ Some status.Done → ⊥
-asks_at_undone a [] c going e = none_done (sym going ∙ e)
+asks_at_undone a [] c going e = none-some status.Done (sym going ∙ e)
 asks_at_undone a (t ∷ ts) c going e = let s = asked c.at.client a t in by_ask_undone s.result s.state (record c { moments = ts }) going e
 
 -- a course that stands there
@@ -46,7 +44,7 @@ there p moments = record (fresh moments) { at = p }
 
 -- so only a report does
 reads_done : (a : Action) (read : Type 0) (p : Place) (x y : Outside) → ((bytes : List ℕ) → a ≡ action.Report bytes → read) → Ends (acts a) status.Done p x y → read
-reads_done action.Wait read p x y reports h = absurd (none_done (ap (λ (d : Course). d.status) (h.course (there p []) [] (record { here = refl; going = refl }))))
+reads_done action.Wait read p x y reports h = absurd (none-some status.Done (ap (λ (d : Course). d.status) (h.course (there p []) [] (record { here = refl; going = refl }))))
 reads_done (action.Ask b) read p x y reports h = absurd (asks_at_undone b (h.moments ++ []) (there p (h.moments ++ [])) refl (ap (λ (d : Course). d.status) (h.course (there p []) [] (record { here = refl; going = refl }))))
 reads_done (action.Report b) read p x y reports h = reports b refl
 

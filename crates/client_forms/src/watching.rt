@@ -1,6 +1,5 @@
 //! `watch`: the changes of a channel, and the views that show them.
 ghost use Rattle.std.specs.Prelude.{◌≡◌, ◌==◌, IfOk, if◌then◌else◌};
-ghost use Rattle.channel_store.specs.declared.copy.ChangeMsg.{ChangeMsg};
 ghost use Rattle.client_core.specs.declared.ask.Ask.TheVariants as asked;
 ghost use Rattle.client_forms.specs.Ctl.{from_first};
 ghost use Rattle.client_forms.specs.Plans.{GivesAction, Waits};
@@ -11,7 +10,6 @@ ghost use Rattle.watch_views.specs.Boards.{lines_of, reading};
 use crate::action::Action;
 use crate::command::Command;
 use crate::stop::{Cause, Stop};
-use channel_store::ChangeMsg;
 use client_core::{Ask, Got};
 use etp_outside::Source;
 use etp_values::{Blob, Copied, NoMemory, StoreUri};

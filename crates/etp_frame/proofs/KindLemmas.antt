@@ -3,6 +3,7 @@ use Rattle.std.specs.Prelude.{◌||◌, is_some}
 use Rattle.std.proofs.Common.{◌≡◌, ℕ, ℤ, pos, negsuc, Bool, true, false, List, [], ◌∷◌, ◌++◌, Option, Some, None, refl, sym, ap, subst, if◌then◌else◌}
 use Rattle.std.specs.List.{AllByRecursion}
 use Rattle.std.proofs.lemmas.Bool.{eqb-true}
+use Rattle.std.proofs.lemmas.Option.{same_Some}
 use Rattle.etp_schema.specs.Bodies.{is_number}
 use Rattle.etp_schema.specs.Family.{Kind, kind_in}
 use Rattle.etp_frame.specs.Message.{under, Protocol, kinds_in}
@@ -42,12 +43,9 @@ pub kind_has : (P : Kind Message → Type 0) (ks : List (Kind Message)) (n : ℤ
 kind_has P [] n k a e = absurd (let no : None ≡ Some k = e in cc)
 kind_has P (q ∷ ks) n k a e =
     elim (is_number q.number n) as (λ b. is_number q.number n ≡ b → (if b then Some q else kind_in ks n) ≡ Some k → P k × (n ≡ pos k.number)) [
-      | true ↦ λ t h. let same : q ≡ k = some_same q k h in subst (λ (j : Kind Message). P j × (n ≡ pos j.number)) same (a.0, number_is q.number n t)
+      | true ↦ λ t h. let same : q ≡ k = same_Some q k h in subst (λ (j : Kind Message). P j × (n ≡ pos j.number)) same (a.0, number_is q.number n t)
       | false ↦ λ t h. kind_has P ks n k a.1 h
     ] refl e
-  where
-    some_same : (q k : Kind Message) → Some q ≡ Some k → q ≡ k
-    some_same q k h = cc
 
 -- what is found of the protocols has what each of their messages has
 pub typed_has : (P : ℤ → Kind Message → Type 0) (qs : List Protocol) (p kind : ℤ) (k : Kind Message) → AllByRecursion (λ q. AllByRecursion (P (pos q.number)) q.kinds) qs → kind_in (kinds_in qs p) kind ≡ Some k → P p k × (kind ≡ pos k.number)

@@ -15,3 +15,4 @@ pub mod ChunkLemmas
 pub mod FedLemmas
 pub mod WholeLemmas
 pub mod PartLemmas
+pub mod FaultLemmas

@@ -2,6 +2,7 @@
 use Rattle.std.specs.Prelude.{◌&&◌, ◌||◌}
 use Rattle.std.proofs.Common.{◌≡◌, ℕ, ℤ, pos, true, false, List, [], ◌∷◌, Option, Some, None, refl, sym, ap, subst, ◌∙◌, if◌then◌else◌}
 use Rattle.std.specs.List.{AllByRecursion}
+use Rattle.std.proofs.lemmas.Option.{same_Some}
 use Rattle.avro_bin.specs.Schema.{Schema}
 use Rattle.etp_schema.specs.Bodies.{BodyRow, ProtocolRow, is_number, row_in, messages_in, has_number, schema_of, row_of, is_protocol, core_rows, dataspace_rows, store_rows, transaction_rows, data_array_rows, channel_subscribe_rows, channel_data_load_rows}
 use Rattle.etp_schema.specs.Bodies as bodies
@@ -10,9 +11,6 @@ use Rattle.etp_schema.specs.declared.body.Side.{Side}
 use Rattle.etp_frame.specs.Message.{Protocol, protocols, kinds_in, typed_kind}
 use Rattle.etp_frame.specs.declared.message.Message.{Message}
 use Rattle.etp_frame.proofs.KindLemmas.{number_is}
-
-some_row : (q r : BodyRow) → Some q ≡ Some r → q ≡ r
-some_row q r h = cc
 
 module _ (F : BodyRow → Option (Kind Message) → Type 0) where
   -- each row has F with what is found under its number
@@ -24,7 +22,7 @@ module _ (F : BodyRow → Option (Kind Message) → Type 0) where
   row_has ks (q ∷ rows) kind side r a e =
       elim (is_number q.kind kind) as (λ b. is_number q.kind kind ≡ b → (if b && q.by side then Some q else row_in rows kind side) ≡ Some r → F r (kind_in ks kind)) [
         | true ↦ λ t h. elim (q.by side) as (λ b. (if b then Some q else row_in rows kind side) ≡ Some r → F r (kind_in ks kind)) [
-          | true ↦ λ g. subst (λ (j : BodyRow). F j (kind_in ks kind)) (some_row q r g) (subst (λ (z : ℤ). F q (kind_in ks z)) (sym (number_is q.kind kind t)) a.0)
+          | true ↦ λ g. subst (λ (j : BodyRow). F j (kind_in ks kind)) (same_Some q r g) (subst (λ (z : ℤ). F q (kind_in ks z)) (sym (number_is q.kind kind t)) a.0)
           | false ↦ λ g. row_has ks rows kind side r a.1 g
         ] h
         | false ↦ λ t h. row_has ks rows kind side r a.1 h
@@ -84,14 +82,11 @@ fitting r (Some k) h = (k, refl, h)
 pub row_kind : (p kind : ℤ) (side : Side) (row : BodyRow) → row_of p kind side ≡ Some row → (k : Kind Message) × (typed_kind p kind ≡ Some k) × (k.schema ≡ row.schema)
 row_kind p kind side row e = fitting row (typed_kind p kind) (agree_at RowFits bodies.protocols protocols p kind side row rows_fit e)
 
-some_kind : (j k : Kind Message) → Some j ≡ Some k → j ≡ k
-some_kind j k h = cc
-
 -- a row's schema is that of what is found under its number
 pub row_schema : (p kind : ℤ) (side : Side) (row : BodyRow) (k : Kind Message) → row_of p kind side ≡ Some row → typed_kind p kind ≡ Some k → k.schema ≡ row.schema
 row_schema p kind side row k e f =
     let j = row_kind p kind side row e in
-    ap (λ (i : Kind Message). i.schema) (sym (some_kind j.0 k (sym j.1 ∙ f))) ∙ j.2
+    ap (λ (i : Kind Message). i.schema) (sym (same_Some j.0 k (sym j.1 ∙ f))) ∙ j.2
 
 known_in : (rs : List ProtocolRow) (p kind : ℤ) (side : Side) (row : BodyRow) → row_in (messages_in rs p) kind side ≡ Some row → has_number rs p ≡ true
 known_in [] p kind side row e = absurd (let no : None ≡ Some row = e in cc)
@@ -108,7 +103,4 @@ known_of p kind side row e = known_in bodies.protocols p kind side row e
 -- a schema is a row's
 pub schema_row : (o : Option BodyRow) (s : Schema) → schema_of o ≡ Some s → (r : BodyRow) × (o ≡ Some r) × (r.schema ≡ s)
 schema_row None s e = absurd (let no : None ≡ Some s = e in cc)
-schema_row (Some r) s e = (r, refl, same r.schema s e)
-  where
-    same : (a b : Schema) → Some a ≡ Some b → a ≡ b
-    same a b h = cc
+schema_row (Some r) s e = (r, refl, same_Some r.schema s e)

@@ -1,6 +1,7 @@
 -- What reading a body as a message says of reading it.
 use Rattle.std.proofs.Common.{◌≡◌, ◌≢◌, ◌∙◌, ◌⊎◌, inl, inr, ℕ, ℤ, pos, ◌+◌, ◌-◌, List, [], ◌∷◌, ◌++◌, Option, Some, None, Result, Ok, Err, Bool, true, false, if◌then◌else◌, is_some, length, drop, refl, sym, ap, subst}
 use Rattle.std.specs.Prelude.{◌==◌}
+use Rattle.std.proofs.lemmas.Option.{same_Some}
 use Rattle.avro_bin.specs.declared.fault.Why.{Why}
 use Rattle.avro_bin.specs.declared.fault.Why.TheVariants as why
 use Rattle.avro_bin.specs.declared.fault.Fault.{Fault}
@@ -157,9 +158,6 @@ module _ (side : Side) (h : Header) (size place : ℕ) (bytes : List ℕ) (is : 
   pub typed_refused : (e : FrameError) → GivesMessage k (Err e) (as_body h size (length behind) (read_value k.schema node_limit behind)) → e ≢ f.NoMemory → read_of side bytes ≡ Err e
   typed_refused e read other = refused_tree side bytes e (refused_body side bytes (h, size) place e is.header is.plain is.sent (body_is ∙ read other))
 
-same_message : (x y : Message) → Some x ≡ Some y → x ≡ y
-same_message x y h = cc
-
 gives_by : (k : Kind Message) (b : Bool) (x : Message) (v : Value) (e : FrameError) → x ≡ k.read v → GivesMessage k (if b then Ok x else Err e) (if b then Ok v else Err e)
 gives_by k true x v e same = (v, refl, same)
 gives_by k false x v e same = λ other. refl
@@ -195,7 +193,7 @@ module _ (h : Header) (k : Kind Message) (front : ℕ) (bytes : List ℕ) {p q :
       let whole : read_value k.schema node_limit bytes ≡ Ok (body.0, len) = body.1 ∙ ap (λ (l : ℕ). Ok (body.0, l)) (sym at) in
       let given : Expected h k front bytes (if len == length bytes then Ok x else Err (f.Rest h (front + len))) =
       subst (λ (r : Result (Value × ℕ) Refusal). GivesMessage k (if len == length bytes then Ok x else Err (f.Rest h (front + len))) (as_body h front (length bytes) r)) (sym whole)
-      (gives_by k (len == length bytes) x body.0 (f.Rest h (front + len)) (same_message x (k.read body.0) body.2)) in
+      (gives_by k (len == length bytes) x body.0 (f.Rest h (front + len)) (same_Some x (k.read body.0) body.2)) in
       subst (Expected h k front bytes) (sym ended) given
 
   -- no message of a kind is none

@@ -3,6 +3,7 @@ use Rattle.std.proofs.Common.{◌≡◌, ℕ, pos, ◌+◌, ◌-◌, ◌<◌, �
 use Rattle.std.specs.Prelude.{◌==◌}
 use Rattle.std.proofs.lemmas.Bool.{eqb-true, eq-eqb}
 use Rattle.std.proofs.lemmas.List.{length-append, length-drop, append-nil, take_at, drop_at, take_all, take-append-drop, get_or-drop}
+use Rattle.std.proofs.lemmas.Option.{same_Some}
 use Rattle.avro_bin.specs.Value.{Value, nodes}
 use Rattle.avro_bin.specs.Schema.{Schema}
 use Rattle.avro_bin.specs.Grammar.{Spells}
@@ -72,16 +73,13 @@ body_tree side h x bytes w =
     let known = known_of h.protocol h.kind side row.0 row.1 in
     let place = row.0.place in
     let placed : body_place h.protocol h.kind side ≡ Some place = ap place_of row.1 in
-    let own : b.schema ≡ shape_at place = same b.schema (shape_at place) (sym w.sent ∙ shape_sent side h place placed) in
+    let own : b.schema ≡ shape_at place = same_Some b.schema (shape_at place) (sym w.sent ∙ shape_sent side h place placed) in
     let rest = ap (drop (length w.front)) w.parts ∙ drop_at w.front w.back (length w.front) refl in
     let read = body_read h b.schema b.value (length w.front) bytes w.back rest w.body w.few_in_body in (
       place,
       whole_tree side bytes (h, length w.front) place b.value (header_read h bytes w.front w.back w.parts w.header w.few_in_header) (admitted_is h w.plain known) placed
           (subst (λ (s : Schema). body_in h s (length w.front) bytes ≡ Ok b.value) own read),
     )
-  where
-    same : (s t : Schema) → Some s ≡ Some t → s ≡ t
-    same s t h = cc
 
 pub message_read : (side : Side) (h : Header) (x : Message) (bytes : List ℕ) → IsMessage side h x bytes → read_of side bytes ≡ Ok (h, x)
 message_read side h x bytes w =

@@ -135,3 +135,8 @@ store_came w h x = Ok (j.Whole (m.Store x), w)
 abbrev pub joins : Option Awaited → Header → Message → Result (Joined × Option Awaited) JoinError
 joins w h (m.Store x) = store_came w h x
 joins w h x = Ok (j.Whole x, w)
+
+-- the message is at fault, and not the memory
+abbrev pub IsJoinFault : JoinError → Type 0
+IsJoinFault e.NoMemory = ⊥
+IsJoinFault why = Unit {0}

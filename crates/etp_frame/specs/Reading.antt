@@ -32,6 +32,11 @@ header_of_error (f.Body h e) = Some h
 header_of_error (f.Rest h offset) = Some h
 header_of_error f.NoMemory = None
 
+-- the bytes are at fault, and not the memory
+abbrev pub IsFault : FrameError → Type 0
+IsFault f.NoMemory = ⊥
+IsFault e = Unit {0}
+
 -- a refusal so many bytes further on
 abbrev pub shifted : ℕ → Refusal → Refusal
 shifted by (r.Short offset) = r.Short (by + offset)

@@ -57,7 +57,7 @@ one_rises x = (tt, tt)
 pub rises_alone : {T : Type 0} (items before : List (List ℕ × T)) (x : List ℕ × T) → items ≡ before ++ x ∷ [] → before ≡ [] → IsStrictlySortedBy (slice_cmp nat_cmp) (keys_of items)
 rises_alone items before x made none = subst (λ xs. IsStrictlySortedBy (slice_cmp nat_cmp) (keys_of xs)) (sym (made ∙ ap (λ b. b ++ x ∷ []) none)) (one_rises x)
 
--- the greatest of numbers that never fall is not below the least
+-- the upper bound of numbers that never fall is not below the lower one
 pub rises_bound : (low : ℕ) (ns : List ℕ) (high : ℕ) → Rises low ns high → low ≤ high
 rises_bound low [] high r = r
 rises_bound low (n ∷ ns) high r = let f = r.0 in let g = rises_bound n ns high r.1 in omega (arith, f, g)

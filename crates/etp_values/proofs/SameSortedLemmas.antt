@@ -9,9 +9,7 @@ use Rattle.std.specs.List.Sorted.{IsStrictlySortedBy}
 use Rattle.std.specs.Map.{keys_of, lookup}
 use Rattle.std.proofs.lemmas.Map.Keys.{sorted_head, sorted_tail}
 use Rattle.std.proofs.lemmas.Map.Lookups.{CmpEqualImpliesEq}
-
-same_some : {A : Type 0} {a b : A} → Some a ≡ Some b → a ≡ b
-same_some h = cc
+use Rattle.std.proofs.lemmas.Option.{same_Some}
 
 module _ {K : Type 0} (cmp : K → K → Ordering) (total : IsTotalOrder cmp) where
   lower : (q k : K) (ks : List K) → cmp q k ≡ Less → AllByRecursion (λ x. cmp k x ≡ Less) ks → AllByRecursion (λ x. cmp q x ≡ Less) ks
@@ -64,6 +62,6 @@ module _ {K V : Type 0} (cmp : K → K → Ordering) (total : IsTotalOrder cmp) 
       by Greater e rest = absurd (let f = sym (first_found y ys) ∙ sym (h y.0) ∙ before_first y.0 x xs s (turned_round cmp total x.0 y.0 e) in cc)
       by Equal e rest = let name = exact x.0 y.0 e in
           let value : Some x.1 ≡ Some y.1 = sym (first_found x xs) ∙ h x.0 ∙ ap (λ q. at q (y ∷ ys)) name ∙ first_found y ys in
-          let one : x ≡ y = (λ j. (name j, same_some value j)) in
+          let one : x ≡ y = (λ j. (name j, same_Some x.1 y.1 value j)) in
           let after : AllByRecursion (λ k. cmp x.0 k ≡ Less) (keys_of ys) = subst (λ p. AllByRecursion (λ k. cmp p k ≡ Less) (keys_of ys)) (sym name) (sorted_head cmp y.0 (keys_of ys) t) in
           (λ j. one j ∷ rest (rest_agrees x xs ys (sorted_head cmp x.0 (keys_of xs) s) after (subst (λ p. (q : K) → at q (x ∷ xs) ≡ at q (p ∷ ys)) (sym one) h)) j)

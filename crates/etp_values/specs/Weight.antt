@@ -1,5 +1,5 @@
--- What values weigh against the limits of a journal: a text or a run of bytes 8 more than its length, a list 8 more than
--- its items together, and anything else 8.
+-- What values weigh against the limits of a journal: a text or bytes 8 more than their length, a list 8 more than its
+-- items together, a sparse array 8 more than its runs, a run 8 more than its slice, and a null, a truth value or a number 8.
 use Rattle.std.specs.Prelude.{ℕ, ◌+◌, ◌-◌, ◌^◌, min, List, [], ◌∷◌, length}
 use Rattle.etp_values.specs.declared.data.AnyArray.{AnyArray}
 use Rattle.etp_values.specs.declared.data.AnyArray.TheVariants as any

@@ -34,15 +34,13 @@ use Rattle.session_core.specs.Run.{Course, drained, happens, happens_unless, tak
 use Rattle.session_core.specs.Sending.{is_spent, max_id, next_after, numbered, outgoing, replies_in}
 use Rattle.session_core.specs.Serial.{EndsBy, Rises, Succeeds, alone, bodies, replies, requests}
 use Rattle.session_core.proofs.MarkedLemmas.{AreFree, AreWithin, marked}
+use Rattle.session_core.proofs.RunLemmas.{course}
 
--- ---- states and courses
+-- ---- states
 
 -- an open session with a transaction, nothing to hear, and these messages to send
 abbrev pub at : State → ℤ → ℕ → List Bool → Subbed → Transaction → Option Awaited → ℕ → List Outgoing → State
 at base last next opens subs x joiner blobs out = record base { phase = phase.Live live.Open; last_id = last; next_id = next; blobs = blobs; stage = Some x; joiner = joiner; opens = opens; subs = subs; pending = None; out = out }
-
-abbrev pub course : State → List ℕ → List Outgoing → List (ℕ × Entry) → ℕ → Course
-course s ps sent made reach = record { state = s; places = ps; sent = sent; made = made; short = false; reach = reach }
 
 -- each id that follows the second one follows the first
 abbrev pub Later : ℤ → ℤ → Type 0

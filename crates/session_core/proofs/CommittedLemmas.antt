@@ -32,7 +32,8 @@ use Rattle.session_core.proofs.BesideLemmas.{AreNamed, Aside, Beside, Commits, D
 use Rattle.session_core.proofs.MarkedLemmas.{AreWithin, marked, marks-rise}
 use Rattle.session_core.proofs.RetouchedLemmas.{retouched}
 use Rattle.etp_values.specs.declared.code.ErrorCode.TheVariants as code
-use Rattle.session_core.proofs.AloneLemmas.{Induction, Lawful, Later, at, course, ended-fails, short-fails}
+use Rattle.session_core.proofs.AloneLemmas.{Induction, Lawful, Later, at, ended-fails, short-fails}
+use Rattle.session_core.proofs.RunLemmas.{course}
 use Rattle.std.specs.Prelude.{IfOk, int_rem}
 use Rattle.std.specs.Ordering.{int_eq}
 use Rattle.etp_values.proofs.IntLemmas.{int_lt_trans}

@@ -2,6 +2,7 @@
 use Rattle.std.specs.Prelude.{ℕ, ℤ, ◌-◌, ◌^◌, ◌≤◌, ◌&&◌, ◌≡◌, Bool, true, false, List, [], ◌∷◌, Option, Some, None, Result, Ok, Err, refl, if◌then◌else◌, is_some, take, MatchOption, IsSomeAnd}
 use Rattle.std.proofs.Common.{sym, ◌∙◌, subst, arith}
 use Rattle.std.proofs.lemmas.Bool.{false≢true}
+use Rattle.std.proofs.lemmas.Option.{none-some}
 use Rattle.array_rows.specs.Arrays as arrays
 use Rattle.server_config.specs.declared.config.Config.{Config}
 use Rattle.channel_rows.specs.Loads as loads
@@ -59,7 +60,8 @@ use Rattle.session_core.specs.Replies.{receipt, refusal, sayings_of, to_request}
 use Rattle.session_core.specs.Run.{AnswersAreLast, Course, answered_at, asked, first_course, happens, happens_unless, hears, moment_of, run, run_from, takes}
 use Rattle.session_core.specs.Sending.{is_spent, parts_of, said, spent_phase}
 use Rattle.session_core.specs.Serial.{Begins, EndsBy, Rises, RunIsSerial, Succeeds}
-use Rattle.session_core.proofs.AloneLemmas.{course, ended-fails}
+use Rattle.session_core.proofs.AloneLemmas.{ended-fails}
+use Rattle.session_core.proofs.RunLemmas.{course}
 use Rattle.session_core.proofs.BesideLemmas.{IsApart, IsBegun, IsReady, begun-spent, blobs-low}
 use Rattle.session_core.proofs.CommittedLemmas.{committed_is_serial}
 
@@ -329,10 +331,7 @@ module _ (fits : AnswersFit) (last : AnswersAreLast) (config : Config) (n : ℕ)
 
   -- what commits is open
   is_open : (p : ℕ) (x : Transaction) (c : Course) (es : List Event) → c.short ≡ false → c.state.stage ≡ Some x → IsSound c.state → Succeeds config n h p c es → (ph : Phase) → c.state.phase ≡ ph → WaitsIdle ph c.state.stage → ph ≡ phase.Live live.Open
-  is_open p x c es short stage is succ (phase.Live live.Waiting) at idle = absurd (none_some (sym idle ∙ stage))
-    where
-      none_some : None ≡ Some x → ⊥
-      none_some e = cc
+  is_open p x c es short stage is succ (phase.Live live.Waiting) at idle = absurd (none-some x (sym idle ∙ stage))
   is_open p x c es short stage is succ (phase.Live live.Open) at idle = refl
   is_open p x c es short stage is succ (phase.Ended e) at idle =
       let there : c ≡ course (record c.state { phase = phase.Ended e }) c.places c.sent c.made c.reach = λ j. record { state = record c.state { phase = at j }; places = c.places; sent = c.sent; made = c.made; short = short j; reach = c.reach } in

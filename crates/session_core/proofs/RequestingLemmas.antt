@@ -61,7 +61,8 @@ use Rattle.etp_values.specs.declared.code.ErrorCode.TheVariants as code
 use Rattle.store_machine.specs.Clash.{clash}
 use Rattle.session_core.specs.declared.state.End.TheVariants as end
 use Rattle.session_core.specs.declared.state.StagedPending.{StagedPending}
-use Rattle.session_core.proofs.AloneLemmas.{Induction, Lawful, at, bodies-append, bodies-numbered, course, ended-fails, look-answered, looks-same, next-less, part_bodies, short-fails, spent-less}
+use Rattle.session_core.proofs.AloneLemmas.{Induction, Lawful, at, bodies-append, bodies-numbered, ended-fails, look-answered, looks-same, next-less, part_bodies, short-fails, spent-less}
+use Rattle.session_core.proofs.RunLemmas.{course}
 
 -- ---- one event of a run and of its session alone
 

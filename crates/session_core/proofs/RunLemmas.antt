@@ -15,6 +15,10 @@ use Rattle.session_core.specs.Run.{takes, hears, drained, moment_of, at_place, C
 take_longer : (old new : List Entry) (p : ℕ) → IsPrefix old new → p ≤ length old → take p new ≡ take p old
 take_longer old new p pre le = ap (take p) (sym pre.1) ∙ take-append-le p old pre.0 le
 
+-- a course by its parts, which has not stopped short
+abbrev pub course : State → List ℕ → List Outgoing → List (ℕ × Entry) → ℕ → Course
+course s places xs made reach = record { state = s; places = places; sent = xs; made = made; short = false; reach = reach }
+
 -- the same course with more places behind
 abbrev more : List ℕ → Course → Course
 more q c = record c { places = c.places ++ q }
@@ -133,9 +137,6 @@ run_goes_on config n old new places q es e s sent made reach pre w is =
     )
 
 -- ---- on one thread
-abbrev course : State → List ℕ → List Outgoing → List (ℕ × Entry) → ℕ → Course
-course s places xs made reach = record { state = s; places = places; sent = xs; made = made; short = false; reach = reach }
-
 abbrev play : State → List Entry → List ℕ → List Outgoing → List (ℕ × Entry) → ℕ → Played
 play s h ms xs made reach = record { state = s; history = h; marks = ms; sent = xs; made = made; reach = reach }
 

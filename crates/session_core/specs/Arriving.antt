@@ -55,17 +55,6 @@ error_event last_id (frame.Rest h at) = refused_event last_id h code.InvalidMess
 -- no bytes are read so
 error_event last_id frame.NoMemory = Unreadable code.InvalidMessage
 
--- the bytes are at fault, and not the memory
-abbrev pub IsFault : FrameError → Type 0
-IsFault (frame.Header why) = Unit {0}
-IsFault (frame.Extension h) = Unit {0}
-IsFault (frame.Compressed h) = Unit {0}
-IsFault (frame.UnknownProtocol h) = Unit {0}
-IsFault (frame.UnknownKind h) = Unit {0}
-IsFault (frame.Body h why) = Unit {0}
-IsFault (frame.Rest h at) = Unit {0}
-IsFault frame.NoMemory = ⊥
-
 -- what was read of the bytes
 abbrev pub arrived_as : ℤ → ℤ → Result (Header × Message) FrameError → Arrived
 arrived_as last_id moment (Ok x) = message_event last_id moment x.0 x.1

@@ -159,14 +159,6 @@ join_code join.TooLong = code.SizeExceeded
 -- no message is refused so
 join_code join.NoMemory = code.SizeExceeded
 
--- what came is at fault, and not the memory
-abbrev pub IsJoinFault : JoinError → Type 0
-IsJoinFault join.NoBlob = Unit {0}
-IsJoinFault join.WrongBlob = Unit {0}
-IsJoinFault join.Interleaved = Unit {0}
-IsJoinFault join.TooLong = Unit {0}
-IsJoinFault join.NoMemory = ⊥
-
 -- a put that became whole by a chunk is answered as the put; any other message as itself
 abbrev pub request_awaited : Header → Option ℤ → Request
 request_awaited h None = request_of h

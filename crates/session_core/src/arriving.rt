@@ -1,6 +1,7 @@
 //! What arrives: a message, or why there is none.
 ghost use Rattle.std.specs.Prelude.{◌≡◌, IfOk, OnOk};
-ghost use Rattle.session_core.specs.Arriving.{IsFault, arrived_message, error_event, follows, message_event, refused_event, request_of};
+ghost use Rattle.etp_frame.specs.Reading.{IsFault};
+ghost use Rattle.session_core.specs.Arriving.{arrived_message, error_event, follows, message_event, refused_event, request_of};
 
 use crate::state::{Arrived, Request};
 use etp_frame::{FrameError, Header, Message, read_message};

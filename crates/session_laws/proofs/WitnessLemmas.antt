@@ -1,7 +1,8 @@
 -- The premises of the law on committed transactions can be met: one object is got, another session puts another one, and then the
 -- transaction is committed.
-use Rattle.std.specs.Prelude.{ℕ, pos, List, [], ◌∷◌, ◌≡◌, Some, None, Ok, refl}
+use Rattle.std.specs.Prelude.{ℕ, pos, List, [], ◌∷◌, ◌≡◌, Ok, refl}
 use Rattle.std.proofs.Common.{sym, subst, arith}
+use Rattle.std.proofs.lemmas.Option.{none-some}
 use Rattle.etp_frame.specs.Reading.{read_of, tree_of}
 use Rattle.etp_schema.specs.declared.body.Side.TheVariants.{Client}
 use Rattle.avro_bin.specs.Laws.{read_value}
@@ -26,9 +27,6 @@ commit_read = refl
 begins : Begins started transaction
 begins = record { phase = refl; stage = refl; touched = refl; kept = refl; out = refl; blobs = omega arith }
 
-none_refused : None ≡ Some Keys → ⊥
-none_refused e = cc
-
 -- the half step of the get, and where its answer leads
 abbrev getting : List ℕ → Taken
 getting t = by_event live.Open (arrives.Fresh get_header (pos 3) (get t)) started
@@ -37,7 +35,7 @@ abbrev got : List ℕ → Course
 got t = asked config 0 history (pos 3) course (getting t).state (getting t).call
 
 first : (t : List ℕ) → uri_of t ≡ Ok (well 1) → (Later : Type 0) → Later → EndsBy config history 2 (getting t).state.stage (getting t).state.pending (getting t).call (1 ∷ 2 ∷ []) Later
-first t e Later later = rw e ((none_refused, tt), later)
+first t e Later later = rw e ((none-some Keys, tt), later)
 
 second : (t : List ℕ) → uri_of t ≡ Ok (well 1) → Succeeds config 0 history 2 (got t) (Receives commit_bytes (pos 4) ∷ [])
 unfolding takes hears answered seen_after plain_number

@@ -40,6 +40,7 @@ use Rattle.tool_forms.specs.declared.tag.Ending.TheVariants.{Session, PeerEnd, J
 use Rattle.tool_forms.proofs.GrowthLemmas.{Grows, entry_within}
 use Rattle.tool_forms.proofs.LegalLemmas.{at_legal}
 use Rattle.tool_forms.proofs.OwnLemmas.{IsApart, IsBelow, OwnStays, entered-wrote, fall-higher, fall-turned, other_apart, own_apart, own_stays, values-placed, wrote-longer, wrote-more}
+use Rattle.session_core.proofs.RunLemmas.{course}
 use Rattle.session_core.proofs.StepLemmas.{asks_call}
 use Rattle.tool_forms.proofs.SoundnessLemmas.{Laws, TagFits, by_added, effect_fits, number_in, sound_put}
 use Rattle.tool_forms.proofs.TagLemmas.{put_found, at_other, at_self}
@@ -177,12 +178,9 @@ one_added one c h by nth at call = one c h by nth at call
 
 -- ---- an event of the session is one more event of its run
 
--- a course by its parts; most have not stopped short
+-- a course by its parts
 abbrev course_of_parts : State → List ℕ → Bool → List Outgoing → List (ℕ × Entry) → ℕ → Course
 course_of_parts s places short xs made reach = record { state = s; places = places; sent = xs; made = made; short = short; reach = reach }
-
-abbrev course : State → List ℕ → List Outgoing → List (ℕ × Entry) → ℕ → Course
-course s places xs made reach = course_of_parts s places false xs made reach
 
 -- what the course after an event has of the turn
 record Comes (h : List Entry) (t : Turn) (xs : List Outgoing) (made : List (ℕ × Entry)) (d : Course) : Type 0 where

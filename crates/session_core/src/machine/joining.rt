@@ -1,8 +1,8 @@
 //! Messages of the Store protocol, and puts that await chunks.
 ghost use Rattle.std.specs.Prelude.{◌≡◌, None, IfOk, OnOk};
-ghost use Rattle.etp_frame.specs.declared.message.Message.TheVariants as frame;
+ghost use Rattle.etp_frame.specs.Joining.{IsJoinFault};
 ghost use Rattle.session_core.specs.Arriving.{request_of};
-ghost use Rattle.session_core.specs.Machine.{IsJoinFault, join_code, on_join, on_store, on_whole, request_awaited};
+ghost use Rattle.session_core.specs.Machine.{join_code, on_join, on_store, on_whole, request_awaited};
 
 use crate::arriving::request_of;
 use crate::machine::Machine;

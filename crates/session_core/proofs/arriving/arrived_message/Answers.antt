@@ -1,7 +1,8 @@
 use Rattle.std.proofs.Common.{Ok, Err, sym, ◌∙◌, ap, to_z, of_z, w64}
 use Rattle.std.proofs.lemmas.Int.{to_z-of_z}
+use Rattle.etp_frame.proofs.FaultLemmas.{fault_not_memory}
 use Rattle.session_core.specs.Arriving.{error_event, message_event}
-use Rattle.session_core.proofs.ArrivingLemmas.{arrived_read, not_memory}
+use Rattle.session_core.proofs.ArrivingLemmas.{arrived_read}
 use Rattle.session_core.proofs.arriving.arrived_message.Goals as goal
 
 pub returns-in-Ok : goal.returns-in-Ok
@@ -15,4 +16,4 @@ pub returns-in_ok-arrived-in-Err : goal.returns-in_ok-arrived-in-Err
 returns-in_ok-arrived-in-Err c =
     c.in_ok-arrived-in-Err.ensures.value
     ∙ ap (λ z. error_event z c.in-Err.error) (to_z-of_z w64 c.args.last_id c.ranges.last_id)
-    ∙ sym (arrived_read c.args.last_id c.args.moment c.args.bytes.now (Err c.in-Err.error) c.if-bytes-gt-MAX_MESSAGE_LEN.false (c.in-Err.ensures.gives (not_memory c.in-Err.error c.in_ok-arrived-in-Err.ensures.fault)))
+    ∙ sym (arrived_read c.args.last_id c.args.moment c.args.bytes.now (Err c.in-Err.error) c.if-bytes-gt-MAX_MESSAGE_LEN.false (c.in-Err.ensures.gives (fault_not_memory c.in-Err.error c.in_ok-arrived-in-Err.ensures.fault)))
