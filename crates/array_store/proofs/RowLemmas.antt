@@ -1,5 +1,5 @@
 -- Lists in rows of one length, read and written row by row.
-use Rattle.std.proofs.Common.{ℕ, zero, suc, ◌+◌, ◌*◌, ◌-◌, ◌≤◌, List, [], ◌∷◌, ◌++◌, length, take, drop, ◌≡◌, refl, ◌∙◌, arith, length-append, length-take, length-drop}
+use Rattle.std.proofs.Common.{ℕ, zero, suc, ◌+◌, ◌*◌, ◌-◌, ◌≤◌, List, [], ◌∷◌, ◌++◌, length, take, drop, ◌≡◌, refl, ◌∙◌, arith, length-take, length-drop}
 use Rattle.std.proofs.lemmas.List.{take_at, drop_at, take-append-drop}
 
 -- what `f` gives of each of n rows
@@ -18,26 +18,6 @@ row_fits n w len h = let more : suc n * w ≡ w + n * w = omega arith in (omega 
 module _ {X : Type 0} (f : List X → List X) (g : List X → List X → List X) (w p : ℕ)
     (kept : (r ys : List X) → length r ≡ w → length (g r ys) ≡ w)
     (short : (r : List X) → length r ≡ w → length (f r) ≡ p) where
-  pub length-rows_written : (n : ℕ) (xs ys : List X) → n * w ≤ length xs → length (rows_written g w p n xs ys) ≡ length xs
-  length-rows_written zero xs ys h = refl
-  length-rows_written (suc n) xs ys h =
-      let fits = row_fits n w (length xs) h in
-      let front : length (take w xs) ≡ w = length-take w xs ∙ omega (arith, fits.0) in
-      let rest : n * w ≤ length (drop w xs) = omega (arith, fits.1, length-drop w xs) in
-      let row = kept (take w xs) ys front in
-      let later = length-rows_written n (drop w xs) (drop p ys) rest in
-      length-append (g (take w xs) ys) (rows_written g w p n (drop w xs) (drop p ys)) ∙ omega (arith, row, later, length-drop w xs, fits.0)
-
-  pub length-rows_read : (n : ℕ) (xs : List X) → n * w ≤ length xs → length (rows_read f w n xs) ≡ n * p
-  length-rows_read zero xs h = omega arith
-  length-rows_read (suc n) xs h =
-      let fits = row_fits n w (length xs) h in
-      let front : length (take w xs) ≡ w = length-take w xs ∙ omega (arith, fits.0) in
-      let rest : n * w ≤ length (drop w xs) = omega (arith, fits.1, length-drop w xs) in
-      let row = short (take w xs) front in
-      let later = length-rows_read n (drop w xs) rest in
-      length-append (f (take w xs)) (rows_read f w n (drop w xs)) ∙ omega (arith, row, later)
-
   -- where writing what was read of a row gives the row back, so it is with rows
   module _ (back : (r ys zs : List X) → length r ≡ w → g (g r ys) (f r ++ zs) ≡ r) where
     pub rows_back : (n : ℕ) (xs ys : List X) → n * w ≤ length xs → rows_written g w p n (rows_written g w p n xs ys) (rows_read f w n xs) ≡ xs

@@ -32,9 +32,6 @@ pub IsBytes-append : (text rest : List ℕ) → IsBytes (text ++ rest) → IsByt
 IsBytes-append [] rest h = h
 IsBytes-append (b ∷ text) rest h = IsBytes-append text rest (IsBytes-rest b (text ++ rest) h)
 
-pub rest_fits : {A : Type 0} (P : A → List ℕ → Type 0) (bytes : List ℕ) (x : A) (rest : List ℕ) → IsBytes bytes → Starts P bytes x rest → IsBytes rest
-rest_fits P bytes x rest h s = IsBytes-append s.text rest (subst IsBytes s.parts h)
-
 placed_ok : (f : ℕ → ℤ) (left : ℕ) (r : Groups) (x : ℤ) (rest : List ℕ) → placed f left r ≡ Ok (x, rest) → (z : ℕ) × (r ≡ Ok (z, rest)) × (x ≡ f z)
 placed_ok f left (Ok y) x rest e = let p = ok_pair {E = Why × ℕ} (f y.0) x y.1 rest e in (y.0, ap (λ (r : List ℕ). Ok (y.0, r)) p.1, sym p.0)
 placed_ok f left (Err w) x rest e = absurd cc

@@ -1,10 +1,9 @@
 -- The groups of seven bits that a number is read from and written as; for the crates above too.
-use Rattle.std.proofs.Common.{◌≡◌, ℕ, zero, suc, ◌+◌, ◌-◌, ◌*◌, ◌/◌, ◌%◌, ◌<◌, ◌≤◌, Bool, true, false, List, [], ◌∷◌, Result, Ok, Err, ltb, cond, refl, sym, ap, arith, ◌⊎◌, inl, inr}
-use Rattle.std.proofs.lemmas.Bool.{ltb-true, le-ltb}
+use Rattle.std.proofs.Common.{◌≡◌, ℕ, zero, suc, ◌+◌, ◌-◌, ◌*◌, ◌/◌, ◌%◌, ◌<◌, ◌≤◌, Bool, true, false, List, ◌∷◌, Result, Ok, Err, ltb, cond, refl, sym, ap, arith, ◌⊎◌, inl, inr}
+use Rattle.std.proofs.lemmas.Bool.{le-ltb}
 use Rattle.avro_bin.specs.declared.fault.Why.{Why}
-use Rattle.avro_bin.specs.declared.fault.Why.TheVariants as why
-use Rattle.avro_bin.specs.Number.{top, shortest}
-use Rattle.avro_bin.specs.Reading.{groups_at, more_groups}
+use Rattle.avro_bin.specs.Number.{shortest}
+use Rattle.avro_bin.specs.Reading.{more_groups}
 
 -- which way a test went
 pub chosen : {A : Type 0} (b : Bool) (x y z : A) → cond b x y ≡ z → ((b ≡ true) × (x ≡ z)) ⊎ ((b ≡ false) × (y ≡ z))
@@ -27,28 +26,6 @@ Groups = Result (ℕ × List ℕ) Why
 pub more_ok : (b : ℕ) (r : Groups) (z : ℕ) (rest : List ℕ) → more_groups b r ≡ Ok (z, rest) → (high : ℕ) × (r ≡ Ok (high, rest)) × (z ≡ b % 128 + 128 * high)
 more_ok b (Ok x) z rest e = let p = ok_pair {E = Why} (b % 128 + 128 * x.0) z x.1 rest e in (x.0, ap (λ (r : List ℕ). Ok (x.0, r)) p.1, sym p.0)
 more_ok b (Err w) z rest e = absurd cc
-
-pub top_some : (k : ℕ) → 0 < top k
-top_some zero = omega arith
-top_some (suc zero) = omega arith
-top_some (suc (suc k)) = omega (arith, top_some (suc k))
-
--- what k groups make is below the top
-pub groups_small : (k : ℕ) (bytes : List ℕ) (z : ℕ) (rest : List ℕ) → groups_at k bytes ≡ Ok (z, rest) → z < top k
-groups_small zero bytes z rest e = absurd cc
-groups_small (suc k) [] z rest e = absurd cc
-groups_small (suc zero) (b ∷ bytes) z rest e =
-    elim (chosen (ltb b 2) (Ok (b, bytes)) (Err why.Number) (Ok (z, rest)) e) [
-      | inl h ↦ let lt : b < 2 = ltb-true _ _ h.0 in let p = ok_pair {E = Why} b z bytes rest h.1 in omega arith
-      | inr h ↦ absurd (let bad : Err why.Number ≡ done (z, rest) = h.1 in cc)
-    ]
-groups_small (suc (suc k)) (b ∷ bytes) z rest e =
-    elim (chosen (ltb b 128) (Ok (b, bytes)) (more_groups b (groups_at (suc k) bytes)) (Ok (z, rest)) e) [
-      | inl h ↦ let lt : b < 128 = ltb-true _ _ h.0 in let p = ok_pair {E = Why} b z bytes rest h.1 in omega (arith, top_some (suc k))
-      | inr h ↦
-          let m = more_ok b (groups_at (suc k) bytes) z rest h.1 in
-          omega (arith, groups_small (suc k) bytes m.0 rest m.1, m.2)
-    ]
 
 pub shortest_more : (k z : ℕ) → 0 < k → 128 ≤ z → shortest k z ≡ (z % 128 + 128) ∷ shortest (k - 1) (z / 128)
 shortest_more zero z h le = absurd (omega arith)

@@ -7,7 +7,7 @@ use Rattle.etp_outside.specs.declared.status.Status.{Status}
 use Rattle.client_core.specs.State.{State}
 use Rattle.client_forms.specs.Ctl.{Course, Place, Stage, ends}
 use Rattle.client_forms.specs.Plans.{acts, standing, wanted, ActsOn, Plan, Plans, PlanStops, Doing}
-use Rattle.client_forms.specs.Work.{Line, Output, Input, Outside, outside, place, Did, IsAt, moved, Comes, Goes, Ends, Fronts, Breaks, Cuts, Stops}
+use Rattle.client_forms.specs.Work.{Line, Output, Input, Outside, outside, place, Did, IsAt, moved, Goes, Ends, Fronts, Breaks, Cuts, Stops}
 use Rattle.client_forms.specs.declared.stop.Stop.{Stop}
 use Rattle.client_forms.specs.declared.stop.Stop.TheVariants as stop
 use Rattle.client_forms.specs.declared.action.Action.TheVariants as action
@@ -138,20 +138,6 @@ module _ (owes : Stage → (Course → Course) → Type 0) (stands : Stage → T
   act_stops e z k =
       leads_stops e f (λ c. h.rest (acts a c)) p (place s h.stage) x y z (record { moments = h.moments; messages = h.messages; bytes = h.bytes; did = h.did; course = h.course })
       (stops_later e (acts a) h.rest (place s h.stage) y z h.rests k)
-
-  -- the command waits
-  pub act_waits : a ≡ action.Wait → Comes stands f p s x y
-  act_waits is = record {
-    stage = h.stage;
-    there = (h.waits is).0;
-    goes = record {
-      moments = h.moments;
-      messages = h.messages;
-      bytes = h.bytes;
-      did = h.did;
-      course = λ c later here. h.course c later here ∙ ap (λ v. h.rest (acts v (moved c (place s h.stage) later h.messages h.bytes))) is ∙ (h.waits is).1 (moved c (place s h.stage) later h.messages h.bytes);
-    };
-  }
 
 -- ---- the next action, or none
 

@@ -32,9 +32,6 @@ module _ (channel : ℤ) (kind n : ℕ) (held : List Point) (line : List ℕ) (l
   long_line long =
       ap (λ (b : Bool). let r : Read = if b then record { points = []; refused = Some status.Limit } else with_line n (point_in kind line) (read_lines kind (n + 1) later) in loads channel r.refused (filled held r.points) c) (is_long (length line) long)
 
-  pub refused_line : length line ≤ 65536 → point_in kind line ≡ None → loads_from channel kind n held (line ∷ later) c ≡ ends_first (status.Input n) c
-  refused_line short is = ap (λ (r : Read). loads channel r.refused (filled held r.points) c) (by_point None short is)
-
 closed_first : (channel : ℤ) (o : Option Status) (held : List Point) (f : Filled) (c : Course) → loads channel o (closes_message held f) c ≡ loads channel o f (loads_one channel c held)
 closed_first channel None held f c = refl
 closed_first channel (Some st) held f c = refl

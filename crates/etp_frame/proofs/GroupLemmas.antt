@@ -85,14 +85,7 @@ module _ {A : Type 0} (size : A → Amount) (limit : ℕ) where
 -- ---- items that have room together
 
 module _ {A : Type 0} (size : A → Amount) where
-  -- a measure with an item's and with those behind it
-  pub joined : (s : Measure) (x : A) (xs : List A) → adds (adds s (capped (size x))) (capped (total size xs)) ≡ adds s (capped (total size (x ∷ xs)))
-  joined s x xs =
-      let b : min (min (s.bytes + min (size x).bytes most) most + min (total size xs).bytes most) most ≡ min (s.bytes + min ((size x).bytes + (total size xs).bytes) most) most = omega arith in
-      let k : min (min (s.nodes + min (size x).nodes most) most + min (total size xs).nodes most) most ≡ min (s.nodes + min ((size x).nodes + (total size xs).nodes) most) most = omega arith in
-      (λ i. record { bytes = b i; nodes = k i })
-
-  -- and where none is behind it
+  -- a measure behind which no item is left
   pub joined_all : (s all : Measure) (n : ℕ) (xs : List A) → length xs ≤ n → s.bytes ≤ most → s.nodes ≤ most → adds s (capped (total size (drop n xs))) ≡ all → s ≡ all
   joined_all s all n xs past bytes nodes is =
       let b : s.bytes ≡ min (s.bytes + min 0 most) most = omega (arith, bytes) in

@@ -1,5 +1,5 @@
 -- What a piece of a blob does to the objects of a message.
-use Rattle.std.proofs.Common.{◌≡◌, ◌∙◌, ◌++◌, ◌+◌, ◌<◌, ℕ, suc, Bool, true, false, cond, ◌&&◌, ◌||◌, List, [], ◌∷◌, length, Option, Some, None, is_some, nat_lt, refl, sym, ap, subst, append_assoc, arith}
+use Rattle.std.proofs.Common.{◌≡◌, ◌∙◌, ◌++◌, ◌+◌, ◌<◌, ℕ, suc, Bool, true, false, cond, ◌&&◌, ◌||◌, List, [], ◌∷◌, length, Option, Some, None, is_some, nat_lt, refl, sym, ap, append_assoc, arith}
 use Rattle.std.proofs.lemmas.Bool.{false≢true, or_parts}
 use Rattle.std.proofs.lemmas.List.{length-append}
 use Rattle.std.proofs.lemmas.Bool.Decides.{nat_tests}
@@ -29,12 +29,6 @@ module _ (c : Chunk) (x : Object) (xs : Objects) where
 
   pub fed_later : awaits c.blob_id x ≡ false → fed (x ∷ xs) c ≡ x ∷ fed xs c
   fed_later h = ap (λ (t : Bool). cond t (with_data x c ∷ xs) (x ∷ fed xs c)) h
-
--- a fact of the objects behind a piece, by whether the first one awaits it
-by_first : (P : Objects → Type 0) (c : Chunk) (x : Object) (xs : Objects) (t : Bool) → awaits c.blob_id x ≡ t
-    → (t ≡ true → P (with_data x c ∷ xs)) → (t ≡ false → P (x ∷ fed xs c)) → P (fed (x ∷ xs) c)
-by_first P c x xs true h here later = subst P (sym (fed_here c x xs h)) (here refl)
-by_first P c x xs false h here later = subst P (sym (fed_later c x xs h)) (later refl)
 
 -- ---- two pieces of one blob are one
 

@@ -13,9 +13,6 @@ pub after_found : (p r : List ℕ) → after p (p ++ r) ≡ Some r
 after_found [] r = refl
 after_found (x ∷ p) r = rw (eq-eqb x x refl) (after_found p r)
 
-some≢none : {A : Type 0} (x : A) → Some x ≢ None
-some≢none x e = cc
-
 pub after_says : (p s r : List ℕ) → after p s ≡ Some r → s ≡ p ++ r
 after_says [] s r e = ap (λ o. unwrap_or o []) e
 after_says (x ∷ p) [] r e = cc

@@ -1,7 +1,6 @@
 -- The lines of an input, and how far it was read.
-use Rattle.std.specs.Prelude.{◌≡◌, ◌<◌, ◌≤◌, ◌==◌, ℕ, Bool, true, false, List, [], ◌∷◌, ◌++◌, length, if◌then◌else◌, nat_lt, unwrap_or, Option, None, Some}
+use Rattle.std.specs.Prelude.{◌≡◌, ◌<◌, ◌≤◌, ◌==◌, ℕ, Bool, true, false, List, [], ◌∷◌, ◌++◌, length, if◌then◌else◌, nat_lt, Option}
 use Rattle.std.specs.Io.KnownBytes.{Consumes, IsAtEnd}
-use Rattle.etp_values.specs.Uri.{parted}
 use Rattle.point_lines.specs.declared.lines.Advance.{Advance}
 use Rattle.point_lines.specs.declared.lines.Advance.TheVariants as advance
 
@@ -14,11 +13,6 @@ in_front b (line ∷ lines) = (b ∷ line) ∷ lines
 abbrev pub lines_in : List ℕ → List (List ℕ)
 lines_in [] = []
 lines_in (b ∷ bs) = if b == 10 then [] ∷ lines_in bs else in_front b (lines_in bs)
-
--- the first line, and what follows it; none where nothing is left
-abbrev pub first_line : List ℕ → Option (List ℕ × List ℕ)
-first_line [] = None
-first_line (b ∷ bs) = Some (unwrap_or (parted 10 (b ∷ bs)) ((b ∷ bs), []))
 
 -- a reader of lines: the line that it stands at, the bytes that it took and has not given yet, and whether the input has ended
 pub record Reading : Type 0 where

@@ -1,6 +1,5 @@
 -- Shelves that are fed one by one.
-use Rattle.std.proofs.Common.{refl, ℕ, zero, suc, ◌≡◌, ◌<◌, ◌≤◌, ◌+◌, List, [], ◌∷◌, ◌++◌, append-nil, drop, length, get_or, map, slice_set, take, ap, arith, subst, ◌∙◌}
-use Rattle.std.proofs.lemmas.List.{drop_all, take_all}
+use Rattle.std.proofs.Common.{refl, ℕ, zero, suc, ◌≡◌, ◌<◌, ◌≤◌, ◌+◌, List, [], ◌∷◌, ◌++◌, drop, length, get_or, map, slice_set, take, ap, arith, subst, ◌∙◌}
 use Rattle.std.proofs.lemmas.List.Edits.{map_over_more}
 use Rattle.channel_store.specs.declared.copy.ChangeMsg.{ChangeMsg}
 use Rattle.watch_views.specs.Boards.{Reading, Keeps, IsFed, AllFed, AllKept, AreFed}
@@ -67,6 +66,3 @@ first_mapped n xs f = map f (take n xs) ++ drop n xs
 
 pub mapped_more : {A : Type 0} (f : A → A) (xs now : List A) (n : ℕ) (x new : A) → n < length xs → now ≡ first_mapped n xs f → x ≡ get_or now n x → new ≡ f x → slice_set now n new ≡ first_mapped (n + 1) xs f
 mapped_more f xs now n x new within so_far at is = ap (λ y. slice_set now n y) is ∙ map_over_more f xs now n x within so_far at
-
-pub mapped_all : {A : Type 0} (f : A → A) (xs now : List A) (n : ℕ) → length xs ≤ n → now ≡ first_mapped n xs f → now ≡ map f xs
-mapped_all f xs now n end so_far = so_far ∙ (λ j. map f (take_all n xs end j) ++ drop_all n xs end j) ∙ append-nil (map f xs)
