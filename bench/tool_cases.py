@@ -6,7 +6,8 @@
 Messages are written by the schema of `wire.py` alone, and what answers them was worked out from the rules, case by case. The captures
 of `session_cases.py` are answered by the server of `sessions.py`, those of `row_samples.py` by its own, those of
 `transaction_samples.py` by that of `transactions.py`, and those of `row_captures.py` and `transaction_captures.py` have their answers
-beside them. The loads are made by `generator.py`, and answered by the server of `row_samples.py`.
+beside them. The captures of `short_sessions.py` are answered by the server of `transactions.py`. The loads are made by `generator.py`, and
+answered by the server of `row_samples.py`.
 """
 import pathlib
 import sys
@@ -16,6 +17,7 @@ import generator
 import row_captures
 import row_samples
 import session_cases
+import short_sessions
 import transaction_captures
 import transaction_samples
 import wire
@@ -201,6 +203,7 @@ def add_beginnings(cases):
     cases.replay("nothing.cap", b"", b"", "capture refused at 0")
     cases.replay("no_frame.cap", wire.MAGIC, wire.MAGIC)
     cases.replay("part_of_a_head.cap", wire.MAGIC + b"\1" + bytes(15), wire.MAGIC, "capture refused at 8")
+    cases.replay("part_of_a_length.cap", wire.MAGIC + b"\1" + bytes(11) + b"\1" + bytes(3), wire.MAGIC, "capture refused at 8")
     cases.replay("another_magic.cap", b"ETPCAP02", b"", "capture refused at 0")
     cases.replay("no_frame.cap", wire.MAGIC, b"", "config refused: key 1 of channel 0", "no_instance.toml")
     cases.replay("no_frame.cap", wire.MAGIC, b"", "config refused: double uri of channel 2", "one_uri_twice.toml")
@@ -381,7 +384,7 @@ def add_listings(cases):
 def add_rows(cases):
     """Requests on dataspaces, objects, arrays and channels, and transactions."""
     for name, config, bytes_in, bytes_out in [
-        *row_captures.cases(), *row_samples.cases(), *transaction_captures.cases(), *transaction_samples.cases()
+        *row_captures.cases(), *row_samples.cases(), *transaction_captures.cases(), *transaction_samples.cases(), *short_sessions.cases()
     ]:
         cases.replay(f"{name}.cap", bytes_in, bytes_out, config=cases.file(f"{config[0]}.toml", config[1].encode()))
 
@@ -413,6 +416,11 @@ def add_loads(cases):
         cases.add("no_frame.cap", f"{command} 24", wire.MAGIC, [(b"", "write fault")], write=1)
 
 
+def add_faulty_system(cases):
+    """What is told where the tool runs behind the cases over a system that fails: of its output, and of memory."""
+    cases.answers.append(b"write fault\nno memory\n")
+
+
 def main():
     cases = Cases()
     add_beginnings(cases)
@@ -428,6 +436,7 @@ def main():
     add_rows(cases)
     add_far_behind(cases)
     add_loads(cases)
+    add_faulty_system(cases)
     cases.write(pathlib.Path(sys.argv[1]))
 
 

@@ -19,5 +19,5 @@ mod stop;
 mod talk;
 mod watching;
 
-pub use program::{finish, tell};
+pub use program::finish;
 pub use run::run_client;

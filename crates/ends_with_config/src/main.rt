@@ -1,8 +1,9 @@
-//! Ends as a program whose configuration is refused: with status 2.
+//! Ends as a program whose configuration is refused: with status 2, and its line on standard output.
 #![tactic(auto)]
 
-use etp_outside::Status;
+use etp_outside::{Status, StdSink};
 use program_status::finish;
+use std::io;
 use std::process::ExitCode;
 
 fn main(rt: HostRuntime) -> ExitCode {
@@ -11,5 +12,6 @@ fn main(rt: HostRuntime) -> ExitCode {
         channel: 0,
         key: 1,
     };
-    finish(rt.alloc(), status, b"", rt.stderr())
+    let mut out = StdSink::new(io::writer(&rt));
+    finish(rt.alloc(), status, b"", &mut out)
 }

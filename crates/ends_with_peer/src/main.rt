@@ -1,10 +1,12 @@
-//! Ends as a program whose peer has broken the protocol: with status 11.
+//! Ends as a program whose peer has broken the protocol: with status 11, and its line on standard output.
 #![tactic(auto)]
 
-use etp_outside::Status;
+use etp_outside::{Status, StdSink};
 use program_status::finish;
+use std::io;
 use std::process::ExitCode;
 
 fn main(rt: HostRuntime) -> ExitCode {
-    finish(rt.alloc(), Status::Peer, b"", rt.stderr())
+    let mut out = StdSink::new(io::writer(&rt));
+    finish(rt.alloc(), Status::Peer, b"", &mut out)
 }

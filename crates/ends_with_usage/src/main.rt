@@ -1,15 +1,12 @@
-//! Ends as a program whose words are in no form: with status 1.
+//! Ends as a program whose words are in no form: with status 1, and its line on standard output.
 #![tactic(auto)]
 
-use etp_outside::Status;
+use etp_outside::{Status, StdSink};
 use program_status::finish;
+use std::io;
 use std::process::ExitCode;
 
 fn main(rt: HostRuntime) -> ExitCode {
-    finish(
-        rt.alloc(),
-        Status::Usage,
-        b"\nhow it is called\n",
-        rt.stderr(),
-    )
+    let mut out = StdSink::new(io::writer(&rt));
+    finish(rt.alloc(), Status::Usage, b"\nhow it is called\n", &mut out)
 }

@@ -19,8 +19,11 @@ pub struct Frame {
     pub bytes: Blob,
 }
 
-/// The eight bytes that a capture begins with.
-pub(crate) const MAGIC: [u8; 8] = *b"ETPCAP01";
+/// How many bytes a capture has before its first frame.
+pub(crate) const MAGIC_LEN: usize = 8;
+
+/// The bytes that a capture begins with.
+pub(crate) const MAGIC: [u8; MAGIC_LEN] = *b"ETPCAP01";
 
 /// Appends the eight bytes that a capture begins with. An error loses nothing of what was there.
 pub fn push_magic(into: &mut Vec<u8>) -> Result<(), NoMemory>

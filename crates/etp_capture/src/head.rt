@@ -15,6 +15,12 @@ pub const HEAD_LEN: usize = 17;
 /// The greatest length of a frame's payload.
 const FRAME_LIMIT: u32 = 33_554_432;
 
+/// The length of an ending's payload: the number of the end.
+const END_LEN: u32 = 1;
+
+/// The length of an ending's payload where an error code follows the number.
+const END_WITH_CODE_LEN: u32 = 5;
+
 fn is_kind(kind: u8) -> bool
     ensures { result ≡ is_kind kind }
 {
@@ -30,18 +36,18 @@ fn is_length(kind: u8, length: u32) -> bool
 {
     length <= FRAME_LIMIT
         && ((kind != kinds::POLL && kind != kinds::END) || length == 0)
-        && (kind != kinds::ENDED || length == 1 || length == 5)
+        && (kind != kinds::ENDED || length == END_LEN || length == END_WITH_CODE_LEN)
 }
 
 /// The length that a head states.
-pub(crate) fn length_of(head: &[u8; 17]) -> u32
+pub(crate) fn length_of(head: &[u8; HEAD_LEN]) -> u32
     ensures { result ≡ length_in head.now }
 {
     u32::from_be_bytes([head[13], head[14], head[15], head[16]])
 }
 
 /// The frame of a head and its payload.
-pub(crate) fn frame_with(head: &[u8; 17], bytes: Blob) -> Frame
+pub(crate) fn frame_with(head: &[u8; HEAD_LEN], bytes: Blob) -> Frame
     ensures { result ≡ frame_of head.now bytes }
 {
     Frame {
@@ -55,7 +61,7 @@ pub(crate) fn frame_with(head: &[u8; 17], bytes: Blob) -> Frame
 }
 
 /// The first fault of a head of which `got` bytes were read, and no more than one past the limit.
-pub(crate) fn head_fault(head: &[u8; 17], at: u64, got: usize) -> Result<(), CaptureError>
+pub(crate) fn head_fault(head: &[u8; HEAD_LEN], at: u64, got: usize) -> Result<(), CaptureError>
     requires some { 0 < got }
     requires most { got ≤ 17 }
     requires limit { at + got ≤ capture_limit + 1 }

@@ -8,7 +8,7 @@ ghost use Rattle.etp_capture.specs.Found.{found, next_found};
 ghost use Rattle.etp_capture.specs.Reader.{Answers, HeadOf, BodyOf, MagicOf, Begins, TakesUp, begun, after};
 ghost use Rattle.etp_capture.specs.declared.reader.CaptureError.TheVariants.{Magic, ReadFault, NoMemory};
 
-use crate::frame::{Frame, MAGIC};
+use crate::frame::{Frame, MAGIC, MAGIC_LEN};
 use crate::head::{HEAD_LEN, frame_with, head_fault, length_of};
 use etp_outside::{Filled, Source, fill};
 use etp_values::Blob;
@@ -18,6 +18,9 @@ use thiserror::Error;
 
 /// The greatest number of bytes of a capture.
 pub(crate) const CAPTURE_LIMIT: u64 = 1_073_741_824;
+
+/// The place of a capture's first frame, behind the magic.
+const FIRST_PLACE: u64 = 8;
 
 /// Why no frame was read. An offset is that of the frame's first byte in the capture.
 #[derive(Clone, Copy, Debug, PartialEq, Eq, Error)]
@@ -95,12 +98,12 @@ impl CaptureReader {
         if let Some(e) = self.failed {
             return Err(e);
         }
-        if self.at >= 8 {
+        if self.at >= FIRST_PLACE {
             return Ok(());
         }
         match read_magic(source) {
             Ok(()) => {
-                self.at = 8;
+                self.at = FIRST_PLACE;
                 Ok(())
             }
             Err(e) => Err(self.fail(e)),
@@ -136,11 +139,13 @@ impl CaptureReader {
         }
         match read_next(alloc, source, self.at) {
             Ok(None) => {
-                self.at = self.at.max(8);
+                self.at = self.at.max(FIRST_PLACE);
                 Ok(None)
             }
             Ok(Some(frame)) => {
-                self.at = self.at.max(8) + HEAD_LEN as u64 + frame.bytes.as_bytes().len() as u64;
+                self.at = self.at.max(FIRST_PLACE)
+                    + HEAD_LEN as u64
+                    + frame.bytes.as_bytes().len() as u64;
                 Ok(Some(frame))
             }
             Err(e) => Err(self.fail(e)),
@@ -161,11 +166,11 @@ fn read_next<S: Source>(
     ensures kept { S.faults source.old ≤ S.faults source.new }
     ensures cause { result ≡ Err ReadFault → Rose (S.faults source.old) (S.faults source.new) }
 {
-    if at >= 8 {
+    if at >= FIRST_PLACE {
         return read_frame(alloc, source, at);
     }
     match read_magic(source) {
-        Ok(()) => read_frame(alloc, source, 8),
+        Ok(()) => read_frame(alloc, source, FIRST_PLACE),
         Err(e) => Err(e),
     }
 }
@@ -177,11 +182,11 @@ fn read_magic<S: Source>(source: &mut S) -> Result<(), CaptureError>
     ensures kept { S.faults source.old ≤ S.faults source.new }
     ensures cause { result ≡ Err ReadFault → Rose (S.faults source.old) (S.faults source.new) }
 {
-    let mut bytes = [0u8; 8];
+    let mut bytes = [0u8; MAGIC_LEN];
     let Some(got) = read_up(source, &mut bytes) else {
         return Err(CaptureError::ReadFault);
     };
-    if got < 8 {
+    if got < MAGIC_LEN {
         return Err(CaptureError::Magic);
     }
     if bytes != MAGIC {
@@ -215,7 +220,7 @@ fn read_frame<S: Source>(
 }
 
 /// The 17 bytes at a frame's place, or none where the input has ended.
-fn read_head<S: Source>(source: &mut S, at: u64) -> Result<Option<[u8; 17]>, CaptureError>
+fn read_head<S: Source>(source: &mut S, at: u64) -> Result<Option<[u8; HEAD_LEN]>, CaptureError>
     requires { at ≤ capture_limit }
     ensures bytes { Told (S.left source.old) (S.left source.new) (HeadOf result at) }
     ensures fits { IfOk result (λ answer. IfSome answer (λ head. at + 17 ≤ capture_limit)) }
@@ -225,7 +230,7 @@ fn read_head<S: Source>(source: &mut S, at: u64) -> Result<Option<[u8; 17]>, Cap
     ensures none { result ≢ Err NoMemory }
 {
     let want = ((CAPTURE_LIMIT - at) as usize + 1).min(HEAD_LEN);
-    let mut head = [0u8; 17];
+    let mut head = [0u8; HEAD_LEN];
     let got = match read_up(source, &mut head[..want]) {
         Some(got) => got,
         None => return Err(CaptureError::ReadFault),
@@ -244,7 +249,7 @@ fn read_body<S: Source>(
     alloc: Global,
     source: &mut S,
     at: u64,
-    head: &[u8; 17],
+    head: &[u8; HEAD_LEN],
 ) -> Result<Blob, CaptureError>
     requires { at + 17 ≤ capture_limit }
     ensures bytes { Told (S.left source.old) (S.left source.new) (BodyOf result at head.now) }

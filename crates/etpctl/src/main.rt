@@ -29,11 +29,11 @@ const WINDOW_LEN: u64 = 10;
 fn main(rt: HostRuntime) -> ExitCode {
     let alloc = rt.alloc();
     let Ok((latest, window, counts)) = parts(alloc) else {
-        return finish(alloc, Status::NoMemory, rt.stderr());
+        return finish(alloc, Status::NoMemory, &mut StdSink::new(rt.stderr()));
     };
     let mut views: Vec<Box<dyn View>> = Vec::new(alloc);
     if views.push(latest).is_err() || views.push(window).is_err() || views.push(counts).is_err() {
-        return finish(alloc, Status::NoMemory, rt.stderr());
+        return finish(alloc, Status::NoMemory, &mut StdSink::new(rt.stderr()));
     }
     let is_shown = rt.stderr().is_terminal();
     if is_shown {
@@ -45,7 +45,7 @@ fn main(rt: HostRuntime) -> ExitCode {
     }
     let points = Progress::new(Counted::Points, is_shown, rt, StdSink::new(rt.stderr()));
     let status = run_words(&rt, views, points);
-    finish(alloc, status, rt.stderr())
+    finish(alloc, status, &mut StdSink::new(rt.stderr()))
 }
 
 /// What shows a channel.

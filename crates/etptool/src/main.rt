@@ -2,9 +2,10 @@
 //! `etptool generate N`. What each does is said in `tool_forms`, where the work is.
 #![tactic(auto)]
 
+use etp_outside::StdSink;
 use std::process::ExitCode;
 use tool_forms::run_program;
 
 fn main(rt: HostRuntime) -> ExitCode {
-    run_program(&rt, rt.stderr())
+    run_program(&rt, &mut StdSink::new(rt.stderr()))
 }

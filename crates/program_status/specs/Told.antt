@@ -1,8 +1,11 @@
 -- What a program tells of its status.
-use Rattle.std.specs.Prelude.{ℕ, List, [], ◌++◌, codes}
-use Rattle.etp_outside.specs.Status.{line_of}
+use Rattle.std.specs.Prelude.{◌≡◌, ◌≢◌, ◌⊎◌, ℕ, List, [], ◌++◌, Option, codes}
+use Rattle.std.specs.Io.KnownBytes.{Appends}
+use Rattle.etp_outside.specs.Faults.{Rose}
+use Rattle.etp_outside.specs.Status.{line_of, number_of}
+use Rattle.etp_outside.specs.Whole.{AppendsFront}
 use Rattle.etp_outside.specs.declared.status.Status.{Status}
-use Rattle.etp_outside.specs.declared.status.Status.TheVariants.{Done, Usage}
+use Rattle.etp_outside.specs.declared.status.Status.TheVariants.{Done, Usage, NoMemory}
 
 -- what follows a status line: a line feed, and where the words are in no form how the program is called
 abbrev pub ending : List ℕ → Status → List ℕ
@@ -13,3 +16,12 @@ ending usage status = codes "\n"
 -- the status line and what follows it
 abbrev pub told_with : List ℕ → Status → List ℕ
 told_with usage status = line_of status ++ ending usage status
+
+-- the text of a status was told; or a part of it, where the output's faults rose; or nothing, for want of memory, which is no cause where it
+-- is the status
+abbrev pub IsTold : Status → List ℕ → Option (List ℕ) → Option (List ℕ) → ℕ → ℕ → Type 0
+IsTold status text old new before now = Appends old new text ⊎ ((AppendsFront old new text × Rose before now) ⊎ ((new ≡ old) × (status ≢ NoMemory)))
+
+-- a program ended with the number of some status, and told the text of that one
+abbrev pub Ends : (Status → List ℕ) → ℕ → Option (List ℕ) → Option (List ℕ) → ℕ → ℕ → Type 0
+Ends text number old new before now = (status : Status) × (number ≡ number_of status) × IsTold status (text status) old new before now

@@ -4,26 +4,27 @@ ghost use Rattle.std.specs.Process.{exit_status};
 ghost use Rattle.etp_outside.specs.Faults.{Rose};
 ghost use Rattle.etp_outside.specs.Status.{number_of};
 ghost use Rattle.etp_outside.specs.Whole.{WritesAll};
-ghost use Rattle.program_status.specs.Told.{told_with, ending};
+ghost use Rattle.program_status.specs.Told.{IsTold, told_with, ending};
 
-use etp_outside::{Sink, Status, StdSink, Written, write_all};
+use etp_outside::{Sink, Status, Written, write_all};
 use etp_values::NoMemory;
 use std::alloc::Global;
-use std::io::Write;
 use std::process::ExitCode;
 
-/// Tells `errors` how a program has ended, as [`tell`] does, and gives its exit status. `usage` says how it is called. What can't be
-/// told is lost.
-pub fn finish<E: Write + Drop>(alloc: Global, status: Status, usage: &[u8], errors: E) -> ExitCode
-    ensures { exit_status result ≡ number_of status }
+/// Tells `errors` how a program has ended, and gives its exit status. What is told is the status line, and behind that of words in no
+/// form `usage`, which says how the program is called; `Done` has no line. What can't be told is lost: a part of it where the output
+/// fails, and all of it for want of memory, but for the line of `NoMemory`, which needs none.
+pub fn finish<W: Sink>(alloc: Global, status: Status, usage: &[u8], errors: &mut W) -> ExitCode
+    ensures number { exit_status result ≡ number_of status }
+    ensures told { IsTold status (told_with usage.now status) (W.held errors.old) (W.held errors.new) (W.faults errors.old) (W.faults errors.new) }
+    ensures kept { W.faults errors.old ≤ W.faults errors.new }
 {
-    let _ = tell(alloc, status, usage, &mut StdSink::new(errors));
+    let _ = tell(alloc, status, usage, errors);
     ExitCode::from(status.number())
 }
 
-/// Writes the status line, and behind that of words in no form how the program is called. `Done` has no line. The line of
-/// `NoMemory` needs no memory.
-pub fn tell<W: Sink>(
+/// Writes what is told of a status.
+fn tell<W: Sink>(
     alloc: Global,
     status: Status,
     usage: &[u8],

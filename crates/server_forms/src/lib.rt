@@ -15,5 +15,5 @@ mod program;
 mod report;
 mod run;
 
-pub use program::{run_program, tell};
+pub use program::{finish, run_program};
 pub use run::run_server;

@@ -1,14 +1,14 @@
 //! The server over the system: its words, files, sockets and streams, the status line, and the exit status.
-ghost use Rattle.std.specs.Prelude.{◌≡◌, ◌≤◌, IfOk, IfErr, IsOk};
-ghost use Rattle.etp_outside.specs.Faults.{Rose};
-ghost use Rattle.etp_outside.specs.Whole.{WritesAll};
+ghost use Rattle.std.specs.Prelude.{◌≡◌, ◌≤◌};
+ghost use Rattle.std.specs.Process.{exit_status};
+ghost use Rattle.etp_outside.specs.Status.{number_of};
+ghost use Rattle.program_status.specs.Told.{Ends, IsTold};
 ghost use Rattle.server_forms.specs.Program.{told};
 
 use crate::door::ToldDoor;
 use crate::run::run_server;
-use etp_outside::{DirHost, NoGate, Sink, Status, StdSink, WallClock, Written};
-use etp_values::NoMemory;
-use program_status::{finish, words};
+use etp_outside::{DirHost, NoGate, Sink, Status, StdSink, WallClock};
+use program_status::words;
 use std::alloc::{AllocError, Global};
 use std::io::{self, Write};
 use std::net::{Net, TcpListener, TcpStream};
@@ -25,8 +25,9 @@ const USAGE: &[u8] = b"\netpd CONFIG ADDRESS\netpd CONFIG ADDRESS SESSIONS\n";
 /// give what a large message took back to the system, and take it again page by page for the next.
 const KEPT_MEMORY: usize = 16_777_216;
 
-/// Runs the server with the program's words and its output. It tells `told` the port that it got, and `errors` how it ended.
-pub fn run_program<R, T, E>(rt: &R, told: T, errors: E) -> ExitCode
+/// Runs the server with the program's words and its output. It tells `ports` the port that it got, and `errors` how it ended, as
+/// [`finish`] does.
+pub fn run_program<R, T, W>(rt: &R, ports: T, errors: &mut W) -> ExitCode
 where
     R: AllocGlobal
         + Env
@@ -38,17 +39,19 @@ where
         + Wait
         + Sync,
     T: Write + Drop,
-    E: Write + Drop,
+    W: Sink,
+    ensures told { Ends told (exit_status result) (W.held errors.old) (W.held errors.new) (W.faults errors.old) (W.faults errors.new) }
+    ensures kept { W.faults errors.old ≤ W.faults errors.new }
 {
     let alloc = rt.alloc();
     let kept: Result<Vec<u8>, AllocError> = Vec::with_capacity(alloc, KEPT_MEMORY);
     drop(kept);
-    let status = run_words(rt, told);
-    finish(alloc, status, USAGE, errors)
+    let status = run_words(rt, ports);
+    finish(alloc, status, errors)
 }
 
 /// Runs the server with the program's words.
-fn run_words<R, T>(rt: &R, told: T) -> Status
+fn run_words<R, T>(rt: &R, ports: T) -> Status
 where
     R: AllocGlobal
         + Env
@@ -68,7 +71,7 @@ where
     };
     let mut out = StdSink::new(io::writer(rt));
     let mut host = DirHost::new(rt);
-    let mut door = ToldDoor::new(alloc, rt, StdSink::new(told));
+    let mut door = ToldDoor::new(alloc, rt, StdSink::new(ports));
     let clock = WallClock::new(rt);
     run_server(
         rt,
@@ -82,14 +85,11 @@ where
     )
 }
 
-/// Writes the status line, and behind that of words in no form how the program is called. `Done` has no line. The line of
-/// `NoMemory` needs no memory.
-pub fn tell<W: Sink>(alloc: Global, status: Status, errors: &mut W) -> Result<Written, NoMemory>
-    ensures bytes { IfOk result (λ written. WritesAll written (told status) (W.held errors.old) (W.held errors.new)) }
+/// Tells `errors` how the server has ended, and gives its exit status. What can't be told is lost.
+pub fn finish<W: Sink>(alloc: Global, status: Status, errors: &mut W) -> ExitCode
+    ensures number { exit_status result ≡ number_of status }
+    ensures told { IsTold status (told status) (W.held errors.old) (W.held errors.new) (W.faults errors.old) (W.faults errors.new) }
     ensures kept { W.faults errors.old ≤ W.faults errors.new }
-    ensures cause { IfOk result (λ written. written ≡ Written.Failed → Rose (W.faults errors.old) (W.faults errors.new)) }
-    ensures untold { IfErr result (λ _. errors.new ≡ errors.old) }
-    ensures memory { status ≡ Status.NoMemory → IsOk result }
 {
-    program_status::tell(alloc, status, USAGE, errors)
+    program_status::finish(alloc, status, USAGE, errors)
 }

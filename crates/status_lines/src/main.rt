@@ -1,8 +1,8 @@
-//! Prints each exit status that a program can end with, and what it tells of it on standard error.
+//! Prints each exit status that a program can end with, and what a program that ends with it tells.
 #![tactic(auto)]
 
-use etp_outside::{Status, StdSink, Written};
-use program_status::{finish, tell};
+use etp_outside::{Status, StdSink};
+use program_status::finish;
 use std::io;
 use std::process::ExitCode;
 
@@ -43,12 +43,9 @@ fn main(rt: HostRuntime) -> io::Result<()> {
         Status::Stopped,
     ] {
         let number = status.number();
-        if finish(rt.alloc(), status, USAGE, rt.stderr()) == ExitCode::from(number) {
-            println!(rt; "{number}")?;
-        }
-        match tell(rt.alloc(), status, USAGE, &mut out) {
-            Ok(Written::Done) => {}
-            Ok(Written::Failed) | Err(_) => println!(rt; "not told")?,
+        println!(rt; "{number}")?;
+        if finish(rt.alloc(), status, USAGE, &mut out) != ExitCode::from(number) {
+            println!(rt; "another exit status")?;
         }
     }
     Ok(())

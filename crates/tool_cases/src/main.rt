@@ -15,11 +15,11 @@ mod runs;
 use crate::captures::read_capture;
 use crate::digest::digest;
 use crate::runs::{Faults, run_case};
-use etp_outside::{Status, StdSink, Written};
+use etp_outside::{Status, StdSink};
 use faulty_system::FaultySystem;
 use std::io::{self, BufRead, BufReader, Write};
 use std::process::ExitCode;
-use tool_forms::{run_program, tell};
+use tool_forms::{finish, run_program};
 
 /// The number of bytes from which on an output is printed as its digest.
 const LONG: usize = 400_000;
@@ -48,10 +48,11 @@ fn print_case(
             print_output(rt, out.as_bytes())?;
             let number = status.number();
             println!(rt; "\n= {number}")?;
-            match tell(rt.alloc(), status, &mut StdSink::new(io::writer(rt))) {
-                Ok(Written::Done) => Ok(()),
-                Ok(Written::Failed) | Err(_) => println!(rt; "not told"),
+            let mut told = StdSink::new(io::writer(rt));
+            if finish(rt.alloc(), status, &mut told) != ExitCode::from(number) {
+                println!(rt; "another exit status")?;
             }
+            Ok(())
         }
         Err(_) => println!(rt; "no memory"),
     }
@@ -108,15 +109,17 @@ fn run_lines(rt: &HostRuntime) -> io::Result<()> {
 }
 
 /// Runs the tool over a system whose output takes nothing and whose files get no memory: it ends with status 5 where it has a
-/// capture to show, and with status 6 where it has a configuration to read. Gives the second, after the first.
+/// capture to show, and with status 6 where it has a configuration to read. Gives the second, after the first. What it tells of each
+/// on standard error is printed here.
 fn run_over_faults(rt: &HostRuntime) -> ExitCode {
+    let mut told = StdSink::new(io::writer(rt));
     let words = ["etptool", "show"];
-    let shown = run_program(&FaultySystem::new(rt, &words), rt.stderr());
+    let shown = run_program(&FaultySystem::new(rt, &words), &mut told);
     if shown != ExitCode::from(Status::WriteFault.number()) {
         return ExitCode::FAILURE;
     }
     let words = ["etptool", "replay", "server.toml"];
-    run_program(&FaultySystem::new(rt, &words), rt.stderr())
+    run_program(&FaultySystem::new(rt, &words), &mut told)
 }
 
 fn main(rt: HostRuntime) -> ExitCode {

@@ -27,5 +27,5 @@ mod tag;
 mod turns;
 
 pub use laws::{input_has_one_answer, tags_are_runs};
-pub use program::{run_program, tell};
+pub use program::{finish, run_program};
 pub use run::run_tool;

@@ -1,15 +1,15 @@
 //! The tool over the system: its words, files and streams, the status line, and the exit status.
-ghost use Rattle.std.specs.Prelude.{◌≡◌, ◌≤◌, IfOk, IfErr, IsOk};
-ghost use Rattle.etp_outside.specs.Faults.{Rose};
-ghost use Rattle.etp_outside.specs.Whole.{WritesAll};
+ghost use Rattle.std.specs.Prelude.{◌≡◌, ◌≤◌};
+ghost use Rattle.std.specs.Process.{exit_status};
+ghost use Rattle.etp_outside.specs.Status.{number_of};
+ghost use Rattle.program_status.specs.Told.{Ends, IsTold};
 ghost use Rattle.tool_forms.specs.Program.{told};
 
 use crate::run::run_tool;
-use etp_outside::{DirHost, Sink, Status, StdSink, StdSource, Written};
-use etp_values::NoMemory;
-use program_status::{finish, words};
+use etp_outside::{DirHost, Sink, Status, StdSink, StdSource};
+use program_status::words;
 use std::alloc::{AllocError, Global};
-use std::io::{self, BufReader, Write};
+use std::io::{self, BufReader};
 use std::process::ExitCode;
 use std::rt::{Env, Files};
 
@@ -24,17 +24,19 @@ const READ_AHEAD: usize = 65_536;
 /// give the tree of each large message back to the system, and take it again page by page for the next.
 const KEPT_MEMORY: usize = 16_777_216;
 
-/// Runs the tool with the program's words, its input and its output, and tells `errors` how that ended.
-pub fn run_program<R, E>(rt: &R, errors: E) -> ExitCode
+/// Runs the tool with the program's words, its input and its output, and tells `errors` how that ended, as [`finish`] does.
+pub fn run_program<R, W>(rt: &R, errors: &mut W) -> ExitCode
 where
     R: AllocGlobal + Env + Files + Input + Print,
-    E: Write + Drop,
+    W: Sink,
+    ensures told { Ends told (exit_status result) (W.held errors.old) (W.held errors.new) (W.faults errors.old) (W.faults errors.new) }
+    ensures kept { W.faults errors.old ≤ W.faults errors.new }
 {
     let alloc = rt.alloc();
     let kept: Result<Vec<u8>, AllocError> = Vec::with_capacity(alloc, KEPT_MEMORY);
     drop(kept);
     let status = run_words(rt);
-    finish(alloc, status, USAGE, errors)
+    finish(alloc, status, errors)
 }
 
 /// Runs the tool with the program's words.
@@ -53,14 +55,11 @@ fn run_words<R: AllocGlobal + Env + Files + Input + Print>(rt: &R) -> Status {
     run_tool(alloc, words.as_slice(), &mut host, &mut input, &mut out)
 }
 
-/// Writes the status line, and behind that of words in no form how the program is called. `Done` has no line. The line of
-/// `NoMemory` needs no memory.
-pub fn tell<W: Sink>(alloc: Global, status: Status, errors: &mut W) -> Result<Written, NoMemory>
-    ensures bytes { IfOk result (λ written. WritesAll written (told status) (W.held errors.old) (W.held errors.new)) }
+/// Tells `errors` how the tool has ended, and gives its exit status. What can't be told is lost.
+pub fn finish<W: Sink>(alloc: Global, status: Status, errors: &mut W) -> ExitCode
+    ensures number { exit_status result ≡ number_of status }
+    ensures told { IsTold status (told status) (W.held errors.old) (W.held errors.new) (W.faults errors.old) (W.faults errors.new) }
     ensures kept { W.faults errors.old ≤ W.faults errors.new }
-    ensures cause { IfOk result (λ written. written ≡ Written.Failed → Rose (W.faults errors.old) (W.faults errors.new)) }
-    ensures untold { IfErr result (λ _. errors.new ≡ errors.old) }
-    ensures memory { status ≡ Status.NoMemory → IsOk result }
 {
-    program_status::tell(alloc, status, USAGE, errors)
+    program_status::finish(alloc, status, USAGE, errors)
 }

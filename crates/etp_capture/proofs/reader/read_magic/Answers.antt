@@ -6,10 +6,10 @@ use Rattle.std.proofs.lemmas.Bool.{not-true}
 use Rattle.etp_capture.specs.Frames.{magic}
 use Rattle.etp_capture.proofs.reader.read_magic.Goals as goal
 
-pub returns-then-got-lt8-clause-bytes : goal.returns-then-got-lt8-clause-bytes
-returns-then-got-lt8-clause-bytes g c =
+pub returns-then-got-lt-MAGIC_LEN-clause-bytes : goal.returns-then-got-lt-MAGIC_LEN-clause-bytes
+returns-then-got-lt-MAGIC_LEN-clause-bytes g c =
     let short : c.in-Some.got < length c.read_up.new.buf = omega (arith, c.read_up.auto.buf) in
-    told_weaker _ _ _ _ (λ xs ys e. short_starts c.in-Some.got c.read_up.new.buf xs ys c.in-Some.ensures.within c.if-got-lt8.true e.0 (e.1 short)) c.in-Some.ensures.bytes
+    told_weaker _ _ _ _ (λ xs ys e. short_starts c.in-Some.got c.read_up.new.buf xs ys c.in-Some.ensures.within c.if-got-lt-MAGIC_LEN.true e.0 (e.1 short)) c.in-Some.ensures.bytes
 
 pub returns-then-ne-clause-bytes : goal.returns-then-ne-clause-bytes
 returns-then-ne-clause-bytes g c =
