@@ -137,10 +137,6 @@ pub on_ok_both : {X E : Type 0} {P Q R : Type 0} (r : Result X E) → (P → Q �
 on_ok_both (Ok x) f p q = f p q
 on_ok_both (Err e) f p q = p
 
-pub on_err : {X E : Type 0} {P Q : Type 0} (r : Result X E) → (P → Q) → OnErr r P → OnErr r Q
-on_err (Ok x) f h = h
-on_err (Err e) f h = f h
-
 -- a call that is done was not refused
 pub done-refusal : {X : Type 0} (r : Result X ArrayError) (refusal : Option ArrayError) → Refuses r refusal → OnOk r (refusal ≡ None)
 done-refusal (Ok x) refusal h = h

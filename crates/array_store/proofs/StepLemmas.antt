@@ -1,5 +1,5 @@
 -- The steps of reading and writing a region, one dimension after the other.
-use Rattle.std.proofs.Common.{Result, Ok, Err, OnOk, ℕ, suc, ◌+◌, ◌*◌, ◌-◌, ◌/◌, ◌≤◌, ◌<◌, ℤ, pos, negsuc, true, false, List, [], ◌∷◌, ◌++◌, length, take, drop, ◌≡◌, refl, sym, ap, ◌∙◌, subst, arith, append_assoc, length-append, length-take, length-drop}
+use Rattle.std.proofs.Common.{ℕ, suc, ◌+◌, ◌*◌, ◌-◌, ◌/◌, ◌≤◌, ◌<◌, ℤ, pos, negsuc, true, false, List, [], ◌∷◌, ◌++◌, length, take, drop, ◌≡◌, refl, sym, ap, ◌∙◌, subst, arith, append_assoc, length-append, length-take, length-drop}
 use Rattle.std.proofs.Math.Nat.{mul-div_cancel_left, mul-le-mul_right}
 use Rattle.std.proofs.lemmas.Bool.{false≢true, and_parts}
 use Rattle.std.proofs.lemmas.Bool.Decides.{nat_tests}
@@ -167,11 +167,7 @@ read-next f w c k s out now xs whole below before row =
     ∙ ap (λ n. out ++ rows_read f w n (drop ((s + k) * w) xs)) (sym left)
     ∙ before
 
--- ---- results and parts
-
-pub on_ok : {X E : Type 0} {P Q : Type 0} (r : Result X E) → (P → Q) → OnOk r P → OnOk r Q
-on_ok (Ok x) f h = f h
-on_ok (Err e) f h = h
+-- ---- parts
 
 pub sizes-empty : (zs : List ℤ) → length zs ≡ 0 → length (sizes zs) ≡ 0
 sizes-empty zs e = length-map zs size ∙ e

@@ -1,17 +1,14 @@
 -- What is spelled as a value of a schema is one of it; for the crates above too.
-use Rattle.std.proofs.Common.{◌≡◌, ℕ, zero, suc, ◌+◌, ◌<◌, List, [], ◌∷◌, ◌++◌, length, get_or, refl, sym, subst, arith, inl, inr}
+use Rattle.std.proofs.Common.{◌≡◌, ℕ, zero, suc, ◌<◌, List, [], ◌∷◌, length, get_or, refl, sym, subst, arith, inl, inr}
 use Rattle.std.specs.List.{AllByRecursion, Contains}
 use Rattle.std.specs.List.Sorted.{IsPermutation}
 use Rattle.std.proofs.lemmas.List.Sorted.{IsPermutation-sym, Contains-permutation}
+use Rattle.etp_values.proofs.EachLemmas.{all-append}
 use Rattle.avro_bin.specs.Value.{Value, VNull, VBoolean, VInt, VLong, VFloat, VDouble, VBytes, VText, VFixed, VEnum, VArray, VMap, VUnion, VFields, list, pairs}
 use Rattle.avro_bin.specs.Schema.{Schemas, SNull, SBoolean, SInt, SLong, SFloat, SDouble, SBytes, SText, SFixed, SEnum, SArray, SMap, SUnion, SFields, none, more}
 use Rattle.avro_bin.specs.Grammar.{EntrySpelled, Items, Block, Blocks, Spells, AreFields, IsBranch}
 use Rattle.avro_bin.specs.Shape.{HasSchema, FieldsHave, BranchHas}
 use Rattle.avro_bin.specs.Laws.{SpelledHasSchema}
-
-all_append : {A : Type 0} (H : A → Type 0) (xs ys : List A) → AllByRecursion H xs → AllByRecursion H ys → AllByRecursion H (xs ++ ys)
-all_append H [] ys p q = q
-all_append H (x ∷ xs) ys p q = (p.0, all_append H xs ys p.1 q)
 
 all_at : {A : Type 0} (H : A → Type 0) (xs : List A) (x : A) (k : ℕ) → AllByRecursion H xs → k < length xs → get_or xs k x ≡ x → H x
 all_at H [] x k all lt h = absurd (omega arith)
@@ -37,7 +34,7 @@ module _ {A : Type 0} (P : A → List ℕ → Type 0) (H : A → Type 0) (one : 
 
   blocks_typed : (k : ℕ) (xs : List A) (bytes : List ℕ) → Blocks P k xs bytes → AllByRecursion H xs
   blocks_typed zero xs bytes h = subst (AllByRecursion H) (sym h.0) tt
-  blocks_typed (suc k) xs bytes h = subst (AllByRecursion H) (sym h.2) (all_append H h.0 h.1 (block_typed h.0 h.3.front h.3.first) (blocks_typed k h.1 h.3.back h.3.second))
+  blocks_typed (suc k) xs bytes h = subst (AllByRecursion H) (sym h.2) (all-append H h.0 h.1 (block_typed h.0 h.3.front h.3.first) (blocks_typed k h.1 h.3.back h.3.second))
 
 mutual
   pub has_schema : SpelledHasSchema

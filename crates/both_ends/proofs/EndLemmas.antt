@@ -5,6 +5,7 @@ use Rattle.std.specs.Ordering.{int_eq}
 use Rattle.std.proofs.lemmas.Bool.{false≢true}
 use Rattle.std.proofs.lemmas.Option.{none-some}
 use Rattle.std.proofs.lemmas.List.{map-append}
+use Rattle.etp_values.proofs.EachLemmas.{all-append, all-back, all-front, all-weaker}
 use Rattle.etp_values.proofs.IntLemmas.{int_eq_is, int_eq_self}
 use Rattle.server_config.specs.declared.config.Config.{Config}
 use Rattle.channel_rows.specs.Notices.{stop_response}
@@ -68,7 +69,7 @@ use Rattle.both_ends.proofs.CopyLemmas.{handed_has_points, idle_has_points}
 use Rattle.both_ends.proofs.FollowLemmas.{Carries, Delivers, Flows, Follows, IsMinor, asides_carry, carries_more, carries_none, silents_carry, stops_carry}
 use Rattle.both_ends.proofs.HearLemmas.{all_heard, hear_sent, more_heard}
 use Rattle.both_ends.proofs.NewsLemmas.{all_sent, as_sent, is_none, numbered_one}
-use Rattle.both_ends.proofs.PutLemmas.{IsModest, AreModest, Rising, all_append, all_at, begun_known, channel_named, out_puts, put_bytes, puts_modest, rising_puts}
+use Rattle.both_ends.proofs.PutLemmas.{IsModest, AreModest, Rising, all_at, begun_known, channel_named, out_puts, put_bytes, puts_modest, rising_puts}
 
 -- ---- lists
 
@@ -82,18 +83,6 @@ rest_bytes (b ∷ bs) = bs
 
 none_not : {A : Type 0} {x : A} {xs : List A} (B : Type 0) → [] ≡ x ∷ xs → B
 none_not B is = absurd (false≢true (sym (ap is_none is)))
-
-all_front : {A : Type 0} (P : A → Type 0) (xs ys : List A) → AllByRecursion P (xs ++ ys) → AllByRecursion P xs
-all_front P [] ys all = tt
-all_front P (x ∷ xs) ys all = (all.0, all_front P xs ys all.1)
-
-all_back : {A : Type 0} (P : A → Type 0) (xs ys : List A) → AllByRecursion P (xs ++ ys) → AllByRecursion P ys
-all_back P [] ys all = all
-all_back P (x ∷ xs) ys all = all_back P xs ys all.1
-
-all_each : {A : Type 0} (P Q : A → Type 0) → ((x : A) → P x → Q x) → (xs : List A) → AllByRecursion P xs → AllByRecursion Q xs
-all_each P Q f [] all = tt
-all_each P Q f (x ∷ xs) all = (f x all.0, all_each P Q f xs all.1)
 
 sent_more : (xs ys : List Outgoing) → all_sent (xs ++ ys) ≡ all_sent xs ++ all_sent ys
 sent_more xs ys = map-append as_sent xs ys
@@ -225,14 +214,14 @@ module _ (law : NoticesAreChanges) (all : List Put) (rising : Rising 2 all) (mod
       (carries_more all rising later xs ys subs between left (one later) (two (λ c. fold (hear_sent c) (later c) xs)))
 
   told_to : (v : Subbed) (cs : List ChannelChange) → AllByRecursion (IsToldTo v) cs → AllByRecursion (λ (c : ChannelChange). HasNews c.what × (standing v.subs c.channel ≡ true)) cs
-  told_to v cs are = all_each (IsToldTo v) (λ (c : ChannelChange). HasNews c.what × (standing v.subs c.channel ≡ true)) (λ c is. (solid c.what is.0, is.1)) cs are
+  told_to v cs are = all-weaker (IsToldTo v) (λ (c : ChannelChange). HasNews c.what × (standing v.subs c.channel ≡ true)) (λ c is. (solid c.what is.0, is.1)) cs are
 
   aside_carries : (told : ℤ → Told) (v w : Subbed) (r : Request) (sayings : _) (sent : List Outgoing) → IsSent (Aside r sayings) sent → w ≡ v → AllByRecursion (λ (o : Outgoing). speaks o.message ≡ false) sent
       → Carries all told (all_sent sent) (standing v.subs) (standing w.subs)
   aside_carries told v w r sayings sent x same quiet =
       let a : List Outgoing = numbered r x.first (parts_of x.limit x.number x.blobs sayings) in
       let its : AllByRecursion (λ (o : Outgoing). speaks o.message ≡ false) a =
-      all_front (λ (o : Outgoing). speaks o.message ≡ false) a [] (all_back (λ (o : Outgoing). speaks o.message ≡ false) x.receipts (a ++ []) (subst (AllByRecursion (λ (o : Outgoing). speaks o.message ≡ false)) x.is quiet)) in
+      all-front (λ (o : Outgoing). speaks o.message ≡ false) a [] (all-back (λ (o : Outgoing). speaks o.message ≡ false) x.receipts (a ++ []) (subst (AllByRecursion (λ (o : Outgoing). speaks o.message ≡ false)) x.is quiet)) in
       let subs : ℤ → Bool = standing v.subs in
       subst (λ (u : Subbed). Carries all told (all_sent sent) subs (standing u.subs)) (sym same)
       (subst (λ l. Carries all told l subs subs) (sym (sent_is (Aside r sayings) sent x))
@@ -266,14 +255,14 @@ module _ (law : NoticesAreChanges) (all : List Put) (rising : Rising 2 all) (mod
       let m : Message = message.ChannelSubscribe (stop_response (Lagged lag) ids) in
       let ps : List Part = parts_of x.limit x.number x.blobs (first_in (Stops lag ids)) in
       let aside : AllByRecursion (λ (p : Part). is_aside p.message ≡ true) ps =
-      all_append (λ (p : Part). is_aside p.message ≡ true) (ended to.Nobody (parts x.limit x.number x.blobs m)) []
+      all-append (λ (p : Part). is_aside p.message ≡ true) (ended to.Nobody (parts x.limit x.number x.blobs m)) []
       (all_ended (λ m. is_aside m ≡ true) to.Nobody (parts x.limit x.number x.blobs m) (stops_aside (groups (entry_amount long_form) x.limit ids) _)) tt in
       let minor : AllByRecursion IsMinor (all_sent (numbered unread x.first ps)) =
-      all_each _ IsMinor (λ y is. inr is) (all_sent (numbered unread x.first ps)) (asides_sent unread x.first ps x.reaches aside) in
+      all-weaker _ IsMinor (λ y is. inr is) (all_sent (numbered unread x.first ps)) (asides_sent unread x.first ps x.reaches aside) in
       subst (λ l. Carries all told (all_sent sent) (standing v.subs) (standing l)) (sym none)
       (stops_carry all rising told (all_sent sent) (standing v.subs)
       (subst (AllByRecursion IsMinor) (sym (sent_is (Stops lag ids) sent x))
-      (all_append IsMinor (all_sent x.receipts) (all_sent (numbered unread x.first ps) ++ []) (silent_minor x.receipts x.received) (all_append IsMinor (all_sent (numbered unread x.first ps)) [] minor tt)))
+      (all-append IsMinor (all_sent x.receipts) (all_sent (numbered unread x.first ps) ++ []) (silent_minor x.receipts x.received) (all-append IsMinor (all_sent (numbered unread x.first ps)) [] minor tt)))
       empty)
 
   -- ---- a request for a subscription
@@ -291,7 +280,7 @@ module _ (law : NoticesAreChanges) (all : List Put) (rising : Rising 2 all) (mod
       let m : Message = refused_message ((key, code) ∷ []) in
       let ps : List Part = parts_of y.limit y.number y.blobs (first_in (Begins h asked ((key, Refused code) ∷ []) changes)) in
       let quiet : AllByRecursion (λ (p : Part). speaks p.message ≡ false) ps =
-      all_append (λ (p : Part). speaks p.message ≡ false) (ended to.Request (parts y.limit y.number y.blobs m)) []
+      all-append (λ (p : Part). speaks p.message ≡ false) (ended to.Request (parts y.limit y.number y.blobs m)) []
       (all_ended (λ m. speaks m ≡ false) to.Request (parts y.limit y.number y.blobs m) (exceptions_aside (groups (entry_amount error_info_form) y.limit ((key, error_info code) ∷ [])) None)) tt in
       let a : List Sent = all_sent (numbered (request_of h) y.first ps) in
       subst (λ f. Carries all told (all_sent sent) f subs) (sym same)
@@ -345,7 +334,7 @@ module _ (law : NoticesAreChanges) (all : List Put) (rising : Rising 2 all) (mod
       let its : IsModest (message.ChannelSubscribe (subscribe.SubscribeChannels asked)) =
       subst IsModest (sym of.same) (all_at (λ (p : Put). IsModest p.message) of.front of.put of.back (subst AreModest of.split modest)) in
       begins_carries told v w h asked its.0 its.1 its.2 of decided changes sent x
-      (subst (λ l. AreDecided v w l decided) its.2 means.1) (subst (λ l. OnlyGranted v w l decided) its.2 means.2) (all_each (IsFirstOf w asked.channels decided) (IsToldTo w) (λ c is. is.0) changes means.3)
+      (subst (λ l. AreDecided v w l decided) its.2 means.1) (subst (λ l. OnlyGranted v w l decided) its.2 means.2) (all-weaker (IsFirstOf w asked.channels decided) (IsToldTo w) (λ c is. is.0) changes means.3)
   matter_carries told front ps e v w sent split heeds empty (Ends h asked decided) x means =
       let of : IsOf all h (subscribe.UnsubscribeChannels asked) = is_of all front ps e h (subscribe.UnsubscribeChannels asked) split heeds means.0 in
       let its : IsModest (message.ChannelSubscribe (subscribe.UnsubscribeChannels asked)) =

@@ -2,6 +2,7 @@
 use Rattle.std.proofs.Common.{◌≡◌, ◌+◌, ℕ, ℤ, Bool, true, false, not, ◌||◌, ◌⊎◌, inl, inr, List, [], ◌∷◌, ◌++◌, Option, Some, Ok, fold, option_map, if◌then◌else◌, refl, sym, ap, subst, ◌∙◌, append-nil, append_assoc}
 use Rattle.std.specs.List.{AllByRecursion, flat_map}
 use Rattle.std.proofs.lemmas.Bool.{false≢true}
+use Rattle.etp_values.proofs.EachLemmas.{all-append}
 use Rattle.channel_store.specs.declared.change.What.{What}
 use Rattle.channel_store.specs.declared.copy.ChangeMsg.{ChangeMsg}
 use Rattle.client_core.specs.Asking.{asked, asked_by, due_of, is_close, is_spent, pieces}
@@ -32,7 +33,7 @@ use Rattle.session_core.specs.Streams.{Heard as Told}
 use Rattle.both_ends.specs.Ends.{Put}
 use Rattle.both_ends.proofs.AsideLemmas.{AsideKept, IsAsideHeader, aside_taken, is_aside, is_stop, no_more, silent_taken, subscribe_aside, subscribe_stops}
 use Rattle.both_ends.proofs.HearLemmas.{hear_sent, more_heard}
-use Rattle.both_ends.proofs.PutLemmas.{AsksMore, IsKnown, IsPut, Rising, all_append, ask_more, more_asks, put_back, put_front, put_later}
+use Rattle.both_ends.proofs.PutLemmas.{AsksMore, IsKnown, IsPut, Rising, ask_more, more_asks, put_back, put_front, put_later}
 
 -- ---- a client that has ended
 
@@ -210,7 +211,7 @@ module _ (all : List Put) (rising : Rising 2 all) where
   -- ---- asks
 
   ready_more : (s t : Heard) (more : List Asked) → Ready all s → AllByRecursion (IsKnown all) more → t ≡ more_asks more s → Ready all t
-  ready_more s t more ready known is = subst (λ u. Ready all u) (sym is) (record { kept = ready.kept; asks = all_append (IsKnown all) s.asks more ready.asks known })
+  ready_more s t more ready known is = subst (λ u. Ready all u) (sym is) (record { kept = ready.kept; asks = all-append (IsKnown all) s.asks more ready.asks known })
 
   ask_ready : (s : State) (a : Ask) (moment : ℤ) (es : List Event) → Ready all s.heard → IsPut all s (Asks a moment ∷ es) → is_ended (stepped s (Asks a moment)).heard.phase ≡ false
       → Ready all (stepped s (Asks a moment)).heard

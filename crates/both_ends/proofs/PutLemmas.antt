@@ -6,6 +6,7 @@ use Rattle.std.specs.Ordering.{int_eq}
 use Rattle.std.proofs.lemmas.Bool.{false≢true}
 use Rattle.std.proofs.lemmas.Option.{none-some, same_Some}
 use Rattle.std.proofs.lemmas.List.{map-append}
+use Rattle.etp_values.proofs.EachLemmas.{all-append}
 use Rattle.etp_values.proofs.IntLemmas.{int_eq_is}
 use lib.Signed.{mag}
 use Rattle.client_core.specs.Asking.{asked, asked_by, begun, closed_if, due_of, is_close, is_spent, limit, numbered, pieces, sends_message}
@@ -257,17 +258,13 @@ all_of_map : {A : Type 0} (f : A → Message) → ((x : A) → IsModest (f x)) �
 all_of_map f each [] = tt
 all_of_map f each (x ∷ xs) = (each x, all_of_map f each xs)
 
-pub all_append : {A : Type 0} (P : A → Type 0) (xs ys : List A) → AllByRecursion P xs → AllByRecursion P ys → AllByRecursion P (xs ++ ys)
-all_append P [] ys a b = b
-all_append P (x ∷ xs) ys a b = (a.0, all_append P xs ys a.1 b)
-
 pub all_at : {A : Type 0} (P : A → Type 0) (front : List A) (x : A) (back : List A) → AllByRecursion P (front ++ x ∷ back) → P x
 all_at P [] x back all = all.0
 all_at P (y ∷ front) x back all = all_at P front x back all.1
 
 chunks_modest : (xs : _) → AllByRecursion IsModest (chunk_messages xs)
 chunks_modest [] = tt
-chunks_modest (x ∷ xs) = all_append IsModest (map (λ c. message.Store (store.Chunk c)) x.chunks) (chunk_messages xs) (all_of_map (λ c. message.Store (store.Chunk c)) (λ c. tt) x.chunks) (chunks_modest xs)
+chunks_modest (x ∷ xs) = all-append IsModest (map (λ c. message.Store (store.Chunk c)) x.chunks) (chunk_messages xs) (all_of_map (λ c. message.Store (store.Chunk c)) (λ c. tt) x.chunks) (chunks_modest xs)
 
 pieces_modest : (s : State) (a : Ask) (moment : ℤ) → AllByRecursion IsModest (pieces s (message_of moment a))
 pieces_modest s (ask.PutSpace path) moment = (tt, tt)
@@ -297,7 +294,7 @@ event_modest s (Takes bytes) = tt
 
 modest_from : (s : State) (es : List Event) → AreModest (puts_from s es)
 modest_from s [] = tt
-modest_from s (e ∷ es) = all_append (λ (p : Put). IsModest p.message) (event_puts s e) (puts_from (stepped s e) es) (event_modest s e) (modest_from (stepped s e) es)
+modest_from s (e ∷ es) = all-append (λ (p : Put). IsModest p.message) (event_puts s e) (puts_from (stepped s e) es) (event_modest s e) (modest_from (stepped s e) es)
 
 pub puts_modest : (moment : ℤ) (es : List Event) → AreModest (puts moment es)
 puts_modest moment es = (tt, modest_from (begun moment) es)

@@ -2,7 +2,7 @@
 use Rattle.std.proofs.Common.{refl, ℕ, zero, suc, ◌≡◌, ◌<◌, ◌≤◌, Bool, true, false, cond, not, List, [], ◌∷◌, ◌++◌, length, filter, get_or, ap, sym, ◌∙◌, arith}
 use Rattle.std.specs.List.{AllByRecursion}
 use Rattle.std.specs.List.Sorted.{IsPartitionedBy, IsPartitionPoint}
-use Rattle.etp_values.proofs.EachLemmas.{all-append}
+use Rattle.etp_values.proofs.EachLemmas.{all-append, all-push, all-weaker}
 use Rattle.channel_points.specs.Splits.{RisesBy, IsSplit}
 
 -- ---- what holds of all items
@@ -15,14 +15,6 @@ all-at P (x ∷ xs) (suc k) d all within = all-at P xs k d all.1 (omega arith)
 pub all-from : {X : Type 0} (P : X → Type 0) (xs : List X) → ((k : ℕ) (d : X) → k < length xs → P (get_or xs k d)) → AllByRecursion P xs
 all-from P [] h = tt
 all-from P (x ∷ xs) h = (h zero x (omega arith), all-from P xs (λ k d l. h (suc k) d (omega arith)))
-
-pub all-map : {X : Type 0} (P Q : X → Type 0) → ((x : X) → P x → Q x) → (xs : List X) → AllByRecursion P xs → AllByRecursion Q xs
-all-map P Q h [] all = tt
-all-map P Q h (x ∷ xs) all = (h x all.0, all-map P Q h xs all.1)
-
-pub all-push : {X : Type 0} (P : X → Type 0) (xs : List X) (x : X) → AllByRecursion P xs → P x → AllByRecursion P (xs ++ x ∷ [])
-all-push P [] x all h = (h, tt)
-all-push P (y ∷ ys) x all h = (all.0, all-push P ys x all.1 h)
 
 all-cond : {X : Type 0} (P : X → Type 0) (b : Bool) (x : X) (xs : List X) → P x → AllByRecursion P xs → AllByRecursion P (cond b (x ∷ xs) xs)
 all-cond P true x xs h all = (h, all)
@@ -42,7 +34,7 @@ filter-all {X} p (x ∷ xs) = by (p x) refl (filter-all p xs)
 
 pub all-cross : {X : Type 0} (P Q : X → Type 0) (R : X → X → Type 0) → ((x y : X) → P x → Q y → R x y) → (xs ys : List X) → AllByRecursion P xs → AllByRecursion Q ys → AllByRecursion (λ x. AllByRecursion (R x) ys) xs
 all-cross P Q R h [] ys xall yall = tt
-all-cross P Q R h (x ∷ xs) ys xall yall = (all-map Q (R x) (λ y k. h x y xall.0 k) ys yall, all-cross P Q R h xs ys xall.1 yall)
+all-cross P Q R h (x ∷ xs) ys xall yall = (all-weaker Q (R x) (λ y k. h x y xall.0 k) ys yall, all-cross P Q R h xs ys xall.1 yall)
 
 -- ---- lists in order
 

@@ -5,7 +5,7 @@ use Rattle.std.specs.List.{AllByRecursion}
 use Rattle.std.proofs.lemmas.Bool.{and_parts}
 use Rattle.etp_values.specs.declared.point.Point.{Point}
 use Rattle.etp_values.specs.declared.point.ChannelPoint.{ChannelPoint}
-use Rattle.channel_points.proofs.OrderedLemmas.{all-map}
+use Rattle.etp_values.proofs.EachLemmas.{all-weaker}
 use Rattle.channel_store.specs.declared.change.What.{What}
 use Rattle.channel_store.specs.declared.change.What.TheVariants.{Replace, Truncate}
 use Rattle.channel_store.specs.declared.error.ChannelError.{ChannelError}
@@ -100,7 +100,7 @@ replace-parts cs ids from to items none =
     let first = first-none (channels_refusal cs [] ids) (or_else (interval_refusal from to) (or_else (first_refusal f items) (disorder (λ id. []) [] items))) none in
     let second = first-none (interval_refusal from to) (or_else (first_refusal f items) (disorder (λ id. []) [] items)) first.1 in
     let third = first-none (first_refusal f items) (disorder (λ id. []) [] items) second.1 in
-    (third.1, all-map (λ i. f i ≡ None) (λ i. IsIn from to i.point) (λ i k. (inside-facts (is_listed ids i.channel) (channel_at cs i.channel) from to i k).2) items (none-refused f items third.0))
+    (third.1, all-weaker (λ i. f i ≡ None) (λ i. IsIn from to i.point) (λ i k. (inside-facts (is_listed ids i.channel) (channel_at cs i.channel) from to i k).2) items (none-refused f items third.0))
 
 replace-fits : (xs points : List Point) (from to : ℤ) (b : Bool) (w : What) → cond b (Some (Replace from to points)) None ≡ Some w → Rises points → AllByRecursion (IsIn from to) points → Fits xs w
 replace-fits xs points from to false w e rises all = cc
@@ -121,7 +121,7 @@ pub replaces-within : ReplacesWithin
 replaces-within cs ids from to items none id = by (is_listed ids id)
   where
     inside : AllByRecursion (λ x. at_most x.index to ≡ true) (points_of id items)
-    inside = all-map (IsIn from to) (λ x. at_most x.index to ≡ true) (λ x k. within-end from to x.index k) (points_of id items) (points_of-all (IsIn from to) id items (replace-parts cs ids from to items none).1)
+    inside = all-weaker (IsIn from to) (λ x. at_most x.index to ≡ true) (λ x k. within-end from to x.index k) (points_of id items) (points_of-all (IsIn from to) id items (replace-parts cs ids from to items none).1)
 
     by : (b : Bool) → LiesWithin (cond b (Some (Replace from to (points_of id items))) None)
     by true = inside

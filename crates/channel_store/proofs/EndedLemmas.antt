@@ -19,7 +19,7 @@ use Rattle.std.specs.Ordering.{int_eq}
 use Rattle.channel_store.specs.Refusals.{channel_at, points_at, points_of, is_listed, or_else, first_refusal, unless, verdict, in_range, suits, item_refusal, disorder, append_refusal, channels_refusal, interval_refusal, inside_refusal, replace_refusal, cut_refusal, truncate_refusal}
 use Rattle.channel_store.specs.Store.{by_number, happens, changed, append_some, appended, replaced, truncated, IsNewPlace}
 use Rattle.channel_store.specs.Sweeps.{EndsAs, shown_of, IsIdle, row_at, next_rows, steps, append_item, add_item, opened, open_channel, open_cut, unless_refused, shown_in, is_staged, item_refusal_in, inside_refusal_in, staged_by, outcome, all_done, ids_of, AllDue}
-use Rattle.channel_points.proofs.OrderedLemmas.{all-map, all-push}
+use Rattle.etp_values.proofs.EachLemmas.{all-push, all-weaker}
 use Rattle.channel_store.proofs.NumberedLemmas.{by_number-same, by_number-map, get-by_number, get-none, by_number-after, map-by_number}
 use Rattle.channel_store.proofs.StagedLemmas.{step_at-ok, step_at-err, step_at-absent, append-steps, open-steps, add-steps, IsInside}
 use Rattle.etp_values.proofs.IntLemmas.{int_eq_self}
@@ -201,7 +201,7 @@ pub append-outcome : (cs : List Channel) (rows : List Row) (items : List Channel
 append-outcome cs rows items idle h =
     let none = sym (append-refusals cs rows items idle) ∙ h in
     ap (λ r. steps append_item r items) (idle ∙ plain-staged cs)
-    ∙ append-steps cs [] items (all-map _ _ (λ i k. item-known (channel_at cs i.channel) i k) items (none-refused (λ i. item_refusal (channel_at cs i.channel) i) items none))
+    ∙ append-steps cs [] items (all-weaker _ _ (λ i k. item-known (channel_at cs i.channel) i k) items (none-refused (λ i. item_refusal (channel_at cs i.channel) i) items none))
     ∙ ap (λ o. outcome o (staged_by (appended items) cs)) (sym (ap (λ o. or_else o (disorder (points_at cs) [] items)) none))
 
 -- ---- replace
@@ -219,7 +219,7 @@ add-outcome cs ids from to rows items e h =
     let facts : (i : ChannelPoint) → inside_refusal (is_listed ids i.channel) (channel_at cs i.channel) from to i ≡ None → IsInside cs ids from to i =
     λ i k. let parts = inside-facts (is_listed ids i.channel) (channel_at cs i.channel) from to i k in record { listed = parts.0; there = parts.1; within = parts.2 } in
     ap (λ r. steps add_item r items) e
-    ∙ add-steps cs ids from to [] items (all-map _ _ facts items (none-refused (λ i. inside_refusal (is_listed ids i.channel) (channel_at cs i.channel) from to i) items none))
+    ∙ add-steps cs ids from to [] items (all-weaker _ _ facts items (none-refused (λ i. inside_refusal (is_listed ids i.channel) (channel_at cs i.channel) from to i) items none))
 
 pub fill-outcome : (cs : List Channel) (ids : List ℤ) (from to : ℤ) (rows : List Row) (items : List ChannelPoint) → rows ≡ staged_by (replaced ids from to []) cs → channels_refusal cs [] ids ≡ None
     → unless_refused (interval_refusal from to) (unless_refused (first_refusal (inside_refusal_in rows from to) items) (steps add_item rows items)) ≡ outcome (replace_refusal cs ids from to items) (staged_by (replaced ids from to items) cs)
@@ -291,7 +291,7 @@ cleared-is old mid new idle kept e = e ∙ ap (map plain) kept ∙ sym idle
 -- ---- places that are new
 
 past-later : (place later : ℕ) (changes : List ChannelChange) → place < later → IsPastAll place changes → IsPastAll later changes
-past-later place later changes h all = all-map (λ x. x.place < place) (λ x. x.place < later) (λ x k. omega arith) changes all
+past-later place later changes h all = all-weaker (λ x. x.place < place) (λ x. x.place < later) (λ x k. omega arith) changes all
 
 new-happens : (place later : ℕ) (id at : ℤ) (c : Channel) (o : Option What) → place < later → IsPastAll place c.changes → IsPastAll later (happens place id at c o).changes
 new-happens place later id at c None h past = past-later place later c.changes h past

@@ -1,6 +1,6 @@
 -- What a call hands out of its items.
 use Rattle.std.proofs.Common.{refl, ℕ, zero, suc, ◌≡◌, ◌<◌, Bool, true, false, cond, List, [], ◌∷◌, map, length, get_or, ap, sym, ◌∙◌, arith, subst, Option, Some, None, Ok, Err, option_map}
-use Rattle.std.specs.Prelude.{ℤ, slice_set, Result, OnOk}
+use Rattle.std.specs.Prelude.{ℤ, slice_set, Result}
 use Rattle.std.specs.List.{AllByRecursion}
 use Rattle.etp_values.proofs.IntLemmas.{int_eq_self}
 use Rattle.etp_values.specs.declared.point.Point.{Point}
@@ -22,10 +22,6 @@ pub set-same : (rows : List Row) (k : ℕ) (r new : Row) → k < length rows →
 set-same [] k r new h at e = absurd (omega arith)
 set-same (x ∷ xs) zero r new h at e = ap (λ q. q ∷ xs) (e ∙ at)
 set-same (x ∷ xs) (suc k) r new h at e = ap (λ l. x ∷ l) (set-same xs k r new (omega arith) at e)
-
-pub on_ok : {A E : Type 0} (r : Result A E) {P Q : Type 0} → (P → Q) → OnOk r P → OnOk r Q
-on_ok (Ok x) f h = f h
-on_ok (Err e) f h = h
 
 -- items of one channel are its points
 pub items-of_one : (id : ℤ) (items : List ChannelPoint) → AllByRecursion (λ i. i.channel ≡ id) items → map (of_channel id) (points_of id items) ≡ items

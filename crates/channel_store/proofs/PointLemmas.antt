@@ -16,8 +16,8 @@ use Rattle.etp_values.proofs.IntLemmas.{int_lt_trans}
 use Rattle.channel_store.specs.Rows.{Fits, takes, before_next, joins}
 use Rattle.channel_store.specs.Told.{told_by, with_point}
 use Rattle.channel_store.specs.Splits.{IsSplit}
-use Rattle.etp_values.proofs.EachLemmas.{all-append}
-use Rattle.channel_points.proofs.OrderedLemmas.{all-map, all-push, all-filter, filter-all, all-cross, rises-push, rises-append, rises-filter, none-pass, all-fail}
+use Rattle.etp_values.proofs.EachLemmas.{all-append, all-push, all-weaker}
+use Rattle.channel_points.proofs.OrderedLemmas.{all-filter, filter-all, all-cross, rises-push, rises-append, rises-filter, none-pass, all-fail}
 
 -- ---- tests on indexes
 
@@ -117,7 +117,7 @@ outside-parts from to (x ∷ xs) rises = by (int_lt x.index from) (at_most x.ind
     by true b ea eb rest = grind arith
     by false true ea eb rest = grind arith
     by false false ea eb rest =
-        let none : filter (λ x. int_lt x.index from) xs ≡ [] = none-pass (λ y. int_lt y.index from) xs (all-map _ _ (λ y h. not_below_after from x.index y.index h ea) xs rises.0) in
+        let none : filter (λ x. int_lt x.index from) xs ≡ [] = none-pass (λ y. int_lt y.index from) xs (all-weaker _ _ (λ y h. not_below_after from x.index y.index h ea) xs rises.0) in
         grind arith
 
 pub copied-is : (from to : ℤ) (xs : List Point) (start count : ℕ) → IsSplit (λ x. int_lt x.index from) xs start → IsSplit (λ x. at_most x.index to) (drop start xs) count → take count (drop start xs) ≡ inside from to xs
@@ -146,7 +146,7 @@ put_below-filter to points (x ∷ xs) rises = by (at_most x.index to) refl (put_
         → cond b (x ∷ put_below to points xs) (points ++ x ∷ xs) ≡ cond b (x ∷ filter (λ x. at_most x.index to) xs) (filter (λ x. at_most x.index to) xs) ++ (points ++ cond (not b) (x ∷ filter (λ x. not (at_most x.index to)) xs) (filter (λ x. not (at_most x.index to)) xs))
     by true e rest = ap (λ l. x ∷ l) rest
     by false e rest =
-        let fails : AllByRecursion (λ y. at_most y.index to ≡ false) xs = all-map _ _ (λ y h. above_after to x.index y.index h e) xs rises.0 in
+        let fails : AllByRecursion (λ y. at_most y.index to ≡ false) xs = all-weaker _ _ (λ y h. above_after to x.index y.index h e) xs rises.0 in
         sym ((λ j. none-pass (λ y. at_most y.index to) xs fails j ++ (points ++ x ∷ all-fail (λ y. at_most y.index to) xs fails j)))
 
 pub put_below-split : (to : ℤ) (points xs : List Point) (n : ℕ) → Rises xs → IsSplit (λ x. at_most x.index to) xs n → take n xs ++ (points ++ drop n xs) ≡ put_below to points xs

@@ -8,6 +8,7 @@ use Rattle.std.specs.Option.{unwrap_or, option_map}
 use Rattle.std.proofs.lemmas.Bool.{false≢true}
 use Rattle.std.proofs.lemmas.Map.Made.{lookup-map_values}
 use Rattle.etp_values.proofs.BoolLemmas.{by_test}
+use Rattle.etp_values.proofs.EachLemmas.{all-push, all-weaker}
 use Rattle.entry_index.specs.Chains.{chain, last_of}
 use Rattle.entry_index.specs.Index.{ends_at, noted, noted_all, number_in, places_in, with_place, KeepsChains, KeepsIndex}
 use Rattle.entry_index.proofs.ChainLemmas.{chain-push, chain-last, last-push, length-push}
@@ -22,15 +23,7 @@ pub places-are : {K : Type 0} (same : K → K → Bool) (latest : List (K × ℕ
     → unwrap_or (lookup (same key) (places_in latest chains)) [] ≡ chain chains (number_in same latest key)
 places-are same latest chains key = ap (λ o. unwrap_or o []) (lookup-map_values (chain chains) (same key) latest) ∙ chain-or chains (lookup (same key) latest)
 
--- ---- lists all of whose items have something
-
-all-push : {X : Type 0} (P : X → Type 0) (xs : List X) (x : X) → AllByRecursion P xs → P x → AllByRecursion P (xs ++ x ∷ [])
-all-push P [] x all h = (h, tt)
-all-push P (y ∷ ys) x all h = (all.0, all-push P ys x all.1 h)
-
-all-weaken : {X : Type 0} (P Q : X → Type 0) → ((x : X) → P x → Q x) → (xs : List X) → AllByRecursion P xs → AllByRecursion Q xs
-all-weaken P Q f [] all = tt
-all-weaken P Q f (x ∷ xs) all = (f x all.0, all-weaken P Q f xs all.1)
+-- ---- what holds of all places in chains
 
 pub below-at : (P : ℕ → Type 0) (chains : List (List ℕ)) (n : ℕ) → AllByRecursion (AllByRecursion P) chains → AllByRecursion P (chain chains n)
 below-at P chains zero all = tt
@@ -149,20 +142,20 @@ module _ {K : Type 0} (same : K → K → Bool) where
   pub keeps-at : (latest : List (K × ℕ)) (chains : List (List ℕ)) (past place : ℕ) → KeepsIndex same latest chains past → past ≤ place → KeepsChains same latest chains place
   keeps-at latest chains past place keeps h = record {
     within = keeps.within;
-    below = all-weaken (AllByRecursion (λ p. p < past)) (AllByRecursion (λ p. p ≤ place)) (λ c all. all-weaken (λ p. p < past) (λ p. p ≤ place) (λ p b. omega (arith, b, h)) c all) chains keeps.below;
+    below = all-weaker (AllByRecursion (λ p. p < past)) (AllByRecursion (λ p. p ≤ place)) (λ c all. all-weaker (λ p. p < past) (λ p. p ≤ place) (λ p b. omega (arith, b, h)) c all) chains keeps.below;
   }
 
   pub keeps-past : (latest : List (K × ℕ)) (chains : List (List ℕ)) (place past : ℕ) → KeepsChains same latest chains place → past ≡ place + 1 → KeepsIndex same latest chains past
   keeps-past latest chains place past keeps h = record {
     within = keeps.within;
-    below = all-weaken (AllByRecursion (λ p. p ≤ place)) (AllByRecursion (λ p. p < past)) (λ c all. all-weaken (λ p. p ≤ place) (λ p. p < past) (λ p b. omega (arith, b, h)) c all) chains keeps.below;
+    below = all-weaker (AllByRecursion (λ p. p ≤ place)) (AllByRecursion (λ p. p < past)) (λ c all. all-weaker (λ p. p ≤ place) (λ p. p < past) (λ p b. omega (arith, b, h)) c all) chains keeps.below;
   }
 
   pub places-below : (latest : List (K × ℕ)) (chains : List (List ℕ)) (past place : ℕ) (q : K) → KeepsIndex same latest chains past → past ≤ place
       → AllByRecursion (λ p. p < place) (chain chains (number_in same latest q))
   places-below latest chains past place q keeps h =
       below-at (λ p. p < place) chains (number_in same latest q)
-      (all-weaken (AllByRecursion (λ p. p < past)) (AllByRecursion (λ p. p < place)) (λ c all. all-weaken (λ p. p < past) (λ p. p < place) (λ p b. omega (arith, b, h)) c all) chains keeps.below)
+      (all-weaker (AllByRecursion (λ p. p < past)) (AllByRecursion (λ p. p < place)) (λ c all. all-weaker (λ p. p < past) (λ p. p < place) (λ p b. omega (arith, b, h)) c all) chains keeps.below)
 
 -- ---- the keys one after the other
 

@@ -41,10 +41,6 @@ pub on_ok : {T E P : Type 0} (r : Result T E) → P → OnOk r P
 on_ok (Ok x) p = p
 on_ok (Err e) p = tt
 
-pub on_ok_by : {T E P Q : Type 0} (r : Result T E) → (P → Q) → OnOk r P → OnOk r Q
-on_ok_by (Ok x) f p = f p
-on_ok_by (Err e) f p = tt
-
 pub typed_as : {A T E : Type 0} (f : Form A) (x : A) (r : Result T E) → OnOk r (Holds f x) → OnOk r (HasSchema f.schema (f.as_value x))
 unfolding Holds
 typed_as f x (Ok t) h = h

@@ -1,10 +1,11 @@
 -- How many sessions were let in.
-use Rattle.std.proofs.Common.{◌≡◌, ◌≢◌, ◌≤◌, ◌<◌, ◌+◌, ◌⊎◌, ◌==◌, ℕ, zero, suc, ℤ, Bool, true, false, List, [], ◌∷◌, length, drop, Some, get_or, ap, sym, ◌∙◌, subst, refl, inl, inr, arith, add-one, ne_eqb, length-drop, if◌then◌else◌}
+use Rattle.std.proofs.Common.{◌≡◌, ◌≢◌, ◌≤◌, ◌<◌, ◌+◌, ◌⊎◌, ◌==◌, ℕ, zero, suc, ℤ, Bool, true, false, List, [], ◌∷◌, length, drop, Some, get_or, ap, sym, ◌∙◌, subst, refl, inl, inr, arith, add-one, length-drop, if◌then◌else◌}
 use Rattle.std.proofs.lemmas.Bool.{eqb-false, eqb-true}
 use Rattle.std.proofs.lemmas.Option.{slice_get_within}
 use Rattle.std.specs.Prelude.{slice_get}
 use Rattle.std.specs.List.{AllByRecursion}
 use Rattle.std.specs.declared.option.Option.{Option}
+use Rattle.etp_values.proofs.BoolLemmas.{differs}
 use Rattle.server_config.specs.declared.config.Config.{Config}
 use Rattle.store_machine.specs.declared.journal.Act.TheVariants.{Enter}
 use Rattle.store_machine.specs.declared.journal.Entry.{Entry}
@@ -78,16 +79,13 @@ hit k n b is =
     let one : left ≡ right = ap (λ (t : Bool). if t then 1 else 0) is in
     omega (arith, one)
 
-apart : (k n : ℕ) → n < k → (n == k) ≡ false
-apart k n below = ne_eqb n k (λ (e : n ≡ k). omega (arith, e, below))
-
 above : (k n : ℕ) → k ≤ n → (n == k) ≡ false → k + 1 ≤ n
 above k n low is = let other : n ≢ k = eqb-false n k is in omega (arith, low, other)
 
 spread_none : (k n : ℕ) (es : List Entry) → n < k → spread k (n ∷ []) es ≡ 0
 spread_none k n [] below = refl
 spread_none k n (e ∷ es) below =
-    let one = hit k n false (apart k n below) in
+    let one = hit k n false (differs n k below) in
     let rest = spread_none (k + 1) n es (omega (arith, below)) in
     omega (arith, one, rest)
 

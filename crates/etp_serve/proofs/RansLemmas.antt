@@ -4,7 +4,7 @@ use Rattle.std.proofs.lemmas.List.{append-nil, take_at}
 use Rattle.std.specs.declared.option.Option.{Option}
 use Rattle.std.specs.List.{AllByRecursion}
 use Rattle.store_hub.proofs.ReadingLemmas.{noted_seen}
-use mathlib.Core.List.{IsPrefix}
+use mathlib.Core.List.{IsPrefix, prefix-append}
 use Rattle.etp_values.proofs.PrefixLemmas.{prefix_self, prefix_trans, prefix_length}
 use Rattle.server_config.specs.declared.config.Config.{Config}
 use Rattle.store_machine.specs.declared.journal.Entry.{Entry}
@@ -64,9 +64,6 @@ breaks_heard config n nth at (Some call) v w (inl no_room) = ap (λ (x : Known).
 breaks_heard config n nth at (Some call) v w (inr done) =
     let ans = done.1 in
     ap (λ (x : Known). x.heard) ans.view ∙ noted_heard ans.log (added config ans.log n nth at call) (record v { missed = ans.missed })
-
-prefix_more : {X : Type 0} (xs ys : List X) → IsPrefix xs (xs ++ ys)
-prefix_more xs ys = (ys, refl)
 
 -- ---- the session's own entries
 
@@ -242,7 +239,7 @@ module _ (laws : Laws) (config : Config) (n : ℕ) where
         let one : OneOrNone more = added_one laws.one config log n nth (moment_of e) call in
         let later : IsCallAt log call = subst (λ (l : List Entry). IsCallAt l call) ans.before.1 (laws.stay v.seen ans.before.0 call is_call) in
         let seen : w.seen ≡ log ++ more = ap (λ (x : Known). x.seen) ans.view ∙ noted_seen log more u one in
-        let after : IsPrefix log (log ++ more) = prefix_more log more in
+        let after : IsPrefix log (log ++ more) = prefix-append log more in
         let count : nth ≡ own_number r.made = own_count n nth (own by_of n v.seen) r.made r.own entries in
         let grown : own by_of n w.seen ≡ own by_of n v.seen ++ at_place (length log) more =
         ap (own by_of n) seen ∙ (own_added n log more one (added_mine laws.mine config log n nth (moment_of e) call later) ∙ ap (λ l. l ++ at_place (length log) more) ans.own) in
@@ -337,4 +334,4 @@ module _ (laws : Laws) (config : Config) (n : ℕ) where
   cut_broken v es e s said r going heeded w (Some call) nth at is calls entries now (inr done) =
       let t : State = hears (takes s e).state done.0 in
       cut_ran w (es ++ e ∷ []) (drained t) said (said ++ t.out)
-      (ran_called v es e s said r going heeded w call nth done.0 is calls entries (subst (λ (m : ℤ). Answers config n nth m call v done.0 w) now done.1)) (prefix_more said t.out)
+      (ran_called v es e s said r going heeded w call nth done.0 is calls entries (subst (λ (m : ℤ). Answers config n nth m call v done.0 w) now done.1)) (prefix-append said t.out)

@@ -1,6 +1,6 @@
 -- One event: its call, its messages, and how it leaves the session.
 use Rattle.std.proofs.Common.{◌≡◌, ℕ, ℤ, List, [], ◌∷◌, None, Some, Ok, Err, refl, ap, sym, ◌∙◌, subst, inl, inr}
-use Rattle.std.specs.Prelude.{IfNone, IfSome, OnOk, OnErr, Result}
+use Rattle.std.specs.Prelude.{IfNone, IfSome, OnErr, Result}
 use Rattle.std.specs.declared.option.Option.{Option}
 use Rattle.std.specs.Option.{option_map}
 use Rattle.server_config.specs.declared.config.Config.{Config}
@@ -23,10 +23,6 @@ use Rattle.etp_serve.specs.declared.ended.Ended.TheVariants.{PeerEnd, LinkFault}
 use Rattle.etp_serve.specs.declared.steps.Asked.{Asked}
 
 -- ---- by cases on what a call gave
-
-pub on_ok : {T E : Type 0} (r : Result T E) (P Q : Type 0) → (P → Q) → OnOk r P → OnOk r Q
-on_ok (Ok x) P Q f p = f p
-on_ok (Err e) P Q f p = tt
 
 pub on_err_all : {T E : Type 0} (r : Result T E) (P : Type 0) → P → OnErr r P
 on_err_all (Ok x) P p = tt

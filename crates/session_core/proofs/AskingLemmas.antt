@@ -1,5 +1,5 @@
 -- The rows of a transaction do not see what it touched: the first half of each request, and that it looks only where it may.
-use Rattle.std.specs.Prelude.{ℕ, ℤ, Bool, true, false, not, ◌+◌, ◌*◌, ◌≡◌, List, [], ◌∷◌, ◌++◌, Option, Some, None, Result, Ok, Err, refl, if◌then◌else◌, nat_le, nat_lt}
+use Rattle.std.specs.Prelude.{ℕ, ℤ, Bool, true, false, not, ◌+◌, ◌*◌, ◌≡◌, List, [], ◌∷◌, Option, Some, None, Result, Ok, Err, refl, if◌then◌else◌, nat_le, nat_lt}
 use Rattle.std.specs.List.{AllByRecursion, flat_map}
 use Rattle.std.specs.Map.{values_of}
 use Rattle.std.proofs.Common.{ap}
@@ -18,6 +18,7 @@ use Rattle.array_store.specs.Refusals.{dims_of, record_refusal}
 use Rattle.array_store.specs.declared.error.ArrayError.{ArrayError}
 use Rattle.array_store.specs.declared.key.ArrayKey.{ArrayKey}
 use Rattle.array_store.specs.declared.record.ArrayRecord.{ArrayRecord}
+use Rattle.etp_values.proofs.EachLemmas.{all-append}
 use Rattle.etp_values.specs.declared.code.ErrorCode.{ErrorCode}
 use Rattle.etp_values.specs.declared.code.ErrorCode.TheVariants.{InvalidArgument, RequestDenied, SizeExceeded}
 use Rattle.etp_values.specs.declared.uri.StoreUri.{StoreUri}
@@ -135,13 +136,9 @@ values-all : {B : Type 0} (P : B → Type 0) (xs : List (List ℕ × B)) → All
 values-all P [] all = tt
 values-all P (x ∷ xs) all = (all.0, values-all P xs all.1)
 
-append-all : {B : Type 0} (P : B → Type 0) (xs ys : List B) → AllByRecursion P xs → AllByRecursion P ys → AllByRecursion P (xs ++ ys)
-append-all P [] ys all more = more
-append-all P (x ∷ xs) ys all more = (all.0, append-all P xs ys all.1 more)
-
 joined-all : {B : Type 0} (P : B → Type 0) (xs : List (List ℕ × List B)) → AllByRecursion (λ y. AllByRecursion P y.1) xs → AllByRecursion P (flat_map (λ y. y.1) xs)
 joined-all P [] all = tt
-joined-all P (x ∷ xs) all = append-all P x.1 (flat_map (λ y. y.1) xs) all.0 (joined-all P xs all.1)
+joined-all P (x ∷ xs) all = all-append P x.1 (flat_map (λ y. y.1) xs) all.0 (joined-all P xs all.1)
 
 -- ---- a request in a transaction makes no call but a look, in the dataspaces that it may touch
 

@@ -3,7 +3,9 @@ use Rattle.std.specs.Prelude.{ℕ, ℤ, pos, Bool, true, false, List, [], ◌∷
 use Rattle.std.specs.List.{list_any, AllByRecursion}
 use Rattle.std.specs.Ordering.{int_eq}
 use Rattle.std.proofs.Common.{ap, sym, subst, ◌∙◌, append-nil, append_assoc}
-use mathlib.Core.List.{IsPrefix}
+use mathlib.Core.List.{IsPrefix, prefix-append}
+use Rattle.etp_values.proofs.EachLemmas.{all-append}
+use Rattle.etp_values.proofs.PrefixLemmas.{prefix_self, prefix_trans}
 use Rattle.etp_frame.specs.Grouping.{Amount, goes_in, groups, groups_from}
 use Rattle.etp_frame.specs.Header.{final_part, has_flag}
 use Rattle.etp_frame.specs.Splitting.{parts, channel_subscribe_parts}
@@ -18,7 +20,7 @@ use Rattle.session_core.specs.declared.state.Request.{Request}
 use Rattle.session_core.specs.declared.state.Saying.{Saying}
 use Rattle.session_core.specs.Sending.{blobs_after, ended, flags_to, is_spent, max_id, numbered, outgoing, parts_of, replies_in}
 use Rattle.session_core.specs.Streams.{Heard, gathers, hear, hear_message, hear_notice, hear_stops, stops_for}
-use Rattle.session_core.proofs.MessagePartLemmas.{all_append, all_map, array_each, core_each, load_each, object_each, space_each}
+use Rattle.session_core.proofs.MessagePartLemmas.{all_map, array_each, core_each, load_each, object_each, space_each}
 
 -- ---- messages that tell changes, and those that stop
 
@@ -84,20 +86,11 @@ module _ (P : Bool → Bool → Type 0) where
   pub kinds_of : (limit number blobs : ℕ) (xs : List Saying) → AllByRecursion (λ (x : Saying). Kinds x.message) xs → AllByRecursion (λ (p : Part). Kinds p.message) (parts_of limit number blobs xs)
   kinds_of limit number blobs [] all = tt
   kinds_of limit number blobs (x ∷ xs) all =
-      all_append (λ (p : Part). Kinds p.message) (ended x.to (parts limit number blobs x.message)) (parts_of limit number (blobs_after limit blobs x.message) xs)
+      all-append (λ (p : Part). Kinds p.message) (ended x.to (parts limit number blobs x.message)) (parts_of limit number (blobs_after limit blobs x.message) xs)
       (kinds_ended x.to x.message (parts limit number blobs x.message) all.0 (parts_kind limit number blobs x.message))
       (kinds_of limit number (blobs_after limit blobs x.message) xs all.1)
 
 -- ---- beginnings
-
-pub prefix_self : {A : Type 0} (xs : List A) → IsPrefix xs xs
-prefix_self xs = ([], append-nil xs)
-
-prefix_more : {A : Type 0} (xs ys : List A) → IsPrefix xs (xs ++ ys)
-prefix_more xs ys = (ys, refl)
-
-pub prefix_trans : {A : Type 0} (xs ys zs : List A) → IsPrefix xs ys → IsPrefix ys zs → IsPrefix xs zs
-prefix_trans xs ys zs a b = (a.0 ++ b.0, sym (append_assoc xs a.0 b.0) ∙ ap (λ l. l ++ b.0) a.1 ∙ b.1)
 
 pub prefix_none : {A : Type 0} (ys : List A) → IsPrefix [] ys
 prefix_none ys = (ys, refl)
@@ -106,7 +99,7 @@ prefix_none ys = (ys, refl)
 
 grows_gathers : (last : Bool) (whole : _) (points : _) (k : Heard) → IsPrefix k.told (gathers last whole points k).told
 grows_gathers false whole points k = prefix_self k.told
-grows_gathers true whole points k = prefix_more k.told (whole (k.part ++ points))
+grows_gathers true whole points k = prefix-append k.told (whole (k.part ++ points))
 
 grows_if : (b : Bool) (j k : Heard) → IsPrefix k.told j.told → IsPrefix k.told (if b then j else k).told
 grows_if true j k p = p
@@ -124,7 +117,7 @@ grows_notice c last (subscribe.SubscriptionsStopped x) k e = absurd (cc e)
 grows_notice c last (subscribe.GetRanges x) k e = prefix_self k.told
 grows_notice c last (subscribe.GetRangesResponse x) k e = prefix_self k.told
 grows_notice c last (subscribe.SubscribeChannelsResponse x) k e = prefix_self k.told
-grows_notice c last (subscribe.ChannelsTruncated x) k e = prefix_more k.told _
+grows_notice c last (subscribe.ChannelsTruncated x) k e = prefix-append k.told _
 
 grows : (c : ℤ) (last : Bool) (m : Message) (k : Heard) → stops m ≡ false → IsPrefix k.told (hear_message c last m k).told
 grows c last (message.Core x) k e = prefix_self k.told
@@ -181,7 +174,7 @@ adds_stops : (c : ℤ) (reason : List ℕ) (ids : List (List ℕ × ℤ)) (k : H
 adds_stops c reason [] k = prefix_self k.stops
 adds_stops c reason (x ∷ ids) k =
     prefix_trans k.stops (if int_eq x.1 c then stops_for reason k else k).stops (hear_stops c reason (x ∷ ids) k).stops
-    (adds_if (int_eq x.1 c) (stops_for reason k) k (prefix_more k.stops (record { reason = reason; told = k.told } ∷ [])))
+    (adds_if (int_eq x.1 c) (stops_for reason k) k (prefix-append k.stops (record { reason = reason; told = k.told } ∷ [])))
     (adds_stops c reason ids (if int_eq x.1 c then stops_for reason k else k))
 
 adds_notice : (c : ℤ) (last : Bool) (m : ChannelSubscribeMessage) (k : Heard) → IsPrefix k.stops (hear_notice c last m k).stops

@@ -4,6 +4,7 @@ use Rattle.std.specs.List.{AllByRecursion}
 use Rattle.std.proofs.Common.{ap, sym, ◌∙◌, subst, arith, zero, suc, take-take}
 use Rattle.std.proofs.lemmas.Bool.{false≢true}
 use Rattle.std.proofs.Math.Bool.{or-true}
+use Rattle.etp_values.proofs.EachLemmas.{all-front, all-push}
 use Rattle.request_scope.specs.Scope.{code_of}
 use Rattle.store_machine.specs.Clash.{clash}
 use Rattle.store_machine.specs.History.{value_after}
@@ -80,21 +81,12 @@ marked-found m q x (k ∷ ks) ls =
     ∙ ap (λ (l : List Looked). map (found_by (option_map code_of (note_refusal (marked m x) k))) (take 1 ls) ++ l)
     (marked-found m q (note q x k) ks (drop 1 ls) ∙ ap (λ (y : Transaction). found_noted m y ks (drop 1 ls)) (marked-note m q x k))
 
--- ---- what holds of all touches
+-- ---- what holds of all touches before a note, and after it
 
-all-left : (P : Touch → Type 0) (ts us : List Touch) → AllByRecursion P (ts ++ us) → AllByRecursion P ts
-all-left P [] us a = tt
-all-left P (t ∷ ts) us a = (a.0, all-left P ts us a.1)
-
-all-push : (P : Touch → Type 0) (ts : List Touch) (t : Touch) → AllByRecursion P ts → P t → AllByRecursion P (ts ++ t ∷ [])
-all-push P [] t a h = (h, tt)
-all-push P (x ∷ xs) t a h = (a.0, all-push P xs t a.1 h)
-
--- what holds of those before a note, and of those after it
 module _ (P : Touch → Type 0) (q : ℕ) where
   noted-before : (x : Transaction) (k : Key) (b : Bool) → AllByRecursion P (noted_if b q x k).touched → AllByRecursion P x.touched
   noted-before x k true a = a
-  noted-before x k false a = all-left P x.touched _ a
+  noted-before x k false a = all-front P x.touched _ a
 
   note-before : (x : Transaction) (k : Key) (why : Option StageError) → AllByRecursion P (note_by why q x k).touched → AllByRecursion P x.touched
   note-before x k None a = noted-before x k (is_touched x.touched k) a

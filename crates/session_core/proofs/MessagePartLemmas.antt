@@ -1,6 +1,7 @@
 -- What holds of all messages of a protocol holds of a message's parts; for the crates above too.
-use Rattle.std.specs.Prelude.{ℕ, List, [], ◌∷◌, ◌++◌, map}
+use Rattle.std.specs.Prelude.{ℕ, List, [], ◌∷◌, map}
 use Rattle.std.specs.List.{flat_map, AllByRecursion}
+use Rattle.etp_values.proofs.EachLemmas.{all-append}
 use Rattle.etp_frame.specs.Chunking.{as_sent, chunk_messages, with_chunks}
 use Rattle.etp_frame.specs.Splitting.{core_parts, dataspace_parts, store_parts, data_array_parts, channel_data_load_parts}
 use Rattle.etp_frame.specs.declared.message.Message.{Message}
@@ -20,13 +21,9 @@ pub all_map : {A : Type 0} (P : Message → Type 0) (f : A → Message) → ((g 
 all_map P f h [] = tt
 all_map P f h (g ∷ gs) = (h g, all_map P f h gs)
 
-pub all_append : {A : Type 0} (P : A → Type 0) (xs ys : List A) → AllByRecursion P xs → AllByRecursion P ys → AllByRecursion P (xs ++ ys)
-all_append P [] ys a b = b
-all_append P (x ∷ xs) ys a b = (a.0, all_append P xs ys a.1 b)
-
 all_flat : {A : Type 0} (P : Message → Type 0) (f : A → List Message) → ((g : A) → AllByRecursion P (f g)) → (gs : List A) → AllByRecursion P (flat_map f gs)
 all_flat P f h [] = tt
-all_flat P f h (g ∷ gs) = all_append P (f g) (flat_map f gs) (h g) (all_flat P f h gs)
+all_flat P f h (g ∷ gs) = all-append P (f g) (flat_map f gs) (h g) (all_flat P f h gs)
 
 pub core_each : (P : Message → Type 0) → ((x : CoreMessage) → P (message.Core x)) → (limit : ℕ) (x : CoreMessage) → AllByRecursion P (core_parts limit x)
 core_each P h limit (core.RequestSession x) = (h (core.RequestSession x), tt)

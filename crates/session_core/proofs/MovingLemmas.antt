@@ -6,6 +6,8 @@ use Rattle.std.proofs.Common.{inl, inr, ap, sym, ◌∙◌, subst, arith}
 use Rattle.std.proofs.lemmas.Bool.{false≢true}
 use Rattle.std.proofs.lemmas.Option.{none-some, same_Some}
 use mathlib.Core.List.{IsPrefix}
+use Rattle.etp_values.proofs.EachLemmas.{all-weaker}
+use Rattle.etp_values.proofs.PrefixLemmas.{prefix_self}
 use Rattle.server_config.specs.declared.config.Config.{Config}
 use Rattle.channel_rows.specs.Notices.{reason_of}
 use Rattle.channel_store.specs.declared.change.What.{What}
@@ -22,7 +24,7 @@ use Rattle.session_core.specs.declared.state.Saying.{Saying}
 use Rattle.session_core.specs.State.{State}
 use Rattle.session_core.specs.Sending.{is_spent, numbered, parts_of, said, spent_phase}
 use Rattle.session_core.specs.Streams.{Heard, IsStopped, Stopped, hear, heard, is_spent_phase, owed, owed_by, owed_to, silence, stream_to}
-use Rattle.session_core.proofs.HearingLemmas.{IsQuiet, hear_parts, kinds_of, numbered_back, numbered_front, numbered_heard, numbered_quiet, numbered_stops, prefix_none, prefix_self, stops, tells}
+use Rattle.session_core.proofs.HearingLemmas.{IsQuiet, hear_parts, kinds_of, numbered_back, numbered_front, numbered_heard, numbered_quiet, numbered_stops, prefix_none, stops, tells}
 use Rattle.session_core.proofs.OwingLemmas.{is_stream}
 use Rattle.session_core.proofs.StartingLemmas.{IsKnown, Keeps, owes, owes_to}
 use Rattle.session_core.proofs.StoppingLemmas.{Ends}
@@ -37,16 +39,12 @@ known_of P c (y ∷ ys) s e all = by (int_eq y.channel c) e (λ e. known_of P c 
     by true e rest = subst P (same_Some y s e) all.0
     by false e rest = rest e
 
-pub all_weaker : {A : Type 0} (P Q : A → Type 0) → ((x : A) → P x → Q x) → (xs : List A) → AllByRecursion P xs → AllByRecursion Q xs
-all_weaker P Q f [] all = tt
-all_weaker P Q f (x ∷ xs) all = (f x all.0, all_weaker P Q f xs all.1)
-
 pub keeps_on : (config : Config) (last p : ℕ) (v : Subbed) → last ≤ p → Keeps config last v → Keeps config p v
 keeps_on config last p v le k = record {
   pending = k.pending;
   within = let w = k.within in omega (arith, w, le);
   apart = k.apart;
-  known = all_weaker (IsKnown config last) (IsKnown config p) (λ s i. let f = i.0 in (omega (arith, f, le), i.1)) v.subs k.known;
+  known = all-weaker (IsKnown config last) (IsKnown config p) (λ s i. let f = i.0 in (omega (arith, f, le), i.1)) v.subs k.known;
 }
 
 pub owed_is : (config : Config) (h : List Entry) (last : ℕ) (v : Subbed) (c : ℤ) → Keeps config last v → last ≤ length h → owes h v c ≡ owed h v c

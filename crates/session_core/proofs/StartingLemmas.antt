@@ -8,6 +8,7 @@ use Rattle.std.proofs.lemmas.Bool.Decides.{nat_tests}
 use Rattle.std.proofs.lemmas.List.{map-append}
 use Rattle.std.proofs.lemmas.Option.{none-some}
 use Rattle.subscribe_core.proofs.StreamLemmas.{of-append}
+use Rattle.etp_values.proofs.EachLemmas.{all-append}
 use Rattle.etp_values.proofs.IntLemmas.{int_eq_is}
 use Rattle.server_config.specs.declared.config.Config.{Config}
 use Rattle.channel_rows.specs.Notices.{notice_of}
@@ -39,7 +40,6 @@ use Rattle.subscribe_core.specs.Calls.{AreApart}
 use Rattle.subscribe_core.specs.Streams.{of_channel}
 use Rattle.subscribe_core.specs.Subscriptions.{Subbed, cursor_after, has_sub}
 use Rattle.subscribe_core.specs.Views.{sub_of}
-use Rattle.session_core.proofs.MessagePartLemmas.{all_append}
 use Rattle.session_core.proofs.OwingLemmas.{begins_at, told_up_to}
 use Rattle.subscribe_core.proofs.SubLemmas.{absent-has, apart-push, found-push, has-absent, other_way}
 use Rattle.session_core.proofs.StandingLemmas.{IsChannel, absent-push, begun_is}
@@ -145,11 +145,11 @@ module _ (config : Config) (h : List Entry) (p : ℕ) (t : ℤ → List What) (f
           pending = begins.keeps.pending;
           within = within;
           apart = apart-push b.subs.subs s none begins.keeps.apart;
-          known = all_append (IsKnown config p) b.subs.subs (s ∷ []) begins.keeps.known ((omega arith, is), tt);
+          known = all-append (IsKnown config p) b.subs.subs (s ∷ []) begins.keeps.known ((omega arith, is), tt);
         };
         new = begins.new ++ first_change a.channel ps;
         notes = (λ i. begins.notes i ++ first_told a.channel ps i) ∙ sym (map-append told_as begins.new (first_change a.channel ps));
-        solid = all_append (λ (x : ChannelChange). IsSolid x.what) begins.new (first_change a.channel ps) begins.solid (first_solid a.channel ps);
+        solid = all-append (λ (x : ChannelChange). IsSolid x.what) begins.new (first_change a.channel ps) begins.solid (first_solid a.channel ps);
         flows = λ c. ap (λ l. t c ++ l) (of-append c begins.new (first_change a.channel ps)) ∙ sym (append_assoc (t c) (of_channel c begins.new) (of_channel c (first_change a.channel ps)))
             ∙ flow c (int_eq a.channel c) refl;
         stays = λ c x e. found-push c b.subs.subs s x (begins.stays c x e);

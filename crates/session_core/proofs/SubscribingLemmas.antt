@@ -17,6 +17,7 @@ use Rattle.channel_store.specs.declared.change.What.TheVariants.{Append, Replace
 use Rattle.channel_store.specs.declared.subscription.Sub.{Sub}
 use Rattle.etp_frame.specs.Splitting.{parts}
 use Rattle.etp_frame.specs.declared.message.Message.TheVariants as message
+use Rattle.etp_values.proofs.EachLemmas.{all-append, all-weaker}
 use Rattle.etp_values.specs.declared.code.ErrorCode.{ErrorCode}
 use Rattle.etp_values.specs.declared.code.ErrorCode.TheVariants.{InvalidMessageType}
 use Rattle.keyed_requests.specs.Keyed.{called, checked, checked_state, finished, finished_state, granted, kept, refused_keys, keyed_replies, request_reply, sent as sent_keys, unasked}
@@ -62,8 +63,7 @@ use Rattle.session_core.specs.Replies.{saying_of, sayings_of}
 use Rattle.session_core.specs.Sending.{blobs_after, ended, parts_of}
 use Rattle.session_core.specs.Streams.{Heard, HasIds, hear_stops}
 use Rattle.session_core.proofs.HearingLemmas.{IsQuiet, hear_parts, kinds_one, notice_stops, notice_tells, parts_quiet, stops, tells}
-use Rattle.session_core.proofs.MessagePartLemmas.{all_append}
-use Rattle.session_core.proofs.MovingLemmas.{After, AreQuiet, Flow, Flowing, Hushed, all_weaker, grown_after, hushed_said, keeps_on, stopped_after}
+use Rattle.session_core.proofs.MovingLemmas.{After, AreQuiet, Flow, Flowing, Hushed, grown_after, hushed_said, keeps_on, stopped_after}
 use Rattle.session_core.proofs.NewsingLemmas.{come, news_heard, news_keep, news_of, notes_said, told_on}
 use Rattle.subscribe_core.proofs.SubLemmas.{apart-others}
 use Rattle.session_core.proofs.StandingLemmas.{IsChannel}
@@ -128,7 +128,7 @@ quiet_before limit number c (x ∷ xs) ys blobs k P quiet rest =
 -- ---- what isn't of a kind
 
 quiet_stops : (xs : List Saying) → AreQuiet xs → AllByRecursion (λ (x : Saying). stops x.message ≡ false) xs
-quiet_stops xs q = all_weaker (λ (x : Saying). IsQuiet (tells x.message) (stops x.message)) (λ (x : Saying). stops x.message ≡ false) (λ x f. f.1) xs q
+quiet_stops xs q = all-weaker (λ (x : Saying). IsQuiet (tells x.message) (stops x.message)) (λ (x : Saying). stops x.message ≡ false) (λ x f. f.1) xs q
 
 notice_no_stop : (at channel : ℤ) (w : What) → notice_stops (notice_of at channel w) ≡ false
 notice_no_stop at channel (Append points) = refl
@@ -258,7 +258,7 @@ module _ (config : Config) (h : List Entry) (last : ℕ) (sent : List Outgoing) 
           sayings_append reply (map Notice b.notices) ∙ ap (λ l. sayings_of message.ChannelSubscribe reply ++ l) (ap (λ l. sayings_of message.ChannelSubscribe (map Notice l)) begins.notes ∙ told_notes begins.new) in
           grown_after config h last p sent s m (CausesAt p) flowing q r xs b.subs top begins.keeps
           (subst (AllByRecursion (λ (x : Saying). stops x.message ≡ false)) (sym split)
-          (all_append (λ (x : Saying). stops x.message ≡ false) (sayings_of message.ChannelSubscribe reply) (map note begins.new) (quiet_stops (sayings_of message.ChannelSubscribe reply) quiet) (notes_no_stop begins.new)))
+          (all-append (λ (x : Saying). stops x.message ≡ false) (sayings_of message.ChannelSubscribe reply) (map note begins.new) (quiet_stops (sayings_of message.ChannelSubscribe reply) quiet) (notes_no_stop begins.new)))
           (λ c k part told.
           subst (λ l. Flow h b.subs c (hear_parts c k (parts_of m.limit m.number m.blobs l)) × ((hear_parts c k (parts_of m.limit m.number m.blobs l)).stops ≡ k.stops)) (sym split)
           (quiet_before m.limit m.number c (sayings_of message.ChannelSubscribe reply) (map note begins.new) m.blobs k (λ j. Flow h b.subs c j × (j.stops ≡ k.stops)) quiet
@@ -336,7 +336,7 @@ module _ (config : Config) (h : List Entry) (last : ℕ) (sent : List Outgoing) 
         (record { pending = on.pending; within = on.within; apart = tt; known = tt }) refl (refl, tt)
         (λ c k.
         subst (λ (j : Heard). Ends (reason_of cause) k (sub_of c s.subs.subs) j None) (sym (stop_heard m.limit m.number m.blobs c to.Nobody cause (ids_of s.subs.subs) [] k))
-        (all_stopped (reason_of cause) c s.subs.subs k on.apart (all_weaker (IsKnown config p) (λ (x : Sub). mag x.channel < 2 ^ 63) (λ x i. small_channel x.channel i.1) s.subs.subs on.known)))
+        (all_stopped (reason_of cause) c s.subs.subs k on.apart (all-weaker (IsKnown config p) (λ (x : Sub). mag x.channel < 2 ^ 63) (λ x i. small_channel x.channel i.1) s.subs.subs on.known)))
 
     told_after : (p : ℕ) → last ≤ p → p ≤ length h
         → After config h p sent s (on_told unread (news_told None (s.subs.cursor + length (come config h stay due each p s.subs)) (joined (come config h stay due each p s.subs)) s.subs) (record s { pending = None })) (CausesAt p)

@@ -18,6 +18,7 @@ use Rattle.etp_frame.specs.Grouping.{groups, item_amount}
 use Rattle.etp_frame.specs.Splitting.{parts}
 use Rattle.etp_frame.specs.declared.message.Message.{Message}
 use Rattle.etp_frame.specs.declared.message.Message.TheVariants as message
+use Rattle.etp_values.proofs.EachLemmas.{all-append}
 use Rattle.etp_values.specs.declared.point.Point.{Point}
 use Rattle.msg_channel.specs.ChannelRecords.{data_item_form}
 use Rattle.msg_channel.specs.declared.channel_subscribe_messages.ChannelSubscribeMessage.TheVariants as subscribe
@@ -30,7 +31,7 @@ use Rattle.session_core.specs.declared.state.Saying.{Saying}
 use Rattle.session_core.specs.Sending.{blobs_after, parts_of}
 use Rattle.session_core.specs.Streams.{Heard, gathers, hear_message, point_in, points_in}
 use Rattle.session_core.proofs.HearingLemmas.{gathered, hear_parts, hear_whole, notice_parts}
-use Rattle.session_core.proofs.MessagePartLemmas.{all_map, all_append}
+use Rattle.session_core.proofs.MessagePartLemmas.{all_map}
 
 -- ---- the points of a notice
 
@@ -156,4 +157,4 @@ solid_to (Some s) x = solid_as x (view s.start s.all x.what) (solid_view s.start
 
 pub solid_told : (subs : List Sub) (xs : List ChannelChange) → AreSolid (flat_map (told subs) xs)
 solid_told subs [] = tt
-solid_told subs (x ∷ xs) = all_append (λ (x : ChannelChange). IsSolid x.what) (told subs x) (flat_map (told subs) xs) (solid_to (sub_of x.channel subs) x) (solid_told subs xs)
+solid_told subs (x ∷ xs) = all-append (λ (x : ChannelChange). IsSolid x.what) (told subs x) (flat_map (told subs) xs) (solid_to (sub_of x.channel subs) x) (solid_told subs xs)

@@ -7,6 +7,7 @@ use Rattle.std.proofs.lemmas.Bool.Decides.{nat_tests}
 use Rattle.std.proofs.lemmas.List.{map-append}
 use Rattle.std.proofs.lemmas.Option.{none-some}
 use Rattle.std.proofs.lemmas.Bool.{or_parts}
+use Rattle.etp_values.proofs.EachLemmas.{all-append, all-weaker}
 use Rattle.etp_values.proofs.IntLemmas.{int_eq_self, int_eq_is}
 use Rattle.channel_rows.specs.Subscriptions.{begin_one, begins, first_notices, is_full, is_taken, names, start_at, subscribe_one, subscribe_with}
 use Rattle.channel_rows.specs.declared.subscribing.Beginning.{Beginning}
@@ -33,8 +34,6 @@ use Rattle.store_machine.specs.declared.call.StartReply.TheVariants as replied
 use Rattle.subscribe_core.specs.Subscriptions.{Subbed, cursor_after, has_sub}
 use Rattle.subscribe_core.specs.Views.{sub_of}
 use Rattle.session_core.specs.Granting.{AreDecided, IsFirstOf, IsGranted, IsStartOf}
-use Rattle.session_core.proofs.MessagePartLemmas.{all_append}
-use Rattle.session_core.proofs.MovingLemmas.{all_weaker}
 use Rattle.subscribe_core.proofs.SubLemmas.{absent-has, found-push, has-absent, other_way}
 use Rattle.session_core.proofs.StandingLemmas.{absent-push}
 use Rattle.session_core.proofs.StartingLemmas.{any_push, first_change, first_told, told_as}
@@ -122,7 +121,7 @@ module _ (p : ℕ) (first : Subbed) where
       stays = later.stays;
       new = later.new;
       notes = later.notes;
-      news = all_weaker (IsFirstOf w.subs items ds) (IsFirstOf w.subs (x ∷ items) ((x.0, Refused code) ∷ ds)) (λ c f. (f.0, inr f.1)) later.new later.news;
+      news = all-weaker (IsFirstOf w.subs items ds) (IsFirstOf w.subs (x ∷ items) ((x.0, Refused code) ∷ ds)) (λ c f. (f.0, inr f.1)) later.new later.news;
     }
 
     named_more : IsFresh (names n x.1.channel_id) b
@@ -186,8 +185,8 @@ module _ (p : ℕ) (first : Subbed) where
             new = first_change x.1.channel_id ps ++ later.new;
             notes = later.notes ∙ append_assoc b.notices (first_notices x.1.channel_id ps) (map told_as later.new)
                 ∙ ap (λ l. b.notices ++ l) ((λ i. first_told x.1.channel_id ps i ++ map told_as later.new) ∙ sym (map-append told_as (first_change x.1.channel_id ps) later.new));
-            news = all_append (IsFirstOf w.subs (x ∷ items) ((x.0, Granted []) ∷ ds)) (first_change x.1.channel_id ps) later.new (first_news w.subs ds ps (ap is_some stands))
-                (all_weaker (IsFirstOf w.subs items ds) (IsFirstOf w.subs (x ∷ items) ((x.0, Granted []) ∷ ds)) (λ c f. (f.0, inr f.1)) later.new later.news);
+            news = all-append (IsFirstOf w.subs (x ∷ items) ((x.0, Granted []) ∷ ds)) (first_change x.1.channel_id ps) later.new (first_news w.subs ds ps (ap is_some stands))
+                (all-weaker (IsFirstOf w.subs items ds) (IsFirstOf w.subs (x ∷ items) ((x.0, Granted []) ∷ ds)) (λ c f. (f.0, inr f.1)) later.new later.news);
           }
 
     answered : (s : Start) (rs : List (List ℕ × StartReply)) (r : StartReply) → IsFairStart s r → AreFair (sent (λ a. a) (asked_of going_on items)) rs

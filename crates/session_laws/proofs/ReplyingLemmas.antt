@@ -22,6 +22,7 @@ use Rattle.etp_frame.specs.declared.joining.Joined.{Joined}
 use Rattle.etp_frame.specs.declared.joining.Joined.TheVariants.{More, Whole}
 use Rattle.etp_frame.specs.declared.message.Message.{Message}
 use Rattle.etp_frame.specs.declared.message.Message.TheVariants as message
+use Rattle.etp_values.proofs.EachLemmas.{all-append, all-weaker}
 use Rattle.etp_values.specs.declared.code.ErrorCode.{ErrorCode}
 use Rattle.etp_values.specs.declared.code.ErrorCode.TheVariants as code
 use Rattle.keyed_requests.specs.Keyed.{called, checked, checked_state, finished, finished_state, kept, refused_keys, keyed_replies, request_reply, sent as sent_keys, unasked}
@@ -83,8 +84,7 @@ use Rattle.session_core.specs.Sending.{blobs_sent, is_spent, max_id, next_after,
 use Rattle.session_core.specs.Streams.{is_spent_phase}
 use Rattle.subscribe_core.proofs.SubLemmas.{absent-others}
 use Rattle.session_laws.proofs.DecidingLemmas.{AreFair, Decides, all_decide}
-use Rattle.session_core.proofs.MessagePartLemmas.{all_append}
-use Rattle.session_core.proofs.MovingLemmas.{all_weaker, parts_in, unspent}
+use Rattle.session_core.proofs.MovingLemmas.{parts_in, unspent}
 use Rattle.session_laws.proofs.SpeakingLemmas.{notices_replies, numbered_silent, numbered_split, parts_append}
 use Rattle.session_core.proofs.StartingLemmas.{told_as}
 use Rattle.session_core.proofs.StoppingLemmas.{kept_after}
@@ -156,7 +156,7 @@ sent_both matter m received reaches =
     }
 
 receipts_silent : (os : List Outgoing) → AllByRecursion IsReceipt os → AllByRecursion (λ (o : Outgoing). speaks o.message ≡ false) os
-receipts_silent os all = all_weaker IsReceipt (λ (o : Outgoing). speaks o.message ≡ false) (λ o f. ap speaks f) os all
+receipts_silent os all = all-weaker IsReceipt (λ (o : Outgoing). speaks o.message ≡ false) (λ o f. ap speaks f) os all
 
 module _ (e : Event) (v : Subbed) where
   pub silent_says : (t : State) → IsQuiet v t → Says e v t
@@ -185,7 +185,7 @@ module _ (e : Event) (v : Subbed) where
     means = (
       q.subs,
       aside,
-      all_append (λ (o : Outgoing). speaks o.message ≡ false) m.out (numbered r m.next_id (parts_in m xs)) (receipts_silent m.out q.out) (numbered_silent r m.next_id m.limit m.number m.blobs xs aside),
+      all-append (λ (o : Outgoing). speaks o.message ≡ false) m.out (numbered r m.next_id (parts_in m xs)) (receipts_silent m.out q.out) (numbered_silent r m.next_id m.limit m.number m.blobs xs aside),
     );
   }
 
@@ -516,7 +516,7 @@ module _ (e : Event) (v : Subbed) where
   receipt_quiet : (b : Bool) (hd : Header) (m : State) → IsQuiet v m → IsQuiet v (if b then said (request_of hd) (receipt ∷ []) m else m)
   receipt_quiet true hd m q = record {
     subs = q.subs;
-    out = all_append IsReceipt m.out (numbered (request_of hd) m.next_id (parts_in m (receipt ∷ []))) q.out (receipt_sent (request_of hd) m.next_id (nat_le m.next_id max_id));
+    out = all-append IsReceipt m.out (numbered (request_of hd) m.next_id (parts_in m (receipt ∷ []))) q.out (receipt_sent (request_of hd) m.next_id (nat_le m.next_id max_id));
   }
   receipt_quiet false hd m q = q
 
@@ -538,7 +538,7 @@ has_to w c (Some s) f = has_as w c (ap is_some f) (view s.start s.all c.what)
 
 has_told : (w : Subbed) (xs : List ChannelChange) → AllByRecursion (λ (x : ChannelChange). has_sub x.channel w.subs ≡ true) (flat_map (told w.subs) xs)
 has_told w [] = tt
-has_told w (x ∷ xs) = all_append (λ (x : ChannelChange). has_sub x.channel w.subs ≡ true) (told w.subs x) (flat_map (told w.subs) xs) (has_to w x (sub_of x.channel w.subs) refl) (has_told w xs)
+has_told w (x ∷ xs) = all-append (λ (x : ChannelChange). has_sub x.channel w.subs ≡ true) (told w.subs x) (flat_map (told w.subs) xs) (has_to w x (sub_of x.channel w.subs) refl) (has_told w xs)
 
 told_both : (w : Subbed) (xs : List ChannelChange) → AreSolid xs → AllByRecursion (λ (x : ChannelChange). has_sub x.channel w.subs ≡ true) xs → AllByRecursion (IsToldTo w) xs
 told_both w [] solid has = tt

@@ -4,6 +4,7 @@ use Rattle.std.specs.List.{AllByRecursion}
 use Rattle.std.proofs.Common.{ap, sym, ◌∙◌, append_assoc, arith}
 use Rattle.channel_rows.specs.Notices.{notice}
 use Rattle.channel_store.specs.declared.change.ChannelChange.{ChannelChange}
+use Rattle.etp_values.proofs.EachLemmas.{all-append}
 use Rattle.etp_frame.specs.Grouping.{entry_amount, groups}
 use Rattle.etp_frame.specs.Splitting.{parts, channel_subscribe_parts}
 use Rattle.etp_frame.specs.declared.message.Message.{Message}
@@ -22,7 +23,7 @@ use Rattle.session_core.specs.Granting.{IsAside, some_key, speaks, subscribe_spe
 use Rattle.session_core.specs.Replies.{sayings_of}
 use Rattle.session_core.specs.Sending.{blobs_after, blobs_sent, ended, is_spent, max_id, next_after, numbered, outgoing, parts_of, replies_in}
 use Rattle.session_core.proofs.TellingLemmas.{note}
-use Rattle.session_core.proofs.MessagePartLemmas.{all_append, all_map, array_each, core_each, load_each, object_each, space_each}
+use Rattle.session_core.proofs.MessagePartLemmas.{all_map, array_each, core_each, load_each, object_each, space_each}
 
 -- ---- parts that do not speak
 
@@ -64,7 +65,7 @@ ended_silent a (x ∷ y ∷ ms) all = (all.0, ended_silent a (y ∷ ms) all.1)
 said_silent : (limit number blobs : ℕ) (xs : List Saying) → AllByRecursion IsAside xs → AllByRecursion (λ (p : Part). speaks p.message ≡ false) (parts_of limit number blobs xs)
 said_silent limit number blobs [] all = tt
 said_silent limit number blobs (x ∷ xs) all =
-    all_append (λ (p : Part). speaks p.message ≡ false) (ended x.to (parts limit number blobs x.message)) (parts_of limit number (blobs_after limit blobs x.message) xs)
+    all-append (λ (p : Part). speaks p.message ≡ false) (ended x.to (parts limit number blobs x.message)) (parts_of limit number (blobs_after limit blobs x.message) xs)
     (ended_silent x.to (parts limit number blobs x.message) (parts_silent limit number blobs x.message all.0.0))
     (said_silent limit number (blobs_after limit blobs x.message) xs all.1)
 

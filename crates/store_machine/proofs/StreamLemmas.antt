@@ -3,6 +3,7 @@ use Rattle.std.specs.Prelude.{ℕ, ℤ, ◌≡◌, ◌+◌, ◌≤◌, Bool, tru
 use Rattle.std.specs.List.{AllByRecursion}
 use Rattle.std.proofs.Common.{ap, sym, ◌∙◌, subst, append_assoc, arith}
 use Rattle.std.proofs.lemmas.List.{length-take-le, map-append, take-append-drop}
+use Rattle.etp_values.proofs.EachLemmas.{all-back}
 use Rattle.etp_values.specs.declared.point.Point.{Point}
 use Rattle.server_config.specs.declared.config.Config.{Config}
 use Rattle.channel_store.specs.declared.change.ChannelChange.{ChannelChange}
@@ -82,11 +83,6 @@ all-within law config (e ∷ es) id legal =
 
 -- ---- the stream
 
--- what holds of all holds of those behind
-behind-all : {X : Type 0} (P : X → Type 0) (xs ys : List X) → AllByRecursion P (xs ++ ys) → AllByRecursion P ys
-behind-all P [] ys h = h
-behind-all P (x ∷ xs) ys h = behind-all P xs ys h.1
-
 -- the changes of a history are those of its front and those behind
 pub whats-split : (id : ℤ) (m : ℕ) (history : List Entry) → m ≤ length history
     → whats_of (channel_changes id (take m history)) ++ whats_of (changes_from m id (drop m history)) ≡ whats_of (channel_changes id history)
@@ -103,5 +99,5 @@ stream-copied copied law config history id start m legal within =
     let earlier = whats_of (channel_changes id (take m history)) in
     let later = whats_of (changes_from m id (drop m history)) in
     let whole = whats-split id m history within in
-    copied start earlier later (behind-all IsWithin earlier later (subst (AllByRecursion IsWithin) (sym whole) (all-within law config history id legal)))
+    copied start earlier later (all-back IsWithin earlier later (subst (AllByRecursion IsWithin) (sym whole) (all-within law config history id legal)))
     ∙ ap (λ l. past start (copy l)) whole

@@ -7,6 +7,7 @@ use Rattle.std.proofs.Math.Seq.{drop-append_seam, drop-append-add}
 use Rattle.std.proofs.lemmas.List.Elements.{filter-append}
 use Rattle.std.proofs.lemmas.Option.{slice_get_within}
 use Rattle.circular_buffer.specs.Buffer.{keep_last}
+use Rattle.etp_values.proofs.ListLemmas.{drop_item}
 use Rattle.etp_values.specs.declared.point.Point.{Point}
 use Rattle.channel_store.specs.declared.change.What.{What}
 use Rattle.watch_views.specs.Held.{stays, left_by}
@@ -79,16 +80,10 @@ one_some (x ∷ xs) ys p h =
 
 -- ---- copies of the last ones, one by one
 
-drop_next : {X : Type 0} (k : ℕ) (xs : List X) (x : X) → slice_get xs k ≡ Some x → drop k xs ≡ x ∷ drop (suc k) xs
-drop_next zero [] x h = cc
-drop_next (suc k) [] x h = cc
-drop_next zero (y ∷ ys) x h = cc
-drop_next (suc k) (y ∷ ys) x h = drop_next k ys x h
-
 pub push_next : {X : Type 0} (done xs whole : List X) (k : ℕ) (x : X) → done ++ drop k xs ≡ whole → slice_get xs k ≡ Some x → (done ++ x ∷ []) ++ drop (k + 1) xs ≡ whole
 push_next done xs whole k x h e =
     let next : k + 1 ≡ suc k = omega arith in
-    append_assoc done (x ∷ []) (drop (k + 1) xs) ∙ ap (λ n. done ++ (x ∷ drop n xs)) next ∙ ap (λ l. done ++ l) (sym (drop_next k xs x e)) ∙ h
+    append_assoc done (x ∷ []) (drop (k + 1) xs) ∙ ap (λ n. done ++ (x ∷ drop n xs)) next ∙ ap (λ l. done ++ l) (sym (drop_item xs k x e)) ∙ h
 
 -- one more is pushed, and the others are still to come
 pub push_kept : {X : Type 0} (n : ℕ) (held rest all : List X) (x : X) → keep_last n (held ++ x ∷ rest) ≡ all → keep_last n (keep_last n (held ++ x ∷ []) ++ rest) ≡ all

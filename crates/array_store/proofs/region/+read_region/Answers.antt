@@ -1,9 +1,10 @@
 use Rattle.std.proofs.Common.{◌≡◌, ◌+◌, ◌++◌, ◌<◌, ◌*◌, ◌/◌, length, sym, ap, ◌∙◌, arith, rules}
 use Rattle.std.proofs.lemmas.Bool.Decides.{nat_tests}
 use Rattle.std.proofs.lemmas.List.{append-nil}
+use Rattle.std.proofs.lemmas.Result.{on_ok_weaker}
 use Rattle.array_store.specs.Shape.{sizes}
 use Rattle.array_store.specs.Region.{sliced}
-use Rattle.array_store.proofs.StepLemmas.{on_ok, sizes-empty, part-of, region-within, sliced-run, sliced-none, read-first, read-next, row-width, row-fits}
+use Rattle.array_store.proofs.StepLemmas.{sizes-empty, part-of, region-within, sliced-run, sliced-none, read-first, read-next, row-width, row-fits}
 use Rattle.array_store.proofs.region.+read_region.Goals as goal
 
 pub returns-then-is_empty : goal.returns-then-is_empty
@@ -12,7 +13,7 @@ returns-then-is_empty g t c =
     let within = region-within o.result.dims.now o.result.starts.now o.result.counts.now o.ensures.region in
     let last : length o.result.dims.now ≡ 0 = grind (arith, nat_tests) in
     let run = sliced-run o.ensures.parts within c.args.items.now (sizes-empty o.result.dims.now last) c.requires.full in
-    on_ok c.append.result (λ e. e ∙ ap (λ l. c.args.out.now.items ++ l) (part-of o.result.first o.result.rows c.args.items.now ∙ sym run)) c.append.ensures
+    on_ok_weaker c.append.result (λ e. e ∙ ap (λ l. c.args.out.now.items ++ l) (part-of o.result.first o.result.rows c.args.items.now ∙ sym run)) c.append.ensures
 
 pub returns-then-rows-eq0 : goal.returns-then-rows-eq0
 returns-then-rows-eq0 g t c =

@@ -2,6 +2,7 @@ use Rattle.std.specs.Prelude.{◌≡◌, cond, Some, Err, OnOk, IfSome, is_some,
 use Rattle.std.specs.Map.{lookup}
 use Rattle.std.proofs.Common.{subst, sym, ap, ◌∙◌}
 use Rattle.std.proofs.lemmas.Map.Steps.{set_value_same}
+use Rattle.std.proofs.lemmas.Result.{on_ok_weaker, on_err_weaker}
 use Rattle.std.specs.Map.{set_value}
 use Rattle.array_store.specs.contracts.key.ArrayKeyPartialEq.TheImpl.{ghosts}
 use Rattle.array_store.specs.declared.key.ArrayKey.{ArrayKey}
@@ -12,8 +13,7 @@ use Rattle.array_store.specs.Refusals.{record_refusal, patch_refusal, Refuses}
 use Rattle.array_store.specs.Table as table
 use Rattle.array_store.specs.Table.{same_key}
 use Rattle.array_store.proofs.KeyLemmas.{found_is, written_is}
-use Rattle.array_store.proofs.StepLemmas.{on_ok}
-use Rattle.array_store.proofs.SoundLemmas.{sound-set, sound-call, on_ok_both, on_err, done-refusal, refusal-patch_array}
+use Rattle.array_store.proofs.SoundLemmas.{sound-set, sound-call, on_ok_both, done-refusal, refusal-patch_array}
 use Rattle.array_store.proofs.table.patch_array.Goals as goal
 
 pub patch_record-requires : goal.patch_record-requires
@@ -36,13 +36,13 @@ returns-clause-each c =
     let at : ArrayRecord → ArrayKey → Type 0 = λ s q. lookup (same_key q) new ≡ cond (same_key q key) (Some s) (lookup (same_key q) old) in
     let wrote : (q : ArrayKey) → at w q = λ q. written_is old new key q w (updates.0 q) in
     subst (λ o. IfSome o (λ r. OnOk c.patch_record.result ((q : ArrayKey) → at (table.patch_array r c.args.starts.now c.args.counts.now c.args.values) q))) (sym found)
-    (on_ok c.patch_record.result (λ e q. subst (λ s. at s q) e (wrote q)) c.patch_record.ensures.ok)
+    (on_ok_weaker c.patch_record.result (λ e q. subst (λ s. at s q) e (wrote q)) c.patch_record.ensures.ok)
 
 pub returns-clause-same : goal.returns-clause-same
 returns-clause-same c =
     let old = c.args.arrays.now.entries in
     let w = c.patch_record.new.array in
-    on_err c.patch_record.result (λ e. (c.get_mut.follows.holds w).0 ∙ ap (set_value (ghosts.eq c.args.key.now) old) e ∙ set_value_same (ghosts.eq c.args.key.now) old c.in-Some.array.now (sym c.in-Some.ensures.value)) c.patch_record.ensures.err
+    on_err_weaker c.patch_record.result (λ e. (c.get_mut.follows.holds w).0 ∙ ap (set_value (ghosts.eq c.args.key.now) old) e ∙ set_value_same (ghosts.eq c.args.key.now) old c.in-Some.array.now (sym c.in-Some.ensures.value)) c.patch_record.ensures.err
 
 pub returns-clause-memory : goal.returns-clause-memory
 returns-clause-memory c =

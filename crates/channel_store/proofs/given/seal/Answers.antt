@@ -1,8 +1,9 @@
 use Rattle.std.proofs.Common.{◌≡◌, sym, ◌∙◌, arith, length, Some, w64, to_z, of_z}
 use Rattle.std.proofs.lemmas.Grind.{common_steps}
 use Rattle.std.proofs.lemmas.Int.{to_z-of_z}
+use Rattle.std.proofs.lemmas.Result.{on_ok_weaker}
 use Rattle.channel_store.specs.Sweeps.{place_in}
-use Rattle.channel_store.proofs.GivenLemmas.{set-same, on_ok}
+use Rattle.channel_store.proofs.GivenLemmas.{set-same}
 use Rattle.channel_store.proofs.RowLemmas.{place-some, shown-there}
 use Rattle.channel_store.proofs.given.seal.Goals as goal
 
@@ -16,7 +17,7 @@ returns-clause-ok c =
     let rows = c.args.tracks.now.items in
     let size : c.len.result ≡ length rows = grind (arith, common_steps) in
     let within = (place-some c.len.result (to_z w64 (of_z w64 c.args.channel)) c.in-Some.place (sym c.place_of.ensures ∙ c.in-Some.is)).1 in
-    on_ok c.seal.result (set-same rows c.in-Some.place c.index_mut.result.now c.seal.new.self (omega (arith, within)) c.index_mut.ensures.value) c.seal.ensures.ok
+    on_ok_weaker c.seal.result (set-same rows c.in-Some.place c.index_mut.result.now c.seal.new.self (omega (arith, within)) c.index_mut.ensures.value) c.seal.ensures.ok
 
 pub returns-clause-kept : goal.returns-clause-kept
 returns-clause-kept c =

@@ -2,13 +2,14 @@ use Rattle.std.proofs.Common.{◌≡◌, ℤ, subst, w64, to_z, of_z, rules, Fit
 use Rattle.std.specs.Prelude.{IfSome}
 use Rattle.std.specs.declared.option.Option.{Option}
 use Rattle.std.proofs.lemmas.Int.{to_z-of_z}
+use Rattle.std.proofs.lemmas.Result.{on_ok_weaker}
 use Rattle.store_machine.specs.Laws.{IsCallAt}
 use Rattle.store_machine.specs.declared.call.StoreCall.{StoreCall}
 use Rattle.store_hub.specs.Notes.{Answers}
 use Rattle.store_hub.specs.Passes.{known, config_of}
 use Rattle.session_core.specs.Run.{hears}
 use Rattle.etp_serve.specs.Steps.{Settles, Breaks}
-use Rattle.etp_serve.proofs.SettlingLemmas.{on_ok, on_err_all, settles_none, settles_some, breaks_answered, breaks_refused, answers_met, refuses_met}
+use Rattle.etp_serve.proofs.SettlingLemmas.{on_err_all, settles_none, settles_some, breaks_answered, breaks_refused, answers_met, refuses_met}
 use Rattle.etp_serve.proofs.steps.settle.Goals as goal
 
 pub ask-requires-clause-call : goal.ask-requires-clause-call
@@ -26,7 +27,7 @@ returns-in-Ok-clause-ok g c =
     let fits : FitsSigned w64 at = search rules in
     let answers : Answers config pass.number pass.entries at c.in-Some.call (known pass) c.in-Ok.answer (known c.ask.new.pass) =
     subst (λ (m : ℤ). Answers config pass.number pass.entries m c.in-Some.call (known pass) c.in-Ok.answer (known c.ask.new.pass)) (to_z-of_z w64 at fits) c.in-Ok.ensures.ok in
-    on_ok c.give.result (c.give.new.self ≡ hears c.args.session.now c.in-Ok.answer) (Settles config pass.number pass.entries at c.args.asked.call (known pass) (known c.ask.new.pass) c.args.session.now c.give.new.self)
+    on_ok_weaker {P = c.give.new.self ≡ hears c.args.session.now c.in-Ok.answer} {Q = Settles config pass.number pass.entries at c.args.asked.call (known pass) (known c.ask.new.pass) c.args.session.now c.give.new.self} c.give.result
     (λ now. settles_some config pass.number pass.entries at (known pass) (known c.ask.new.pass) c.args.asked.call c.in-Some.call c.args.session.now c.give.new.self c.in-Ok.answer c.in-Some.is answers now) c.give.ensures
 
 pub returns-in-Ok-clause-err : goal.returns-in-Ok-clause-err
