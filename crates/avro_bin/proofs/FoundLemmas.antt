@@ -15,8 +15,8 @@ use Rattle.avro_bin.proofs.GroupLemmas.{chosen, done, ok_is, ok_pair, Groups}
 use Rattle.avro_bin.proofs.NumberLawLemmas.{IsBytes-rest, groups_found, groups_again}
 use Rattle.avro_bin.proofs.StepLemmas.{bind_ok}
 use Rattle.avro_bin.specs.Steps.{Push, Put, Steps}
-use Rattle.avro_bin.proofs.OrderLemmas.{steps_append, steps_row, steps_names, sizes, sizes_named-permutation, nodes_entries, pairs-entries}
-use Rattle.std.specs.List.Sorted.{IsStrictlySortedBy, IsPermutation}
+use Rattle.avro_bin.proofs.OrderLemmas.{steps_append, steps_row, steps_names, sizes, sizes_named-permutation, nodes_entries, pairs-entries, sorted_none}
+use Rattle.std.specs.List.Sorted.{IsPermutation}
 use Rattle.std.specs.Ordering.{nat_cmp}
 use Rattle.std.specs.Cmp.Lexicographic.{slice_cmp}
 use Rattle.std.specs.BTreeMap.{insert_entry}
@@ -341,10 +341,6 @@ blocks_found item P Step one (suc bound) s bytes t rest fits e =
             step = steps_append Step g.item r.item s b.0.0 t g.step r.step;
           }
     ]
-
-sorted_none : IsStrictlySortedBy (slice_cmp nat_cmp) []
-unfolding IsStrictlySortedBy
-sorted_none = tt
 
 mutual
   unfolding value_at

@@ -103,6 +103,10 @@ all_less : (k e : List ℕ) (ks : List (List ℕ)) → cmp k e ≡ Less → AllB
 all_less k e [] h all = tt
 all_less k e (x ∷ ks) h all = (nat_list_cmp_total.trans k e x h all.0, all_less k e ks h all.1)
 
+pub sorted_none : IsStrictlySortedBy (slice_cmp nat_cmp) []
+unfolding IsStrictlySortedBy
+sorted_none = tt
+
 pub insert_sorted : (k : List ℕ) (v : Value) (es : List Entry) → has k es ≡ false → IsStrictlySortedBy (slice_cmp nat_cmp) (keys_of es) → IsStrictlySortedBy (slice_cmp nat_cmp) (keys_of (insert_entry (slice_cmp nat_cmp) es k v))
 unfolding IsStrictlySortedBy
 insert_sorted k v [] h s = (tt, tt)

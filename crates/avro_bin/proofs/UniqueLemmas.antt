@@ -14,7 +14,7 @@ use Rattle.std.proofs.lemmas.List.Sorted.{IsPermutation-trans, IsPermutation-sym
 use Rattle.std.proofs.lemmas.Map.Keys.{IsDistinct-from_sorted, IsDistinct-IsPermutation, IsDistinct-head}
 use Rattle.avro_bin.specs.Reading.{has}
 use Rattle.avro_bin.specs.Steps.{Put, Steps}
-use Rattle.avro_bin.proofs.OrderLemmas.{Entry, cmp, sizes_named, sizes_named-permutation, steps_names, moved}
+use Rattle.avro_bin.proofs.OrderLemmas.{Entry, cmp, sizes_named, sizes_named-permutation, steps_names, moved, sorted_none}
 
 less_self : (k : List ℕ) → cmp k k ≡ Less → ⊥
 less_self k h = let e : Less ≡ Greater = sym h ∙ nat_list_cmp_total.antisymm k k ∙ ap ordering_reverse h in cc
@@ -98,10 +98,6 @@ steps_made (x ∷ items) s n left d e =
     let none : has x.0 s ≡ false = fresh x.0 items s (IsDistinct-head (eq_by_cmp (slice_cmp nat_cmp)) x.0 (keys_of (items ++ s)) d) in
     let r = steps_made items (insert_entry (slice_cmp nat_cmp) s x.0 x.1) (sizes_named items + left) left (still_differ ((x ∷ items) ++ s) (items ++ insert_entry (slice_cmp nat_cmp) s x.0 x.1) (moved x items s none) d) refl in
     (r.0, ((insert_entry (slice_cmp nat_cmp) s x.0 x.1, sizes_named items + left), (none, refl, omega arith), r.1))
-
-sorted_none : IsStrictlySortedBy (slice_cmp nat_cmp) []
-unfolding IsStrictlySortedBy
-sorted_none = tt
 
 pub names_steps : (items es : List Entry) (n left : ℕ) → IsStrictlySortedBy (slice_cmp nat_cmp) (keys_of es) → IsPermutation items es → n ≡ sizes_named es + left → Steps Put ([], n) items (es, left)
 names_steps items es n left sorted perm e =

@@ -4,7 +4,7 @@ use Rattle.std.specs.List.{AllByRecursion, find, list_any}
 use Rattle.std.specs.Ordering.{int_eq}
 use Rattle.std.proofs.lemmas.Bool.{false≢true}
 use Rattle.std.proofs.lemmas.Option.{none-some, same_Some}
-use Rattle.std.proofs.Math.Bool.{or-true, and-false}
+use Rattle.std.proofs.Math.Bool.{or-false, or-true, and-false}
 use Rattle.etp_values.proofs.IntLemmas.{int_eq_is, int_eq_self}
 use Rattle.channel_rows.specs.Notices.{interval_of, notice_of}
 use Rattle.channel_rows.specs.Points.{items_of}
@@ -353,11 +353,7 @@ live_other : (c channel : ℤ) (cs : List Channel) → int_eq channel c ≡ fals
 live_other c channel cs other =
     any_more (stands_at c) (filter (λ f. not (int_eq f.id channel)) cs) (record { id = channel; live = true; copy = [] } ∷ [])
     ∙ (λ i. others_live c channel other cs i || ((other i && true) || false))
-    ∙ or_no (is_live c cs)
-  where
-    or_no : (b : Bool) → (b || false) ≡ b
-    or_no true = refl
-    or_no false = refl
+    ∙ or-false (is_live c cs)
 
 -- with a subscription of this channel
 abbrev pub granted : ℤ → (ℤ → Bool) → ℤ → Bool

@@ -1,9 +1,7 @@
 -- What was handed on is the stream, and its copy the points.
-use Rattle.std.proofs.Common.{◌≡◌, ◌≤◌, ℕ, ℤ, zero, suc, Bool, true, false, List, [], ◌∷◌, ◌++◌, Option, Some, None, fold, length, max, take, option_map, if◌then◌else◌, refl, sym, ap, ◌∙◌, arith, inl, inr, append-nil}
-use Rattle.std.specs.Ordering.{int_eq}
+use Rattle.std.proofs.Common.{◌≡◌, ◌≤◌, ℕ, ℤ, zero, suc, true, List, [], ◌∷◌, ◌++◌, Some, fold, length, max, take, option_map, refl, sym, ap, ◌∙◌, arith, inl, inr, append-nil}
 use Rattle.std.proofs.lemmas.Bool.{cases_lt}
 use Rattle.std.proofs.lemmas.List.{drop_all, take_all}
-use Rattle.etp_values.proofs.IntLemmas.{int_eq_is}
 use Rattle.server_config.specs.declared.config.Config.{Config}
 use Rattle.channel_store.specs.Channels.{whats_of}
 use Rattle.channel_store.specs.Points.{copy, past}
@@ -16,12 +14,12 @@ use Rattle.client_core.specs.Notices.{copy_of}
 use Rattle.session_core.specs.Arriving.{Polls}
 use Rattle.session_core.specs.Run.{Course, run}
 use Rattle.session_core.specs.Streams.{RunIsStreamed, RunIsToldAtIdle, heard, owed_to}
+use Rattle.session_core.proofs.StandingLemmas.{found-channel}
 use Rattle.store_machine.specs.Channels.{changes_from, channel_points}
 use Rattle.store_machine.specs.Laws.{StreamIsCopied}
 use Rattle.store_machine.specs.Legal.{Legal, LegalFrom}
 use Rattle.store_machine.specs.News.{stream}
 use Rattle.store_machine.specs.declared.journal.Entry.{Entry}
-use Rattle.subscribe_core.specs.Views.{sub_of}
 use Rattle.both_ends.specs.Copies.{HandedHasPoints, IdleHasPoints, IsHanded}
 
 -- ---- beginnings of a history
@@ -48,20 +46,6 @@ copied law config id start m (suc k) h legal = elim (cases_lt m (length (take (s
       ∙ law config (take (suc k) h) id start (length (take (suc k) h)) (legal_front config k h legal) (omega arith)
 ]
 
--- ---- the subscription of a channel
-
-abbrev channel_or : ℤ → Option Sub → ℤ
-channel_or channel None = channel
-channel_or channel (Some s) = s.channel
-
-its_channel : (channel : ℤ) (subs : List Sub) (s : Sub) → sub_of channel subs ≡ Some s → s.channel ≡ channel
-its_channel channel [] s is = sym (ap (channel_or channel) is)
-its_channel channel (x ∷ subs) s is = by (int_eq x.channel channel) refl (its_channel channel subs s) is
-  where
-    by : (b : Bool) → int_eq x.channel channel ≡ b → (sub_of channel subs ≡ Some s → s.channel ≡ channel) → (if b then Some x else sub_of channel subs) ≡ Some s → s.channel ≡ channel
-    by true same rest here = sym (ap (channel_or channel) here) ∙ int_eq_is x.channel channel same
-    by false same rest later = rest later
-
 -- ---- the copy
 
 handed_copy : CopiesAreFolds → (r : Course) (moment : ℤ) (events : List ClientEvent) (channel : ℤ) (s : Sub) → IsHanded r moment events channel s → copy_of channel (fold stepped (begun moment) events) ≡ Some (copy (heard channel r.sent).told)
@@ -77,7 +61,7 @@ handed_has_points folds streams copies config n h places es moment events channe
     let told = ((streams config n h places es ids rises).told es [] (sym (append-nil es)) spent channel).0 in
     handed_copy folds r moment events channel s is
     ∙ ap (λ ws. Some (copy ws)) (told ∙ ap (owed_to h r.state.subs.cursor) is.stands)
-    ∙ ap Some (points_of_stream copies config channel s (max s.from r.state.subs.cursor) h legal (its_channel channel r.state.subs.subs s is.stands) is.all)
+    ∙ ap Some (points_of_stream copies config channel s (max s.from r.state.subs.cursor) h legal (found-channel channel r.state.subs.subs s is.stands) is.all)
 
 pub idle_has_points : CopiesAreFolds → RunIsToldAtIdle → StreamIsCopied → IdleHasPoints
 idle_has_points folds streams copies config n h places before later front moment events channel s legal ids rises heeds live phase asks is =
@@ -85,4 +69,4 @@ idle_has_points folds streams copies config n h places before later front moment
     let told = (streams config n h places (before ++ Polls front ∷ later) ids rises heeds before later front refl live phase asks channel s is.stands).1 in
     handed_copy folds r moment events channel s is
     ∙ ap (λ ws. Some (copy ws)) told
-    ∙ ap Some (points_of_stream copies config channel s front h legal (its_channel channel r.state.subs.subs s is.stands) is.all)
+    ∙ ap Some (points_of_stream copies config channel s front h legal (found-channel channel r.state.subs.subs s is.stands) is.all)

@@ -38,10 +38,10 @@ use Rattle.msg_channel.specs.declared.channel_subscribe_messages.SubscribeChanne
 use Rattle.msg_core.specs.declared.core_messages.CoreMessage.TheVariants as core
 use Rattle.msg_core.specs.Core.{error_info_form}
 use Rattle.msg_core.specs.declared.core_messages.ErrorInfo.{ErrorInfo}
-use Rattle.session_core.specs.Arriving.{Event, Receives, Polls, arrived, request_of}
-use Rattle.session_core.specs.Machine.{by_phase, unread}
+use Rattle.session_core.specs.Arriving.{Event, Receives, Polls, request_of}
+use Rattle.session_core.specs.Machine.{unread}
 use Rattle.session_core.specs.Replies.{error_info, refused_message}
-use Rattle.session_core.specs.Run.{Course, asked, first_course, happens, happens_unless, moment_of, run, run_from, takes}
+use Rattle.session_core.specs.Run.{Course, first_course, happens, run, run_from}
 use Rattle.session_core.specs.Sending.{ended, numbered, outgoing, parts_of}
 use Rattle.etp_values.specs.Rising.{Rises}
 use Rattle.session_core.specs.Streams.{HasIds, RunIsStreamed, RunIsToldAtIdle, heard, is_spent_course, is_spent_phase, owed_to, silence}
@@ -49,9 +49,8 @@ use Rattle.session_core.specs.Streams.{Heard as Told}
 use Rattle.session_core.specs.declared.state.Addressee.TheVariants as to
 use Rattle.session_core.specs.declared.state.Outgoing.{Outgoing}
 use Rattle.session_core.specs.declared.state.Part.{Part}
-use Rattle.session_core.specs.declared.state.Phase.{Phase}
-use Rattle.session_core.specs.declared.state.Phase.TheVariants as phase
 use Rattle.session_core.specs.declared.state.Request.{Request}
+use Rattle.session_core.proofs.StreamingLemmas.{spent_stays}
 use Rattle.store_machine.specs.Laws.{StreamIsCopied}
 use Rattle.store_machine.specs.declared.journal.Entry.{Entry}
 use Rattle.subscribe_core.specs.Subscriptions.{Subbed, has_sub}
@@ -346,18 +345,9 @@ module _ (law : NoticesAreChanges) (all : List Put) (rising : Rising 2 all) (mod
 -- ---- a run
 
 module _ (config : Config) (n : ℕ) (h : List Entry) where
-  spent_event : (short : Bool) (r : Course) (e : Event) → is_spent_course r ≡ true → is_spent_course (happens_unless config n h short r e) ≡ true
-  unfolding takes
-  spent_event true r e spent = spent
-  spent_event false r e spent = by r.state.phase refl
-    where
-      by : (p : Phase) → r.state.phase ≡ p → is_spent_course (asked config n h (moment_of e) r (by_phase p (arrived r.state.last_id e) r.state).state (by_phase p (arrived r.state.last_id e) r.state).call) ≡ true
-      by (phase.Live l) f = absurd (false≢true (sym (ap is_spent_phase f) ∙ spent))
-      by (phase.Ended x) f = spent
-
   spent_events : (r : Course) (es : List Event) → is_spent_course r ≡ true → is_spent_course (run_from config n h r es) ≡ true
   spent_events r [] spent = spent
-  spent_events r (e ∷ es) spent = spent_events (happens config n h r e) es (spent_event r.short r e spent)
+  spent_events r (e ∷ es) spent = spent_events (happens config n h r e) es (spent_stays config n h r.short r e spent)
 
   unspent_before : (r : Course) (es : List Event) → is_spent_course (run_from config n h r es) ≡ false → is_spent_course r ≡ false
   unspent_before r es alive = by (is_spent_course r) refl

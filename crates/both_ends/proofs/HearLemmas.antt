@@ -25,11 +25,12 @@ use Rattle.msg_channel.specs.declared.channel_subscribe_messages.ChannelSubscrib
 use Rattle.msg_channel.specs.declared.indexes.IndexValue.TheVariants as index
 use Rattle.msg_channel.specs.declared.points.DataItem.{DataItem}
 use Rattle.session_core.specs.Sending.{blobs_after, ended, is_spent, numbered}
-use Rattle.session_core.specs.Streams.{Heard, cuts_in, gathers, hear, hear_message, point_in, points_in, replace_in}
+use Rattle.session_core.specs.Streams.{Heard, cuts_in, gathers, hear, hear_message, points_in, replace_in}
 use Rattle.session_core.specs.declared.state.Addressee.TheVariants as to
 use Rattle.session_core.specs.declared.state.Outgoing.{Outgoing}
 use Rattle.session_core.specs.declared.state.Part.{Part}
 use Rattle.session_core.specs.declared.state.Request.{Request}
+use Rattle.session_core.proofs.TellingLemmas.{points_join}
 use Rattle.both_ends.specs.Hearing.{NewsAreHeard}
 use Rattle.both_ends.specs.News.{msg_of, news_parts}
 use Rattle.both_ends.specs.Notices.{HasNews, change_msg}
@@ -66,18 +67,12 @@ hear_all channel k (m ∷ ms) = hear_parts channel k m ms
 
 module _ (channel : ℤ) (wrap : List DataItem → Message) (whole : List Point → List What)
     (heard : (last : Bool) (g : List DataItem) (k : Heard) → hear_message channel last (wrap g) k ≡ gathers last whole (points_in channel g) k) where
-  points_more : (a b : List DataItem) → points_in channel (a ++ b) ≡ points_in channel a ++ points_in channel b
-  points_more [] b = refl
-  points_more (x ∷ a) b =
-      ap (λ l. (if int_eq x.channel_id channel then point_in x.value x.indexes else []) ++ l) (points_more a b)
-      ∙ sym (append_assoc (if int_eq x.channel_id channel then point_in x.value x.indexes else []) (points_in channel a) (points_in channel b))
-
   gathered : (g : List DataItem) (gs : List (List DataItem)) (k : Heard) → hear_parts channel k (wrap g) (map wrap gs) ≡ gathers true whole (points_in channel (g ++ all_of gs)) k
   gathered g [] k = heard true g k ∙ ap (λ l. gathers true whole (points_in channel l) k) (sym (append-nil g))
   gathered g (f ∷ gs) k =
       ap (λ j. hear_parts channel j (wrap f) (map wrap gs)) (heard false g k)
       ∙ gathered f gs (record k { part = k.part ++ points_in channel g })
-      ∙ ap (λ l. record k { told = k.told ++ whole l; part = [] }) (append_assoc k.part (points_in channel g) (points_in channel (f ++ all_of gs)) ∙ ap (λ l. k.part ++ l) (sym (points_more g (f ++ all_of gs))))
+      ∙ ap (λ l. record k { told = k.told ++ whole l; part = [] }) (append_assoc k.part (points_in channel g) (points_in channel (f ++ all_of gs)) ∙ ap (λ l. k.part ++ l) (sym (points_join channel g (f ++ all_of gs))))
 
   gathered_all : (gs : List (List DataItem)) (xs : List DataItem) (k : Heard) → all_of gs ≡ xs → is_none (map wrap gs) ≡ false → hear_all channel k (map wrap gs) ≡ gathers true whole (points_in channel xs) k
   gathered_all [] xs k is some = absurd (false≢true (sym some))

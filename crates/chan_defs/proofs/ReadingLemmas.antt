@@ -1,4 +1,4 @@
--- What a read of the bytes says of the configuration.
+-- What a read of the bytes says of the configuration; for the crates above too.
 use Rattle.std.proofs.Common.{◌≡◌, ◌≤◌, ◌<◌, ℕ, List, [], ◌∷◌, ◌++◌, length, codes, Bool, true, false, ◌||◌, cond, Option, Some, None, option_and_then, Result, Err, refl, sym, ap, subst, ◌∙◌, nat_lt, arith}
 use Rattle.std.proofs.lemmas.Bool.{false≢true}
 use Rattle.std.proofs.lemmas.Bool.Decides.{nat_tests}

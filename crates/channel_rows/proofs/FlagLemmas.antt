@@ -3,26 +3,20 @@ use Rattle.std.proofs.Common.{refl, ℕ, zero, suc, ◌≡◌, ◌<◌, ◌≤�
 use Rattle.std.specs.Prelude.{ℤ, pos, negsuc, int_lt, slice_set}
 use Rattle.std.proofs.Math.IntN.{nat_abs}
 use Rattle.std.proofs.lemmas.Bool.{false≢true}
-use Rattle.std.proofs.lemmas.Int.{ints}
 use Rattle.std.proofs.lemmas.List.{length-append}
+use Rattle.etp_values.proofs.IntLemmas.{neg_below, pos_not_below}
 use Rattle.channel_rows.specs.Ids.{place_of}
 use Rattle.channel_rows.specs.Opens.{with_flag}
 
 -- ---- places
 
 pub no_place : (z : ℤ) → int_lt z (pos 0) ≡ true → None ≡ place_of z
-no_place (pos k) low = absurd (false≢true (sym (not_low k) ∙ low))
-  where
-    not_low : (k : ℕ) → int_lt (pos k) (pos 0) ≡ false
-    not_low k = grind (arith, ints)
+no_place (pos k) low = absurd (false≢true (sym (pos_not_below k) ∙ low))
 no_place (negsuc k) low = refl
 
 pub its_place : (z : ℤ) → int_lt z (pos 0) ≡ false → Some (nat_abs z) ≡ place_of z
 its_place (pos k) there = refl
-its_place (negsuc k) there = absurd (false≢true (sym there ∙ low k))
-  where
-    low : (k : ℕ) → int_lt (negsuc k) (pos 0) ≡ true
-    low k = grind (arith, ints)
+its_place (negsuc k) there = absurd (false≢true (sym there ∙ neg_below k))
 
 -- ---- flags
 

@@ -2,7 +2,6 @@
 use Rattle.std.proofs.Common.{refl, ℕ, zero, suc, ◌≡◌, ◌<◌, ◌≤◌, ◌+◌, Bool, true, false, cond, ◌||◌, List, [], ◌∷◌, ◌++◌, length, map, take, drop, append-nil, get_or, ap, sym, ◌∙◌, arith, subst, zero-add, add-one, Option, Some, None, Ok, Err}
 use Rattle.std.specs.Prelude.{ℤ, pos, negsuc, slice_get, slice_set, Result, nat_lt, int_lt, zip}
 use Rattle.std.proofs.Math.IntN.{nat_abs}
-use Rattle.std.proofs.lemmas.Int.{ints}
 use Rattle.std.proofs.lemmas.List.{take_all, drop_all, drop_more}
 use Rattle.std.proofs.lemmas.Option.{slice_get_past}
 use Rattle.std.proofs.lemmas.Bool.{false≢true}
@@ -19,7 +18,7 @@ use Rattle.channel_store.specs.Sweeps.{shown_of, place_in, row_at, step_row, ste
 use Rattle.channel_store.proofs.EndedLemmas.{verdict-ok, verdict-err}
 use Rattle.channel_points.proofs.OrderedLemmas.{all-at}
 use Rattle.channel_store.proofs.NumberedLemmas.{by_number-same, by_number-modify, step_row-set, step_row-fails, step_row-beyond, shown-set, modify-set, modify-beyond}
-use Rattle.etp_values.proofs.IntLemmas.{int_eq_self, neg_apart, pos_apart}
+use Rattle.etp_values.proofs.IntLemmas.{int_eq_self, neg_apart, neg_below, pos_apart, pos_not_below}
 
 -- ---- the place of an id
 
@@ -168,20 +167,14 @@ steps-end f rows xs k h = ap (steps f rows) (drop-end xs k h)
 -- ---- the cast of an id
 
 pub place-neg : (len : ℕ) (z : ℤ) → int_lt z (pos 0) ≡ true → None ≡ place_in len z
-place-neg len (pos k) h = absurd (false≢true (sym (not_neg k) ∙ h))
-  where
-    not_neg : (k : ℕ) → int_lt (pos k) (pos 0) ≡ false
-    not_neg k = grind (arith, ints)
+place-neg len (pos k) h = absurd (false≢true (sym (pos_not_below k) ∙ h))
 place-neg len (negsuc k) h = refl
 
 pub place-below : (len : ℕ) (z : ℤ) → int_lt z (pos 0) ≡ false → nat_abs z < len → Some (nat_abs z) ≡ place_in len z
 place-below len (pos k) h below =
     let e : nat_lt k len ≡ true = grind (arith, nat_tests) in
     sym (ap (λ b. cond b (Some k) None) e)
-place-below len (negsuc k) h below = absurd (false≢true (sym h ∙ neg k))
-  where
-    neg : (k : ℕ) → int_lt (negsuc k) (pos 0) ≡ true
-    neg k = grind (arith, ints)
+place-below len (negsuc k) h below = absurd (false≢true (sym h ∙ neg_below k))
 
 pub place-past : (len : ℕ) (z : ℤ) → int_lt z (pos 0) ≡ false → len ≤ nat_abs z → None ≡ place_in len z
 place-past len (pos k) h past =

@@ -3,6 +3,7 @@ use Rattle.std.proofs.Common.{refl, ◌≡◌, Bool, true, false, cond, not, ◌
 use Rattle.std.specs.Prelude.{ℤ, pos, negsuc, Result, is_some}
 use Rattle.std.specs.List.{AllByRecursion}
 use Rattle.std.proofs.lemmas.Bool.{false≢true}
+use Rattle.std.proofs.Math.Bool.{or-false, or-true}
 use Rattle.etp_values.proofs.IntLemmas.{int_eq_self, pos_apart}
 use Rattle.etp_values.specs.declared.point.Point.{Point}
 use Rattle.etp_values.specs.declared.point.ChannelPoint.{ChannelPoint}
@@ -128,18 +129,10 @@ list_any-push id (x ∷ xs) j = by (int_eq j x) (list_any-push id xs j)
     by false e = e
 
 listed-own : (ids : List ℤ) (id : ℤ) → is_listed (ids ++ id ∷ []) id ≡ true
-listed-own ids id = list_any-push id ids id ∙ ap (λ b. is_listed ids id || b) (int_eq_self id) ∙ by (is_listed ids id)
-  where
-    by : (b : Bool) → (b || true) ≡ true
-    by true = refl
-    by false = refl
+listed-own ids id = list_any-push id ids id ∙ ap (λ b. is_listed ids id || b) (int_eq_self id) ∙ or-true (is_listed ids id)
 
 listed-other : (ids : List ℤ) (id j : ℤ) → int_eq j id ≡ false → is_listed ids j ≡ is_listed (ids ++ id ∷ []) j
-listed-other ids id j h = sym (list_any-push id ids j ∙ ap (λ b. is_listed ids j || b) h ∙ by (is_listed ids j))
-  where
-    by : (b : Bool) → (b || false) ≡ b
-    by true = refl
-    by false = refl
+listed-other ids id j h = sym (list_any-push id ids j ∙ ap (λ b. is_listed ids j || b) h ∙ or-false (is_listed ids j))
 
 -- what is about to happen to a listed channel, or not
 abbrev replaced_if : ℤ → ℤ → List Point → Bool → Option What

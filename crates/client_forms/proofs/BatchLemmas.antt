@@ -5,6 +5,7 @@ use Rattle.std.proofs.lemmas.List.{length-append, map-append}
 use Rattle.std.proofs.lemmas.Bool.{lt-ltb}
 use Rattle.channel_points.specs.Bytes.{point_bytes}
 use Rattle.etp_values.specs.Weight.{capped, weigh}
+use Rattle.etp_values.proofs.WeightLemmas.{capped-sum}
 use Rattle.etp_values.specs.declared.point.ChannelPoint.{ChannelPoint}
 use Rattle.etp_values.specs.declared.point.Point.{Point}
 use Rattle.client_forms.specs.Filling.{takes}
@@ -14,12 +15,9 @@ weigh_push : (ps : List Point) (p : Point) → weigh point_bytes (ps ++ p ∷ []
 weigh_push [] p = omega arith
 weigh_push (q ∷ qs) p = let rest = weigh_push qs p in omega (arith, rest)
 
-sum_capped : (m n : ℕ) → capped (capped m + capped n) ≡ capped (m + n)
-sum_capped m n = grind (arith)
-
 -- the bytes with one more point
 pub bytes_more : (held : List Point) (p : Point) (bytes more : ℕ) → bytes ≡ capped (weigh point_bytes held) → more ≡ capped (point_bytes p) → capped (bytes + more) ≡ capped (weigh point_bytes (held ++ p ∷ []))
-bytes_more held p bytes more b m = (λ j. capped (b j + m j)) ∙ sum_capped (weigh point_bytes held) (point_bytes p) ∙ ap capped (sym (weigh_push held p))
+bytes_more held p bytes more b m = (λ j. capped (b j + m j)) ∙ capped-sum (weigh point_bytes held) (point_bytes p) ∙ ap capped (sym (weigh_push held p))
 
 pub points_more : (channel : ℤ) (held : List Point) (p : Point) (items : List ChannelPoint) → items ≡ of_channel channel held → items ++ (record { channel = channel; point = p }) ∷ [] ≡ of_channel channel (held ++ p ∷ [])
 points_more channel held p items is = ap (λ l. l ++ (record { channel = channel; point = p }) ∷ []) is ∙ sym (map-append (λ (q : Point). record { channel = channel; point = q }) held (p ∷ []))

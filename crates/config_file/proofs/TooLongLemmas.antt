@@ -1,22 +1,14 @@
 -- A configuration that is too long.
-use Rattle.std.proofs.Common.{◌≡◌, ℕ, ◌<◌, Bool, true, List, ◌++◌, length, refl, ap, sym, subst, arith, length-append, None, Some, Err, nat_lt, if◌then◌else◌}
+use Rattle.std.proofs.Common.{◌≡◌, ℕ, ◌<◌, List, ◌++◌, length, refl, ap, sym, subst, arith, length-append, None, Some}
 use Rattle.std.specs.declared.option.Option.{Option}
 use Rattle.std.specs.Io.KnownBytes.{Keeps}
-use Rattle.std.proofs.lemmas.Bool.Decides.{nat_tests}
-use Rattle.chan_defs.specs.Config.{defs, next, or_else, table_of, config_of}
 use Rattle.chan_defs.specs.declared.error.DefsError.TheVariants as defs_error
+use Rattle.chan_defs.proofs.ReadingLemmas.{defs_long}
 use Rattle.etp_outside.specs.Whole.{ReadsPart}
 use Rattle.etp_outside.specs.declared.whole.Unread.{Unread}
 use Rattle.etp_outside.specs.declared.whole.Unread.TheVariants.{TooLong, Failed, NoMemory}
 use Rattle.etp_outside.specs.declared.status.Status.{Status}
 use Rattle.config_file.specs.Settings.{refusal_status, unread_status, IsNoConfig}
-
-is_long : (b : List ℕ) → 1048576 < length b → nat_lt 1048576 (length b) ≡ true
-is_long b long = grind (arith, nat_tests)
-
-defs_long : (b : List ℕ) → 1048576 < length b → defs b ≡ Err defs_error.TooLong
-unfolding defs
-defs_long b long = ap (λ (t : Bool). if t then Err defs_error.TooLong else next (or_else defs_error.Toml (table_of b)) config_of) (is_long b long)
 
 longer : (xs ys front rest : List ℕ) → ys ≡ xs → ys ≡ front ++ rest → 1048576 < length front → 1048576 < length xs
 longer xs ys front rest same is long = omega (arith, ap length same, ap length is, length-append front rest)

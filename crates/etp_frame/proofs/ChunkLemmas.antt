@@ -5,6 +5,7 @@ use Rattle.std.specs.Cmp.Lexicographic.{slice_cmp}
 use Rattle.std.specs.List.Sorted.{IsStrictlySortedBy}
 use Rattle.std.specs.Map.{keys_of}
 use Rattle.std.specs.Ordering.{nat_cmp}
+use Rattle.etp_values.proofs.ListLemmas.{range_taken}
 use Rattle.msg_store.specs.declared.store_messages.Chunk.{Chunk}
 use Rattle.msg_store.specs.declared.store_messages.StoreMessage.TheVariants as s
 use Rattle.etp_frame.specs.Joining.{Objects}
@@ -34,15 +35,12 @@ module _ (size : ℕ) (id bytes : List ℕ) (all : List Chunk) where
       ∙ ap (λ (b : List ℕ). made ++ chunk id (take size (drop start bytes)) false ∷ chunks_from size id k b) (sym (drop-drop size start bytes))
       ∙ h
 
-  range_is : (start : ℕ) → slice_range bytes start (start + size) ≡ take size (drop start bytes)
-  range_is start = let e : start + size - start ≡ size = omega arith in ap (λ (n : ℕ). take n (drop start bytes)) e
-
   pub chunk_more : (left start : ℕ) (made next : List Chunk) (piece : List ℕ) → 0 < left → piece ≡ slice_range bytes start (start + size) → next ≡ made ++ chunk id piece false ∷ [] → made ++ chunks_from size id left (drop start bytes) ≡ all
       → next ++ chunks_from size id (left - 1) (drop (start + size) bytes) ≡ all
   chunk_more zero start made next piece some is push h = absurd (omega arith)
   chunk_more (suc k) start made next piece some is push h =
       let e : suc k - 1 ≡ k = omega arith in
-      (λ i. (push ∙ ap (λ (b : List ℕ). made ++ chunk id b false ∷ []) (is ∙ range_is start)) i ++ chunks_from size id (e i) (drop (start + size) bytes)) ∙ chunk_suc k start made h
+      (λ i. (push ∙ ap (λ (b : List ℕ). made ++ chunk id b false ∷ []) (is ∙ range_taken bytes start size)) i ++ chunks_from size id (e i) (drop (start + size) bytes)) ∙ chunk_suc k start made h
 
   -- the last chunk has the rest
   pub chunk_last : (left start len : ℕ) (made next : List Chunk) (piece : List ℕ) → left ≤ 0 → len ≡ length bytes → piece ≡ slice_range bytes start len → next ≡ made ++ chunk id piece true ∷ [] → made ++ chunks_from size id left (drop start bytes) ≡ all → next ≡ all

@@ -11,7 +11,8 @@ use Rattle.store_machine.specs.declared.journal.Entry.{Entry}
 use Rattle.store_machine.specs.declared.call.StoreCall.{StoreCall}
 use Rattle.store_machine.specs.declared.call.Answer.{Answer}
 use Rattle.store_machine.specs.Answers.{answered, added, entries_of}
-use Rattle.store_machine.specs.Laws.{IsCallAt, OneOrNone, IsEntryOf, EntriesAreTheSessions, CallsAddOne}
+use Rattle.store_machine.specs.Laws.{IsCallAt, OneOrNone, IsEntryOf, EntriesAreTheSessions}
+use Rattle.store_machine.proofs.NumberLemmas.{added-one}
 use Rattle.etp_values.specs.Rising.{Rises}
 use Rattle.turn_book.specs.Lists.{own, own_from}
 use Rattle.turn_book.specs.Steps.{hearing}
@@ -78,10 +79,6 @@ own_added n log (e ∷ d ∷ es) one all = absurd one
 all_by : (n nth : ℕ) (at : ℤ) (es : List Entry) → AllByRecursion (IsEntryOf n nth at) es → AllByRecursion (λ e. e.by ≡ n) es
 all_by n nth at [] all = tt
 all_by n nth at (e ∷ es) all = (all.0.0, all_by n nth at es all.1)
-
-added_one : CallsAddOne → (config : Config) (h : List Entry) (by nth : ℕ) (at : ℤ) (call : StoreCall) → OneOrNone (added config h by nth at call)
-unfolding added
-added_one one config h by nth at call = one config h by nth at call
 
 added_mine : EntriesAreTheSessions → (config : Config) (h : List Entry) (by nth : ℕ) (at : ℤ) (call : StoreCall) → IsCallAt h call → AllByRecursion (λ e. e.by ≡ by) (added config h by nth at call)
 unfolding added
@@ -236,7 +233,7 @@ module _ (laws : Laws) (config : Config) (n : ℕ) where
         let log : List Entry = ans.log in
         let more : List Entry = added config log n nth (moment_of e) call in
         let u : Known = record v { missed = ans.missed } in
-        let one : OneOrNone more = added_one laws.one config log n nth (moment_of e) call in
+        let one : OneOrNone more = added-one laws.one config log n nth (moment_of e) call in
         let later : IsCallAt log call = subst (λ (l : List Entry). IsCallAt l call) ans.before.1 (laws.stay v.seen ans.before.0 call is_call) in
         let seen : w.seen ≡ log ++ more = ap (λ (x : Known). x.seen) ans.view ∙ noted_seen log more u one in
         let after : IsPrefix log (log ++ more) = prefix-append log more in
@@ -294,7 +291,7 @@ module _ (laws : Laws) (config : Config) (n : ℕ) where
         let nth : ℕ = own_number r.made in
         let more : List Entry = added config log n nth (moment_of e) call in
         let u : Known = record v { missed = no_room.missed } in
-        let one : OneOrNone more = added_one laws.one config log n nth (moment_of e) call in
+        let one : OneOrNone more = added-one laws.one config log n nth (moment_of e) call in
         let seen : w.seen ≡ log = ap (λ (x : Known). x.seen) no_room.view in
         let is = ap (λ (h : List Entry). run config n h (r.places ++ length log ∷ []) (es ++ e ∷ [])) seen ∙ called_run log log call nth some refl no_room.before (prefix_self log) in
         let mine : IsEnterAnd n (own by_of n w.seen) r.made = subst (λ l. IsEnterAnd n l r.made) (sym (ap (own by_of n) seen ∙ no_room.own)) r.own in

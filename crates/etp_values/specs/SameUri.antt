@@ -1,4 +1,5 @@
--- Which URIs are the same. The derived comparisons compute to these tests, so a table with URIs for keys finds by them.
+-- Which URIs are the same; for the crates above too. The derived comparisons compute to these tests, so a table with URIs for
+-- keys finds by them.
 use Rattle.std.specs.Prelude.{ℕ, Bool, true, false, List, ◌≡◌, ◌&&◌, Option, Some, None, refl}
 use Rattle.std.proofs.Common.{ap}
 use Rattle.std.proofs.lemmas.Bool.{false≢true, and_parts}
@@ -24,7 +25,7 @@ same_name-equiv = and_equiv (on_equiv (λ n. n.domain) nat_list_eq_equiv) (and_e
 pub same_uri-equiv : IsEquivalence same_uri
 same_uri-equiv = and_equiv (on_equiv (λ u. u.space) nat_list_eq_equiv) (on_equiv (λ u. u.object) (options_equiv same_name-equiv))
 
--- ---- what is the same is equal; for the crates above too
+-- ---- what is the same is equal
 
 pub text_is : (x y : List ℕ) → bytes_eq x y ≡ true → x ≡ y
 text_is x y h = (bytes_eq-Decides x y).0 h

@@ -179,9 +179,6 @@ next_line answer i before mid r line ahead given is place is_line is_ahead h =
     fed_line answer i before mid mid r r.ahead line ahead given is (record { more = []; took = Consumes-nil mid; may = may_nothing r.over; all = append-nil r.ahead }) place h.end is_line is_ahead h
 
 -- parts of what is held
-pub line_at : (buf : List ℕ) (start i : ℕ) → slice_range buf start (start + i) ≡ take i (drop start buf)
-line_at buf start i = let e : (start + i) - start ≡ i = omega arith in ap (λ n. take n (drop start buf)) e
-
 pub ahead_at : (buf : List ℕ) (start i : ℕ) → drop (start + i + 1) buf ≡ drop (suc i) (drop start buf)
 ahead_at buf start i = let e : start + i + 1 ≡ start + suc i = omega arith in ap (λ n. drop n buf) e ∙ sym (drop-drop (suc i) start buf)
 

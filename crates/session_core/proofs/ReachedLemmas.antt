@@ -59,8 +59,8 @@ use Rattle.session_core.specs.Noting.{noting, reply_noted}
 use Rattle.session_core.specs.Replies.{receipt, refusal, sayings_of, to_request}
 use Rattle.session_core.specs.Run.{AnswersAreLast, Course, answered_at, asked, first_course, happens, happens_unless, hears, moment_of, run, run_from, takes}
 use Rattle.session_core.specs.Sending.{is_spent, parts_of, said, spent_phase}
-use Rattle.session_core.specs.Serial.{Begins, EndsBy, Rises, RunIsSerial, Succeeds}
-use Rattle.session_core.proofs.AloneLemmas.{ended-fails}
+use Rattle.session_core.specs.Serial.{Begins, Rises, RunIsSerial, Succeeds}
+use Rattle.session_core.proofs.AloneLemmas.{ended-fails, short-fails}
 use Rattle.session_core.proofs.RunLemmas.{course}
 use Rattle.session_core.proofs.BesideLemmas.{IsApart, IsBegun, IsReady, begun-spent, blobs-low}
 use Rattle.session_core.proofs.CommittedLemmas.{committed_is_serial}
@@ -360,27 +360,11 @@ module _ (config : Config) (n : ℕ) (h : List Entry) where
   run_used [] c used = used
   run_used (e ∷ es) c used = run_used es (happens config n h c e) (happens_used c.short c e used)
 
-  nothing_ends : (p : ℕ) (x : Option Transaction) (kept : Option Pending) (k : Option StoreCall) (ps : List ℕ) (Later : Type 0) → ps ≡ [] → (Later → ⊥) → EndsBy config h p x kept k ps Later → ⊥
-  nothing_ends p (Some x) kept k ps Later none never ends = never ends.1
-  nothing_ends p None kept None ps Later none never ends = ends
-  nothing_ends p None kept (Some k) [] Later none never ends = ends
-  nothing_ends p None kept (Some k) (q ∷ qs) Later none never ends = cc
-
-  stays_short : (b : Bool) (c : Course) (e : Event) → b ≡ true → happens_unless config n h b c e ≡ c
-  stays_short true c e is = refl
-  stays_short false c e is = absurd (false≢true is)
-
-  short-fails : (p : ℕ) (c : Course) (es : List Event) → c.short ≡ true → c.places ≡ [] → Succeeds config n h p c es → ⊥
-  short-fails p c [] short none succ = succ
-  short-fails p c (e ∷ es) short none succ =
-      nothing_ends p (takes c.state e).state.stage (takes c.state e).state.pending (takes c.state e).call c.places (Succeeds config n h p (happens config n h c e) es) none
-      (λ later. short-fails p c es short none (subst (λ (d : Course). Succeeds config n h p d es) (stays_short c.short c e short) later)) succ
-
   going : (p : ℕ) (c : Course) (es : List Event) → IsUsedUp c → Succeeds config n h p c es → c.short ≡ false
   going p c es used succ = by c.short refl
     where
       by : (b : Bool) → c.short ≡ b → c.short ≡ false
-      by true is = absurd (short-fails p c es is (used is) succ)
+      by true is = absurd (short-fails config n h p es c is (used is) succ)
       by false is = is
 
 pub run_is_serial : ValuesStayBetween → NoConflictIsFree → LooksAtOwnKeys → AnswersFit → AnswersAreLast → RunIsSerial

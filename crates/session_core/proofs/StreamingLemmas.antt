@@ -1,7 +1,7 @@
 -- The streams along a run; for the crates above too.
 use Rattle.std.specs.Prelude.{ℕ, ℤ, Bool, true, false, List, [], ◌∷◌, ◌++◌, ◌≡◌, ◌≤◌, Option, Some, None, max, take, drop, length, nat_lt, if◌then◌else◌, refl}
 use Rattle.std.proofs.Common.{ap, sym, ◌∙◌, subst, arith, append-nil}
-use Rattle.std.proofs.lemmas.Bool.{false≢true}
+use Rattle.std.proofs.lemmas.Bool.{false≢true, false_from_ne_true}
 use Rattle.std.proofs.lemmas.Bool.Decides.{nat_tests}
 use Rattle.std.proofs.lemmas.Option.{none-some}
 use Rattle.server_config.specs.declared.config.Config.{Config}
@@ -44,6 +44,21 @@ received_of bytes moment (arrives.Stale r) is = tt
 received_of bytes moment (arrives.Refused r c) is = tt
 received_of bytes moment (arrives.Fresh h at m) is = tt
 received_of bytes moment (arrives.Polled front) is = is
+
+-- ---- spent ids
+
+module _ (config : Config) (n : ℕ) (h : List Entry) where
+  ended_stays : (r : Course) (e : Event) → is_spent_course r ≡ true → is_spent_course (asked config n h (moment_of e) r (takes r.state e).state (takes r.state e).call) ≡ true
+  unfolding takes
+  ended_stays r e spent = by r.state.phase refl
+    where
+      by : (p : Phase) → r.state.phase ≡ p → is_spent_course (asked config n h (moment_of e) r (by_phase p (arrived r.state.last_id e) r.state).state (by_phase p (arrived r.state.last_id e) r.state).call) ≡ true
+      by (phase.Live l) f = absurd (false≢true (sym (ap is_spent_phase f) ∙ spent))
+      by (phase.Ended x) f = spent
+
+  pub spent_stays : (short : Bool) (r : Course) (e : Event) → is_spent_course r ≡ true → is_spent_course (happens_unless config n h short r e) ≡ true
+  spent_stays true r e spent = spent
+  spent_stays false r e spent = ended_stays r e spent
 
 module _ (config : Config) (n : ℕ) (h : List Entry) (small : HasIds config) (stay : NewsStayWithin) (due : NewsAreTheDue) (each : NewsOfEach) where
   -- ---- one event
@@ -115,20 +130,6 @@ module _ (config : Config) (n : ℕ) (h : List Entry) (small : HasIds config) (s
   unfolding takes
   step r last flowing rises seen e = asked_stepped r last flowing rises seen e (taken r.state e).state (taken r.state e).call (event_leads r last flowing e)
 
-  -- ---- spent ids
-
-  ended_stays : (r : Course) (e : Event) → is_spent_course r ≡ true → is_spent_course (asked config n h (moment_of e) r (takes r.state e).state (takes r.state e).call) ≡ true
-  unfolding takes
-  ended_stays r e spent = by r.state.phase refl
-    where
-      by : (p : Phase) → r.state.phase ≡ p → is_spent_course (asked config n h (moment_of e) r (by_phase p (arrived r.state.last_id e) r.state).state (by_phase p (arrived r.state.last_id e) r.state).call) ≡ true
-      by (phase.Live l) f = absurd (false≢true (sym (ap is_spent_phase f) ∙ spent))
-      by (phase.Ended x) f = spent
-
-  spent_stays : (short : Bool) (r : Course) (e : Event) → is_spent_course r ≡ true → is_spent_course (happens_unless config n h short r e) ≡ true
-  spent_stays true r e spent = spent
-  spent_stays false r e spent = ended_stays r e spent
-
   -- ---- what holds of every course
 
   pub record Kept (r : Course) : Type 0 where
@@ -149,10 +150,6 @@ module _ (config : Config) (n : ℕ) (h : List Entry) (small : HasIds config) (s
         out = ap (λ (y : State). y.out) x.is;
         flows = λ c. subst (λ (v : Subbed). Flow h v c (heard c t.sent)) (sym subs) (subst (λ (l : List Outgoing). Flow h x.state.subs c (heard c l)) (sym x.sent) (a.flows alive c));
       }
-
-  is_live : (b : Bool) → (b ≡ true → ⊥) → b ≡ false
-  is_live true f = absurd (f refl)
-  is_live false f = refl
 
   after_event : Course → Event → Course
   after_event r e = asked config n h (moment_of e) r (takes r.state e).state (takes r.state e).call
@@ -179,7 +176,7 @@ module _ (config : Config) (n : ℕ) (h : List Entry) (small : HasIds config) (s
     last = k.last;
     rises = subst (λ (l : List ℕ). Rises k.last l (length h)) (sym (places_stay r e spent)) k.rises;
     seen = let f = reach_stays r e spent in let g = k.seen in omega (arith, f, g);
-    flows = λ live. absurd (false≢true (sym live ∙ ended_stays r e spent));
+    flows = λ live. absurd (false≢true (sym live ∙ ended_stays config n h r e spent));
   }
   kept_event r e k false alive =
       let x : Stepped r (after_event r e) e = step r k.last (k.flows alive) k.rises k.seen e in
@@ -215,7 +212,7 @@ module _ (config : Config) (n : ℕ) (h : List Entry) (small : HasIds config) (s
   pub alive_before : (places : List ℕ) (es : List Event) (e : Event) → is_spent_course (run config n h places (es ++ e ∷ [])) ≡ false → is_spent_course (run config n h places es) ≡ false
   alive_before places es e live =
       let r : Course = run config n h places es in
-      is_live (is_spent_course r) (λ spent. false≢true (sym live ∙ ap is_spent_course (run_snoc config n h (first_course config n places) es e) ∙ spent_stays r.short r e spent))
+      false_from_ne_true (is_spent_course r) (λ spent. false≢true (sym live ∙ ap is_spent_course (run_snoc config n h (first_course config n places) es e) ∙ spent_stays config n h r.short r e spent))
 
   pub stands : (places : List ℕ) (es : List Event) → Rises 0 places (length h) → is_spent_course (run config n h places es) ≡ false
       → ((run config n h places es).state.out ≡ []) × ((run config n h places es).state.subs.pending ≡ [])
@@ -240,7 +237,7 @@ module _ (config : Config) (n : ℕ) (h : List Entry) (small : HasIds config) (s
   pub course_stops : (short : Bool) (r : Course) (e : Event) → Kept r → is_spent_course (happens_unless config n h short r e) ≡ false → StopsLaw r (happens_unless config n h short r e) e
   course_stops true r e k live c = stopped_same (Causes r e) (sub_of c r.state.subs.subs) (sub_of c r.state.subs.subs) (heard c r.sent).told (heard c r.sent).stops (heard c r.sent).stops refl refl
   course_stops false r e k live c =
-      let alive : is_spent_course r ≡ false = is_live (is_spent_course r) (λ spent. false≢true (sym live ∙ ended_stays r e spent)) in
+      let alive : is_spent_course r ≡ false = false_from_ne_true (is_spent_course r) (λ spent. false≢true (sym live ∙ ended_stays config n h r e spent)) in
       stepped_stops r (asked config n h (moment_of e) r (takes r.state e).state (takes r.state e).call) e (step r k.last (k.flows alive) k.rises k.seen e) live c
 
   -- what spent ids leave of an event
@@ -277,7 +274,7 @@ module _ (config : Config) (n : ℕ) (h : List Entry) (small : HasIds config) (s
   spent_same r [] spent none = record { sent = refl; subs = refl; out = none }
   spent_same r (e ∷ es) spent none =
       let one : IsSame r (happens config n h r e) = spent_one r.short r e spent none in
-      let rest : IsSame (happens config n h r e) (run_from config n h (happens config n h r e) es) = spent_same (happens config n h r e) es (spent_stays r.short r e spent) one.out in
+      let rest : IsSame (happens config n h r e) (run_from config n h (happens config n h r e) es) = spent_same (happens config n h r e) es (spent_stays config n h r.short r e spent) one.out in
       record { sent = rest.sent ∙ one.sent; subs = rest.subs ∙ one.subs; out = rest.out }
 
   answered_out : (at : ℤ) (r : Course) (t : State) (call : StoreCall) (ps : List ℕ) → (answered_at config n h at r t call ps).state.out ≡ []

@@ -35,7 +35,7 @@ use Rattle.session_core.proofs.MessagePartLemmas.{all_map}
 
 -- ---- the points of a notice
 
-points_join : (c : ℤ) (xs ys : List DataItem) → points_in c (xs ++ ys) ≡ points_in c xs ++ points_in c ys
+pub points_join : (c : ℤ) (xs ys : List DataItem) → points_in c (xs ++ ys) ≡ points_in c xs ++ points_in c ys
 points_join c xs ys = flat_map-append (λ (x : DataItem). if int_eq x.channel_id c then point_in x.value x.indexes else []) xs ys
 
 points_same : (c ch : ℤ) → int_eq ch c ≡ true → (xs : List Point) → points_in c (items_of ch xs) ≡ xs

@@ -9,7 +9,7 @@ use Rattle.store_machine.specs.declared.call.Answer.{Answer}
 use Rattle.store_machine.specs.declared.journal.Entry.{Entry}
 use Rattle.store_machine.specs.Answers.{answered, added}
 use Rattle.store_machine.specs.Laws.{OneOrNone}
-use Rattle.store_machine.proofs.NumberLemmas.{entries-one}
+use Rattle.store_machine.proofs.NumberLemmas.{added-one, entries-one}
 use Rattle.etp_values.proofs.PrefixLemmas.{prefix_length}
 use Rattle.turn_book.specs.Lists.{Each, own}
 use Rattle.store_hub.specs.declared.pass.Pass.{Pass}
@@ -22,10 +22,6 @@ use Rattle.store_hub.specs.Laws.{Reads}
 mark_of : (config : Config) (log : List Entry) (call : StoreCall) → (answered config log call).mark ≡ length log
 unfolding answered
 mark_of config log call = refl
-
-added_one : (config : Config) (log : List Entry) (n nth : ℕ) (at : ℤ) (call : StoreCall) → OneOrNone (added config log n nth at call)
-unfolding added
-added_one config log n nth at call = entries-one config log n nth at call
 
 pub noted_seen : (log es : List Entry) (v : Known) → OneOrNone es → (noted log es v).seen ≡ log ++ es
 noted_seen log [] v one = sym (append-nil log)
@@ -41,7 +37,7 @@ pub reads : (config : Config) (n nth : ℕ) (at : ℤ) (call : StoreCall) (v : K
 reads config n nth at call v a w t =
     let log : List Entry = t.log in
     let es : List Entry = added config log n nth at call in
-    let one : OneOrNone es = added_one config log n nth at call in
+    let one : OneOrNone es = added-one entries-one config log n nth at call in
     let mark : a.mark ≡ length log = ap (λ (x : Answer). x.mark) t.answer ∙ mark_of config log call in
     let seen : w.seen ≡ log ++ es = ap (λ (x : Known). x.seen) t.view ∙ noted_seen log es (record v { missed = t.missed }) one in
     let marks : w.marks ≡ (v.marks ++ length log ∷ []) ++ map (λ (e : Entry). length log) es = ap (λ (x : Known). x.marks) t.view ∙ noted_marks log es (record v { missed = t.missed }) one in

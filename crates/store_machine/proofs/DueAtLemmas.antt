@@ -10,7 +10,7 @@ use Rattle.std.proofs.lemmas.List.{length-drop}
 use Rattle.std.proofs.lemmas.List.Elements.{filter-append}
 use Rattle.std.proofs.Math.Bool.{or-false}
 use Rattle.etp_values.proofs.BoolLemmas.{differs}
-use Rattle.etp_values.proofs.IntLemmas.{int_eq_is, int_eq_self, int_lt_trans, pos_apart}
+use Rattle.etp_values.proofs.IntLemmas.{int_eq_is, int_eq_self, int_lt_trans, pos_apart, pos_not_below}
 use Rattle.etp_values.proofs.EachLemmas.{all-append}
 use Rattle.channel_points.specs.Splits.{RisesBy}
 use Rattle.server_config.specs.declared.config.ChannelDef.{ChannelDef}
@@ -297,11 +297,8 @@ negative i j k at = ap (λ x. int_eq x (pos k)) at
 
 from_zero : (f : Followed) (fs : List Followed) (k : ℕ) → f.channel ≡ pos k → AllByRecursion (λ (g : Followed). int_lt f.channel g.channel ≡ true) fs → IsFrom 0 (f ∷ fs)
 unfolding IsFrom
-from_zero f fs k at above = (ap (λ i. int_lt i (pos 0)) at ∙ zeroth, others fs above)
+from_zero f fs k at above = (ap (λ i. int_lt i (pos 0)) at ∙ pos_not_below k, others fs above)
   where
-    zeroth : int_lt (pos k) (pos 0) ≡ false
-    zeroth = grind (arith, ints)
-
     over : (i j : ℤ) → i ≡ pos k → int_lt i j ≡ true → int_lt j (pos 0) ≡ false
     over i j is lt = grind (arith, ints, is, lt)
 

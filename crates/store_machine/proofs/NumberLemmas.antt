@@ -1,5 +1,5 @@
 -- Numbers of sessions, the calls that they may make, and the entries that those add; for the crates above too.
-use Rattle.std.specs.Prelude.{ℕ, ℤ, pos, Bool, true, false, cond, drop, List, [], ◌∷◌, ◌++◌, ◌≡◌, ◌+◌, ◌≤◌, ◌<◌, ◌==◌, Some, IsSomeAnd, slice_get, length, if◌then◌else◌}
+use Rattle.std.specs.Prelude.{ℕ, ℤ, pos, Bool, true, false, cond, drop, List, [], ◌∷◌, ◌++◌, ◌≡◌, ◌+◌, ◌≤◌, ◌<◌, ◌==◌, Some, slice_get, length, if◌then◌else◌}
 use Rattle.std.specs.List.{AllByRecursion}
 use Rattle.std.proofs.Common.{ap, sym, ◌∙◌, subst, refl, arith, suc, zero, ⊎_elim}
 use Rattle.std.proofs.lemmas.Bool.{false≢true}
@@ -7,27 +7,21 @@ use Rattle.std.proofs.lemmas.Grind.{common_steps}
 use Rattle.server_config.specs.declared.config.Config.{Config}
 use Rattle.std.specs.Map.{values_of}
 use Rattle.etp_values.proofs.BoolLemmas.{differs}
-use Rattle.etp_values.proofs.ListLemmas.{drop_item}
+use Rattle.etp_values.proofs.ListLemmas.{below_length, drop_item}
 use Rattle.store_machine.specs.declared.call.StoreCall.{StoreCall}
 use Rattle.store_machine.specs.declared.call.StoreCall.TheVariants as call
 use Rattle.store_machine.specs.declared.journal.Act.{Act}
 use Rattle.store_machine.specs.declared.journal.Act.TheVariants.{Enter, PutSpaces, DropSpaces, Put, Commit, Append, Replace, Truncate}
 use Rattle.store_machine.specs.declared.journal.Entry.{Entry}
 use Rattle.store_machine.specs.History.{DropSpace, Operate, set_space, changes_of}
-use Rattle.store_machine.specs.Laws.{IsCallAt, IsEntryOf, IsNumber, OneOrNone, is_enter}
+use Rattle.store_machine.specs.Laws.{CallsAddOne, IsCallAt, IsEntryOf, IsNumber, OneOrNone, is_enter}
 use Rattle.channel_store.specs.Refusals.{append_refusal, replace_refusal}
 use Rattle.store_machine.specs.Channels.{channels_of}
 use Rattle.store_machine.specs.Clash.{conflict}
 use Rattle.store_machine.specs.Cuts.{cuts_accepted}
-use Rattle.store_machine.specs.Answers.{accepted, all_or_none, act_of, granted, has_room_for, entry, entered, entries_of}
+use Rattle.store_machine.specs.Answers.{accepted, added, all_or_none, act_of, granted, has_room_for, entry, entered, entries_of}
 use Rattle.store_machine.specs.Legal.{own, IsNext, MayAct, MayAsk, LegalFrom, Legal}
 use Rattle.store_machine.proofs.LawfulLemmas.{committed}
-
--- a place at which something stands is below the length
-below_length : {X : Type 0} (P : X → Type 0) (xs : List X) (k : ℕ) → IsSomeAnd (slice_get xs k) P → k < length xs
-below_length P [] k h = absurd h
-below_length P (x ∷ xs) zero h = omega arith
-below_length P (x ∷ xs) (suc k) h = let rest = below_length P xs k h in omega (arith, rest)
 
 first_by : List Entry → ℕ
 first_by [] = 0
@@ -125,6 +119,10 @@ entries-one config history by nth at (call.Replace channels from to items) =
     entered-one config history by nth at (λ ids. Replace ids from to items) (all_or_none (replace_refusal (channels_of config history) channels from to items) channels)
 entries-one config history by nth at (call.Truncate items) = entered-one config history by nth at Truncate (cuts_accepted (channels_of config history) [] (values_of items))
 entries-one config history by nth at _ = tt
+
+pub added-one : CallsAddOne → (config : Config) (history : List Entry) (by nth : ℕ) (at : ℤ) (c : StoreCall) → OneOrNone (added config history by nth at c)
+unfolding added
+added-one one config history by nth at c = one config history by nth at c
 
 pub call-stays : (history later : List Entry) (c : StoreCall) → IsCallAt history c → IsCallAt (history ++ later) c
 call-stays history later call.Enter h = absurd h

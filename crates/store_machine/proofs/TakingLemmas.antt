@@ -4,6 +4,7 @@ use Rattle.std.proofs.Common.{ap, sym, ◌∙◌, subst, append_assoc, append-ni
 use Rattle.std.proofs.lemmas.Bool.Decides.{nat_tests}
 use Rattle.std.proofs.lemmas.List.{length-append}
 use Rattle.etp_values.specs.Weight.{capped, weigh}
+use Rattle.etp_values.proofs.WeightLemmas.{capped-sum}
 use Rattle.channel_store.specs.declared.change.ChannelChange.{ChannelChange}
 use Rattle.channel_store.specs.Channels.{Channel}
 use Rattle.channel_store.specs.Told.{change_bytes}
@@ -56,10 +57,7 @@ weigh-append w (x ∷ xs) ys = let rest = weigh-append w xs ys in omega (arith, 
 
 -- the bytes of what was taken with what is due
 pub bytes_with : (xs due : List ChannelChange) (bytes more : ℕ) → bytes ≡ capped (weigh change_bytes xs) → more ≡ capped (weigh change_bytes due) → capped (bytes + more) ≡ capped (weigh change_bytes xs + weigh change_bytes due)
-bytes_with xs due bytes more b m = (λ j. capped (b j + m j)) ∙ both (weigh change_bytes xs) (weigh change_bytes due)
-  where
-    both : (m n : ℕ) → capped (capped m + capped n) ≡ capped (m + n)
-    both m n = grind (arith)
+bytes_with xs due bytes more b m = (λ j. capped (b j + m j)) ∙ capped-sum (weigh change_bytes xs) (weigh change_bytes due)
 
 pub bytes_of : (xs due new : List ChannelChange) (bytes : ℕ) → bytes ≡ capped (weigh change_bytes xs + weigh change_bytes due) → new ≡ xs ++ due → bytes ≡ capped (weigh change_bytes new)
 bytes_of xs due new bytes b made = b ∙ ap capped (sym (ap (weigh change_bytes) made ∙ weigh-append change_bytes xs due))

@@ -1,5 +1,5 @@
 -- A journal grows by the entries of one session.
-use Rattle.std.proofs.Common.{◌≡◌, ◌≢◌, ℕ, ℤ, zero, suc, ◌+◌, ◌-◌, ◌<◌, cond, List, [], ◌∷◌, ◌++◌, length, refl, ap, sym, ◌∙◌, subst, arith, append_assoc, append-nil, length-append, ◌==◌, eq-eqb}
+use Rattle.std.proofs.Common.{◌≡◌, ◌≢◌, ℕ, ℤ, ◌+◌, ◌-◌, ◌<◌, cond, List, [], ◌∷◌, ◌++◌, length, refl, ap, sym, ◌∙◌, subst, arith, append_assoc, append-nil, length-append, ◌==◌, eq-eqb}
 use Rattle.std.specs.Prelude.{IsSomeAnd, slice_get}
 use Rattle.std.specs.List.{AllByRecursion}
 use Rattle.std.proofs.lemmas.List.Elements.{filter-append}
@@ -43,11 +43,6 @@ grows_trans n h i j a b = record {
 pub entry_last : (h : List Entry) (e : Entry) (P : Entry → Type 0) → P e → IsSomeAnd (slice_get (h ++ e ∷ []) (length h)) P
 entry_last [] e P is = is
 entry_last (x ∷ xs) e P is = entry_last xs e P is
-
-pub entry_within : (h : List Entry) (i : ℕ) (P : Entry → Type 0) → IsSomeAnd (slice_get h i) P → i < length h
-entry_within [] i P there = absurd there
-entry_within (e ∷ es) zero P there = omega arith
-entry_within (e ∷ es) (suc i) P there = let below = entry_within es i P there in omega arith
 
 -- ---- counts of own entries
 

@@ -28,10 +28,11 @@ use Rattle.tool_forms.specs.Plays.{Meets}
 use Rattle.tool_forms.specs.Sound.{FitsOpen, FitsTag, IsSound}
 use Rattle.tool_forms.specs.declared.tag.TagState.{TagState}
 use Rattle.etp_values.proofs.BoolLemmas.{by_test}
+use Rattle.etp_values.proofs.ListLemmas.{below_length}
 use Rattle.session_core.proofs.StepLemmas.{asks_call}
 use Rattle.tool_forms.specs.declared.tag.TagState.TheVariants.{Ended, Open}
 use Rattle.tool_forms.specs.declared.tag.OpenSession.{OpenSession}
-use Rattle.tool_forms.proofs.GrowthLemmas.{By, by_of, Grows, grows_none, grows_trans, entry_last, entry_within, own_more, own_all, next_kept, next_more}
+use Rattle.tool_forms.proofs.GrowthLemmas.{By, by_of, Grows, grows_none, grows_trans, entry_last, own_more, own_all, next_kept, next_more}
 use Rattle.tool_forms.proofs.TagLemmas.{put_twice, at_same, at_self, IsPut}
 
 -- the laws of the store's numbers and of a session's steps that are needed here
@@ -163,7 +164,7 @@ module _ (laws : Laws) where
 
 -- a session of another tag has another number
 pub number_below : (h : List Entry) (r : OpenSession) → IsNext h r.number r.entries → r.number ≢ length h
-number_below h r next same = let below = entry_within h r.number (λ (e : Entry). e.act ≡ act.Enter) next.session in omega arith
+number_below h r next same = let below = below_length (λ (e : Entry). e.act ≡ act.Enter) h r.number next.session in omega arith
 
 pub open_next : (w : World) (other : ℕ) (r : OpenSession) → IsSound w → state_of other w.tags ≡ Some (Open r) → IsNext w.journal r.number r.entries
 open_next w other r sound is = let fits : FitsOpen w.journal r = subst (λ (o : Option TagState). FitsTag w.journal o) is (sound.fits other) in fits.next

@@ -10,6 +10,7 @@ use Rattle.std.proofs.lemmas.List.Elements.{filter-append}
 use Rattle.std.proofs.lemmas.Bool.{false≢true}
 use Rattle.std.proofs.lemmas.Bool.Decides.{nat_tests}
 use mathlib.Core.List.{IsPrefix, prefix-append}
+use Rattle.etp_values.proofs.ListLemmas.{below_length}
 use Rattle.etp_values.proofs.PrefixLemmas.{prefix_self, prefix_trans, prefix_length, prefix_get}
 use Rattle.etp_capture.specs.declared.frame.Frame.{Frame}
 use Rattle.server_config.specs.declared.config.Config.{Config}
@@ -22,6 +23,7 @@ use Rattle.store_machine.specs.Legal.{Legal, own}
 use Rattle.store_machine.specs.declared.journal.Entry.{Entry}
 use Rattle.store_machine.specs.declared.call.StoreCall.{StoreCall}
 use Rattle.store_machine.specs.declared.call.StoreCall.TheVariants.{Enter}
+use Rattle.store_machine.proofs.NumberLemmas.{added-one}
 use Rattle.session_core.specs.Arriving.{Event, Receives, Polls}
 use Rattle.session_core.specs.State.{State}
 use Rattle.session_core.specs.Run.{takes, hears, drained, moment_of, at_place, Course, own_number, IsHeeded, asked, run, AllWithin, RunIsSame, RunGoesOn}
@@ -37,7 +39,7 @@ use Rattle.tool_forms.specs.declared.tag.TagState.TheVariants.{Ended, Open}
 use Rattle.tool_forms.specs.declared.tag.OpenSession.{OpenSession}
 use Rattle.tool_forms.specs.declared.tag.Ending.{Ending}
 use Rattle.tool_forms.specs.declared.tag.Ending.TheVariants.{Session, PeerEnd, JournalFull}
-use Rattle.tool_forms.proofs.GrowthLemmas.{Grows, entry_within}
+use Rattle.tool_forms.proofs.GrowthLemmas.{Grows}
 use Rattle.tool_forms.proofs.LegalLemmas.{at_legal}
 use Rattle.tool_forms.proofs.OwnLemmas.{IsApart, IsBelow, OwnStays, entered-wrote, fall-higher, fall-turned, other_apart, own_apart, own_stays, values-placed, wrote-longer, wrote-more}
 use Rattle.session_core.proofs.RunLemmas.{course}
@@ -172,10 +174,6 @@ length_at : (p : ℕ) (es : List Entry) → length (at_place p es) ≡ length es
 length_at p [] = refl
 length_at p (e ∷ es) = ap suc (length_at p es)
 
-one_added : CallsAddOne → (c : Config) (h : List Entry) (by nth : ℕ) (at : ℤ) (call : StoreCall) → OneOrNone (added c h by nth at call)
-unfolding added
-one_added one c h by nth at call = one c h by nth at call
-
 -- ---- an event of the session is one more event of its run
 
 -- a course by its parts
@@ -214,7 +212,7 @@ comes one own_entries c n h at s xs made reach number entries seen st (Some call
       entries = omega (arith, entries, length-append made (at_place (length h) ds), length_at (length h) ds, ap length same);
       reach = omega (arith, long, ap length same);
       stand = λ all. stand_both (h ++ es) made (at_place (length h) ds) (stand_longer h (h ++ es) made (prefix-append h es) all)
-          (subst (λ (x : List Entry). AllStand (h ++ es) (at_place (length h) x)) (sym same) (stand_added h es (one_added one c h s.number s.entries at call)));
+          (subst (λ (x : List Entry). AllStand (h ++ es) (at_place (length h) x)) (sym same) (stand_added h es (added-one one c h s.number s.entries at call)));
       wrote = wrote-more h es s.number made (at_place (length h) ds) (by_added own_entries c h s.number s.entries at call is) (values-placed (length h) ds ∙ same);
       marks = (omega (arith, long), tt);
     }
@@ -273,7 +271,7 @@ first_sound c = record { fits = λ tag. tt; apart = λ tag other s t at_tag at_o
 
 -- a session's own entry of entering stands in the journal
 wrote_below : (h : List Entry) (n : ℕ) (made : List (ℕ × Entry)) → Wrote h n made → n < length h
-wrote_below h n made is = entry_within h n (λ (e : Entry). (e.act ≡ act.Enter) × (own n h ≡ e ∷ values_of made)) is
+wrote_below h n made is = below_length (λ (e : Entry). (e.act ≡ act.Enter) × (own n h ≡ e ∷ values_of made)) h n is
 
 -- what is followed of a play is the play
 next_played_is : (tag : ℕ) (w : Followed) (b : Bool) (f : Frame) → (next_followed tag w b f).played ≡ next_played w.played b f

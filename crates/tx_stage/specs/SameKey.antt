@@ -1,27 +1,15 @@
--- That keys which are the same are equal, and the laws that a table with such keys asks for.
+-- That keys which are the same are equal, and the laws that a table with such keys asks for; for the crates above too.
 use Rattle.std.specs.Prelude.{true, false, ◌≡◌, refl}
-use Rattle.std.specs.Cmp.{IsEquivalence, and_equiv, on_equiv}
+use Rattle.std.specs.Cmp.{IsEquivalence}
 use Rattle.std.specs.Cmp.Lexicographic.{nat_list_eq_equiv}
-use Rattle.std.specs.Str.{bytes_eq}
 use Rattle.std.proofs.Common.{ap}
-use Rattle.std.proofs.lemmas.Bool.{false≢true, and_parts}
+use Rattle.std.proofs.lemmas.Bool.{false≢true}
 use Rattle.std.proofs.lemmas.Slice.Eq.{bytes_eq-Decides}
-use Rattle.etp_values.specs.SameUri.{same_uri, same_uri-equiv, same_uri-is}
-use Rattle.array_store.specs.declared.key.ArrayKey.{ArrayKey}
-use Rattle.array_store.specs.Table as table
+use Rattle.etp_values.specs.SameUri.{same_uri-equiv, same_uri-is}
+use Rattle.array_store.proofs.KeyLemmas.{same_key-equiv as same_array-equiv, same_key-is as same_array-is}
 use Rattle.tx_stage.specs.declared.key.Key.{Key}
 use Rattle.tx_stage.specs.declared.key.Key.TheVariants.{Space, Object, Array}
 use Rattle.tx_stage.specs.Keys.{same_key}
-
-array-equiv : IsEquivalence table.same_key
-array-equiv = and_equiv (on_equiv (λ k. k.uri) same_uri-equiv) (on_equiv (λ k. k.path) nat_list_eq_equiv)
-
-array-is : (k l : ArrayKey) → table.same_key k l ≡ true → k ≡ l
-array-is k l h =
-    let parts = and_parts (same_uri k.uri l.uri) (bytes_eq k.path l.path) h in
-    let uri = same_uri-is k.uri l.uri parts.0 in
-    let path = (bytes_eq-Decides k.path l.path).0 parts.1 in
-    (λ j. record { uri = uri j; path = path j })
 
 -- what is the same is equal
 pub same_key-is : (x y : Key) → same_key x y ≡ true → x ≡ y
@@ -33,12 +21,12 @@ same_key-is (Object u) (Object v) h = ap Object (same_uri-is u v h)
 same_key-is (Object u) (Array l) h = absurd (false≢true h)
 same_key-is (Array k) (Space q) h = absurd (false≢true h)
 same_key-is (Array k) (Object v) h = absurd (false≢true h)
-same_key-is (Array k) (Array l) h = ap Array (array-is k l h)
+same_key-is (Array k) (Array l) h = ap Array (same_array-is k l h)
 
 itself : (x : Key) → same_key x x ≡ true
 itself (Space p) = nat_list_eq_equiv.refl p
 itself (Object u) = same_uri-equiv.refl u
-itself (Array k) = array-equiv.refl k
+itself (Array k) = same_array-equiv.refl k
 
 turned : (x y : Key) → same_key x y ≡ same_key y x
 turned (Space p) (Space q) = nat_list_eq_equiv.symm p q
@@ -49,7 +37,7 @@ turned (Object u) (Object v) = same_uri-equiv.symm u v
 turned (Object u) (Array l) = refl
 turned (Array k) (Space q) = refl
 turned (Array k) (Object v) = refl
-turned (Array k) (Array l) = array-equiv.symm k l
+turned (Array k) (Array l) = same_array-equiv.symm k l
 
 -- it is an equivalence
 pub same_key-equiv : IsEquivalence same_key
