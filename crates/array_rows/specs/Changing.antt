@@ -12,6 +12,7 @@ use Rattle.etp_values.specs.declared.code.ErrorCode.TheVariants.{InvalidArgument
 use Rattle.etp_values.specs.declared.data.AnyArray.{AnyArray}
 use Rattle.etp_values.specs.declared.data.AnyArray.TheVariants as any
 use Rattle.etp_values.specs.declared.data.DataValue.{DataValue}
+use Rattle.keyed_requests.specs.Keyed.{granted_unless}
 use Rattle.keyed_requests.specs.declared.keys.Decision.{Decision}
 use Rattle.keyed_requests.specs.declared.keys.Decision.TheVariants.{Granted, Refused}
 use Rattle.msg_store.specs.ArrayTypes.{logical_type_place}
@@ -37,7 +38,7 @@ use Rattle.tx_stage.specs.declared.look.Want.TheVariants as want
 use Rattle.tx_stage.specs.declared.op.Op.{Op}
 use Rattle.tx_stage.specs.declared.op.OpWhat.TheVariants.{SetArray, Patch}
 use Rattle.array_rows.specs.Naming.{named_array}
-use Rattle.array_rows.specs.Reading.{array_seen, granted_unless}
+use Rattle.array_rows.specs.Reading.{array_seen}
 use Rattle.array_rows.specs.Sizes.{is_custom_large}
 use Rattle.array_rows.specs.declared.changing.ArrayChange.{ArrayChange}
 use Rattle.array_rows.specs.declared.changing.ArrayChange.TheVariants as change

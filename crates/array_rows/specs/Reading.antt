@@ -7,9 +7,9 @@ use Rattle.array_store.specs.Refusals.{slice_refusal}
 use Rattle.array_store.specs.Shape.{sizes}
 use Rattle.array_store.specs.declared.key.ArrayKey.{ArrayKey}
 use Rattle.array_store.specs.declared.record.ArrayRecord.{ArrayRecord}
-use Rattle.etp_values.specs.declared.code.ErrorCode.{ErrorCode}
 use Rattle.etp_values.specs.declared.code.ErrorCode.TheVariants.{LimitExceeded, NotFound, RequestDenied}
 use Rattle.etp_values.specs.declared.data.AnyArray.{AnyArray}
+use Rattle.keyed_requests.specs.Keyed.{granted_unless}
 use Rattle.keyed_requests.specs.declared.keys.Decision.{Decision}
 use Rattle.keyed_requests.specs.declared.keys.Decision.TheVariants.{Granted, Refused}
 use Rattle.msg_store.specs.ArrayRecords.{data_array_form, data_array_metadata_form}
@@ -88,11 +88,6 @@ slice_seen limit key counts _ = Refused RequestDenied
 
 abbrev pub slice_one : ℕ → Scope → List ℕ → List ℤ → List Looked → Scope × Decision DataArray
 slice_one limit s key counts found = (s, slice_seen limit key counts (slice_get found 0))
-
--- granted, unless there is a code against it
-abbrev pub granted_unless : {R : Type 0} → Option ErrorCode → R → Decision R
-granted_unless (Some code) r = Refused code
-granted_unless None r = Granted r
 
 -- the elements of a region of an array, whose whole was looked at
 abbrev pub cut_out : Region → ArrayRecord → Decision AnyArray

@@ -3,8 +3,8 @@ ghost use Rattle.std.specs.Prelude.{◌≡◌, IfOk, OnOk, []};
 ghost use Rattle.array_rows.specs.Arrays.{joined_called, ops_called};
 ghost use Rattle.array_rows.specs.Changing.{change_response, decided, patch_array, put_wants, set_array, staged_put};
 ghost use Rattle.array_rows.specs.declared.arrays.ArrayPending.TheVariants as pending;
+ghost use Rattle.keyed_requests.specs.Keyed.{granted_unless};
 ghost use Rattle.keyed_requests.specs.Plain.{plain_reply};
-ghost use Rattle.array_rows.specs.Reading.{granted_unless};
 ghost use Rattle.request_scope.specs.Finding.{found_refusal, putting};
 ghost use Rattle.request_scope.specs.Reply.{scoped_reply};
 

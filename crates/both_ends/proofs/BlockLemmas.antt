@@ -52,9 +52,9 @@ use Rattle.session_core.specs.declared.state.Outgoing.{Outgoing}
 use Rattle.session_core.specs.declared.state.Part.{Part}
 use Rattle.session_core.specs.declared.state.Request.{Request}
 use Rattle.both_ends.specs.Ends.{Put}
-use Rattle.session_core.specs.Granting.{speaks, subscribe_speaks}
+use Rattle.session_core.specs.Granting.{HasNews, speaks, subscribe_speaks}
 use Rattle.both_ends.specs.News.{news_parts}
-use Rattle.both_ends.specs.Notices.{HasNews, NoticesAreChanges, change_msg, with_change}
+use Rattle.both_ends.specs.Notices.{NoticesAreChanges, change_msg, with_change}
 use Rattle.both_ends.proofs.AsideLemmas.{AsideKept, IsApart, IsAsideHeader, is_aside, all_filter, is_empty, is_stop, no_key, no_more, subscribe_aside, subscribe_stops}
 use Rattle.both_ends.proofs.BeginLemmas.{begun_with, reply_of}
 use Rattle.both_ends.proofs.FollowLemmas.{AreHeld, AreAside, Carries, Flows, Follows, Handed, IsAsideSent, Awaits, Steps, ask_follows, block_goes, bytes_read, carries_more, carries_none, carries_one, lives_before, told_more}

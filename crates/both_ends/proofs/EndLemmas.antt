@@ -11,7 +11,6 @@ use Rattle.server_config.specs.declared.config.Config.{Config}
 use Rattle.channel_rows.specs.Notices.{stop_response}
 use Rattle.channel_store.specs.declared.change.ChannelChange.{ChannelChange}
 use Rattle.channel_store.specs.declared.change.What.{What}
-use Rattle.channel_store.specs.declared.change.What.TheVariants.{Append, Replace, Truncate}
 use Rattle.channel_store.specs.declared.subscription.Sub.{Sub}
 use Rattle.client_core.specs.Asking.{begun}
 use Rattle.client_core.specs.Laws.{Asks, CopiesAreFolds, Takes}
@@ -57,10 +56,9 @@ use Rattle.subscribe_core.specs.Subscriptions.{Subbed, has_sub}
 use Rattle.subscribe_core.specs.Views.{sub_of}
 use Rattle.subscribe_core.specs.declared.stop.StopCause.TheVariants.{Lagged}
 use Rattle.both_ends.specs.Ends.{ClientHasPoints, ClientIsHanded, IdleClientHasPoints, IsPassed, Put, bytes_given, bytes_sent, bytes_taken, put_header, puts}
-use Rattle.session_core.specs.Granting.{Matter, Aside, Begins, Ends, Tells, Stops, AreDecided, IsFirstOf, IsMatter, IsRead, IsReceipt, IsReplied, IsSent, IsToldTo, OnlyGranted, SubscriptionsAreReplied, first_in, changes_in, request_in, speaks}
-use Rattle.session_core.specs.Granting.{HasNews as IsSolid}
+use Rattle.session_core.specs.Granting.{Matter, Aside, Begins, Ends, Tells, Stops, AreDecided, HasNews, IsFirstOf, IsMatter, IsRead, IsReceipt, IsReplied, IsSent, IsToldTo, OnlyGranted, SubscriptionsAreReplied, first_in, changes_in, request_in, speaks}
 use Rattle.both_ends.specs.News.{news_parts}
-use Rattle.both_ends.specs.Notices.{HasNews, NoticesAreChanges}
+use Rattle.both_ends.specs.Notices.{NoticesAreChanges}
 use Rattle.both_ends.proofs.AsideLemmas.{is_aside}
 use Rattle.both_ends.proofs.BeginLemmas.{reply_of}
 use Rattle.both_ends.proofs.BlockLemmas.{all_ended, asides_sent, grant_carries, granted, news_carry, parts_quiet, quiet_sent, some_reply}
@@ -149,12 +147,6 @@ is_of all front (p ∷ ps) (Receives bytes moment) h m split heeds read = record
 abbrev standing : List Sub → ℤ → Bool
 standing subs c = has_sub c subs
 
-solid : (w : What) → IsSolid w → HasNews w
-solid (Append []) news = absurd news
-solid (Append (p ∷ ps)) news = tt
-solid (Replace from end ps) news = tt
-solid (Truncate end) news = tt
-
 some_not : {A : Type 0} (x : A) (o : Option A) → o ≡ None → o ≡ Some x → ⊥
 some_not x o none some = none-some x (sym none ∙ some)
 
@@ -213,7 +205,7 @@ module _ (law : NoticesAreChanges) (all : List Put) (rising : Rising 2 all) (mod
       (carries_more all rising later xs ys subs between left (one later) (two (λ c. fold (hear_sent c) (later c) xs)))
 
   told_to : (v : Subbed) (cs : List ChannelChange) → AllByRecursion (IsToldTo v) cs → AllByRecursion (λ (c : ChannelChange). HasNews c.what × (standing v.subs c.channel ≡ true)) cs
-  told_to v cs are = all-weaker (IsToldTo v) (λ (c : ChannelChange). HasNews c.what × (standing v.subs c.channel ≡ true)) (λ c is. (solid c.what is.0, is.1)) cs are
+  told_to v cs are = all-weaker (IsToldTo v) (λ (c : ChannelChange). HasNews c.what × (standing v.subs c.channel ≡ true)) (λ c is. is) cs are
 
   aside_carries : (told : ℤ → Told) (v w : Subbed) (r : Request) (sayings : _) (sent : List Outgoing) → IsSent (Aside r sayings) sent → w ≡ v → AllByRecursion (λ (o : Outgoing). speaks o.message ≡ false) sent
       → Carries all told (all_sent sent) (standing v.subs) (standing w.subs)

@@ -24,6 +24,7 @@ use Rattle.msg_channel.specs.ChannelRecords.{data_item_form}
 use Rattle.msg_channel.specs.declared.channel_subscribe_messages.ChannelSubscribeMessage.TheVariants as subscribe
 use Rattle.msg_channel.specs.declared.indexes.IndexValue.TheVariants as index
 use Rattle.msg_channel.specs.declared.points.DataItem.{DataItem}
+use Rattle.session_core.specs.Granting.{HasNews}
 use Rattle.session_core.specs.Sending.{blobs_after, ended, is_spent, numbered}
 use Rattle.session_core.specs.Streams.{Heard, cuts_in, gathers, hear, hear_message, points_in, replace_in}
 use Rattle.session_core.specs.declared.state.Addressee.TheVariants as to
@@ -33,7 +34,7 @@ use Rattle.session_core.specs.declared.state.Request.{Request}
 use Rattle.session_core.proofs.TellingLemmas.{points_join}
 use Rattle.both_ends.specs.Hearing.{NewsAreHeard}
 use Rattle.both_ends.specs.News.{msg_of, news_parts}
-use Rattle.both_ends.specs.Notices.{HasNews, change_msg}
+use Rattle.both_ends.specs.Notices.{change_msg}
 use Rattle.both_ends.proofs.NewsLemmas.{IsUnder, all_sent, heads, id_after, is_none, kind_in, message_of, notice_some, notice_under, protocol_in, reach_behind, sent_notice}
 
 -- ---- messages with their headers

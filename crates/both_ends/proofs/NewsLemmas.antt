@@ -29,13 +29,14 @@ use Rattle.etp_frame.specs.declared.message.Message.TheVariants as message
 use Rattle.msg_channel.specs.ChannelRecords.{data_item_form, truncate_info_form}
 use Rattle.msg_channel.specs.declared.channel_subscribe_messages.ChannelSubscribeMessage.TheVariants as subscribe
 use Rattle.msg_channel.specs.declared.indexes.IndexValue.TheVariants as index
+use Rattle.session_core.specs.Granting.{HasNews}
 use Rattle.session_core.specs.Sending.{blobs_after, ended, is_spent, max_id, numbered, outgoing, replies_in, sent_under}
 use Rattle.session_core.specs.declared.state.Addressee.TheVariants as to
 use Rattle.session_core.specs.declared.state.Outgoing.{Outgoing}
 use Rattle.session_core.specs.declared.state.Part.{Part}
 use Rattle.session_core.specs.declared.state.Request.{Request}
 use Rattle.both_ends.specs.News.{IsTold, NewsAreHandedOn, all_given, behind, msg_of, news_parts}
-use Rattle.both_ends.specs.Notices.{HasNews, NoticesAreChanges, with_change}
+use Rattle.both_ends.specs.Notices.{NoticesAreChanges, with_change}
 
 abbrev pub as_sent : Outgoing → Sent
 as_sent o = (o.header, o.message)

@@ -24,7 +24,8 @@ use Rattle.etp_frame.specs.declared.message.Message.{Message}
 use Rattle.etp_frame.specs.declared.message.Message.TheVariants as message
 use Rattle.etp_values.specs.declared.point.ChannelPoint.{ChannelPoint}
 use Rattle.etp_values.specs.declared.point.Point.{Point}
-use Rattle.both_ends.specs.Notices.{HasNews, IsNotice, NoticesAreChanges, ReadNoticesAreChanges, change_msg, with_change}
+use Rattle.session_core.specs.Granting.{HasNews}
+use Rattle.both_ends.specs.Notices.{IsNotice, NoticesAreChanges, ReadNoticesAreChanges, change_msg, with_change}
 
 -- ---- points of one channel
 

@@ -4,11 +4,11 @@ use Rattle.std.specs.List.{AllByRecursion, flat_map}
 use Rattle.channel_store.specs.declared.change.ChannelChange.{ChannelChange}
 use Rattle.client_core.specs.Laws.{told_of}
 use Rattle.client_core.specs.declared.got.Got.TheVariants as got
+use Rattle.session_core.specs.Granting.{HasNews}
 use Rattle.session_core.specs.Sending.{is_spent, numbered}
 use Rattle.session_core.specs.Streams.{Heard, hear}
 use Rattle.session_core.specs.declared.state.Request.{Request}
 use Rattle.both_ends.specs.News.{msg_of, news_parts}
-use Rattle.both_ends.specs.Notices.{HasNews}
 
 -- of notices that a session has the ids to send it is heard, of each channel, what a client hands on that hands on these changes
 abbrev pub NewsAreHeard : Type 0

@@ -13,12 +13,13 @@ use Rattle.client_core.specs.declared.got.Got.TheVariants as got
 use Rattle.client_core.specs.declared.state.Phase.TheVariants as phase
 use Rattle.client_laws.specs.Parts.{Given, Sent, given_by, left_by}
 use Rattle.etp_frame.specs.declared.message.Message.TheVariants as message
+use Rattle.session_core.specs.Granting.{HasNews}
 use Rattle.session_core.specs.Replies.{sayings_of}
 use Rattle.session_core.specs.Sending.{is_spent, numbered, parts_of}
 use Rattle.session_core.specs.declared.state.Outgoing.{Outgoing}
 use Rattle.session_core.specs.declared.state.Part.{Part}
 use Rattle.session_core.specs.declared.state.Request.{Request}
-use Rattle.both_ends.specs.Notices.{HasNews, change_msg}
+use Rattle.both_ends.specs.Notices.{change_msg}
 
 -- the parts of the notices of changes
 abbrev pub news_parts : ℕ → ℕ → ℕ → List ChannelChange → List Part

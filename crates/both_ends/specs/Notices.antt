@@ -2,7 +2,6 @@
 use Rattle.std.specs.Prelude.{◌≡◌, ℕ, ℤ, pos, true, List, [], ◌∷◌, None, Ok, map}
 use Rattle.channel_rows.specs.Notices.{notice_of}
 use Rattle.channel_store.specs.declared.change.What.{What}
-use Rattle.channel_store.specs.declared.change.What.TheVariants.{Append}
 use Rattle.channel_store.specs.declared.copy.ChangeMsg.{ChangeMsg}
 use Rattle.client_core.specs.Notices.{follows, is_live}
 use Rattle.client_core.specs.State.{Heard}
@@ -12,11 +11,7 @@ use Rattle.client_laws.specs.Parts.{AreOfParts, AreRead, Given, Sent, at_last, g
 use Rattle.etp_frame.specs.Splitting.{parts}
 use Rattle.etp_frame.specs.declared.header.Header.{Header}
 use Rattle.etp_frame.specs.declared.message.Message.TheVariants as message
-
--- no session tells of an append of nothing
-abbrev pub HasNews : What → Type 0
-HasNews (Append []) = ⊥
-HasNews _ = Unit {0}
+use Rattle.session_core.specs.Granting.{HasNews}
 
 -- These are the parts of a session's notice of a change of a channel, which answers nothing, and the client's session is open, its
 -- subscription of the channel stands, and it keeps no part of another message.

@@ -1,13 +1,12 @@
 -- The configuration that bytes spell, or the first refusal.
-use Rattle.std.specs.Prelude.{ℕ, ◌+◌, List, [], ◌∷◌, ◌++◌, length, codes, nat_lt, Bool, is_some, Option, Some, None, Result, Ok, Err, if◌then◌else◌}
+use Rattle.std.specs.Prelude.{ℕ, ◌+◌, List, [], ◌∷◌, ◌++◌, length, codes, nat_lt, Bool, Option, Some, None, Result, Ok, Err, if◌then◌else◌}
 use Rattle.std.specs.List.{list_any}
 use Rattle.std.specs.Str.{is_utf8}
 use Rattle.toml.specs.Data.{Members}
 use Rattle.toml.specs.Parse.{parse_document}
-use Rattle.etp_values.specs.Uri.{uri_of}
+use Rattle.etp_values.specs.Uri.{only_object, uri_of}
 use Rattle.etp_values.specs.SameUri.{same_uri}
 use Rattle.etp_values.specs.declared.uri.StoreUri.{StoreUri}
-use Rattle.etp_values.specs.declared.uri.UriError.{UriError}
 use Rattle.chan_defs.specs.Keys.{text_at, instance_of, name_of, number_at, types_of, tables_of, kind_of, unit_of}
 use Rattle.server_config.specs.declared.config.Config.{Config}
 use Rattle.server_config.specs.declared.config.ChannelDef.{ChannelDef}
@@ -28,11 +27,6 @@ or_else e None = Err e
 abbrev pub table_of : List ℕ → Option Members
 table_of b = if is_utf8 b then parse_document b else None
 
--- the URI of an object
-abbrev pub object_uri : Result StoreUri UriError → Option StoreUri
-object_uri (Ok u) = if is_some u.object then Some u else None
-object_uri (Err e) = None
-
 -- an earlier channel has the URI
 abbrev pub is_taken : StoreUri → List ChannelDef → Bool
 is_taken uri channels = list_any (λ c. same_uri uri c.uri) channels
@@ -41,7 +35,7 @@ is_taken uri channels = list_any (λ c. same_uri uri c.uri) channels
 abbrev pub channel_of : ℕ → Members → Result ChannelDef DefsError
 channel_of n t =
     next (or_else (Key n 7) (text_at (codes "uri") t)) (λ text.
-    next (or_else (Uri n) (object_uri (uri_of text))) (λ uri.
+    next (or_else (Uri n) (only_object (uri_of text))) (λ uri.
     next (or_else (Key n 8) (name_of t)) (λ name.
     next (or_else (Key n 9) (text_at (codes "kind") t)) (λ word.
     next (or_else (Kind n) (kind_of word)) (λ kind.

@@ -3,8 +3,8 @@ ghost use Rattle.std.specs.Prelude.{◌≡◌, ◌≢◌, ◌+◌, ◌<◌, [], 
 ghost use Rattle.std.specs.Vec.{vec_capacity};
 ghost use Rattle.toml.specs.View.{table_view};
 ghost use Rattle.etp_values.specs.Gives.{Gives};
-ghost use Rattle.etp_values.specs.Uri.{uri_of};
-ghost use Rattle.chan_defs.specs.Config.{or_else, object_uri, channel_of, put_channel, channels_of};
+ghost use Rattle.etp_values.specs.Uri.{only_object, uri_of};
+ghost use Rattle.chan_defs.specs.Config.{or_else, channel_of, put_channel, channels_of};
 
 use crate::error::DefsError;
 use crate::keys::{kind, name, text, unit};
@@ -21,7 +21,7 @@ const MAX_CHANNELS: usize = 4_096;
 /// The URI of a channel, which has to be an object's.
 fn read_uri(alloc: Global, channel: u64, text: &str) -> Result<StoreUri, DefsError>
     ensures { Gives DefsError.NoMemory result
-        (or_else (DefsError.Uri channel) (object_uri (uri_of text.now))) }
+        (or_else (DefsError.Uri channel) (only_object (uri_of text.now))) }
 {
     match StoreUri::read(alloc, text) {
         Ok(uri) => {

@@ -4,10 +4,9 @@ use Rattle.std.specs.List.{find}
 use Rattle.std.specs.Map.{lookup}
 use Rattle.std.specs.Ordering.{int_eq}
 use Rattle.std.specs.Str.{bytes_eq}
+use Rattle.msg_channel.specs.ChannelRecords.{channel_data_kind_place}
 use Rattle.msg_channel.specs.declared.channel_data_load_messages.ChannelDataLoadMessage.{ChannelDataLoadMessage}
 use Rattle.msg_channel.specs.declared.channel_data_load_messages.ChannelDataLoadMessage.TheVariants as load
-use Rattle.msg_channel.specs.declared.channel_records.ChannelDataKind.{ChannelDataKind}
-use Rattle.msg_channel.specs.declared.channel_records.ChannelDataKind.TheVariants as kind
 use Rattle.msg_channel.specs.declared.channel_records.ChannelMetadataRecord.{ChannelMetadataRecord}
 use Rattle.msg_channel.specs.declared.channel_subscribe_messages.ChannelSubscribeMessage.{ChannelSubscribeMessage}
 use Rattle.msg_channel.specs.declared.channel_subscribe_messages.ChannelSubscribeMessage.TheVariants as subscribe
@@ -34,24 +33,9 @@ use Rattle.client_core.specs.declared.state.Phase.TheVariants as phase
 abbrev pub at_key : {A : Type 0} → List (List ℕ × A) → Option A
 at_key xs = lookup (bytes_eq (codes "c")) xs
 
--- the place of a kind of data in the schema's order
-abbrev pub kind_place : ChannelDataKind → ℕ
-kind_place kind.DateTime = 0
-kind_place kind.ElapsedTime = 1
-kind_place kind.MeasuredDepth = 2
-kind_place kind.PassIndexedDepth = 3
-kind_place kind.TrueVerticalDepth = 4
-kind_place kind.TypeBoolean = 5
-kind_place kind.TypeInt = 6
-kind_place kind.TypeLong = 7
-kind_place kind.TypeFloat = 8
-kind_place kind.TypeDouble = 9
-kind_place kind.TypeString = 10
-kind_place kind.TypeBytes = 11
-
 -- what a channel is, as the ask of this id is told
 abbrev pub meta_of : ℤ → ChannelMetadataRecord → Got
-meta_of id m = got.Meta id m.id (kind_place m.data_kind)
+meta_of id m = got.Meta id m.id (channel_data_kind_place m.data_kind)
 
 -- ---- what each answer is found in
 

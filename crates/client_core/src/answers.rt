@@ -1,7 +1,8 @@
 //! What ends an ask.
 ghost use Rattle.std.specs.Prelude.{◌≡◌, option_map, IfOk};
-ghost use Rattle.client_core.specs.Answers.{answer, at_key, channel_in, core_moment, core_session, dataspace_granted, done, grants_object, grants_space, grants_subscription, is_granted, kind_place, load_channel, meta_of, moment_in, object_in, opened_in, session_in, store_granted, store_object, subscribe_channel, subscribe_granted};
+ghost use Rattle.client_core.specs.Answers.{answer, at_key, channel_in, core_moment, core_session, dataspace_granted, done, grants_object, grants_space, grants_subscription, is_granted, load_channel, meta_of, moment_in, object_in, opened_in, session_in, store_granted, store_object, subscribe_channel, subscribe_granted};
 ghost use Rattle.client_core.specs.declared.got.Got.TheVariants as got;
+ghost use Rattle.msg_channel.specs.ChannelRecords.{channel_data_kind_place};
 
 use crate::got::Got;
 use crate::messages::KEY;
@@ -16,7 +17,7 @@ use msg_store::{GetDataObjectsResponse, StoreMessage};
 
 /// The place of a kind of data in the schema's order.
 fn kind_place(kind: ChannelDataKind) -> u32
-    ensures { result ≡ kind_place kind }
+    ensures { result ≡ channel_data_kind_place kind }
 {
     match kind {
         ChannelDataKind::DateTime => 0,

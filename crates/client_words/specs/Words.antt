@@ -1,10 +1,9 @@
 -- The words of the client's command line.
-use Rattle.std.specs.Prelude.{ℕ, List, [], ◌∷◌, codes, is_some, if◌then◌else◌, Option, None, Some, Result, Ok, Err}
+use Rattle.std.specs.Prelude.{ℕ, List, [], ◌∷◌, codes, if◌then◌else◌, Option, None, Some}
 use Rattle.std.specs.Str.{bytes_eq}
 use Rattle.command_words.specs.Words.{plain_words}
-use Rattle.etp_values.specs.Uri.{uri_of}
+use Rattle.etp_values.specs.Uri.{only_object, uri_of}
 use Rattle.etp_values.specs.declared.uri.StoreUri.{StoreUri}
-use Rattle.etp_values.specs.declared.uri.UriError.{UriError}
 use Rattle.point_lines.specs.Numerals.{positive_in}
 use Rattle.url.specs.Parts.{Parts}
 use Rattle.client_words.specs.Address.{address_in}
@@ -23,12 +22,8 @@ pub record Form : Type 0 where
   pub command : Command
 
 -- a URI that names an object
-abbrev pub object_of : Result StoreUri UriError → Option StoreUri
-object_of (Ok u) = if is_some u.object then Some u else None
-object_of (Err e) = None
-
 abbrev pub object_in : List ℕ → Option StoreUri
-object_in text = object_of (uri_of text)
+object_in text = only_object (uri_of text)
 
 -- the command of a name, for an object
 abbrev pub on_object : List ℕ → StoreUri → Option Command

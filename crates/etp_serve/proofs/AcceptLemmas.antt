@@ -7,6 +7,7 @@ use Rattle.std.specs.declared.option.Option.{Option}
 use mathlib.Core.List.{IsPrefix}
 use Rattle.etp_values.proofs.EachLemmas.{all-append}
 use Rattle.etp_values.proofs.PrefixLemmas.{prefix_self, prefix_trans, prefix_length}
+use Rattle.etp_values.proofs.RisingLemmas.{rises_wider}
 use Rattle.server_config.specs.declared.config.Config.{Config}
 use Rattle.store_machine.specs.declared.journal.Act.TheVariants.{Enter}
 use Rattle.store_machine.specs.declared.journal.Entry.{Entry}
@@ -23,7 +24,7 @@ use Rattle.turn_book.specs.Lists.{Each, own}
 use Rattle.turn_book.specs.Rules.{IsSettled}
 use Rattle.turn_book.specs.Steps.{met_of}
 use Rattle.turn_book.specs.declared.view.Met.{Met}
-use Rattle.turn_book.proofs.ListLemmas.{each_right, rises_wider}
+use Rattle.turn_book.proofs.ListLemmas.{each_right}
 use Rattle.store_hub.specs.declared.hub.Hub.{Hub}
 use Rattle.store_hub.specs.Notes.{Meets, SeesMore}
 use Rattle.store_hub.specs.Words.{Known, by_of, enters_of}

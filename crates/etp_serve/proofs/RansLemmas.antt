@@ -6,6 +6,7 @@ use Rattle.std.specs.List.{AllByRecursion}
 use Rattle.store_hub.proofs.ReadingLemmas.{noted_seen}
 use mathlib.Core.List.{IsPrefix, prefix-append}
 use Rattle.etp_values.proofs.PrefixLemmas.{prefix_self, prefix_trans, prefix_length}
+use Rattle.etp_values.proofs.RisingLemmas.{rises_snoc}
 use Rattle.server_config.specs.declared.config.Config.{Config}
 use Rattle.store_machine.specs.declared.journal.Entry.{Entry}
 use Rattle.store_machine.specs.declared.call.StoreCall.{StoreCall}
@@ -16,7 +17,6 @@ use Rattle.store_machine.proofs.NumberLemmas.{added-one}
 use Rattle.etp_values.specs.Rising.{Rises}
 use Rattle.turn_book.specs.Lists.{own, own_from}
 use Rattle.turn_book.specs.Steps.{hearing}
-use Rattle.turn_book.proofs.ListLemmas.{rises_snoc}
 use Rattle.turn_book.proofs.OwnLemmas.{own_grown}
 use Rattle.store_hub.specs.Words.{Known, by_of, enters_of}
 use Rattle.store_hub.specs.Notes.{noted, Answers, Refuses}

@@ -16,7 +16,7 @@ use Rattle.etp_serve.specs.Served.{IsCutInEvent}
 
 -- ---- places that rise from one number on rise from any lower one on
 
-rise_so : (m low : ℕ) (ps : List ℕ) (high : ℕ) → m ≤ low → Rises low ps high → serial.Rises m ps
+rise_so : (m low : ℕ) (ps : List ℕ) (high : ℕ) → m ≤ low → Rises low ps high → serial.RisesFrom m ps
 rise_so m low [] high le r = tt
 rise_so m low (p ∷ ps) high le r = ((let f = r.0 in omega (arith, f, le)), rise_so p p ps high (omega arith) r.1)
 

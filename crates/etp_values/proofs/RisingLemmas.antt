@@ -61,3 +61,13 @@ rises_alone items before x made none = subst (λ xs. IsStrictlySortedBy (slice_c
 pub rises_bound : (low : ℕ) (ns : List ℕ) (high : ℕ) → Rises low ns high → low ≤ high
 rises_bound low [] high r = r
 rises_bound low (n ∷ ns) high r = let f = r.0 in let g = rises_bound n ns high r.1 in omega (arith, f, g)
+
+-- a number that is at least the last one, behind the others
+pub rises_snoc : (low : ℕ) (xs : List ℕ) (high n top : ℕ) → Rises low xs high → high ≤ n → n ≤ top → Rises low (xs ++ n ∷ []) top
+rises_snoc low [] high n top r a b = (omega arith, b)
+rises_snoc low (x ∷ xs) high n top r a b = (r.0, rises_snoc x xs high n top r.1 a b)
+
+-- the upper bound may be a greater one
+pub rises_wider : (low : ℕ) (xs : List ℕ) (high top : ℕ) → Rises low xs high → high ≤ top → Rises low xs top
+rises_wider low [] high top r a = omega arith
+rises_wider low (x ∷ xs) high top r a = (r.0, rises_wider x xs high top r.1 a)

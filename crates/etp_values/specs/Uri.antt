@@ -1,5 +1,5 @@
 -- The URIs of dataspaces and objects: which texts they have, what a text says, and where a text is refused.
-use Rattle.std.specs.Prelude.{ℕ, List, [], ◌∷◌, ◌++◌, length, take, drop, codes, ◌≡◌, ◌-◌, ◌≤◌, ◌==◌, nat_eq, nat_lt, nat_le, Bool, true, false, ◌&&◌, ◌||◌, IsTrue, Option, Some, None, option_map, option_and_then, IfSome, Result, Ok, Err, if◌then◌else◌}
+use Rattle.std.specs.Prelude.{ℕ, List, [], ◌∷◌, ◌++◌, length, take, drop, codes, ◌≡◌, ◌-◌, ◌≤◌, ◌==◌, nat_eq, nat_lt, nat_le, Bool, true, false, ◌&&◌, ◌||◌, IsTrue, Option, Some, None, is_some, option_map, option_and_then, IfSome, Result, Ok, Err, if◌then◌else◌}
 use Rattle.std.specs.List.{list_all, flat_map, common_prefix_len}
 use Rattle.std.specs.Str.{bytes_eq}
 use Rattle.etp_values.specs.IdText.{IsId, id_of, id_text}
@@ -191,6 +191,11 @@ with_body text (Some s) = with_space (length text) s (after (codes "dataspace(")
 -- the URI that a text says, or the first refusal with its place
 unfoldable pub uri_of : List ℕ → Result StoreUri UriError
 uri_of text = if nat_lt 2048 (length text) then Err TooLong else with_body text (after (codes "eml:///") text)
+
+-- the URI of an object, where one was read
+abbrev pub only_object : Result StoreUri UriError → Option StoreUri
+only_object (Ok u) = if is_some u.object then Some u else None
+only_object (Err e) = None
 
 -- ---- types of objects
 

@@ -1,6 +1,6 @@
 -- Requests whose items stand under keys. Each key is checked in the order of the keys, and those that are granted go into the
 -- call. What comes back is joined with them, and granted and refused keys then make the reply.
-use Rattle.std.specs.Prelude.{ℕ, Bool, true, false, List, [], ◌∷◌, map, take, drop}
+use Rattle.std.specs.Prelude.{ℕ, Bool, true, false, List, [], ◌∷◌, Option, Some, None, map, take, drop}
 use Rattle.std.specs.List.{flat_map}
 use Rattle.etp_values.specs.declared.code.ErrorCode.{ErrorCode}
 use Rattle.keyed_requests.specs.declared.keys.Decision.{Decision}
@@ -41,6 +41,11 @@ abbrev pub sent : {A B : Type 0} → (A → B) → List (List ℕ × Decision A)
 sent send items = flat_map (λ x. sent_one send x.0 x.1) items
 
 -- ---- after the call: each granted key is finished by its findings, so many for each
+
+-- a key is granted unless there is a cause against it
+abbrev pub granted_unless : {R : Type 0} → Option ErrorCode → R → Decision R
+granted_unless (Some code) r = Refused code
+granted_unless None r = Granted r
 
 -- how many of the findings are a key's
 abbrev pub width_of : {B : Type 0} → ℕ → Decision B → ℕ

@@ -2,6 +2,7 @@
 use Rattle.std.specs.Prelude.{Bool, true, false, not, List, [], ◌∷◌, Option, Some, None, if◌then◌else◌}
 use Rattle.etp_values.specs.declared.code.ErrorCode.{ErrorCode}
 use Rattle.etp_values.specs.declared.code.ErrorCode.TheVariants.{NotFound}
+use Rattle.keyed_requests.specs.Sending.{first_cause}
 use Rattle.tx_stage.specs.declared.key.Key.{Key}
 use Rattle.tx_stage.specs.declared.look.Looked.{Looked}
 use Rattle.tx_stage.specs.declared.look.Looked.TheVariants.{Missing, Refused}
@@ -26,13 +27,9 @@ is_first_seen (l ∷ ls) = true
 abbrev pub needed_refusal : Option Transaction → Key → Op → Bool → Option ErrorCode
 needed_refusal stage needed o found = if not (stands stage needed found) then Some NotFound else stage_refusal stage o
 
-abbrev pub refusal_by : Option ErrorCode → Option ErrorCode → Option ErrorCode
-refusal_by (Some code) later = Some code
-refusal_by None later = later
-
 -- why an operation is refused: a look was, what it needs doesn't stand, or the transaction refuses it
 abbrev pub found_refusal : Option Transaction → Key → Op → List Looked → Option ErrorCode
-found_refusal stage needed o found = refusal_by (refused_look found) (needed_refusal stage needed o (is_first_seen found))
+found_refusal stage needed o found = first_cause (refused_look found) (needed_refusal stage needed o (is_first_seen found))
 
 -- the scope after the operation, where neither a look was refused nor what it needs is missing
 abbrev pub putting_by : Option ErrorCode → Bool → Scope → Op → Scope

@@ -32,7 +32,7 @@ use Rattle.session_core.specs.State.{State}
 use Rattle.session_core.specs.Arriving.{Event}
 use Rattle.session_core.specs.Run.{Course, drained, happens, happens_unless, takes}
 use Rattle.session_core.specs.Sending.{is_spent, max_id, next_after, numbered, outgoing, replies_in}
-use Rattle.session_core.specs.Serial.{EndsBy, Rises, Succeeds, alone, bodies, replies, requests}
+use Rattle.session_core.specs.Serial.{EndsBy, RisesFrom, Succeeds, alone, bodies, replies, requests}
 use Rattle.session_core.proofs.MarkedLemmas.{AreFree, AreWithin, marked}
 use Rattle.session_core.proofs.RunLemmas.{course}
 
@@ -116,7 +116,7 @@ module _ (config : Config) (n : ℕ) (h : List Entry) (p : ℕ) where
   -- what is to be shown of the events that are left
   abbrev pub Induction : State → List Event → Type 0
   Induction base es = (x : Transaction) (joiner : Option Awaited) (blobs : ℕ) (ls la : ℤ) (ns na : ℕ) (os oa : List Bool) (bs ba : Subbed) (q : ℕ) (ps : List ℕ) (sent : List Outgoing) (made : List (ℕ × Entry)) (reach : ℕ)
-      → Later la ls → na ≤ ns → blobs ≤ 2 ^ 64 - 1 → Rises q ps → AreWithin q x.touched
+      → Later la ls → na ≤ ns → blobs ≤ 2 ^ 64 - 1 → RisesFrom q ps → AreWithin q x.touched
       → Succeeds config n h p (course (at base ls ns os bs x joiner blobs []) ps sent made reach) es
       → Lawful h p q x.touched (replies config n h (course (at base ls ns os bs x joiner blobs []) ps sent made reach) es)
       (alone config (take p h) (at base la na oa ba (marked (length (take p h)) x) joiner blobs []) (requests config n h (course (at base ls ns os bs x joiner blobs []) ps sent made reach) es))

@@ -27,7 +27,7 @@ use Rattle.session_core.specs.State.{State}
 use Rattle.session_core.specs.Arriving.{Event, arrived, request_of}
 use Rattle.session_core.specs.Machine.{Taken, by_event}
 use Rattle.session_core.specs.Run.{Course, asked, answered_at, at_place, drained, hears, moment_of, own_number, takes}
-use Rattle.session_core.specs.Serial.{CommitsAt, EndsBy, Rises, Succeeds, after_call, after_event, alone, bodies, is_request_as, replies, requests, where_so, while_open}
+use Rattle.session_core.specs.Serial.{CommitsAt, EndsBy, RisesFrom, Succeeds, after_call, after_event, alone, bodies, is_request_as, replies, requests, where_so, while_open}
 use Rattle.session_core.proofs.BesideLemmas.{AreNamed, Aside, Beside, Commits, Drops, Goes, IsApart, IsBegun, IsNamed, KeepsApart, accepted, event_aside}
 use Rattle.session_core.proofs.MarkedLemmas.{AreWithin, marked, marks-rise}
 use Rattle.session_core.proofs.RetouchedLemmas.{retouched}
@@ -155,7 +155,7 @@ module _ (config : Config) (n : ℕ) (h : List Entry) (p : ℕ) (between : Value
 
     -- once an event that is no request led to a state beside that before it
     after_aside : (last : ℤ) (ns : ℕ) (os : List Bool) (bs : Subbed) (v : State) (q : ℕ) (qs : List ℕ) (sent : List Outgoing) (made : List (ℕ × Entry)) (reach : ℕ)
-        → Beside (at base last ns os bs x joiner blobs []) v → v.pending ≡ None → Later la last → na ≤ ns → Rises q qs → AreWithin q x.touched
+        → Beside (at base last ns os bs x joiner blobs []) v → v.pending ≡ None → Later la last → na ≤ ns → RisesFrom q qs → AreWithin q x.touched
         → Succeeds config n h p (course (drained v) qs sent made reach) es
         → Lawful h p q x.touched (replies config n h (course (drained v) qs sent made reach) es) (alone config (take p h) one (requests config n h (course (drained v) qs sent made reach) es))
     after_aside last ns os bs v q qs sent made reach b idle later le rises within succ = by v.phase refl b.11 succ
@@ -187,7 +187,7 @@ module _ (config : Config) (n : ℕ) (h : List Entry) (p : ℕ) (between : Value
         by (phase.Ended e) is begun s = absurd (ended-fails config n h p es e (drained v) qs sent made reach
             (subst (λ z. Succeeds config n h p (course (record (drained v) { phase = z }) qs sent made reach) es) is s))
 
-    module _ (last : ℤ) (ns : ℕ) (os : List Bool) (bs : Subbed) (c : Course) (moment : ℤ) (q : ℕ) (later : Later la last) (le : na ≤ ns) (rises : Rises q c.places) (within : AreWithin q x.touched) where
+    module _ (last : ℤ) (ns : ℕ) (os : List Bool) (bs : Subbed) (c : Course) (moment : ℤ) (q : ℕ) (later : Later la last) (le : na ≤ ns) (rises : RisesFrom q c.places) (within : AreWithin q x.touched) where
       abbrev before : State
       before = at base last ns os bs x joiner blobs []
 
@@ -198,7 +198,7 @@ module _ (config : Config) (n : ℕ) (h : List Entry) (p : ℕ) (between : Value
           (alone config (take p h) one (while_open st (requests config n h (asked config n h moment c t.state t.call) es)))
 
       -- the answer to a call that is none of the transaction's
-      called : (s : State) (k : StoreCall) → Beside before s → IsApart s.pending → (ps : List ℕ) → Rises q ps
+      called : (s : State) (k : StoreCall) → Beside before s → IsApart s.pending → (ps : List ℕ) → RisesFrom q ps
           → Succeeds config n h p (answered_at config n h moment c s k ps) es
           → Lawful h p q x.touched (replies config n h (answered_at config n h moment c s k ps) es) (alone config (take p h) one (requests config n h (answered_at config n h moment c s k ps) es))
       called s k b apart [] up_to succ = absurd (short-fails config n h p es (answered_at config n h moment c s k []) refl refl succ)
@@ -213,10 +213,10 @@ module _ (config : Config) (n : ℕ) (h : List Entry) (p : ℕ) (between : Value
       left_open s None b apart succ = after_aside last ns os bs s q c.places (c.sent ++ s.out) c.made c.reach b apart later le rises within succ.1
       left_open s (Some k) b apart succ = called s k b apart c.places rises succ.1
 
-      commits : (k : Option StoreCall) (s : State) (ps : List ℕ) → Rises q ps → k ≡ Some (call.Commit (to_commit x)) → CommitsAt config h p k ps → Lawful h p q x.touched [] []
+      commits : (k : Option StoreCall) (s : State) (ps : List ℕ) → RisesFrom q ps → k ≡ Some (call.Commit (to_commit x)) → CommitsAt config h p k ps → Lawful h p q x.touched [] []
       commits k s ps up_to is done = by ps up_to (subst (λ z. CommitsAt config h p z ps) is done)
         where
-          by : (ps : List ℕ) → Rises q ps → CommitsAt config h p (Some (call.Commit (to_commit x))) ps → Lawful h p q x.touched [] []
+          by : (ps : List ℕ) → RisesFrom q ps → CommitsAt config h p (Some (call.Commit (to_commit x))) ps → Lawful h p q x.touched [] []
           by [] up_to done = absurd done
           by (i ∷ is) up_to done = record { same = refl; free = no_conflict x.touched (take p h) (committed config (take p h) x done.1); above = omega (arith, up_to.0, done.0) }
 
@@ -242,7 +242,7 @@ module _ (config : Config) (n : ℕ) (h : List Entry) (p : ℕ) (between : Value
 
   -- an event of the run, by whether it is a request of the transaction
   module _ (base : State) (es : List Event) (ih : Induction config n h p base es) (e : Event) (x : Transaction) (joiner : Option Awaited) (blobs : ℕ) (ls la : ℤ) (ns na : ℕ) (os oa : List Bool) (bs ba : Subbed) (q : ℕ) (c : Course)
-      (later : Later la ls) (le : na ≤ ns) (low : blobs ≤ 2 ^ 64 - 1) (rises : Rises q c.places) (within : AreWithin q x.touched) where
+      (later : Later la ls) (le : na ≤ ns) (low : blobs ≤ 2 ^ 64 - 1) (rises : RisesFrom q c.places) (within : AreWithin q x.touched) where
     abbrev run_before : State
     run_before = at base ls ns os bs x joiner blobs []
 
@@ -278,7 +278,7 @@ module _ (config : Config) (n : ℕ) (h : List Entry) (p : ℕ) (between : Value
   serial_from base (e ∷ es) x joiner blobs ls la ns na os oa bs ba q ps sent made reach later le low rises within succ =
       one_event base es (serial_from base es) e x joiner blobs ls la ns na os oa bs ba q (course (at base ls ns os bs x joiner blobs []) ps sent made reach) later le low rises within (is_request_as (arrived ls e)) refl succ
 
-  pub committed_from : (c : Course) (x : Transaction) (es : List Event) → c.short ≡ false → Begins c.state x → Rises 0 c.places → Succeeds config n h p c es
+  pub committed_from : (c : Course) (x : Transaction) (es : List Event) → c.short ≡ false → Begins c.state x → RisesFrom 0 c.places → Succeeds config n h p c es
       → replies config n h c es ≡ alone config (take p h) c.state (requests config n h c es)
   committed_from c x es short begins rises succ =
       let s = c.state in

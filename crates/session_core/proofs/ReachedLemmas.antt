@@ -59,7 +59,7 @@ use Rattle.session_core.specs.Noting.{noting, reply_noted}
 use Rattle.session_core.specs.Replies.{receipt, refusal, sayings_of, to_request}
 use Rattle.session_core.specs.Run.{AnswersAreLast, Course, answered_at, asked, first_course, happens, happens_unless, hears, moment_of, run, run_from, takes}
 use Rattle.session_core.specs.Sending.{is_spent, parts_of, said, spent_phase}
-use Rattle.session_core.specs.Serial.{Begins, Rises, RunIsSerial, Succeeds}
+use Rattle.session_core.specs.Serial.{Begins, RisesFrom, RunIsSerial, Succeeds}
 use Rattle.session_core.proofs.AloneLemmas.{ended-fails, short-fails}
 use Rattle.session_core.proofs.RunLemmas.{course}
 use Rattle.session_core.proofs.BesideLemmas.{IsApart, IsBegun, IsReady, begun-spent, blobs-low}
@@ -301,18 +301,18 @@ record Reached (c : Course) : Type 0 where
   sound : IsSound c.state
   idle : c.short ≡ false → c.state.pending ≡ None
   out : c.state.out ≡ []
-  places : Rises 0 c.places
+  places : RisesFrom 0 c.places
 
-fewer : (p : ℕ) (ps : List ℕ) → Rises 0 (p ∷ ps) → Rises 0 ps
+fewer : (p : ℕ) (ps : List ℕ) → RisesFrom 0 (p ∷ ps) → RisesFrom 0 ps
 fewer p [] h = tt
 fewer p (q ∷ qs) h = (omega arith, h.1.1)
 
 module _ (fits : AnswersFit) (last : AnswersAreLast) (config : Config) (n : ℕ) (h : List Entry) where
-  answered_reached : (moment : ℤ) (c : Course) (t : Taken) (k : StoreCall) (ps : List ℕ) → Steps t → Rises 0 ps → Reached (answered_at config n h moment c t.state k ps)
+  answered_reached : (moment : ℤ) (c : Course) (t : Taken) (k : StoreCall) (ps : List ℕ) → Steps t → RisesFrom 0 ps → Reached (answered_at config n h moment c t.state k ps)
   answered_reached moment c t k [] steps rises = record { sound = step_sound t steps; idle = λ is. absurd (false≢true (sym is)); out = refl; places = tt }
   answered_reached moment c t k (q ∷ qs) steps rises = record { sound = hearing_sound t (answered config (take q h) k) steps; idle = λ is. last t.state (answered config (take q h) k); out = refl; places = fewer q qs rises }
 
-  asked_reached : (moment : ℤ) (c : Course) (t : Taken) (k : Option StoreCall) → Steps t → MatchOption k (t.state.pending ≡ None) (λ k. IsSomeAnd t.state.pending (Fits (answered config h k).reply)) → Rises 0 c.places
+  asked_reached : (moment : ℤ) (c : Course) (t : Taken) (k : Option StoreCall) → Steps t → MatchOption k (t.state.pending ≡ None) (λ k. IsSomeAnd t.state.pending (Fits (answered config h k).reply)) → RisesFrom 0 c.places
       → Reached (asked config n h moment c t.state k)
   asked_reached moment c t None steps kept rises = record { sound = step_sound t steps; idle = λ is. kept; out = refl; places = rises }
   asked_reached moment c t (Some k) steps kept rises = answered_reached moment c t k c.places steps rises

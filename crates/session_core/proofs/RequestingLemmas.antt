@@ -52,7 +52,7 @@ use Rattle.session_core.specs.Noting.{found_noted, note_all}
 use Rattle.session_core.specs.Replies.{receipt, refusal, sayings_of, to_request}
 use Rattle.session_core.specs.Run.{Course, asked, answered_at, at_place, drained, hears, own_number}
 use Rattle.session_core.specs.Sending.{blobs_sent, is_spent, next_after, numbered, parts_of, said, spent_phase}
-use Rattle.session_core.specs.Serial.{AllNoted, EndsBy, Rises, Succeeds, after_call, alone, bodies, is_request_as, is_staged, replies, requests, while_open}
+use Rattle.session_core.specs.Serial.{AllNoted, EndsBy, RisesFrom, Succeeds, after_call, alone, bodies, is_request_as, is_staged, replies, requests, while_open}
 use Rattle.session_core.proofs.AskingLemmas.{LooksWithin, OnCalls, arrays_look, arrays_same, objects_look, objects_same}
 use Rattle.session_core.proofs.BesideLemmas.{AreNamed, IsNamed, blobs-low}
 use Rattle.session_core.proofs.MarkedLemmas.{AreWithin, all_touched, marked, marked-found, marked-notes, marks, marks-rise, notes-after, notes-before, take-short, wants-clear}
@@ -125,7 +125,7 @@ module _ (config : Config) (n : ℕ) (h : List Entry) (p : ℕ) (base : State) (
       (bodies w.out ++ alone config (take p h) (drained w) (requests config n h (told sent v qs made reach) es))
 
   goes_on : (x : Transaction) (joiner : Option Awaited) (blobs : ℕ) (last : ℤ) (ns na : ℕ) (os oa : List Bool) (bs ba : Subbed) (outs outa : List Outgoing) (q : ℕ) (qs : List ℕ) (sent : List Outgoing) (made : List (ℕ × Entry)) (reach : ℕ)
-      → na ≤ ns → blobs ≤ 2 ^ 64 - 1 → Rises q qs → AreWithin q x.touched → bodies outs ≡ bodies outa
+      → na ≤ ns → blobs ≤ 2 ^ 64 - 1 → RisesFrom q qs → AreWithin q x.touched → bodies outs ≡ bodies outa
       → After q qs sent made reach x.touched (at base last ns os bs x joiner blobs outs) (at base last na oa ba (marked (length (take p h)) x) joiner blobs outa)
   goes_on x joiner blobs last ns na os oa bs ba outs outa q qs sent made reach le low rises within same s =
       let r = ih x joiner blobs last last ns na os oa bs ba q qs (sent ++ outs) made reach (λ id is. is) le low rises within s in
@@ -138,7 +138,7 @@ module _ (config : Config) (n : ℕ) (h : List Entry) (p : ℕ) (base : State) (
 
   -- both say the same
   spoken : (r : Request) (sayings : List Saying) (x : Transaction) (joiner : Option Awaited) (blobs : ℕ) (last : ℤ) (ns na : ℕ) (os oa : List Bool) (bs ba : Subbed) (outs outa : List Outgoing) (q : ℕ) (qs : List ℕ) (sent : List Outgoing) (made : List (ℕ × Entry)) (reach : ℕ)
-      → na ≤ ns → blobs ≤ 2 ^ 64 - 1 → Rises q qs → AreWithin q x.touched → bodies outs ≡ bodies outa
+      → na ≤ ns → blobs ≤ 2 ^ 64 - 1 → RisesFrom q qs → AreWithin q x.touched → bodies outs ≡ bodies outa
       → After q qs sent made reach x.touched (said r sayings (at base last ns os bs x joiner blobs outs)) (said r sayings (at base last na oa ba (marked (length (take p h)) x) joiner blobs outa))
   spoken r sayings x joiner blobs last ns na os oa bs ba outs outa q qs sent made reach le low rises within same = by (is_spent ns (parts_of base.limit base.number blobs sayings)) refl
     where
@@ -154,7 +154,7 @@ module _ (config : Config) (n : ℕ) (h : List Entry) (p : ℕ) (base : State) (
           (next-less na ns ps le e) (blobs-low base.limit blobs sayings low) rises within bodies_same)
 
   -- the same of a half step of both, and of the answer to its call
-  module _ (c : Course) (moment : ℤ) (q : ℕ) (rises : Rises q c.places) where
+  module _ (c : Course) (moment : ℤ) (q : ℕ) (rises : RisesFrom q c.places) where
     abbrev pub Both : Transaction → Taken → Taken → Type 0
     Both x t u =
         EndsBy config h p t.state.stage t.state.pending t.call c.places (Succeeds config n h p (asked config n h moment c t.state t.call) es)
@@ -181,7 +181,7 @@ module _ (config : Config) (n : ℕ) (h : List Entry) (p : ℕ) (base : State) (
           → Both x (asks (pending.Staged r (map key_of ws) sp) (call.Look ws) (run_state joiner)) (asks (pending.Staged r (map key_of ws) sp) (call.Look ws) (alone_state joiner))
       looked joiner r sp ws spaces s = by c.places rises s.0 s.1
         where
-          by : (ps : List ℕ) → Rises q ps → AllNoted x (map key_of ws) → Succeeds config n h p (answered_at config n h moment c (awaiting r ws sp (run_state joiner)) (call.Look ws) ps) es
+          by : (ps : List ℕ) → RisesFrom q ps → AllNoted x (map key_of ws) → Succeeds config n h p (answered_at config n h moment c (awaiting r ws sp (run_state joiner)) (call.Look ws) ps) es
               → Lawful h p q x.touched
               (bodies (answered_at config n h moment (record c { sent = [] }) (awaiting r ws sp (run_state joiner)) (call.Look ws) ps).sent ++ replies config n h (answered_at config n h moment c (awaiting r ws sp (run_state joiner)) (call.Look ws) ps) es)
               (bodies (hears (awaiting r ws sp (alone_state joiner)) (answered config (take p h) (call.Look ws))).out

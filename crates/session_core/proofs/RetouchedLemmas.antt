@@ -16,7 +16,7 @@ use Rattle.etp_values.specs.declared.code.ErrorCode.{ErrorCode}
 use Rattle.etp_values.specs.declared.code.ErrorCode.TheVariants.{LimitExceeded}
 use Rattle.etp_values.specs.declared.data.AnyArray.{AnyArray}
 use Rattle.etp_values.specs.declared.uri.StoreUri.{StoreUri}
-use Rattle.keyed_requests.specs.Keyed.{finished, finished_state, request_reply}
+use Rattle.keyed_requests.specs.Keyed.{finished, finished_state, granted_unless, request_reply}
 use Rattle.keyed_requests.specs.declared.keys.Decision.{Decision}
 use Rattle.keyed_requests.specs.declared.keys.Decision.TheVariants.{Granted, Refused}
 use Rattle.keyed_requests.specs.declared.sending.Sending.{Sending}
@@ -171,12 +171,12 @@ object_got f x paid key u found =
 object_put : (at : ℤ) → IsSteady (objects.staged_put at)
 object_put at x paid key r found =
     let o = objects.set_object at r in
-    putting_then x paid o (objects.granted_unless (found_refusal (Some x) (Space r.uri.space) o found) objects.none_contained) (refused_look found) (stands (Some x) (Space r.uri.space) (is_first_seen found))
+    putting_then x paid o (granted_unless (found_refusal (Some x) (Space r.uri.space) o found) objects.none_contained) (refused_look found) (stands (Some x) (Space r.uri.space) (is_first_seen found))
 
 object_gone : (at : ℤ) → IsSteady (objects.staged_delete at)
 object_gone at x paid key u found =
     let o = objects.remove_object at u in
-    putting_then x paid o (objects.granted_unless (found_refusal (Some x) (Object u) o found) (objects.removed u)) (refused_look found) (stands (Some x) (Object u) (is_first_seen found))
+    putting_then x paid o (granted_unless (found_refusal (Some x) (Object u) o found) (objects.removed u)) (refused_look found) (stands (Some x) (Object u) (is_first_seen found))
 
 objects_seen : (x : Transaction) (p : ObjectPending) (found : List Looked) → Answers (λ ts. objects.looks_reply (Some (retouched ts x)) p found)
 objects_seen x (keeps_object.Get f items) found = scoped (objects.get_one f) 1 objects.get_response (object_got f) x items found
@@ -232,13 +232,13 @@ shape_got limit x paid key kept found = leaves x paid _
 array_put : (at : ℤ) → IsSteady (changing.staged_put at)
 array_put at x paid key a found =
     let o = changing.set_array at a in
-    putting_then x paid o (reading.granted_unless (found_refusal (Some x) (Object a.key.uri) o found) []) (refused_look found) (stands (Some x) (Object a.key.uri) (is_first_seen found))
+    putting_then x paid o (granted_unless (found_refusal (Some x) (Object a.key.uri) o found) []) (refused_look found) (stands (Some x) (Object a.key.uri) (is_first_seen found))
 
 patch_counted : (at : ℤ) (x : Transaction) (paid : ℕ) (a : ArrayPatch) (b : Bool) → Decides (λ ts. changing.patch_counted at (scope (retouched ts x) paid) a b)
 patch_counted at x paid a false = leaves x paid (Refused LimitExceeded)
 patch_counted at x paid a true =
     let o = changing.patch_array at a in
-    let d : Decision (List ℕ) = reading.granted_unless (stage_refusal (Some x) o) [] in
+    let d : Decision (List ℕ) = granted_unless (stage_refusal (Some x) o) [] in
     record { after = put_left x o; paid = paid; decision = d; is = λ ts. ap (λ (s : Scope). let y : Scope × Decision (List ℕ) = (s, d) in y) (staging-is ts x paid o) }
 
 patch_unless : (at : ℤ) (x : Transaction) (paid : ℕ) (a : ArrayPatch) (whole : AnyArray) (why : Option ErrorCode) → Decides (λ ts. changing.patch_unless at (scope (retouched ts x) paid) a whole why)

@@ -40,10 +40,11 @@ use Rattle.subscribe_core.specs.Calls.{AreApart}
 use Rattle.subscribe_core.specs.Streams.{of_channel}
 use Rattle.subscribe_core.specs.Subscriptions.{Subbed, cursor_after, has_sub}
 use Rattle.subscribe_core.specs.Views.{sub_of}
+use Rattle.session_core.specs.Granting.{HasNews}
 use Rattle.session_core.proofs.OwingLemmas.{begins_at, told_up_to}
 use Rattle.subscribe_core.proofs.SubLemmas.{absent-has, apart-push, found-push, has-absent, other_way}
 use Rattle.session_core.proofs.StandingLemmas.{IsChannel, absent-push, begun_is}
-use Rattle.session_core.proofs.TellingLemmas.{AreSolid, IsSolid}
+use Rattle.session_core.proofs.TellingLemmas.{AreSolid}
 
 -- ---- what holds of subscriptions at a place
 
@@ -149,7 +150,7 @@ module _ (config : Config) (h : List Entry) (p : ℕ) (t : ℤ → List What) (f
         };
         new = begins.new ++ first_change a.channel ps;
         notes = (λ i. begins.notes i ++ first_told a.channel ps i) ∙ sym (map-append told_as begins.new (first_change a.channel ps));
-        solid = all-append (λ (x : ChannelChange). IsSolid x.what) begins.new (first_change a.channel ps) begins.solid (first_solid a.channel ps);
+        solid = all-append (λ (x : ChannelChange). HasNews x.what) begins.new (first_change a.channel ps) begins.solid (first_solid a.channel ps);
         flows = λ c. ap (λ l. t c ++ l) (of-append c begins.new (first_change a.channel ps)) ∙ sym (append_assoc (t c) (of_channel c begins.new) (of_channel c (first_change a.channel ps)))
             ∙ flow c (int_eq a.channel c) refl;
         stays = λ c x e. found-push c b.subs.subs s x (begins.stays c x e);

@@ -28,6 +28,7 @@ use Rattle.subscribe_core.specs.Views.{sub_of, told, told_to}
 use Rattle.session_core.specs.declared.state.Addressee.TheVariants as to
 use Rattle.session_core.specs.declared.state.Part.{Part}
 use Rattle.session_core.specs.declared.state.Saying.{Saying}
+use Rattle.session_core.specs.Granting.{HasNews}
 use Rattle.session_core.specs.Sending.{blobs_after, parts_of}
 use Rattle.session_core.specs.Streams.{Heard, gathers, hear_message, point_in, points_in}
 use Rattle.session_core.proofs.HearingLemmas.{gathered, hear_parts, hear_whole, notice_parts}
@@ -47,12 +48,6 @@ points_other c ch e [] = refl
 points_other c ch e (x ∷ xs) = (λ i. (if e i then x ∷ [] else []) ++ points_other c ch e xs i)
 
 -- ---- one change, which is no append of nothing
-
-abbrev pub IsSolid : What → Type 0
-IsSolid (Append []) = ⊥
-IsSolid (Append (x ∷ xs)) = Unit {0}
-IsSolid (Replace from to points) = Unit {0}
-IsSolid (Truncate end) = Unit {0}
 
 -- these changes are told of a channel too
 abbrev pub with_told : List What → Heard → Heard
@@ -107,7 +102,7 @@ one_of : (c : ℤ) (x : ChannelChange) (b : Bool) → int_eq x.channel c ≡ b �
 one_of c x true is = ap (λ b. map (λ (x : ChannelChange). x.what) (cond b (x ∷ []) [])) (sym is)
 one_of c x false is = ap (λ b. map (λ (x : ChannelChange). x.what) (cond b (x ∷ []) [])) (sym is)
 
-note_whole : (limit number blobs : ℕ) (c at ch : ℤ) (w : What) (k : Heard) → IsSolid w → k.part ≡ [] → (b : Bool) → int_eq ch c ≡ b
+note_whole : (limit number blobs : ℕ) (c at ch : ℤ) (w : What) (k : Heard) → HasNews w → k.part ≡ [] → (b : Bool) → int_eq ch c ≡ b
     → hear_whole c k (parts limit number blobs (message.ChannelSubscribe (notice_of at ch w))) ≡ with_told (if b then w ∷ [] else []) k
 note_whole limit number blobs c at ch (Append []) k solid e b is = absurd solid
 note_whole limit number blobs c at ch (Append (p ∷ ps)) k solid e b is = whole_append limit number blobs c at ch p ps k e b is
@@ -117,7 +112,7 @@ note_whole limit number blobs c at ch (Truncate end) k solid e b is = whole_trun
 -- ---- all changes
 
 abbrev pub AreSolid : List ChannelChange → Type 0
-AreSolid xs = AllByRecursion (λ (x : ChannelChange). IsSolid x.what) xs
+AreSolid xs = AllByRecursion (λ (x : ChannelChange). HasNews x.what) xs
 
 pub notes_heard : (limit number blobs : ℕ) (c : ℤ) (xs : List ChannelChange) (k : Heard) → AreSolid xs → k.part ≡ []
     → hear_parts c k (parts_of limit number blobs (map note xs)) ≡ with_told (of_channel c xs) k
@@ -132,22 +127,22 @@ notes_heard limit number blobs c (x ∷ xs) k solid e =
 
 -- ---- what a subscription is told is solid
 
-solid_append : (xs : List Point) → AllByRecursion IsSolid (append_of xs)
+solid_append : (xs : List Point) → AllByRecursion HasNews (append_of xs)
 solid_append [] = tt
 solid_append (x ∷ xs) = (tt, tt)
 
-solid_view : (start : ℤ) (all : Bool) (w : What) → AllByRecursion IsSolid (view start all w)
+solid_view : (start : ℤ) (all : Bool) (w : What) → AllByRecursion HasNews (view start all w)
 solid_view start all (Append ps) = solid_append (past start ps)
 solid_view start true (Replace from end ps) = by (int_lt end start)
   where
-    by : (b : Bool) → AllByRecursion IsSolid (if b then [] else Replace (int_max from start) end (past start ps) ∷ [])
+    by : (b : Bool) → AllByRecursion HasNews (if b then [] else Replace (int_max from start) end (past start ps) ∷ [])
     by true = tt
     by false = (tt, tt)
 solid_view start false (Replace from end ps) = tt
 solid_view start true (Truncate end) = (tt, tt)
 solid_view start false (Truncate end) = tt
 
-solid_as : (x : ChannelChange) (ws : List What) → AllByRecursion IsSolid ws → AreSolid (map (λ w. record x { what = w }) ws)
+solid_as : (x : ChannelChange) (ws : List What) → AllByRecursion HasNews ws → AreSolid (map (λ w. record x { what = w }) ws)
 solid_as x [] all = tt
 solid_as x (w ∷ ws) all = (all.0, solid_as x ws all.1)
 
@@ -157,4 +152,4 @@ solid_to (Some s) x = solid_as x (view s.start s.all x.what) (solid_view s.start
 
 pub solid_told : (subs : List Sub) (xs : List ChannelChange) → AreSolid (flat_map (told subs) xs)
 solid_told subs [] = tt
-solid_told subs (x ∷ xs) = all-append (λ (x : ChannelChange). IsSolid x.what) (told subs x) (flat_map (told subs) xs) (solid_to (sub_of x.channel subs) x) (solid_told subs xs)
+solid_told subs (x ∷ xs) = all-append (λ (x : ChannelChange). HasNews x.what) (told subs x) (flat_map (told subs) xs) (solid_to (sub_of x.channel subs) x) (solid_told subs xs)

@@ -121,9 +121,9 @@ module _ (config : Config) (n : ℕ) (h : List Entry) where
 -- ---- the law
 
 -- places that never fall, from a number on
-abbrev pub Rises : ℕ → List ℕ → Type 0
-Rises n [] = Unit {0}
-Rises n (p ∷ ps) = (n ≤ p) × Rises p ps
+abbrev pub RisesFrom : ℕ → List ℕ → Type 0
+RisesFrom n [] = Unit {0}
+RisesFrom n (p ∷ ps) = (n ≤ p) × RisesFrom p ps
 
 -- a session is open and has an open transaction, of which nothing was asked yet; nothing is left to hear or to send
 pub record Begins (s : State) (x : Transaction) : Type 0 where
@@ -138,7 +138,7 @@ pub record Begins (s : State) (x : Transaction) : Type 0 where
 -- alone answers them from its start on, all at that place, whatever others did in between
 abbrev pub CommittedIsSerial : Type 0
 CommittedIsSerial = (config : Config) (n : ℕ) (h : List Entry) (p : ℕ) (c : Course) (x : Transaction) (es : List Event)
-    → c.short ≡ false → Begins c.state x → Rises 0 c.places → Succeeds config n h p c es
+    → c.short ≡ false → Begins c.state x → RisesFrom 0 c.places → Succeeds config n h p c es
     → replies config n h c es ≡ alone config (take p h) c.state (requests config n h c es)
 
 -- in the run of these events, wherever it is split: a transaction that has just begun there, and is committed successfully by the
@@ -150,4 +150,4 @@ IsSerial config n h places es = (before later : List Event) (p : ℕ) (x : Trans
     → replies config n h c later ≡ alone config (take p h) c.state (requests config n h c later)
 
 abbrev pub RunIsSerial : Type 0
-RunIsSerial = (config : Config) (n : ℕ) (h : List Entry) (places : List ℕ) (es : List Event) → Rises 0 places → IsSerial config n h places es
+RunIsSerial = (config : Config) (n : ℕ) (h : List Entry) (places : List ℕ) (es : List Event) → RisesFrom 0 places → IsSerial config n h places es

@@ -2,8 +2,8 @@
 use Rattle.std.specs.Prelude.{ℕ, ℤ, pos, Bool, List, [], Option, Some, None}
 use Rattle.server_config.specs.declared.config.Config.{Config}
 use Rattle.etp_frame.specs.Joining.{Awaited}
-use Rattle.session_rows.specs.Opening.{natural}
 use Rattle.session_rows.specs.declared.formats.Format.{Format}
+use Rattle.store_machine.specs.Starts.{natural}
 use Rattle.subscribe_core.specs.Subscriptions.{Subbed, nothing}
 use Rattle.tx_stage.specs.Staging.{Transaction}
 use Rattle.session_core.specs.declared.state.Phase.{Phase}

@@ -12,7 +12,6 @@ use Rattle.channel_rows.specs.declared.subscriptions.SubscribePending.TheVariant
 use Rattle.channel_store.specs.Points.{view}
 use Rattle.channel_store.specs.declared.change.ChannelChange.{ChannelChange}
 use Rattle.channel_store.specs.declared.change.What.{What}
-use Rattle.channel_store.specs.declared.change.What.TheVariants.{Append, Replace, Truncate}
 use Rattle.channel_store.specs.declared.subscription.Sub.{Sub}
 use Rattle.etp_frame.specs.Header.{acknowledge, has_flag}
 use Rattle.etp_frame.specs.Joining.{Awaited, joins}
@@ -76,7 +75,7 @@ use Rattle.session_core.specs.declared.state.Saying.{Saying}
 use Rattle.session_core.specs.declared.state.StagedPending.TheVariants as staged
 use Rattle.session_core.specs.State.{State}
 use Rattle.session_core.specs.Arriving.{Event, request_of}
-use Rattle.session_core.specs.Granting.{HasNews, IsAside, IsMatter, IsPoll, IsRead, IsReceipt, IsSent, IsToldTo, Matter, Aside, Begins, Ends, Stops, Tells, changes_in, first_in, request_in, speaks, subscribe_speaks}
+use Rattle.session_core.specs.Granting.{IsAside, IsMatter, IsPoll, IsRead, IsReceipt, IsSent, IsToldTo, Matter, Aside, Begins, Ends, Stops, Tells, changes_in, first_in, request_in, speaks, subscribe_speaks}
 use Rattle.session_core.specs.Machine.{Taken, accepting, acknowledged, arrays_kept, asks, by_event, by_phase, given, given_to, join_code, may_acknowledge, no_call, objects_kept, on_arrays, on_arrays_answered, on_core, on_dataspaces, on_join, on_joined, on_loads_by, on_message, on_objects, on_objects_answered, on_ping, on_poll, on_protocol, on_received, on_request_session, on_row, on_store, on_subscriptions, on_subscriptions_by, on_told, on_transactions_by, on_whole, opened, protocol_refusal, put_request, refuses, unread}
 use Rattle.session_core.specs.Noting.{noting, reply_noted}
 use Rattle.session_core.specs.Replies.{receipt, refusal, sayings_of, to_request}
@@ -89,7 +88,7 @@ use Rattle.session_laws.proofs.SpeakingLemmas.{notices_replies, numbered_silent,
 use Rattle.session_core.proofs.StartingLemmas.{told_as}
 use Rattle.session_core.proofs.StoppingLemmas.{kept_after}
 use Rattle.session_core.proofs.SubscribingLemmas.{sayings_append}
-use Rattle.session_core.proofs.TellingLemmas.{AreSolid, IsSolid, solid_told}
+use Rattle.session_core.proofs.TellingLemmas.{AreSolid, solid_told}
 use Rattle.session_core.proofs.WalkingLemmas.{IsAway, away_arrays, away_objects}
 use Rattle.session_core.proofs.ArrivalLemmas.{IsArrival}
 
@@ -522,12 +521,6 @@ module _ (e : Event) (v : Subbed) where
 
 -- ---- a poll
 
-news_solid : (w : What) → IsSolid w → HasNews w
-news_solid (Append []) solid = solid
-news_solid (Append (x ∷ xs)) solid = tt
-news_solid (Replace from end points) solid = tt
-news_solid (Truncate end) solid = tt
-
 has_as : (w : Subbed) (c : ChannelChange) → has_sub c.channel w.subs ≡ true → (ws : List What) → AllByRecursion (λ (x : ChannelChange). has_sub x.channel w.subs ≡ true) (map (λ x. record c { what = x }) ws)
 has_as w c has [] = tt
 has_as w c has (x ∷ ws) = (has, has_as w c has ws)
@@ -542,7 +535,7 @@ has_told w (x ∷ xs) = all-append (λ (x : ChannelChange). has_sub x.channel w.
 
 told_both : (w : Subbed) (xs : List ChannelChange) → AreSolid xs → AllByRecursion (λ (x : ChannelChange). has_sub x.channel w.subs ≡ true) xs → AllByRecursion (IsToldTo w) xs
 told_both w [] solid has = tt
-told_both w (x ∷ xs) solid has = ((news_solid x.what solid.0, has.0), told_both w xs solid.1 has.1)
+told_both w (x ∷ xs) solid has = ((solid.0, has.0), told_both w xs solid.1 has.1)
 
 told_all : (w : Subbed) (xs : List ChannelChange) → AllByRecursion (IsToldTo w) (flat_map (told w.subs) xs)
 told_all w xs = told_both w (flat_map (told w.subs) xs) (solid_told w.subs xs) (has_told w xs)

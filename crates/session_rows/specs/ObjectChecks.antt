@@ -5,8 +5,7 @@ use Rattle.std.specs.Str.{bytes_eq}
 use Rattle.avro_bin.specs.Plain.{plain}
 use Rattle.etp_schema.specs.DataValue.{data_value_form}
 use Rattle.etp_schema.specs.Form.{list_form, named_form, text_form}
-use Rattle.etp_schema.specs.declared.status.ActiveStatusKind.{ActiveStatusKind}
-use Rattle.etp_schema.specs.declared.status.ActiveStatusKind.TheVariants.{Active, Inactive}
+use Rattle.etp_schema.specs.Status.{status_place}
 use Rattle.etp_values.specs.declared.code.ErrorCode.TheVariants.{DataObjectTypeNotSupported, NoSupportedFormats, RequestDenied, SizeExceeded}
 use Rattle.etp_values.specs.declared.uri.ObjectName.{ObjectName}
 use Rattle.etp_values.specs.declared.uri.StoreUri.{StoreUri}
@@ -67,11 +66,6 @@ extras_size r =
     length (plain ((list_form text_form).as_value r.alternate_uris))
     + length (plain (text_form.as_value r.name))
     + length (plain ((named_form data_value_form).as_value r.custom_data))
-
--- the place of a status
-abbrev pub status_place : ActiveStatusKind → ℕ
-status_place Active = 0
-status_place Inactive = 1
 
 -- what is stored of an object: when it was put is for the store
 abbrev pub object_record : Format → StoreUri → DataObject → ObjectRecord

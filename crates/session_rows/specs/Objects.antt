@@ -9,7 +9,7 @@ use Rattle.etp_values.specs.Uri.{plain_uri}
 use Rattle.etp_values.specs.declared.code.ErrorCode.{ErrorCode}
 use Rattle.etp_values.specs.declared.code.ErrorCode.TheVariants.{InvalidArgument, InvalidMessageType, LimitExceeded, NoSupportedFormats, NotFound, RequestDenied}
 use Rattle.etp_values.specs.declared.uri.StoreUri.{StoreUri}
-use Rattle.keyed_requests.specs.Keyed.{checked, finished, request_outcome, request_reply}
+use Rattle.keyed_requests.specs.Keyed.{checked, finished, granted_unless, request_outcome, request_reply}
 use Rattle.keyed_requests.specs.Keys.{keys_refusal}
 use Rattle.keyed_requests.specs.Plain.{nothing, plain_outcome, plain_reply}
 use Rattle.keyed_requests.specs.Sending.{first_cause, refusal_alone, unless_refused}
@@ -184,11 +184,6 @@ put_verdict (verdict.Refused code) = Refused code
 -- the same beside its key
 abbrev pub put_decided : List ℕ × Verdict → Decision PutResponse
 put_decided found = put_verdict found.1
-
--- a key is granted unless there is a cause against it
-abbrev pub granted_unless : {R : Type 0} → Option ErrorCode → R → Decision R
-granted_unless (Some code) r = Refused code
-granted_unless None r = Granted r
 
 abbrev pub staged_put : ℤ → Scope → List ℕ → ObjectRecord → List Looked → Scope × Decision PutResponse
 staged_put at s key r found =

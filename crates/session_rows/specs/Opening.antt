@@ -1,5 +1,5 @@
 -- How a session is opened: what is accepted of a RequestSession, and its reply.
-use Rattle.std.specs.Prelude.{ℕ, ℤ, pos, negsuc, max, min, Bool, ◌&&◌, List, [], ◌∷◌, ◌++◌, Option, Some, None, codes, map, filter}
+use Rattle.std.specs.Prelude.{ℕ, ℤ, pos, max, min, Bool, ◌&&◌, List, [], ◌∷◌, ◌++◌, Option, Some, None, codes, map, filter}
 use Rattle.std.specs.List.{list_any}
 use Rattle.std.specs.Map.{lookup}
 use Rattle.std.specs.Ordering.{int_eq}
@@ -15,6 +15,7 @@ use Rattle.msg_core.specs.declared.core_messages.RequestSession.{RequestSession}
 use Rattle.msg_core.specs.declared.core_messages.SupportedDataObject.{SupportedDataObject}
 use Rattle.msg_core.specs.declared.core_messages.SupportedProtocol.{SupportedProtocol}
 use Rattle.msg_core.specs.declared.core_messages.Version.{Version}
+use Rattle.store_machine.specs.Starts.{natural}
 use Rattle.session_rows.specs.Once.{once}
 use Rattle.session_rows.specs.Formats.{format_text, formats_of}
 use Rattle.session_rows.specs.declared.formats.Format.{Format}
@@ -40,11 +41,6 @@ abbrev pub accepted_protocols : List SupportedProtocol → List ℤ
 accepted_protocols asked = once int_eq (map (λ p. p.protocol) (filter is_acceptable asked))
 
 -- ---- the parts of what is sent
-
--- the number that an integer is, 0 below it
-abbrev pub natural : ℤ → ℕ
-natural (pos n) = n
-natural (negsuc n) = 0
 
 -- a client can ask for parts of at least 65,536 bytes, and for none of more than 16,777,216
 abbrev pub limited : ℤ → ℕ

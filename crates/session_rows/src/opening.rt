@@ -3,7 +3,8 @@ ghost use Rattle.std.specs.Prelude.{◌≡◌, IfOk, OnOk, map};
 ghost use Rattle.std.specs.List.{list_any};
 ghost use Rattle.std.specs.Ordering.{int_eq};
 ghost use Rattle.session_rows.specs.Once.{with_new};
-ghost use Rattle.session_rows.specs.Opening.{accepted_protocols, capabilities, data_objects, is_acceptable, is_version_1_2, limit_in, limited, natural, offered, open_session, opening_of, part_limit, session_id, supported};
+ghost use Rattle.session_rows.specs.Opening.{accepted_protocols, capabilities, data_objects, is_acceptable, is_version_1_2, limit_in, limited, offered, open_session, opening_of, part_limit, session_id, supported};
+ghost use Rattle.store_machine.specs.Starts.{natural};
 
 use crate::formats::{Format, format_texts, formats_of};
 use etp_schema::protocols;

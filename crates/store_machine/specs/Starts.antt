@@ -21,7 +21,7 @@ use Rattle.store_machine.specs.Reads.{room_with}
 abbrev pub least_index : ℤ
 least_index = negsuc 4611686018427387903
 
--- a count; one below 0 is 0
+-- the number that an integer is, 0 below it
 abbrev pub natural : ℤ → ℕ
 natural (pos n) = n
 natural (negsuc n) = 0

@@ -1,12 +1,14 @@
 -- What the journal has of a tag's session, and the places of its calls.
-use Rattle.std.proofs.Common.{◌≡◌, ◌≢◌, ℕ, ℤ, ◌+◌, ◌<◌, ◌≤◌, Bool, true, false, cond, ◌==◌, List, [], ◌∷◌, ◌++◌, length, None, Some, if◌then◌else◌, refl, ap, sym, ◌∙◌, subst, arith, append-nil, length-append}
+use Rattle.std.proofs.Common.{◌≡◌, ◌≢◌, ℕ, ℤ, ◌+◌, ◌<◌, Bool, true, false, cond, ◌==◌, List, [], ◌∷◌, ◌++◌, length, None, Some, if◌then◌else◌, refl, ap, sym, ◌∙◌, subst, arith, append-nil, length-append}
 use Rattle.std.specs.Prelude.{IsSomeAnd, slice_get}
 use Rattle.std.specs.declared.option.Option.{Option}
 use Rattle.std.specs.Map.{values_of}
 use Rattle.std.specs.Ordering.{nat_cmp}
 use Rattle.std.specs.BTreeMap.{is_at}
 use mathlib.Core.List.{IsPrefix, prefix-append}
+use Rattle.etp_values.specs.Rising.{Rises}
 use Rattle.etp_values.proofs.PrefixLemmas.{prefix_get}
+use Rattle.etp_values.proofs.RisingLemmas.{rises_snoc}
 use Rattle.etp_capture.specs.declared.frame.Frame.{Frame}
 use Rattle.server_config.specs.declared.config.Config.{Config}
 use Rattle.store_machine.specs.Answers.{answered, added, has_room, wanted}
@@ -20,7 +22,7 @@ use Rattle.session_core.specs.State.{State}
 use Rattle.tool_forms.specs.Turns.{event_of, turned, turn, first_open, entered_journal, entered_place, place_in}
 use Rattle.tool_forms.specs.Play.{World, state_of, with_tag}
 use Rattle.tool_forms.specs.Sound.{IsSound}
-use Rattle.tool_forms.specs.TagRuns.{TagRun, first_run, run_with, run_entered, run_after, NeverFall, Wrote}
+use Rattle.tool_forms.specs.TagRuns.{TagRun, first_run, run_with, run_entered, run_after, Wrote}
 use Rattle.tool_forms.specs.declared.tag.OpenSession.{OpenSession}
 use Rattle.tool_forms.specs.declared.tag.TagState.{TagState}
 use Rattle.tool_forms.specs.declared.tag.TagState.TheVariants.{Ended, Open}
@@ -31,22 +33,12 @@ use Rattle.tool_forms.proofs.TagLemmas.{at_same, put_found}
 
 -- ---- places
 
--- the last length may be a greater one
-pub fall-higher : (low : ℕ) (ps : List ℕ) (high more : ℕ) → high ≤ more → NeverFall low ps high → NeverFall low ps more
-fall-higher low [] high more le is = omega arith
-fall-higher low (p ∷ ps) high more le is = (is.0, fall-higher p ps high more le is.1)
-
--- and be a place itself
-fall-push : (low : ℕ) (ps : List ℕ) (high more : ℕ) → high ≤ more → NeverFall low ps high → NeverFall low (ps ++ high ∷ []) more
-fall-push low [] high more le is = (is, le)
-fall-push low (p ∷ ps) high more le is = (is.0, fall-push p ps high more le is.1)
-
-pub fall-turned : (c : Config) (h : List Entry) (at : ℤ) (s : OpenSession) (st : State) (o : Option StoreCall) (low : ℕ) (ps : List ℕ) → NeverFall low ps (length h)
-    → let t = turned c h at s st o in NeverFall low (ps ++ t.marks) (length t.journal)
-fall-turned c h at s st None low ps is = subst (λ l. NeverFall low l (length h)) (sym (append-nil ps)) is
+pub fall-turned : (c : Config) (h : List Entry) (at : ℤ) (s : OpenSession) (st : State) (o : Option StoreCall) (low : ℕ) (ps : List ℕ) → Rises low ps (length h)
+    → let t = turned c h at s st o in Rises low (ps ++ t.marks) (length t.journal)
+fall-turned c h at s st None low ps is = subst (λ l. Rises low l (length h)) (sym (append-nil ps)) is
 fall-turned c h at s st (Some x) low ps is =
     let es : List Entry = added c h s.number s.entries at x in
-    fall-push low ps (length h) (length (h ++ es)) (omega (arith, length-append h es)) is
+    rises_snoc low ps (length h) (length h) (length (h ++ es)) is (omega arith) (omega (arith, length-append h es))
 
 -- ---- entries
 

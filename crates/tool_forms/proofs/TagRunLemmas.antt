@@ -12,6 +12,7 @@ use Rattle.std.proofs.lemmas.Bool.Decides.{nat_tests}
 use mathlib.Core.List.{IsPrefix, prefix-append}
 use Rattle.etp_values.proofs.ListLemmas.{below_length}
 use Rattle.etp_values.proofs.PrefixLemmas.{prefix_self, prefix_trans, prefix_length, prefix_get}
+use Rattle.etp_values.proofs.RisingLemmas.{rises_wider}
 use Rattle.etp_capture.specs.declared.frame.Frame.{Frame}
 use Rattle.server_config.specs.declared.config.Config.{Config}
 use Rattle.store_machine.specs.Answers.{answered, added, has_room, wanted}
@@ -41,7 +42,7 @@ use Rattle.tool_forms.specs.declared.tag.Ending.{Ending}
 use Rattle.tool_forms.specs.declared.tag.Ending.TheVariants.{Session, PeerEnd, JournalFull}
 use Rattle.tool_forms.proofs.GrowthLemmas.{Grows}
 use Rattle.tool_forms.proofs.LegalLemmas.{at_legal}
-use Rattle.tool_forms.proofs.OwnLemmas.{IsApart, IsBelow, OwnStays, entered-wrote, fall-higher, fall-turned, other_apart, own_apart, own_stays, values-placed, wrote-longer, wrote-more}
+use Rattle.tool_forms.proofs.OwnLemmas.{IsApart, IsBelow, OwnStays, entered-wrote, fall-turned, other_apart, own_apart, own_stays, values-placed, wrote-longer, wrote-more}
 use Rattle.session_core.proofs.RunLemmas.{course}
 use Rattle.session_core.proofs.StepLemmas.{asks_call}
 use Rattle.tool_forms.proofs.SoundnessLemmas.{Laws, TagFits, by_added, effect_fits, number_in, sound_put}
@@ -302,7 +303,7 @@ module _ (same : RunIsSame) (next : RunGoesOn) (one : CallsAddOne) (laws : Laws)
         used = ap (λ (d : Course). d.places) eq ∙ is.used;
         fed = ap (λ (d : Course). d.short) eq ∙ is.fed;
         within = within_more (length old) (length new) r.places (prefix_length old new pre) is.within;
-        rise = fall-higher (r.number + 1) r.places (length old) (length new) (prefix_length old new pre) is.rise;
+        rise = rises_wider (r.number + 1) r.places (length old) (length new) is.rise (prefix_length old new pre);
         heeds = (same c r.number old new r.places r.events pre is.within).1 is.heeds;
         made = subst (λ (d : Course). AllStand new d.made) (sym eq) (stand_longer old new (run_of c old r).made pre is.made);
         wrote = subst (λ (d : Course). Wrote new r.number d.made) (sym eq) (wrote-longer old new r.number (run_of c old r).made pre stays is.wrote);

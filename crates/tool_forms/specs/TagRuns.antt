@@ -1,7 +1,8 @@
 -- What a play is to one tag: the run of the tag's session over the journal.
-use Rattle.std.specs.Prelude.{◌≡◌, ◌⊎◌, ℕ, ◌+◌, ◌≤◌, Bool, true, false, List, [], ◌∷◌, ◌++◌, ◌==◌, ◌&&◌, if◌then◌else◌, length, map, filter, fold, slice_get, Option, None, Some, IsSomeAnd}
+use Rattle.std.specs.Prelude.{◌≡◌, ◌⊎◌, ℕ, ◌+◌, Bool, true, false, List, [], ◌∷◌, ◌++◌, ◌==◌, ◌&&◌, if◌then◌else◌, length, map, filter, fold, slice_get, Option, None, Some, IsSomeAnd}
 use Rattle.std.specs.Option.{option_map}
 use Rattle.std.specs.Map.{values_of}
+use Rattle.etp_values.specs.Rising.{Rises}
 use Rattle.etp_capture.specs.Kinds.{kind_end, kind_out, kind_ended}
 use Rattle.etp_capture.specs.declared.frame.Frame.{Frame}
 use Rattle.server_config.specs.declared.config.Config.{Config}
@@ -87,11 +88,6 @@ abbrev pub AllStand : List Entry → List (ℕ × Entry) → Type 0
 AllStand h [] = Unit {0}
 AllStand h (x ∷ xs) = (slice_get h x.0 ≡ Some x.1) × AllStand h xs
 
--- these lengths never fall, from this one to that
-abbrev pub NeverFall : ℕ → List ℕ → ℕ → Type 0
-NeverFall low [] high = low ≤ high
-NeverFall low (p ∷ ps) high = (low ≤ p) × NeverFall p ps high
-
 -- all that a session wrote: the entry of its entering, which stands at its number, and then these
 abbrev pub Wrote : List Entry → ℕ → List (ℕ × Entry) → Type 0
 Wrote h n made = IsSomeAnd (slice_get h n) (λ (e : Entry). (e.act ≡ Enter) × (own n h ≡ e ∷ values_of made))
@@ -108,7 +104,7 @@ pub record IsRun (c : Config) (h : List Entry) (messages : List (List ℕ)) (r :
   pub used : (run_of c h r).places ≡ []
   pub fed : (run_of c h r).short ≡ false
   pub within : AllWithin (length h) r.places
-  pub rise : NeverFall (r.number + 1) r.places (length h)
+  pub rise : Rises (r.number + 1) r.places (length h)
   pub heeds : Heeds c r.number h r.places r.events
   pub made : AllStand h (run_of c h r).made
   pub wrote : Wrote h r.number (run_of c h r).made

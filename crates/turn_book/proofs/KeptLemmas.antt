@@ -10,12 +10,13 @@ use prog.Atomic.{either}
 use Rattle.atomic_table.specs.Table.{State, Me, step, Act, keeps, takes, gives, stepped, Allows, Splits, Joins, opening, Valid, carried_after}
 use Rattle.atomic_table.proofs.Lists.{at_set, at_longer, set_again, set_else}
 use Rattle.turn_book.specs.declared.view.View.{View}
-use Rattle.turn_book.specs.Lists.{Each, sum_over, one_if, occurrences}
+use Rattle.etp_values.specs.Weight.{weigh}
+use Rattle.turn_book.specs.Lists.{Each, one_if, occurrences}
 use Rattle.turn_book.specs.Rules.{Turn, free, taken, flag, home, held_by, IsAtHome, numbers_of, numbers, Fits, IsApart, Ruled}
 use Rattle.turn_book.specs.Laws.{IsFree, IsTaken}
 use Rattle.turn_book.specs.Steps.{first_view, fresh_view, holding, released, missing, marked, hearing, number_or, grown, IsOwn, joined, took, gave, published, looked, Sees}
 use Rattle.etp_values.proofs.PrefixLemmas.{prefix_length}
-use Rattle.turn_book.proofs.ListLemmas.{sum_over_set, sum_over_at, sum_over_two, sum_over_none, sum_over_append, occurrences_at, occurrences_none, one_if_same, one_if_other, each_right, at_within, at_new}
+use Rattle.turn_book.proofs.ListLemmas.{weigh_set, weigh_at, weigh_two, weigh_none, weigh_append, occurrences_at, occurrences_none, one_if_same, one_if_other, each_right, at_within, at_new}
 use Rattle.turn_book.proofs.RuleLemmas.{mets, refit, fit_first, fit_fresh, own_seen, fit_marked, fit_hearing, sound, fit_other, writer_before, fit_grown, fit_joined, count_joined, numbers_below}
 
 -- an element stays there when another is written
@@ -67,7 +68,7 @@ module _ {B E F : Type 0} (journal : B → List E) (fixed : B → F) (by : E →
       → w.fixed ≡ v.fixed
       → Fit log' w
       → ((j : ℕ) (u : V) → j ≢ id → get_elem? s.views j ≡ some u → Fit log' u)
-      → ((n : ℕ) → sum_over (count n) s.views + count n w ≤ 1 + count n v)
+      → ((n : ℕ) → weigh (count n) s.views + count n w ≤ 1 + count n v)
       → Rule record { words = words'; homes = homes'; views = set s.views id w }
   rebuilt s r id v w at words' homes' log' turn' words homes at_home held held_others same_fixed fit fit_others apart = record {
     log = log';
@@ -78,7 +79,7 @@ module _ {B E F : Type 0} (journal : B → List E) (fixed : B → F) (by : E →
     held = others (λ j u. u.held ≡ held_by turn' log' j) s.views id w held held_others;
     fixes = others (λ j u. IfSome u.fixed (λ f. f ≡ key)) s.views id w (subst (λ (o : Option F). IfSome o (λ f. f ≡ key)) (sym same_fixed) (r.fixes id v at)) (λ j u _ found. r.fixes j u found);
     fits = others (λ j u. Fit log' u) s.views id w fit fit_others;
-    apart = λ n. let e = sum_over_set (count n) s.views id v w at in let a = apart n in omega arith;
+    apart = λ n. let e = weigh_set (count n) s.views id v w at in let a = apart n in omega arith;
   }
 
   -- a step that leaves the words, the book and the turn
@@ -148,7 +149,7 @@ module _ {B E F : Type 0} (journal : B → List E) (fixed : B → F) (by : E →
   }
 
   apart_at : (s : St) (r : Rule s) (id : ℕ) (v : V) → get_elem? s.views id ≡ some v → IsApart v
-  apart_at s r id v at n = let a = r.apart n in let b = sum_over_at (count n) s.views id v at in omega arith
+  apart_at s r id v at n = let a = r.apart n in let b = weigh_at (count n) s.views id v at in omega arith
 
   -- what a seat may do at a step, when the table is s
   abbrev Goes : ℕ → ℕ → M → (ℕ → ℕ) → (ℕ → M → Type 0) → St → Type 0
@@ -298,7 +299,7 @@ module _ {B E F : Type 0} (journal : B → List E) (fixed : B → F) (by : E →
   strange s r id v at e (Some q) is_q mine j u ne found i n here = λ is.
       let a = occurrences_at q (numbers u) i (here ∙ ap some (sym is ∙ mine)) in
       let b = occurrences_at q (numbers v) 0 (ap (λ (k : Option ℕ). get_elem? (numbers_of k ++ mets v) 0) is_q) in
-      let two = sum_over_two (count q) s.views j id u v ne found at in
+      let two = weigh_two (count q) s.views j id u v ne found at in
       let one = r.apart q in
       omega arith
 
@@ -310,15 +311,15 @@ module _ {B E F : Type 0} (journal : B → List E) (fixed : B → F) (by : E →
       let a = occurrences_at q (mets v) i (here ∙ ap some (sym is ∙ mine)) in
       let split : count q v ≡ one_if q q + occurrences q (mets v) = ap (λ (k : Option ℕ). occurrences q (numbers_of k ++ mets v)) is_q in
       let own_tick = one_if_same q q refl in
-      let all = sum_over_at (count q) s.views id v at in
+      let all = weigh_at (count q) s.views id v at in
       let one = r.apart q in
       omega arith
 
-  none_there : (s : St) (r : Rule s) (n : ℕ) → n ≡ length r.log → sum_over (count n) s.views ≡ 0
-  none_there s r n is = sum_over_none (count n) s.views (λ j u at. occurrences_none n (numbers u) (λ i x found. let b = numbers_below by enters r.log u (r.fits j u at) i x found in λ e. omega arith))
+  none_there : (s : St) (r : Rule s) (n : ℕ) → n ≡ length r.log → weigh (count n) s.views ≡ 0
+  none_there s r n is = weigh_none (count n) s.views (λ j u at. occurrences_none n (numbers u) (λ i x found. let b = numbers_below by enters r.log u (r.fits j u at) i x found in λ e. omega arith))
 
   apart_grown : (s : St) (r : Rule s) (k : Option ℕ) (xs : List ℕ) (len : ℕ) → len ≡ length r.log
-      → (n : ℕ) → sum_over (count n) s.views + occurrences n (numbers_of (number_or k len) ++ xs) ≤ 1 + occurrences n (numbers_of k ++ xs)
+      → (n : ℕ) → weigh (count n) s.views + occurrences n (numbers_of (number_or k len) ++ xs) ≤ 1 + occurrences n (numbers_of k ++ xs)
   apart_grown s r (Some q) xs len is n = let a = r.apart n in omega arith
   apart_grown s r None xs len is n = dite (ℕ_discrete len n)
       (λ e. let z = none_there s r n (sym e ∙ is) in let t = one_if_same n len e in omega arith)
@@ -364,8 +365,8 @@ module _ {B E F : Type 0} (journal : B → List E) (fixed : B → F) (by : E →
   -- Splitting a seat
 
   -- a new seat has no number
-  split_sum : (n : ℕ) (vs : List V) (u : V) → count n u ≡ 0 → sum_over (count n) (vs ++ u ∷ []) ≡ sum_over (count n) vs
-  split_sum n vs u zero_of = let a = sum_over_append (count n) vs (u ∷ []) in omega arith
+  split_sum : (n : ℕ) (vs : List V) (u : V) → count n u ≡ 0 → weigh (count n) (vs ++ u ∷ []) ≡ weigh (count n) vs
+  split_sum n vs u zero_of = let a = weigh_append (count n) vs (u ∷ []) in omega arith
 
   home_longer : (log : List E) (vs : List V) (u : V) (turn : Turn B) → Home log vs turn → Home log (vs ++ u ∷ []) turn
   home_longer log vs u (free b) h = h
@@ -413,8 +414,8 @@ module _ {B E F : Type 0} (journal : B → List E) (fixed : B → F) (by : E →
             (λ j u _ here. others (λ j u. Fit r.log u) s.views id both (fit_joined by enters r.log v w (r.fits id v at) (r.fits other w found)) (λ j u _ here. r.fits j u here) j u here);
         apart = λ n.
             let a = r.apart n in
-            let b = sum_over_set (count n) s.views id v both at in
-            let c = sum_over_set (count n) vs other w spent (set_else s.views id other both ne ∙ found) in
+            let b = weigh_set (count n) s.views id v both at in
+            let c = weigh_set (count n) vs other w spent (set_else s.views id other both ne ∙ found) in
             let d = count_joined by enters n v w in
             omega arith;
       }

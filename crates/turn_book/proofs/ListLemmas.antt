@@ -5,39 +5,40 @@ use lib.ListN.{get_elem?}
 use Rattle.std.proofs.Math.ListN.{set}
 use Rattle.atomic_table.proofs.Lists.{at_snoc}
 use Rattle.etp_values.specs.Rising.{Rises}
+use Rattle.etp_values.specs.Weight.{weigh}
 use Rattle.etp_values.proofs.RisingLemmas.{rises_bound}
-use Rattle.turn_book.specs.Lists.{Each, sum_over, one_if, occurrences, last}
+use Rattle.turn_book.specs.Lists.{Each, one_if, occurrences, last}
 
 -- the sum after a change of one element
-pub sum_over_set : {X : Type 0} (f : X → ℕ) (xs : List X) (i : ℕ) (x y : X) → get_elem? xs i ≡ some x → sum_over f (set xs i y) + f x ≡ sum_over f xs + f y
-sum_over_set f [] i x y at = absurd (some-ne-none x (sym at))
-sum_over_set f (z ∷ xs) zero x y at = let e : f z ≡ f x = ap f (some-injective z x at) in omega arith
-sum_over_set f (z ∷ xs) (suc i) x y at = let r = sum_over_set f xs i x y at in omega arith
+pub weigh_set : {X : Type 0} (f : X → ℕ) (xs : List X) (i : ℕ) (x y : X) → get_elem? xs i ≡ some x → weigh f (set xs i y) + f x ≡ weigh f xs + f y
+weigh_set f [] i x y at = absurd (some-ne-none x (sym at))
+weigh_set f (z ∷ xs) zero x y at = let e : f z ≡ f x = ap f (some-injective z x at) in omega arith
+weigh_set f (z ∷ xs) (suc i) x y at = let r = weigh_set f xs i x y at in omega arith
 
 -- one element is a part of the sum
-pub sum_over_at : {X : Type 0} (f : X → ℕ) (xs : List X) (i : ℕ) (x : X) → get_elem? xs i ≡ some x → f x ≤ sum_over f xs
-sum_over_at f [] i x at = absurd (some-ne-none x (sym at))
-sum_over_at f (z ∷ xs) zero x at = let e : f z ≡ f x = ap f (some-injective z x at) in omega arith
-sum_over_at f (z ∷ xs) (suc i) x at = let r = sum_over_at f xs i x at in omega arith
+pub weigh_at : {X : Type 0} (f : X → ℕ) (xs : List X) (i : ℕ) (x : X) → get_elem? xs i ≡ some x → f x ≤ weigh f xs
+weigh_at f [] i x at = absurd (some-ne-none x (sym at))
+weigh_at f (z ∷ xs) zero x at = let e : f z ≡ f x = ap f (some-injective z x at) in omega arith
+weigh_at f (z ∷ xs) (suc i) x at = let r = weigh_at f xs i x at in omega arith
 
 -- two elements are a part of the sum
-pub sum_over_two : {X : Type 0} (f : X → ℕ) (xs : List X) (i j : ℕ) (x y : X) → i ≢ j → get_elem? xs i ≡ some x → get_elem? xs j ≡ some y → f x + f y ≤ sum_over f xs
-sum_over_two f [] i j x y ne at there = absurd (some-ne-none x (sym at))
-sum_over_two f (z ∷ xs) zero zero x y ne at there = absurd (ne refl)
-sum_over_two f (z ∷ xs) zero (suc j) x y ne at there = let e : f z ≡ f x = ap f (some-injective z x at) in let r = sum_over_at f xs j y there in omega arith
-sum_over_two f (z ∷ xs) (suc i) zero x y ne at there = let e : f z ≡ f y = ap f (some-injective z y there) in let r = sum_over_at f xs i x at in omega arith
-sum_over_two f (z ∷ xs) (suc i) (suc j) x y ne at there = let r = sum_over_two f xs i j x y (λ e. ne (ap suc e)) at there in omega arith
+pub weigh_two : {X : Type 0} (f : X → ℕ) (xs : List X) (i j : ℕ) (x y : X) → i ≢ j → get_elem? xs i ≡ some x → get_elem? xs j ≡ some y → f x + f y ≤ weigh f xs
+weigh_two f [] i j x y ne at there = absurd (some-ne-none x (sym at))
+weigh_two f (z ∷ xs) zero zero x y ne at there = absurd (ne refl)
+weigh_two f (z ∷ xs) zero (suc j) x y ne at there = let e : f z ≡ f x = ap f (some-injective z x at) in let r = weigh_at f xs j y there in omega arith
+weigh_two f (z ∷ xs) (suc i) zero x y ne at there = let e : f z ≡ f y = ap f (some-injective z y there) in let r = weigh_at f xs i x at in omega arith
+weigh_two f (z ∷ xs) (suc i) (suc j) x y ne at there = let r = weigh_two f xs i j x y (λ e. ne (ap suc e)) at there in omega arith
 
-pub sum_over_none : {X : Type 0} (f : X → ℕ) (xs : List X) → Each (λ x. f x ≡ 0) xs → sum_over f xs ≡ 0
-sum_over_none f [] all = refl
-sum_over_none f (x ∷ xs) all = let a = all 0 x refl in let r = sum_over_none f xs (λ i y at. all (suc i) y at) in omega arith
+pub weigh_none : {X : Type 0} (f : X → ℕ) (xs : List X) → Each (λ x. f x ≡ 0) xs → weigh f xs ≡ 0
+weigh_none f [] all = refl
+weigh_none f (x ∷ xs) all = let a = all 0 x refl in let r = weigh_none f xs (λ i y at. all (suc i) y at) in omega arith
 
-pub sum_over_append : {X : Type 0} (f : X → ℕ) (xs ys : List X) → sum_over f (xs ++ ys) ≡ sum_over f xs + sum_over f ys
-sum_over_append f [] ys = sym (zero-add (sum_over f ys))
-sum_over_append f (x ∷ xs) ys = let r = sum_over_append f xs ys in omega arith
+pub weigh_append : {X : Type 0} (f : X → ℕ) (xs ys : List X) → weigh f (xs ++ ys) ≡ weigh f xs + weigh f ys
+weigh_append f [] ys = sym (zero-add (weigh f ys))
+weigh_append f (x ∷ xs) ys = let r = weigh_append f xs ys in omega arith
 
 pub occurrences_append : (n : ℕ) (xs ys : List ℕ) → occurrences n (xs ++ ys) ≡ occurrences n xs + occurrences n ys
-occurrences_append n xs ys = sum_over_append (one_if n) xs ys
+occurrences_append n xs ys = weigh_append (one_if n) xs ys
 
 pub one_if_same : (n x : ℕ) → x ≡ n → one_if n x ≡ 1
 one_if_same n x e = rw (eq-eqb x n e) refl
@@ -77,15 +78,6 @@ pub each_two : {X : Type 0} (P : X → Type 0) (x y : X) → P x → P y → Eac
 each_two P x y p q zero o at = subst P (some-injective x o at) p
 each_two P x y p q (suc zero) o at = subst P (some-injective y o at) q
 each_two P x y p q (suc (suc i)) o at = absurd (some-ne-none o (sym at))
-
--- a number that is at least the last one, behind the others
-pub rises_snoc : (low : ℕ) (xs : List ℕ) (high n top : ℕ) → Rises low xs high → high ≤ n → n ≤ top → Rises low (xs ++ n ∷ []) top
-rises_snoc low [] high n top r a b = (omega arith, b)
-rises_snoc low (x ∷ xs) high n top r a b = (r.0, rises_snoc x xs high n top r.1 a b)
-
-pub rises_wider : (low : ℕ) (xs : List ℕ) (high top : ℕ) → Rises low xs high → high ≤ top → Rises low xs top
-rises_wider low [] high top r a = omega arith
-rises_wider low (x ∷ xs) high top r a = (r.0, rises_wider x xs high top r.1 a)
 
 -- each is at most the upper bound
 pub rises_each : (low : ℕ) (xs : List ℕ) (high : ℕ) → Rises low xs high → Each (λ x. x ≤ high) xs

@@ -13,7 +13,8 @@ use Rattle.turn_book.specs.Lists.{Each, occurrences, longer, own, without_each, 
 use Rattle.turn_book.specs.Rules.{IsSettled, IsMine, numbers_of, numbers, IsDated, Fits, IsApart, Sound}
 use Rattle.turn_book.specs.Steps.{first_view, fresh_view, marked, hearing, number_or, grown, IsOwn, met_of, joined, IsOwnSeen}
 use Rattle.etp_values.proofs.PrefixLemmas.{prefix_self, prefix_trans, prefix_shorter, prefix_length, prefix_get, prefix_snoc, prefix_grown}
-use Rattle.turn_book.proofs.ListLemmas.{occurrences_append, each_append, each_snoc, each_right, each_none, each_two, rises_snoc, rises_wider, rises_each}
+use Rattle.etp_values.proofs.RisingLemmas.{rises_snoc, rises_wider}
+use Rattle.turn_book.proofs.ListLemmas.{occurrences_append, each_append, each_snoc, each_right, each_none, each_two, rises_each}
 use Rattle.turn_book.proofs.OwnLemmas.{own_other, own_between}
 use Rattle.turn_book.proofs.PlaceLemmas.{without_nil, own_places_same, places_marked, places_own, places_new, get_last, dated_marked, dated_grown, dated_own, dated_seen}
 

@@ -2,15 +2,11 @@
 use Rattle.std.specs.Prelude.{◌≡◌, ◌==◌, ℕ, ◌+◌, leb, cond, List, [], ◌∷◌, map, length, Option, Some, None, if◌then◌else◌}
 use mathlib.Core.Option.{some}
 use lib.ListN.{get_elem?}
+use Rattle.etp_values.specs.Weight.{weigh}
 
 -- P holds of each element
 abbrev pub Each : {X : Type 0} → (X → Type 0) → List X → Type 0
 Each {X} P xs = (i : ℕ) (x : X) → get_elem? xs i ≡ some x → P x
-
--- f of each element, added up
-abbrev pub sum_over : {X : Type 0} → (X → ℕ) → List X → ℕ
-sum_over f [] = 0
-sum_over f (x ∷ xs) = f x + sum_over f xs
 
 -- 1 where x is n, else 0
 abbrev pub one_if : ℕ → ℕ → ℕ
@@ -18,7 +14,7 @@ one_if n x = if x == n then 1 else 0
 
 -- how often n stands in the list
 abbrev pub occurrences : ℕ → List ℕ → ℕ
-occurrences n xs = sum_over (one_if n) xs
+occurrences n xs = weigh (one_if n) xs
 
 -- the list without the first n in it
 abbrev pub without : ℕ → List ℕ → List ℕ

@@ -7,7 +7,8 @@ use lib.ListN.{get_elem?}
 use Rattle.atomic_table.specs.Table.{State}
 use Rattle.turn_book.specs.declared.view.View.{View}
 use Rattle.etp_values.specs.Rising.{Rises}
-use Rattle.turn_book.specs.Lists.{Each, sum_over, occurrences, without_each, longer, own, own_places}
+use Rattle.etp_values.specs.Weight.{weigh}
+use Rattle.turn_book.specs.Lists.{Each, occurrences, without_each, longer, own, own_places}
 
 -- the turn is free and the book is at home, or the seat of this place has the turn and the book
 pub data Turn (B : Type 0) : Type 0 where
@@ -108,4 +109,4 @@ pub record Ruled {B E F : Type 0} (journal : B → List E) (fixed : B → F) (by
   pub held : (j : ℕ) (v : View E F) → get_elem? s.views j ≡ some v → v.held ≡ held_by turn log j
   pub fixes : (j : ℕ) (v : View E F) → get_elem? s.views j ≡ some v → IfSome v.fixed (λ f. f ≡ key)
   pub fits : (j : ℕ) (v : View E F) → get_elem? s.views j ≡ some v → Fits by enters log v
-  pub apart : (n : ℕ) → sum_over (λ v. occurrences n (numbers v)) s.views ≤ 1
+  pub apart : (n : ℕ) → weigh (λ v. occurrences n (numbers v)) s.views ≤ 1

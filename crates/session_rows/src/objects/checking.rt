@@ -2,7 +2,8 @@
 ghost use Rattle.std.specs.Prelude.{◌≡◌, ◌||◌, IfOk, nat_lt};
 ghost use Rattle.std.specs.List.{list_any};
 ghost use Rattle.std.specs.Str.{bytes_eq};
-ghost use Rattle.session_rows.specs.ObjectChecks.{checked_object, extras_size, in_space, is_kept, keeps_name, named_object, object_record, put_in_format, session_format, status_place, takes_type};
+ghost use Rattle.etp_schema.specs.Status.{status_place};
+ghost use Rattle.session_rows.specs.ObjectChecks.{checked_object, extras_size, in_space, is_kept, keeps_name, named_object, object_record, put_in_format, session_format, takes_type};
 
 use crate::formats::{Format, among};
 use etp_schema::{ActiveStatusKind, measure_of};

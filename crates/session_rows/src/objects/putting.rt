@@ -1,11 +1,11 @@
 //! PutDataObjects.
 ghost use Rattle.std.specs.Prelude.{◌≡◌, IfOk, OnOk};
-ghost use Rattle.keyed_requests.specs.Keyed.{checked, request_outcome};
+ghost use Rattle.keyed_requests.specs.Keyed.{checked, granted_unless, request_outcome};
 ghost use Rattle.keyed_requests.specs.Plain.{plain_reply};
 ghost use Rattle.request_scope.specs.Finding.{found_refusal, putting};
 ghost use Rattle.request_scope.specs.Reply.{scoped_reply};
 ghost use Rattle.session_rows.specs.ObjectChecks.{checked_object};
-ghost use Rattle.session_rows.specs.Objects.{granted_unless, none_contained, put_called, put_decided, put_inside, put_outcome, put_outside, put_response, put_wants, set_checked, set_object, staged_put, staged_put_called};
+ghost use Rattle.session_rows.specs.Objects.{none_contained, put_called, put_decided, put_inside, put_outcome, put_outside, put_response, put_wants, set_checked, set_object, staged_put, staged_put_called};
 
 use crate::formats::Format;
 use crate::objects::checking::checked_object;

@@ -2,11 +2,11 @@ use Rattle.std.proofs.Common.{◌≡◌, ◌∙◌, ℤ, [], ap, rules, subst, t
 use Rattle.std.proofs.lemmas.Int.{to_z-of_z}
 use Rattle.std.specs.Prelude.{IfOk, OnOk}
 use Rattle.etp_values.specs.declared.uri.StoreUri.{StoreUri}
+use Rattle.keyed_requests.specs.Keyed.{granted_unless}
 use Rattle.request_scope.specs.Finding.{found_refusal, putting}
 use Rattle.tx_stage.specs.declared.key.Key.TheVariants.{Object}
 use Rattle.tx_stage.specs.declared.op.Op.{Op}
 use Rattle.array_rows.specs.Changing.{set_array}
-use Rattle.array_rows.specs.Reading.{granted_unless}
 use Rattle.array_rows.proofs.changing.StagedPutReplyKeyedReply.finish.Goals as goal
 
 pub returns-clause-decision : goal.returns-clause-decision
