@@ -32,7 +32,7 @@ use Rattle.tx_stage.specs.declared.look.Looked.{Looked}
 use Rattle.tx_stage.specs.declared.look.Want.{Want}
 use Rattle.tx_stage.specs.declared.look.Want.TheVariants as want
 use Rattle.tx_stage.specs.declared.op.Op.{Op}
-use Rattle.array_rows.specs.Changing.{change_response, checked_made, checked_patch, checked_put, decided, op_of, patch_array, put_wants, set_array, staged_patch, staged_put}
+use Rattle.array_rows.specs.Changing.{change_response, checked_made, checked_patch, checked_put, decided_found, op_of, patch_array, put_wants, set_array, staged_patch, staged_put}
 use Rattle.array_rows.specs.Naming.{named_array, named_region}
 use Rattle.array_rows.specs.Reading.{arrays_response, get_one, metadata_response, shape_one, slice_one, slice_want, slices_response, staged_shape, staged_slice}
 use Rattle.array_rows.specs.declared.arrays.ArrayPending.{ArrayPending}
@@ -149,7 +149,7 @@ array_outcome stage at (message.PutUninitializedDataArraysResponse m) = Replies 
 
 -- the answer has verdicts
 abbrev pub verdicts_reply : Option Transaction → ArrayPending → List (List ℕ × Verdict) → ArraysAnswered
-verdicts_reply stage (pending.Change what items) verdicts = says stage (plain_reply decided (change_response what) items verdicts)
+verdicts_reply stage (pending.Change what items) verdicts = says stage (plain_reply decided_found (change_response what) items verdicts)
 verdicts_reply stage _ verdicts = says stage []
 
 -- the answer has looks

@@ -171,13 +171,14 @@ change_response change.Put success = message.PutDataArraysResponse (record { suc
 change_response change.Patch success = message.PutDataSubarraysResponse (record { success = success })
 change_response change.Make success = message.PutUninitializedDataArraysResponse (record { success = success })
 
-abbrev pub done_verdict : Verdict → Decision (List ℕ)
-done_verdict verdict.Accepted = Granted []
-done_verdict (verdict.Refused code) = Refused code
+-- what the store decided of a key: the empty text, or a refusal
+abbrev pub decided : Verdict → Decision (List ℕ)
+decided verdict.Accepted = Granted []
+decided (verdict.Refused code) = Refused code
 
 -- the same beside its key
-abbrev pub decided : List ℕ × Verdict → Decision (List ℕ)
-decided found = done_verdict found.1
+abbrev pub decided_found : List ℕ × Verdict → Decision (List ℕ)
+decided_found found = decided found.1
 
 abbrev pub staged_put : ℤ → Scope → List ℕ → ArrayPut → List Looked → Scope × Decision (List ℕ)
 staged_put at s key x found =

@@ -1,7 +1,7 @@
 //! What the requests that change arrays have in common.
 ghost use Rattle.std.specs.Prelude.{◌≡◌, IfOk, OnOk, []};
 ghost use Rattle.array_rows.specs.Arrays.{joined_called, ops_called};
-ghost use Rattle.array_rows.specs.Changing.{change_response, decided, patch_array, put_wants, set_array, staged_put};
+ghost use Rattle.array_rows.specs.Changing.{change_response, decided_found, patch_array, put_wants, set_array, staged_put};
 ghost use Rattle.array_rows.specs.declared.arrays.ArrayPending.TheVariants as pending;
 ghost use Rattle.keyed_requests.specs.Keyed.{granted_unless};
 ghost use Rattle.keyed_requests.specs.Plain.{plain_reply};
@@ -127,7 +127,7 @@ impl PlainReply for ChangeReply {
 
     type Message = DataArrayMessage;
 
-    ghost decide = { λ change found. decided found };
+    ghost decide = { λ change found. decided_found found };
 
     ghost response = { λ change success. change_response change.what success };
 
@@ -171,7 +171,7 @@ pub(crate) fn change_reply(
     items: Named<Decision<()>>,
     verdicts: Named<Verdict>,
 ) -> Result<List<Sending<DataArrayMessage>>, NoMemory>
-    ensures { IfOk result (λ l. l ≡ plain_reply decided (change_response what) items verdicts) }
+    ensures { IfOk result (λ l. l ≡ plain_reply decided_found (change_response what) items verdicts) }
 {
     let findings = Findings::from_vec(verdicts.into_vec());
     request_reply(
@@ -184,7 +184,7 @@ pub(crate) fn change_reply(
 }
 
 /// The empty text, unless there is a cause against it.
-pub(crate) fn done_unless(alloc: Global, cause: Option<ErrorCode>) -> Decision<Text>
+pub(crate) fn granted_unless(alloc: Global, cause: Option<ErrorCode>) -> Decision<Text>
     ensures { result ≡ granted_unless cause [] }
 {
     match cause {
@@ -206,7 +206,7 @@ fn put_seen(
     ensures state { OnOk result (scope.new ≡ putting scope.old needed op found) }
 {
     let cause = scope.put_found(op, &needed, found.as_slice())?;
-    Ok(done_unless(alloc, cause))
+    Ok(granted_unless(alloc, cause))
 }
 
 /// The second half in a transaction where whole arrays are put: each is staged.

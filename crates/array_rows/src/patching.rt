@@ -11,7 +11,7 @@ ghost use Rattle.tx_stage.specs.declared.look.Want.TheVariants as want;
 
 use crate::arrays::{ArrayOutcome, ArrayPending};
 use crate::changing::{
-    ArrayChange, ArrayPatch, ChangeReply, change_response, done_unless, ops_called, patch_array,
+    ArrayChange, ArrayPatch, ChangeReply, change_response, granted_unless, ops_called, patch_array,
 };
 use crate::naming::named_array;
 use crate::reading::{array_seen, seen_reply};
@@ -207,7 +207,7 @@ fn patch_counted(
         return Ok(Decision::Refused(ErrorCode::LimitExceeded));
     }
     let cause = scope.put(patch_array(moment, patch))?;
-    Ok(done_unless(alloc, cause))
+    Ok(granted_unless(alloc, cause))
 }
 
 /// A patch by why it doesn't fit its array, which counts so many bytes.

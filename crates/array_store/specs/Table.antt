@@ -69,10 +69,11 @@ abbrev pub PatchesAmong : List (ArrayKey × ArrayRecord) → List (ArrayKey × A
 PatchesAmong old new key at ss cs vs = (q : ArrayKey)
     → array_among new q ≡ (if same_key q key then option_map (patched_in_place at ss cs vs) (array_among old q) else array_among old q)
 
--- an array of an object, and one of a dataspace
+-- the key of an array of this object
 abbrev pub is_of_object : StoreUri → ArrayKey → Bool
 is_of_object uri key = same_uri uri key.uri
 
+-- the key of an array in this dataspace
 abbrev pub is_in_space : List ℕ → ArrayKey → Bool
 is_in_space path key = bytes_eq path key.uri.space
 

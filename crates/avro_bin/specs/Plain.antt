@@ -33,10 +33,12 @@ abbrev mutual
   plain (VUnion p v) = plain_number (pos p) ++ plain v
   plain (VFields vs) = plain_all vs
 
+  -- the spellings of these values, one behind another
   pub plain_all : Values → List ℕ
   plain_all none = []
   plain_all (more v vs) = plain v ++ plain_all vs
 
+  -- each name and its value, one behind another
   pub plain_named : Entries → List ℕ
   plain_named none_named = []
   plain_named (more_named n v es) = plain_blob n ++ plain v ++ plain_named es

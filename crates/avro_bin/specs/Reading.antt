@@ -23,11 +23,12 @@ abbrev pub ◌>>=◌ : {A B : Type 0} → Read A → ((A × List ℕ) → Read B
 (Ok x) >>= f = f x
 (Err e) >>= f = Err e
 
--- What a function returned, seen by view, is what reading gives, unless memory ran out.
+-- what a function fails with is what reading gives, with its place; where memory ran out nothing is said
 abbrev pub Fails : {A : Type 0} → Fault → Read A → Type 0
 Fails fault.Memory read = Unit {0}
 Fails (fault.At w left) read = read ≡ Err (w, left)
 
+-- What a function returned, seen by view, is what reading gives, unless memory ran out.
 abbrev pub Gives : {X A : Type 0} → (X → A × List ℕ) → Result X Fault → Read A → Type 0
 Gives view (Ok x) read = read ≡ Ok (view x)
 Gives view (Err e) read = Fails e read

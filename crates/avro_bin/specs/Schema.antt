@@ -22,6 +22,7 @@ mutual
     SUnion : Schemas → Schema
     SFields : Schemas → Schema
 
+  -- of fields or branches, in their order
   pub data Schemas : Type 0 where
     none : Schemas
     more : Schema → Schemas → Schemas

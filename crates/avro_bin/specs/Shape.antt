@@ -63,10 +63,12 @@ abbrev mutual
   FitsTree (VFields vs) = AllFit vs
   FitsTree _ = Unit {0}
 
+  -- each of these values is such
   pub AllFit : Values → Type 0
   AllFit w.none = Unit {0}
   AllFit (w.more x vs) = FitsTree x × AllFit vs
 
+  -- each name is such a text, and each value is such
   pub AllNamedFit : Entries → Type 0
   AllNamedFit w.none_named = Unit {0}
   AllNamedFit (w.more_named n x es) = IsText n × FitsTree x × AllNamedFit es

@@ -35,6 +35,7 @@ with_change channel h what s = record s { last = h.id; channels = follows s.chan
 abbrev pub one_change : ℤ → What → List Sent → List Given
 one_change channel what sent = at_last (Ok (got.Change (change_msg channel what) ∷ [])) sent
 
+-- after such a notice the client has the change in the channel's copy, and hands on this change and no other
 abbrev pub NoticesAreChanges : Type 0
 NoticesAreChanges = (limit number blobs : ℕ) (at channel : ℤ) (what : What) (h : Header) (sent : List Sent) (s : Heard) → IsNotice limit number blobs at channel what h sent s
     → (left_by s sent ≡ with_change channel h what s) × (given_by s sent ≡ one_change channel what sent)

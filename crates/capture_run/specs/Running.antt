@@ -21,6 +21,7 @@ pub record Stream : Type 0 where
   pub before : Option (List ℕ)
   pub after : Option (List ℕ)
 
+-- a stream that tells this before a call and that after it
 abbrev pub between : Option (List ℕ) → Option (List ℕ) → Stream
 between before after = record { before = before; after = after }
 

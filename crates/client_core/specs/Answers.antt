@@ -158,12 +158,12 @@ without_loads id asks = filter (λ a. not (is_loaded id a)) asks
 abbrev pub subscribed : ℤ → List Channel → List Channel
 subscribed channel cs = filter (λ f. not (int_eq f.id channel)) cs ++ record { id = channel; live = true; copy = [] } ∷ []
 
-abbrev pub settled_by : ℤ → Due → Heard → Heard
-settled_by id due.Session s = record s { phase = phase.Open }
-settled_by id due.Pong s = record s { asks = without_loads id s.asks }
-settled_by id (due.Subscription channel) s = record s { channels = subscribed channel s.channels }
-settled_by id _ s = s
+abbrev pub ask_ended_by : ℤ → Due → Heard → Heard
+ask_ended_by id due.Session s = record s { phase = phase.Open }
+ask_ended_by id due.Pong s = record s { asks = without_loads id s.asks }
+ask_ended_by id (due.Subscription channel) s = record s { channels = subscribed channel s.channels }
+ask_ended_by id _ s = s
 
 -- the ask of this id, which waited for this, has its answer
-abbrev pub settled : ℤ → Due → Heard → Heard
-settled id d s = settled_by id d (record s { asks = without id s.asks })
+abbrev pub ask_ended : ℤ → Due → Heard → Heard
+ask_ended id d s = ask_ended_by id d (record s { asks = without id s.asks })

@@ -137,10 +137,12 @@ begun moment = sends_message (Some due.Session) (request_message moment) first_s
 
 -- ---- what is left to send
 
+-- the message that is sent next, if one is left
 abbrev pub first_of : List (List ℕ) → Option (List ℕ)
 first_of [] = None
 first_of (b ∷ bs) = Some b
 
+-- the messages that are left behind it
 abbrev pub rest_of : List (List ℕ) → List (List ℕ)
 rest_of [] = []
 rest_of (b ∷ bs) = bs

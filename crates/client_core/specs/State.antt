@@ -44,11 +44,13 @@ first_heard = record { phase = phase.Waiting; last = pos 0; asks = []; channels 
 abbrev pub first_state : State
 first_state = record { heard = first_heard; next = 2; blobs = 0; out = [] }
 
+-- the session is open
 abbrev pub is_open : Phase → Bool
 is_open phase.Waiting = false
 is_open phase.Open = true
 is_open phase.Ended = false
 
+-- the client has ended
 abbrev pub is_ended : Phase → Bool
 is_ended phase.Waiting = false
 is_ended phase.Open = false

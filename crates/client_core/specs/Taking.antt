@@ -24,7 +24,7 @@ use Rattle.msg_core.specs.declared.core_messages.ErrorInfo.{ErrorInfo}
 use Rattle.msg_core.specs.declared.core_messages.ProtocolException.{ProtocolException}
 use Rattle.msg_store.specs.declared.store_messages.StoreMessage.{StoreMessage}
 use Rattle.msg_store.specs.declared.store_messages.StoreMessage.TheVariants as store
-use Rattle.client_core.specs.Answers.{answer, due_at, settled, without}
+use Rattle.client_core.specs.Answers.{answer, ask_ended, due_at, without}
 use Rattle.client_core.specs.Joining.{grown, is_broken, is_exception}
 use Rattle.client_core.specs.Notices.{are_live, follow_all, notice, stopped}
 use Rattle.client_core.specs.State.{Heard, State, Step, is_ended}
@@ -80,7 +80,7 @@ by_changes correlation (Some changes) s =
 
 -- an answer ends its ask; anything else has to be a notice
 abbrev pub by_answer : Header → Message → Due → Option Got → Heard → Taken
-by_answer h m d (Some g) s = gives (g ∷ []) (settled h.correlation d s)
+by_answer h m d (Some g) s = gives (g ∷ []) (ask_ended h.correlation d s)
 by_answer h m d None s = by_changes h.correlation (notice h m) s
 
 abbrev pub by_due : Header → Message → Option Due → Heard → Taken

@@ -1,6 +1,6 @@
 //! What a client does with a message.
 ghost use Rattle.std.specs.Prelude.{◌≡◌, ◌∷◌, [], Some, Ok, true, IfOk, IsErr, OnOk, map};
-ghost use Rattle.client_core.specs.Answers.{answer, due_at, settled};
+ghost use Rattle.client_core.specs.Answers.{answer, ask_ended, due_at};
 ghost use Rattle.client_core.specs.Joining.{grown};
 ghost use Rattle.client_core.specs.Notices.{notice};
 ghost use Rattle.client_core.specs.Taking.{by_answer, by_changes, by_kind, code_of, core_closes, core_opens, core_silent, core_whole, fails, first_code, has_objects, hears, in_order, is_closing, is_fresh, is_opening, is_silent, may_come, on_message, on_part, on_read, on_whole, refusal, stops, store_joins, subscribe_whole, told};
@@ -480,17 +480,17 @@ impl Hearing {
         got: Got,
     ) -> Result<Answer, NoMemory>
         ensures answer { IfOk result (λ a. a ≡ Ok (got ∷ [])) }
-        ensures state { OnOk result (self.new ≡ settled id due self.old) }
+        ensures state { OnOk result (self.new ≡ ask_ended id due self.old) }
     {
         drop(message);
         let gots = one(alloc, got)?;
-        self.settle(alloc, id, due)?;
+        self.end_ask(alloc, id, due)?;
         Ok(Ok(gots))
     }
 
     /// The ask of this id, which waited for this, has its answer.
-    fn settle(&mut self, alloc: Global, id: i64, due: Due) -> Result<(), NoMemory>
-        ensures { OnOk result (self.new ≡ settled id due self.old) }
+    fn end_ask(&mut self, alloc: Global, id: i64, due: Due) -> Result<(), NoMemory>
+        ensures { OnOk result (self.new ≡ ask_ended id due self.old) }
     {
         self.asks.remove(id);
         match due {

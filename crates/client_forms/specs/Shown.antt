@@ -13,6 +13,7 @@ pub record Viewing (V : Type 0) : Type 0 where
   pub step : V → Held → What → Held
   pub shown : V → Held → List ℕ
 
+-- views that are read so
 abbrev pub viewing : {V : Type 0} → (V → Held) → (V → Held → What → Held) → (V → Held → List ℕ) → Viewing V
 viewing held step shown = record { held = held; step = step; shown = shown }
 

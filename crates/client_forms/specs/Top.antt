@@ -25,6 +25,7 @@ pub record Dials : Type 0 where
   pub ended : Bool
   pub faults : ℕ
 
+-- a dialer that tells this
 abbrev pub dials : Option (List (Option Talk)) → Bool → ℕ → Dials
 dials backs ended faults = record { backs = backs; ended = ended; faults = faults }
 
@@ -41,6 +42,7 @@ pub record World : Type 0 where
   pub told : Option (List ℤ)
   pub dials : Dials
 
+-- these as all that a command is handed
 abbrev pub world : Input → Output → Option (List ℤ) → Dials → World
 world i o told d = record { input = i; output = o; told = told; dials = d }
 

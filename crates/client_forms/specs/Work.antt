@@ -39,15 +39,19 @@ pub record Outside : Type 0 where
   pub output : Output
   pub input : Input
 
+-- a link that tells this
 abbrev pub line : Option Talk → ℕ → Bool → Line
 line talk faults ended = record { talk = talk; faults = faults; ended = ended }
 
+-- an output that holds this, and failed so often
 abbrev pub output : Option (List ℕ) → ℕ → Output
 output held faults = record { held = held; faults = faults }
 
+-- an input that has this left, and failed so often
 abbrev pub input : Option (List ℕ) → ℕ → Input
 input left faults = record { left = left; faults = faults }
 
+-- these as all that a command works on
 abbrev pub outside : Line → Option (List ℤ) → Output → Input → Outside
 outside l told o i = record { line = l; told = told; output = o; input = i }
 

@@ -18,6 +18,7 @@ as_command_option (Some c) = Some (as_command c)
 abbrev pub as_form : Asking → Form
 as_form f = record { address = f.address; command = as_command f.command }
 
+-- the form, if there is one, as the definitions have it
 abbrev pub as_option : Option Asking → Option Form
 as_option None = None
 as_option (Some f) = Some (as_form f)

@@ -102,9 +102,11 @@ pub record Protocol : Type 0 where
   pub number : ℕ
   pub kinds : List (Kind Message)
 
+-- a protocol of this number, with these messages
 abbrev pub protocol : ℕ → List (Kind Message) → Protocol
 protocol number kinds = record { number = number; kinds = kinds }
 
+-- every protocol, with the messages that it has
 abbrev pub protocols : List Protocol
 protocols =
     protocol core_number (under m.Core core_kinds) ∷

@@ -112,6 +112,7 @@ store_unsent (s.GetDataObjectsResponse x) = not (list_any awaits_any x.data_obje
 store_unsent (s.Chunk x) = false
 store_unsent x = true
 
+-- the same of a message of any protocol
 abbrev pub is_unsent : Message → Bool
 is_unsent (m.Store x) = store_unsent x
 is_unsent x = true

@@ -7,6 +7,7 @@ use Rattle.etp_outside.specs.declared.link.Address.{Address}
 use Rattle.etp_outside.specs.Doors.{IsNew}
 use Rattle.etp_outside.specs.Talk.{Talk}
 
+-- the address of this host, port and path
 abbrev pub address_of : List ℕ → ℕ → List ℕ → Address
 address_of host port path = record { host = host; port = port; path = path }
 

@@ -46,6 +46,7 @@ pub record Back : Type 0 where
   pub ended : Bool
   pub talk : Option Talk
 
+-- these as a link that was taken back
 abbrev pub back_of : ℕ → ℕ → ℕ → Bool → Option Talk → Back
 back_of number end faults ended talk = record { number = number; end = end; faults = faults; ended = ended; talk = talk }
 

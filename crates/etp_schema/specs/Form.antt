@@ -73,6 +73,7 @@ abbrev pub id_in : Value → List ℕ
 id_in (VFixed b) = id_of b
 id_in _ = replicate 16 0
 
+-- the place of an enum's symbol; 0 of any other value
 abbrev pub symbol_in : Value → ℕ
 symbol_in (VEnum p) = p
 symbol_in _ = 0
@@ -85,14 +86,17 @@ abbrev pub named_in : Value → List (List ℕ × Value)
 named_in (VMap es) = pairs es
 named_in _ = []
 
+-- the values of a record's fields; none of any other value
 abbrev pub fields_in : Value → List Value
 fields_in (VFields vs) = list vs
 fields_in _ = []
 
+-- the place of a union's branch; 0 of any other value
 abbrev pub branch_in : Value → ℕ
 branch_in (VUnion p x) = p
 branch_in _ = 0
 
+-- the value in a union's branch; null of any other value
 abbrev pub chosen_in : Value → Value
 chosen_in (VUnion p x) = x
 chosen_in _ = VNull

@@ -40,10 +40,12 @@ abbrev mutual
   measured (VUnion p v) = adds (takes (length (plain_number (pos p))) 1) (measured v)
   measured (VFields vs) = measured_behind (takes 0 1) vs
 
+  -- of these values, behind what takes so much
   pub measured_behind : Measure → Values → Measure
   measured_behind m none = m
   measured_behind m (more v vs) = measured_behind (adds m (measured v)) vs
 
+  -- of these names and values, behind what takes so much
   pub measured_named : Measure → Entries → Measure
   measured_named m none_named = m
   measured_named m (more_named n v es) = measured_named (adds (adds m (takes (length (plain_blob n)) 0)) (measured v)) es

@@ -3,6 +3,7 @@ use Rattle.std.specs.Prelude.{ℕ, ℤ, pos, List, codes}
 use Rattle.etp_values.specs.declared.code.ErrorCode.{ErrorCode}
 use Rattle.etp_values.specs.declared.code.ErrorCode.TheVariants.{NoSupportedProtocols, InvalidMessageType, UnsupportedProtocol, InvalidArgument, RequestDenied, InvalidState, InvalidUri, NotFound, LimitExceeded, CompressionNotSupported, TooManyTransactions, DataObjectTypeNotSupported, SizeExceeded, InvalidMessage, InvalidIndexKind, NoSupportedFormats, InvalidAppend}
 
+-- a code's number
 abbrev pub number_of : ErrorCode → ℤ
 number_of NoSupportedProtocols = pos 2
 number_of InvalidMessageType = pos 3
@@ -22,6 +23,7 @@ number_of InvalidIndexKind = pos 20
 number_of NoSupportedFormats = pos 21
 number_of InvalidAppend = pos 31
 
+-- a code's text
 abbrev pub text_of : ErrorCode → List ℕ
 text_of NoSupportedProtocols = codes "no supported protocols"
 text_of InvalidMessageType = codes "invalid message type"

@@ -11,9 +11,11 @@ use Rattle.std.specs.Option.{option_eq}
 use Rattle.etp_values.specs.declared.uri.ObjectName.{ObjectName}
 use Rattle.etp_values.specs.declared.uri.StoreUri.{StoreUri}
 
+-- two names of objects have the same domain, type's name and identifier
 abbrev pub same_name : ObjectName → ObjectName → Bool
 same_name a b = bytes_eq a.domain b.domain && (bytes_eq a.name b.name && bytes_eq a.id b.id)
 
+-- two URIs have the same dataspace, and the same object or none
 abbrev pub same_uri : StoreUri → StoreUri → Bool
 same_uri u v = bytes_eq u.space v.space && option_eq same_name u.object v.object
 

@@ -41,6 +41,7 @@ abbrev pub text_in : List ℕ → Option ObjectName → List ℕ
 text_in space None = space_text space
 text_in space (Some name) = object_text space name (id_text name.id)
 
+-- the canonical text of a URI
 abbrev pub plain_uri : StoreUri → List ℕ
 plain_uri u = text_in u.space u.object
 
@@ -49,6 +50,7 @@ abbrev pub IsTextIn : List ℕ → Option ObjectName → List ℕ → Type 0
 IsTextIn space None text = text ≡ space_text space
 IsTextIn space (Some name) text = (digits : List ℕ) × (id_of digits ≡ Some name.id) × (text ≡ object_text space name digits)
 
+-- the text is one of this URI
 abbrev pub IsTextOf : StoreUri → List ℕ → Type 0
 IsTextOf u text = IsTextIn u.space u.object text
 
@@ -179,6 +181,7 @@ abbrev pub in_default : ℕ → List ℕ → Result StoreUri UriError
 in_default whole [] = Ok (record { space = []; object = None })
 in_default whole (c ∷ cs) = in_space [] (object_of whole (c ∷ cs))
 
+-- the URI behind `eml:///`, by what follows `dataspace(` there, if it begins so
 abbrev pub with_space : ℕ → List ℕ → Option (List ℕ) → Result StoreUri UriError
 with_space whole s None = in_default whole s
 with_space whole s (Some quoted) = with_path whole (path_of quoted)
@@ -208,5 +211,6 @@ abbrev pub is_filter : Option (List ℕ × List ℕ) → Bool
 is_filter None = false
 is_filter (Some p) = is_domain p.0 && is_type_or_star p.1
 
+-- the same of a text, parted at its first dot
 abbrev pub is_type_filter : List ℕ → Bool
 is_type_filter s = is_filter (parted 46 s)

@@ -42,6 +42,7 @@ array_weight (any.Bytes b) = bytes_weight b
 abbrev pub subarray_weight : AnySubarray → ℕ
 subarray_weight s = 8 + array_weight s.slice
 
+-- a data value of any kind
 abbrev pub value_weight : DataValue → ℕ
 value_weight Null = 8
 value_weight (Boolean x) = 8

@@ -40,6 +40,7 @@ tally_part kind bytes = if kind == kind_out then one_sent (change_in (tree_of Se
 abbrev pub tally_of : Frame → Tally
 tally_of f = tally_part f.kind f.bytes
 
+-- two counts together
 abbrev pub plus : Tally → Tally → Tally
 plus t u = record { sent = t.sent + u.sent; changes = t.changes + u.changes }
 

@@ -37,5 +37,6 @@ putting_by (Some code) standing s o = s
 putting_by None false s o = s
 putting_by None true s o = staging s o
 
+-- the same, by what was seen, first of the key that the operation needs
 abbrev pub putting : Scope → Key → Op → List Looked → Scope
 putting s needed o found = putting_by (refused_look found) (stands s.stage needed (is_first_seen found)) s o

@@ -46,10 +46,12 @@ paying s size = if pays s size then record s { paid = s.paid + size } else s
 
 -- ---- the transaction's operations over what the store has
 
+-- the object that stands at a URI within the transaction, where the store has this one
 abbrev pub object_over : Option Transaction → StoreUri → Option ObjectRecord → Option ObjectRecord
 object_over None uri found = found
 object_over (Some x) uri found = as_object (overlay x.ops (Object uri) (option_map value.Object found))
 
+-- the array that stands at a key within the transaction, where the store has this one
 abbrev pub array_over : Option Transaction → ArrayKey → Option ArrayRecord → Option ArrayRecord
 array_over None key found = found
 array_over (Some x) key found = as_array (overlay x.ops (Array key) (option_map value.Array found))
@@ -88,5 +90,6 @@ abbrev pub stage_refusal : Option Transaction → Op → Option ErrorCode
 stage_refusal None o = Some InvalidState
 stage_refusal (Some x) o = put_code x o
 
+-- the scope after an operation, which the open transaction, if there is one, has staged unless it refuses it
 abbrev pub staging : Scope → Op → Scope
 staging s o = record s { stage = option_map (λ x. put_left x o) s.stage }

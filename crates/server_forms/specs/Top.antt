@@ -29,6 +29,7 @@ pub record Door : Type 0 where
   pub backs : Option (List Back)
   pub taken : Option (List Back)
 
+-- a listener that tells this before a call and after it
 abbrev pub door_of : ℕ → ℕ → Option (List Back) → Option (List Back) → Door
 door_of given now backs taken = record { given = given; now = now; backs = backs; taken = taken }
 
@@ -39,6 +40,7 @@ pub record Output : Type 0 where
   pub faults : ℕ
   pub count : ℕ
 
+-- an output that tells this before a call and after it
 abbrev pub output_of : Option (List ℕ) → Option (List ℕ) → ℕ → ℕ → Output
 output_of before after faults count = record { before = before; after = after; faults = faults; count = count }
 

@@ -149,5 +149,6 @@ IsSerial config n h places es = (before later : List Event) (p : ℕ) (x : Trans
     c.state.stage ≡ Some x → x.touched ≡ [] → Succeeds config n h p c later
     → replies config n h c later ≡ alone config (take p h) c.state (requests config n h c later)
 
+-- where the places never fall, each run is so
 abbrev pub RunIsSerial : Type 0
 RunIsSerial = (config : Config) (n : ℕ) (h : List Entry) (places : List ℕ) (es : List Event) → RisesFrom 0 places → IsSerial config n h places es

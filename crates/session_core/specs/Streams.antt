@@ -207,6 +207,7 @@ pub record IsStreamed (config : Config) (n : ℕ) (h : List Entry) (places : Lis
   pub stops : (before later : List Event) (e : Event) → es ≡ before ++ e ∷ later → HasStopped config n h places before e
   pub spent : HasSpent config n h places es
 
+-- where the channels have ids of 64 bits, and the places never fall and lie within the history, each run is so
 abbrev pub RunIsStreamed : Type 0
 RunIsStreamed = (config : Config) (n : ℕ) (h : List Entry) (places : List ℕ) (es : List Event) → HasIds config → Rises 0 places (length h) → IsStreamed config n h places es
 
@@ -218,6 +219,7 @@ IsToldAtIdle config n h places es = (before later : List Event) (front : ℕ) �
     (live : Live) → r.state.phase ≡ phase.Live live → (takes r.state (Polls front)).call ≡ None → (channel : ℤ) (s : Sub) → sub_of channel r.state.subs.subs ≡ Some s
     → (front ≡ r.reach) × ((heard channel r.sent).told ≡ stream s.channel s.start s.all s.from (take front h))
 
+-- with such ids and places, where each poll tells of no less than was seen before, each run is so
 abbrev pub RunIsToldAtIdle : Type 0
 RunIsToldAtIdle = (config : Config) (n : ℕ) (h : List Entry) (places : List ℕ) (es : List Event) → HasIds config → Rises 0 places (length h) → Heeds config n h places es
     → IsToldAtIdle config n h places es
@@ -239,6 +241,7 @@ abbrev pub HasFront : Config → ℕ → List Entry → List ℕ → List Event 
 HasFront config n h places [] front = front ≡ []
 HasFront config n h places (e ∷ es) front = EndsWithin config n h places (e ∷ es) front
 
+-- with such ids and places, each front of what a run sends is so
 abbrev pub FrontIsStreamed : Type 0
 FrontIsStreamed = (config : Config) (n : ℕ) (h : List Entry) (places : List ℕ) (es : List Event) (front : List Outgoing) → HasIds config → Rises 0 places (length h)
     → IsPrefix front (run config n h places es).sent → HasFront config n h places es front

@@ -310,13 +310,13 @@ fn may_acknowledge(message: &Message) -> bool
     ensures { result ≡ may_acknowledge message.now }
 {
     match message {
-        Message::Core(message) => is_asking(message.get()),
+        Message::Core(message) => may_acknowledge_core(message.get()),
         _ => true,
     }
 }
 
 /// Whether a message of Core is none that only answers.
-fn is_asking(message: &CoreMessage) -> bool
+fn may_acknowledge_core(message: &CoreMessage) -> bool
     ensures { result ≡ may_acknowledge (frame.Core message.now) }
 {
     match message {

@@ -56,7 +56,7 @@ impl CutDraft {
     }
 }
 
-fn judge_cut(channels: &ChannelStore, earlier: &[i64], cut: &Cutting) -> Result<Verdict, NoMemory>
+fn cut_verdict(channels: &ChannelStore, earlier: &[i64], cut: &Cutting) -> Result<Verdict, NoMemory>
     ensures { IfOk result (λ v. v ≡ cut_verdict (cut_refusal channels.now earlier.now (cut_of cut.now))) }
 {
     match channels.test_cut(earlier, cut.channel, cut.end) {
@@ -76,7 +76,7 @@ fn take_cut(
         draft.old.accepted.items draft.new.accepted.items
         draft.old.named.items draft.new.named.items) }
 {
-    let verdict = judge_cut(channels, draft.named.as_slice(), &cut)?;
+    let verdict = cut_verdict(channels, draft.named.as_slice(), &cut)?;
     draft.note(name, verdict, cut)?;
     Ok(())
 }

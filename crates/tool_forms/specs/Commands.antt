@@ -11,6 +11,7 @@ as_command asked.Check = Check
 as_command (asked.Capture size) = Capture size
 as_command (asked.Generate size) = Generate size
 
+-- the command, if there is one, as the definitions have it
 abbrev pub as_option : Option Asked → Option Command
 as_option None = None
 as_option (Some asked) = Some (as_command asked)

@@ -99,11 +99,11 @@ fn play_open(
     }
     let mut open_session = open_session;
     make_turn(alloc, store, open_session.get_mut(), frame)?;
-    settle(alloc, open_session, frame, answers)
+    play_after(alloc, open_session, frame, answers)
 }
 
 /// What a session sends after a turn, and its end where it has ended.
-fn settle(
+fn play_after(
     alloc: Global,
     open_session: Boxed<OpenSession>,
     frame: &Frame,

@@ -13,6 +13,7 @@ pub record Reading (B : Type 0) : Type 0 where
   pub step : B → Held → What → Held
   pub shown : B → Held → List ℕ
 
+-- shelves that are read so
 abbrev pub reading : {B : Type 0} → (B → ℤ) → (B → Held) → (B → Held → What → Held) → (B → Held → List ℕ) → Reading B
 reading channel held step shown = record { channel = channel; held = held; step = step; shown = shown }
 

@@ -4,7 +4,7 @@ ghost use Rattle.std.specs.Ordering.{int_eq};
 ghost use Rattle.avro_bin.specs.Plain.{Writes};
 ghost use Rattle.watch_views.specs.Boards.{Feeds, FeedsOne, each, lines_at, lines_of, reading};
 
-use crate::lines::settle;
+use crate::lines::whole_or_nothing;
 use crate::view::View;
 use channel_store::ChangeMsg;
 use etp_values::NoMemory;
@@ -144,6 +144,6 @@ impl Board {
     {
         let len = into.len();
         let printed = print_all(alloc, self.shelves.as_slice(), into);
-        settle(into, len, printed)
+        whole_or_nothing(into, len, printed)
     }
 }

@@ -5,7 +5,7 @@ ghost use Rattle.watch_views.specs.Held.{counted, counts_step, of_numbers};
 ghost use Rattle.watch_views.specs.Lines.{counts_line, counts_of};
 ghost use Rattle.watch_views.specs.Numbers.{numbers_of};
 
-use crate::lines::{put, put_numbers, settle};
+use crate::lines::{put, put_numbers, whole_or_nothing};
 use crate::view::View;
 use channel_store::{ChangeMsg, What};
 use etp_values::NoMemory;
@@ -76,6 +76,6 @@ impl View for Counts {
     fn lines(&self, _alloc: Global, into: &mut Vec<u8>) -> Result<(), NoMemory> {
         let len = into.len();
         let written = self.write(into);
-        settle(into, len, written)
+        whole_or_nothing(into, len, written)
     }
 }

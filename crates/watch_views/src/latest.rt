@@ -6,7 +6,7 @@ ghost use Rattle.avro_bin.specs.Plain.{Writes};
 ghost use Rattle.watch_views.specs.Held.{left_by, of_points, window_step};
 ghost use Rattle.watch_views.specs.Lines.{latest_line, latest_of};
 
-use crate::lines::{put, settle};
+use crate::lines::{put, whole_or_nothing};
 use crate::view::View;
 use crate::window::stays;
 use capture_text::put_point;
@@ -85,6 +85,6 @@ impl View for Latest {
     fn lines(&self, alloc: Global, into: &mut Vec<u8>) -> Result<(), NoMemory> {
         let len = into.len();
         let written = self.write(alloc, into);
-        settle(into, len, written)
+        whole_or_nothing(into, len, written)
     }
 }

@@ -45,7 +45,11 @@ pub fn put_numbers(into: &mut Vec<u8>, numbers: &[u64]) -> Result<(), NoMemory>
 }
 
 /// Takes back what was appended behind the first `len` bytes, where memory was refused on the way.
-pub fn settle(into: &mut Vec<u8>, len: usize, written: Result<(), NoMemory>) -> Result<(), NoMemory>
+pub fn whole_or_nothing(
+    into: &mut Vec<u8>,
+    len: usize,
+    written: Result<(), NoMemory>,
+) -> Result<(), NoMemory>
     ensures ok { OnOk result (into.new.items ≡ into.old.items) }
     ensures err { OnErr result (into.new.items ≡ take len into.old.items) }
     ensures same { result ≡ written }

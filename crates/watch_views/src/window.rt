@@ -8,7 +8,7 @@ ghost use Rattle.std.specs.List.{flat_map};
 ghost use Rattle.watch_views.specs.Lines.{window_lines, window_of};
 ghost use Rattle.watch_views.specs.Turns.{turned};
 
-use crate::lines::{put, put_number, settle};
+use crate::lines::{put, put_number, whole_or_nothing};
 use crate::view::View;
 use capture_text::put_point;
 use channel_points::Points;
@@ -163,6 +163,6 @@ impl View for Window {
     fn lines(&self, alloc: Global, into: &mut Vec<u8>) -> Result<(), NoMemory> {
         let len = into.len();
         let written = self.write(alloc, into);
-        settle(into, len, written)
+        whole_or_nothing(into, len, written)
     }
 }

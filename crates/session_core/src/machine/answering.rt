@@ -38,10 +38,10 @@ impl Machine {
                 self.say(alloc, &request, sayings)
             }
             Some(Pending::Objects { request, pending }) => {
-                self.answer_objects(alloc, &request, pending, reply_of(answer))
+                self.on_objects_answered(alloc, &request, pending, reply_of(answer))
             }
             Some(Pending::Arrays { request, pending }) => {
-                self.answer_arrays(alloc, &request, pending, reply_of(answer))
+                self.on_arrays_answered(alloc, &request, pending, reply_of(answer))
             }
             Some(
                 Pending::Staged {
@@ -49,22 +49,22 @@ impl Machine {
                     keys,
                     pending,
                 },
-            ) => self.answer_staged(alloc, &request, keys, pending, answer),
+            ) => self.on_staged_answered(alloc, &request, keys, pending, answer),
             Some(Pending::Transactions { request, pending }) => {
                 let sendings = transaction_reply(alloc, pending, reply_of(answer))?;
                 let sayings = sayings_of(alloc, sendings)?;
                 self.say(alloc, &request, sayings)
             }
             Some(Pending::Loads { request, pending }) => {
-                self.answer_loads(alloc, &request, pending, reply_of(answer))
+                self.on_loaded(alloc, &request, pending, reply_of(answer))
             }
             Some(Pending::Subscriptions { request, pending }) => {
-                self.answer_subscriptions(alloc, &request, pending, answer)
+                self.on_told(alloc, &request, pending, answer)
             }
         }
     }
 
-    fn answer_objects(
+    fn on_objects_answered(
         &mut self,
         alloc: Global,
         request: &Request,
@@ -81,7 +81,7 @@ impl Machine {
         self.say(alloc, request, sayings)
     }
 
-    fn answer_arrays(
+    fn on_arrays_answered(
         &mut self,
         alloc: Global,
         request: &Request,
@@ -99,7 +99,7 @@ impl Machine {
     }
 
     /// The answer to a request in a transaction: its keys are noted before anything comes of what was found.
-    fn answer_staged(
+    fn on_staged_answered(
         &mut self,
         alloc: Global,
         request: &Request,
@@ -111,7 +111,7 @@ impl Machine {
     {
         let Answer { mark, reply } = answer;
         match note_reply(alloc, &mut self.stage, mark, keys, reply) {
-            Ok(reply) => self.answer_noted(alloc, request, pending, reply),
+            Ok(reply) => self.on_noted(alloc, request, pending, reply),
             Err(error) => {
                 drop(pending);
                 Err(error)
@@ -120,7 +120,7 @@ impl Machine {
     }
 
     /// The same, once the keys are noted.
-    fn answer_noted(
+    fn on_noted(
         &mut self,
         alloc: Global,
         request: &Request,
@@ -130,12 +130,16 @@ impl Machine {
         ensures { OnOk result (self.new ≡ on_noted request.now pending reply self.old) }
     {
         match pending {
-            StagedPending::Objects(pending) => self.answer_objects(alloc, request, pending, reply),
-            StagedPending::Arrays(pending) => self.answer_arrays(alloc, request, pending, reply),
+            StagedPending::Objects(pending) => {
+                self.on_objects_answered(alloc, request, pending, reply)
+            }
+            StagedPending::Arrays(pending) => {
+                self.on_arrays_answered(alloc, request, pending, reply)
+            }
         }
     }
 
-    fn answer_loads(
+    fn on_loaded(
         &mut self,
         alloc: Global,
         request: &Request,
@@ -151,7 +155,7 @@ impl Machine {
         self.say(alloc, request, sayings)
     }
 
-    fn answer_subscriptions(
+    fn on_told(
         &mut self,
         alloc: Global,
         request: &Request,

@@ -3,7 +3,7 @@ use Rattle.session_core.specs.Session.{end_of}
 use Rattle.tool_forms.specs.Turns.{messages}
 use Rattle.tool_forms.specs.declared.tag.OpenSession.{OpenSession}
 use Rattle.tool_forms.proofs.EnteringLemmas.{meets_closed}
-use Rattle.tool_forms.proofs.turns.settle.Goals as goal
+use Rattle.tool_forms.proofs.turns.play_after.Goals as goal
 
 pub returns-in_ok-push_end-in-Some : goal.returns-in_ok-push_end-in-Some
 returns-in_ok-push_end-in-Some c =
