@@ -1,5 +1,5 @@
 -- The groups of seven bits that a number is read from and written as; for the crates above too.
-use Rattle.std.proofs.Common.{◌≡◌, ℕ, zero, suc, ◌+◌, ◌-◌, ◌*◌, ◌/◌, ◌%◌, ◌<◌, ◌≤◌, Bool, true, false, List, ◌∷◌, Result, Ok, Err, ltb, cond, refl, sym, ap, arith, ◌⊎◌, inl, inr}
+use Rattle.std.proofs.Common.{◌≡◌, ℕ, zero, suc, ◌+◌, ◌-◌, ◌*◌, ◌/◌, ◌%◌, ◌<◌, ◌≤◌, Bool, true, false, List, ◌∷◌, Result, Ok, Err, cond, refl, sym, ap, arith, ◌⊎◌, inl, inr}
 use Rattle.std.proofs.lemmas.Bool.{le-ltb}
 use Rattle.avro_bin.specs.declared.fault.Why.{Why}
 use Rattle.avro_bin.specs.Number.{shortest}

@@ -1,5 +1,5 @@
 -- The frames of a capture and their bytes.
-use Rattle.std.specs.Prelude.{◌≡◌, ℕ, ◌+◌, ◌%◌, ◌^◌, ◌<◌, ◌==◌, ◌&&◌, ◌||◌, not, nat_le, Bool, true, List, ◌∷◌, ◌++◌, length, get_or, take, drop, codes, FitsSigned, ℤ}
+use Rattle.std.specs.Prelude.{◌≡◌, ℕ, ◌%◌, ◌^◌, ◌<◌, ◌==◌, ◌&&◌, ◌||◌, not, nat_le, Bool, true, List, ◌∷◌, ◌++◌, length, get_or, take, drop, codes, FitsSigned, ℤ}
 use Rattle.std.specs.Int.{w32, w64, to_be_bytes, from_be_bytes, cast_signed, cast_unsigned}
 use Rattle.etp_capture.specs.Kinds.{kind_in, kind_poll, kind_end, kind_out, kind_ended}
 use Rattle.etp_capture.specs.declared.frame.Frame.{Frame}

@@ -1,5 +1,5 @@
 -- The parts of each message are the message.
-use Rattle.std.proofs.Common.{◌≡◌, ◌∙◌, ℕ, true, false, List, Some, Result, Ok, Err, IfOk, refl, ap}
+use Rattle.std.proofs.Common.{◌≡◌, ◌∙◌, ℕ, true, List, Some, Result, Ok, Err, IfOk, refl, ap}
 use Rattle.std.proofs.lemmas.Bool.{false≢true, not-true}
 use Rattle.std.specs.List.{list_any}
 use Rattle.etp_schema.specs.Form.{text_form, long_form}

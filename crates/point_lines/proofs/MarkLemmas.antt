@@ -1,5 +1,5 @@
 -- The first mark among bytes.
-use Rattle.std.proofs.Common.{◌≡◌, ◌==◌, ◌≢◌, ◌<◌, ◌≤◌, ◌+◌, ◌-◌, ℕ, suc, Bool, true, false, List, [], ◌∷◌, ◌++◌, length, get_or, take, drop, Option, None, Some, if◌then◌else◌, refl, ap, sym, subst, ◌∙◌, arith, slice_range, add-one, drop-cons}
+use Rattle.std.proofs.Common.{◌≡◌, ◌==◌, ◌<◌, ◌≤◌, ◌+◌, ◌-◌, ℕ, suc, Bool, true, false, List, [], ◌∷◌, ◌++◌, length, get_or, take, drop, Option, None, Some, if◌then◌else◌, refl, ap, sym, subst, ◌∙◌, arith, slice_range, add-one, drop-cons}
 use Rattle.std.specs.Option.{option_map, is_some}
 use Rattle.std.proofs.lemmas.Bool.{false≢true, eq-eqb, ne_eqb}
 use Rattle.std.proofs.lemmas.List.{take-append-drop, append-nil, drop-drop, take_more, length-drop, take_rest}

@@ -1,5 +1,5 @@
 -- Numbers of a text that are too great.
-use Rattle.std.proofs.Common.{◌≡◌, ◌<◌, ◌-◌, ℕ, false, nat_le, List, arith}
+use Rattle.std.proofs.Common.{◌≡◌, ◌<◌, ℕ, false, nat_le, List, arith}
 use Rattle.std.proofs.lemmas.Bool.{lt-leb}
 use Rattle.etp_outside.specs.Decimal.{read_on}
 use Rattle.etp_outside.proofs.DecimalLemmas.{read_on_grows}

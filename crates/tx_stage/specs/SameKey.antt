@@ -1,5 +1,5 @@
 -- That keys which are the same are equal, and the laws that a table with such keys asks for; for the crates above too.
-use Rattle.std.specs.Prelude.{true, false, ◌≡◌, refl}
+use Rattle.std.specs.Prelude.{true, ◌≡◌, refl}
 use Rattle.std.specs.Cmp.{IsEquivalence}
 use Rattle.std.specs.Cmp.Lexicographic.{nat_list_eq_equiv}
 use Rattle.std.proofs.Common.{ap}

@@ -1,4 +1,4 @@
-use Rattle.std.proofs.Common.{◌≡◌, length, map, [], ◌∷◌, ◌++◌, get_or, ◌+◌, ◌-◌, ◌<◌, List, ℕ, true, false, refl, ap, sym, ◌∙◌, arith, rules, FitsSigned, w64, of_z, to_z, to_z-of_z}
+use Rattle.std.proofs.Common.{◌≡◌, length, map, [], ◌∷◌, ◌++◌, get_or, ◌<◌, List, ℕ, true, false, refl, ap, sym, ◌∙◌, arith, rules, FitsSigned, w64, of_z, to_z, to_z-of_z}
 use Rattle.std.proofs.lemmas.Result.{err_from_is_err_and}
 use Rattle.std.proofs.lemmas.List.{map_push}
 use Rattle.avro_bin.specs.Value.{VArray, VFields}

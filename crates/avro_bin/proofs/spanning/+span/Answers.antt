@@ -1,4 +1,4 @@
-use Rattle.std.proofs.Common.{◌≡◌, length, ◌-◌, ◌<◌, List, ℕ, Bor, true, false, refl, ap, sym, ◌∙◌, arith, rules, FitsSigned, w64, of_z, to_z, to_z-of_z}
+use Rattle.std.proofs.Common.{◌≡◌, length, ◌<◌, List, ℕ, Bor, true, false, refl, ap, sym, ◌∙◌, arith, rules, FitsSigned, w64, of_z, to_z, to_z-of_z}
 use Rattle.std.proofs.lemmas.Result.{err_from_is_err_and}
 use Rattle.std.specs.Ordering.{nat_cmp}
 use Rattle.std.specs.Cmp.Lexicographic.{slice_cmp}

@@ -1,4 +1,4 @@
-use Rattle.std.proofs.Common.{arith, Some, ◌≡◌, ◌++◌, ◌+◌, List, [], ◌∷◌, ℕ, drop, sym, ◌-◌, ◌∙◌, length-take-le, length, length-append, length-drop}
+use Rattle.std.proofs.Common.{arith, Some, ◌≡◌, ◌++◌, List, [], ◌∷◌, ℕ, drop, sym, ◌∙◌, length-take-le, length, length-append, length-drop}
 use lib.Seq.{take-append-le}
 use Rattle.etp_outside.proofs.ToldLemmas.{told_weaker}
 use Rattle.etp_capture.specs.Reader.{TakesUp}
