@@ -35,6 +35,6 @@ pub use fault::{Fault, Why};
 pub use laws::{one_outcome, one_spelling, reading_is_exact, reads_back, spelled_has_schema};
 pub use refusal::{Refusal, refusal_at};
 pub use schema::{Node, Table};
-pub use sizing::{TooLong, blob_size, number_size, size};
+pub use sizing::{SIZE_LIMIT, TooLong, blob_size, number_size, size};
 pub use spanning::span;
 pub use tree::Tree;

@@ -122,8 +122,8 @@ fn named_size(named: &Named<Tree>) -> u64
     sum
 }
 
-/// The greatest length that is answered.
-const SIZE_LIMIT: u64 = 1 << 40;
+/// The greatest length that is answered, in bytes.
+pub const SIZE_LIMIT: u64 = 1 << 40;
 
 /// The spelling that is written is longer than 2^40 bytes.
 #[derive(Clone, Copy, Debug, PartialEq, Eq, Drop, Error)]

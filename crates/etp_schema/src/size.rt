@@ -6,11 +6,9 @@ ghost use Rattle.etp_schema.specs.Size.{capped};
 
 use crate::measure::Measure;
 use crate::on_wire::OnWire;
+use avro_bin::SIZE_LIMIT;
 use etp_values::NoMemory;
 use std::alloc::Global;
-
-/// The longest size that is counted.
-const SIZE_LIMIT: u64 = 1 << 40;
 
 /// How many bytes the written spelling of the value has, and how many nodes. It takes no memory.
 #[tactic(auto, using(crate::proofs::MeasuredLemmas::measured_is))]

@@ -10,6 +10,9 @@ use etp_values::{Blob, NoMemory};
 use std::alloc::Global;
 use std::marker::Model;
 
+/// How many sessions the load has, and of them each a channel.
+pub(crate) const SESSIONS: u32 = 8;
+
 /// A load that is given frame by frame. A contract sees the frames that are left to give.
 #[derive(Drop)]
 pub struct Generator {
@@ -77,7 +80,7 @@ fn frame_of(alloc: Global, place: u32, message: &Message) -> Result<Frame, NoMem
     let bytes = bytes_of(alloc, place, message)?;
     Ok(Frame {
         kind: kinds::IN,
-        tag: place % 8,
+        tag: place % SESSIONS,
         moment: i64::from(place),
         bytes,
     })
@@ -98,7 +101,7 @@ fn request_header(place: u32, message: &Message) -> Header
         protocol: message.protocol(),
         kind: message.kind(),
         correlation: 0,
-        id: (2 * (u64::from(place / 8) + 1)) as i64,
+        id: (2 * (u64::from(place / SESSIONS) + 1)) as i64,
         flags: flags::FINAL_PART,
     }
 }
@@ -109,7 +112,7 @@ fn poll_frame(place: u32) -> Frame
 {
     Frame {
         kind: kinds::POLL,
-        tag: place % 8,
+        tag: place % SESSIONS,
         moment: i64::from(place),
         bytes: Blob::new(),
     }

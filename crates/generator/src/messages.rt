@@ -4,6 +4,7 @@ ghost use Rattle.etp_frame.specs.Message.{channel_subscribe_number, channel_data
 ghost use Rattle.generator.specs.Generator.{wanted, request_session, open_channel, subscribe_channel, point, append_point, ping, replace_range, next_number, later_message, message_at};
 
 use crate::channels::{channel_uri, id_ending};
+use crate::frames::SESSIONS;
 use etp_frame::Message;
 use etp_schema::{Few, protocols};
 use etp_values::{Boxed, DataValue, List, Named, NoMemory, Text};
@@ -27,10 +28,10 @@ pub(crate) fn next_number(number: u64) -> u64
 pub(crate) fn message_at(alloc: Global, number: u64, place: u32) -> Result<Message, NoMemory>
     ensures { IfOk result (λ m. m ≡ message_at number place) }
 {
-    match place / 8 {
+    match place / SESSIONS {
         0 => request_session(alloc),
-        1 => open_channel(alloc, (place % 8) as u8),
-        2 => subscribe_channel(alloc, i64::from((place % 8 + 1) % 8)),
+        1 => open_channel(alloc, (place % SESSIONS) as u8),
+        2 => subscribe_channel(alloc, i64::from((place % SESSIONS + 1) % SESSIONS)),
         _ => later_message(alloc, number, place),
     }
 }
@@ -139,7 +140,7 @@ fn named<T: Drop>(alloc: Global, name: &str, value: T) -> Result<Named<T>, NoMem
 fn later_message(alloc: Global, number: u64, place: u32) -> Result<Message, NoMemory>
     ensures { IfOk result (λ m. m ≡ later_message number place) }
 {
-    let channel = i64::from(place % 8);
+    let channel = i64::from(place % SESSIONS);
     let at = i64::from(place);
     let value = (number >> 40) as i64;
     match (number >> 33) % 4 {

@@ -13,6 +13,15 @@ use etp_schema::{Side, protocols};
 use etp_values::NoMemory;
 use std::alloc::Global;
 
+/// The number of ChannelData in ChannelSubscribe.
+const CHANNEL_DATA: i32 = 4;
+
+/// The number of RangeReplaced.
+const RANGE_REPLACED: i32 = 6;
+
+/// The number of ChannelsTruncated.
+const CHANNELS_TRUNCATED: i32 = 13;
+
 /// How many messages were sent, and how many of them tell of points, of a range or of an end of channels. No number of answers
 /// that a load can have passes 2^128.
 #[derive(Clone, Copy)]
@@ -132,9 +141,9 @@ fn is_change(kind: i32) -> bool
     ensures { result ≡ is_change kind }
 {
     match kind {
-        4 => true,
-        6 => true,
-        13 => true,
+        CHANNEL_DATA => true,
+        RANGE_REPLACED => true,
+        CHANNELS_TRUNCATED => true,
         _ => false,
     }
 }

@@ -22,6 +22,7 @@ use crate::state::{Arrived, End, Live, Outgoing, Pending, Phase, Request};
 use channel_rows::{Opens, SubscribePending, news_call};
 use etp_frame::flags::ACKNOWLEDGE;
 use etp_frame::{Header, Joiner, Message, write_in_room};
+use etp_schema::protocols;
 use etp_values::{Blob, ErrorCode, List, NoMemory};
 use msg_core::CoreMessage;
 use server_config::Config;
@@ -205,7 +206,10 @@ impl Machine {
     {
         match arrived {
             Arrived::Unreadable(code) => {
-                let unread = Request { protocol: 0, id: 0 };
+                let unread = Request {
+                    protocol: protocols::CORE,
+                    id: 0,
+                };
                 self.refuse(alloc, &unread, code)?;
                 Ok(None)
             }
@@ -282,7 +286,10 @@ impl Machine {
             return Ok(None);
         };
         let pending = Pending::Subscriptions {
-            request: Request { protocol: 0, id: 0 },
+            request: Request {
+                protocol: protocols::CORE,
+                id: 0,
+            },
             pending: SubscribePending::News,
         };
         keep(&mut self.pending, pending);
