@@ -1,5 +1,5 @@
 -- Tests of integers; for the crates above too.
-use Rattle.std.proofs.Common.{◌≡◌, ℕ, ℤ, pos, negsuc, int_lt, true, false, refl, arith}
+use Rattle.std.proofs.Common.{◌≡◌, ℕ, ℤ, pos, negsuc, int_lt, true, false, arith}
 use Rattle.std.specs.Ordering.{int_eq}
 use Rattle.std.proofs.lemmas.Int.{ints}
 
@@ -19,7 +19,7 @@ pub pos_not_below : (k : ℕ) → int_lt (pos k) (pos 0) ≡ false
 pos_not_below k = grind (arith, ints)
 
 pub neg_below : (k : ℕ) → int_lt (negsuc k) (pos 0) ≡ true
-neg_below k = refl
+neg_below k = grind (arith, ints)
 
 pub int_lt_trans : (i j k : ℤ) → int_lt i j ≡ true → int_lt j k ≡ true → int_lt i k ≡ true
 int_lt_trans i j k h l = grind (arith, ints, h, l)
