@@ -27,7 +27,7 @@ use Rattle.store_machine.specs.declared.call.StoreCall.TheVariants.{Enter}
 use Rattle.store_machine.proofs.NumberLemmas.{added-one}
 use Rattle.session_core.specs.Arriving.{Event, Receives, Polls}
 use Rattle.session_core.specs.State.{State}
-use Rattle.session_core.specs.Run.{takes, hears, drained, moment_of, at_place, Course, own_number, IsHeeded, asked, run, AllWithin, RunIsSame, RunGoesOn}
+use Rattle.session_core.specs.Run.{takes, hears, drained, moment_of, at_place, Course, own_number, IsHeeded, asked, AllWithin, RunIsSame, RunGoesOn}
 use Rattle.session_core.specs.Session.{bytes_of, end_of}
 use Rattle.session_core.specs.declared.state.Outgoing.{Outgoing}
 use Rattle.session_core.specs.declared.state.End.{End}
