@@ -4,6 +4,9 @@
     python3 ended_sessions.py 1000000 > CAPTURE
 """
 import sys
+from pathlib import Path
+
+sys.path.insert(0, str(Path(__file__).resolve().parent.parent / "outside"))
 
 import wire
 

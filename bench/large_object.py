@@ -13,6 +13,8 @@ import tempfile
 import time
 from pathlib import Path
 
+sys.path.insert(0, str(Path(__file__).resolve().parent.parent / "outside"))
+
 from row_captures import CONFIGS, PUT, Script, blob_id, data_object, put_objects, well
 from wire import MAGIC
 

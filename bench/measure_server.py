@@ -20,6 +20,8 @@ from collections import namedtuple
 from contextlib import contextmanager
 from pathlib import Path
 
+sys.path.insert(0, str(Path(__file__).resolve().parent.parent / "outside"))
+
 import talk_to_server
 import wire
 

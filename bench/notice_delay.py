@@ -17,6 +17,8 @@ import tempfile
 import time
 from pathlib import Path
 
+sys.path.insert(0, str(Path(__file__).resolve().parent.parent / "outside"))
+
 from watch_a_rig import PATIENCE, Client, Office, config
 
 LOADS = 200

@@ -19,6 +19,8 @@ import tempfile
 import time
 from pathlib import Path
 
+sys.path.insert(0, str(Path(__file__).resolve().parent.parent / "outside"))
+
 import wire
 from watch_a_rig import SUBPROTOCOL, VERSION, uri
 

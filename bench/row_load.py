@@ -14,6 +14,9 @@
 """
 import sys
 import uuid
+from pathlib import Path
+
+sys.path.insert(0, str(Path(__file__).resolve().parent.parent / "outside"))
 
 import wire
 

@@ -22,6 +22,8 @@ import tempfile
 import uuid
 from pathlib import Path
 
+sys.path.insert(0, str(Path(__file__).resolve().parent.parent / "outside"))
+
 import row_load
 import wire
 
