@@ -16,6 +16,16 @@ use std::marker::Brand;
 use std::snapshot::Snapshot;
 use std::sync::Wait;
 use std::thread;
+use std::time::Duration;
+
+/// How many tries follow one another without a sleep, as most turns are over in microseconds.
+const YIELDS: u32 = 200;
+
+/// How long the first sleep of a waiting thread is, in microseconds.
+const FIRST_SLEEP: u64 = 64;
+
+/// How many of the sleeps after it are twice as long as the one before. The longest is four milliseconds.
+const DOUBLINGS: u32 = 6;
 
 type Room<B> = Table<
     Option<B>,
@@ -63,7 +73,8 @@ impl<B: Book> TurnBook<B> {
         Ok((TurnBook { table }, Seat { seat, taken: 0 }))
     }
 
-    /// Takes the turn, and waits for it. The book is as it last went in.
+    /// Takes the turn, and waits for it. The book is as it last went in. Between the first tries other threads may run; between
+    /// later ones the thread sleeps, for four milliseconds at most.
     pub fn take<R: Wait>(&self, rt: &R, seat: &mut Seat<B>) -> B
         requires own { IsSeatOf B.fixed self.now seat.old }
         requires idle { (view seat.old).held ≡ None }
@@ -72,13 +83,29 @@ impl<B: Book> TurnBook<B> {
         ensures view { Waits (view seat.old) (B.journal result) (view seat.new) }
         ensures knows { Knows B.by B.enters (B.journal result) (view seat.old) }
     {
+        let mut missed: u32 = 0;
         for _ in rt.forever() {
             if let Some(book) = self.try_take(seat) {
                 return book;
             }
-            thread::yield_now();
+            self.rest(rt, missed);
+            missed = missed.saturating_add(1);
         }
         unreachable!()
+    }
+
+    // Waits before a further try, after so many have missed the turn: lets other threads run at first, and later sleeps, unless the
+    // turn has been given back meanwhile.
+    fn rest<R: Wait>(&self, rt: &R, missed: u32) {
+        if missed < YIELDS {
+            thread::yield_now();
+        } else {
+            let doublings = (missed - YIELDS).min(DOUBLINGS);
+            let micros = FIRST_SLEEP << doublings;
+            self.table
+                .shared
+                .park_timeout(rt, 0, 1, Duration::from_micros(micros));
+        }
     }
 
     /// Takes the turn if it is free. None where its own compare and exchange found the turn taken, which `missed` counts.
