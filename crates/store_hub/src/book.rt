@@ -1,12 +1,14 @@
 //! The store as a book that is shared in turns.
+use etp_values::Boxed;
 use server_config::Config;
 use store_machine::{Entry, Store};
 use turn_book::Book;
 
-/// The store as a book: its entries, and its configuration, which never changes.
+/// The store as a book: its entries, and its configuration, which never changes. The store is in a box, so that a turn moves one
+/// pointer and not the whole store.
 #[derive(Drop)]
 pub struct StoreBook {
-    pub(crate) store: Store,
+    pub(crate) store: Boxed<Store>,
 }
 
 impl Book for StoreBook {
@@ -25,6 +27,6 @@ impl Book for StoreBook {
     ghost enters = { enters_of };
 
     fn len(&self) -> u64 {
-        self.store.entries()
+        self.store.get().entries()
     }
 }

@@ -159,6 +159,6 @@ impl Hub {
         let Hub { book } = self;
         let Pass { seat, .. } = pass;
         let StoreBook { store } = book.close(rt, seat);
-        store
+        store.into_inner()
     }
 }

@@ -17,11 +17,11 @@ ghost use Rattle.store_hub.specs.Turns.{Adds, LetsIn, StaysKept};
 use crate::book::StoreBook;
 use crate::error::EnterError;
 use crate::tried::Tried;
-use etp_values::NoMemory;
+use etp_values::{Boxed, NoMemory};
 use std::alloc::Global;
 use std::sync::Wait;
 use store_machine::{Answer, Entry, Store, StoreCall};
-use turn_book::{Seat, TurnBook};
+use turn_book::{Book, Seat, TurnBook};
 
 /// A book over a store, its first seat, and how many entries are the door's.
 pub(crate) fn open(
@@ -34,6 +34,7 @@ pub(crate) fn open(
     ensures kept { IfOk result (λ t. IsKept 0 t.2 (view t.1)) }
 {
     let entries = door_entries(&store);
+    let store = Boxed::new(alloc, store)?;
     let (book, seat) = TurnBook::new(alloc, StoreBook { store })?;
     Ok((book, seat, entries))
 }
@@ -136,7 +137,7 @@ fn in_turn(
     let mut inside = inside;
     let mark = book.look(seat);
     let answer = ask_as(&mut inside.store, alloc, number, *nth, at, call);
-    let entries = inside.store.entries();
+    let entries = inside.len();
     *nth += entries - mark;
     book.give(seat, inside);
     answer
@@ -144,7 +145,7 @@ fn in_turn(
 
 /// Asks the store for a session whose next entry is its `nth`.
 fn ask_as(
-    store: &mut Store,
+    store: &mut Boxed<Store>,
     alloc: Global,
     number: u64,
     nth: u64,
@@ -158,7 +159,7 @@ fn ask_as(
         × Adds store.old.config store.old.journal number nth at call store.new.journal) }
     ensures err { OnErr result (store.new.journal ≡ store.old.journal) }
 {
-    store.ask(alloc, number, nth, at, call)
+    store.get_mut().ask(alloc, number, nth, at, call)
 }
 
 /// Lets a session in at the journal of the moment at which the turn comes, and answers its seat and number.
@@ -219,7 +220,7 @@ fn let_in(
 }
 
 /// Lets a session in, and answers its number.
-fn enter_store(store: &mut Store, alloc: Global, at: i64) -> Result<u64, EnterError>
+fn enter_store(store: &mut Boxed<Store>, alloc: Global, at: i64) -> Result<u64, EnterError>
     ensures config { store.new.config ≡ store.old.config }
     ensures ok { IfOk result (LetsIn store.old.config store.old.journal) }
     ensures entry { IfOk result (λ n. store.new.journal ≡ store.old.journal ++ entering n at ∷ []) }
@@ -227,11 +228,12 @@ fn enter_store(store: &mut Store, alloc: Global, at: i64) -> Result<u64, EnterEr
         → has_room_for store.old.config store.old.journal Enter ≡ false }
     ensures err { OnErr result (store.new.journal ≡ store.old.journal) }
 {
-    let number = store.entries();
-    let Ok(_answer) = store.ask(alloc, 0, 0, at, StoreCall::Enter) else {
+    let inside = store.get_mut();
+    let number = inside.entries();
+    let Ok(_answer) = inside.ask(alloc, 0, 0, at, StoreCall::Enter) else {
         return Err(EnterError::NoMemory);
     };
-    let after = store.entries();
+    let after = inside.entries();
     if after == number {
         return Err(EnterError::JournalFull);
     }

@@ -24,7 +24,7 @@ overflow_sub-nth c =
     let t = turned c.args.inside.store.config c.args.inside.store.config c.args.number c.args.nth.now (to_z w64 (of_z w64 c.args.at)) c.args.call u m m c.args.inside.store.journal c.ask_as-answer.new.store.journal c.look-mark.result
     c.ask_as-answer.result refl c.requires.kept c.requires.held s c.ask_as-answer.ensures.ok c.ask_as-answer.ensures.err in
     let longer = t.longer in
-    omega (arith, longer, c.entries-entries.ensures.len)
+    omega (arith, longer, c.len-entries.ensures)
 
 pub overflow_add-nth : goal.overflow_add-nth
 overflow_add-nth c =
@@ -34,7 +34,7 @@ overflow_add-nth c =
     let t = turned c.args.inside.store.config c.args.inside.store.config c.args.number c.args.nth.now (to_z w64 (of_z w64 c.args.at)) c.args.call u m m c.args.inside.store.journal c.ask_as-answer.new.store.journal c.look-mark.result
     c.ask_as-answer.result refl c.requires.kept c.requires.held s c.ask_as-answer.ensures.ok c.ask_as-answer.ensures.err in
     let fits = t.fits in
-    omega (arith, fits, c.entries-entries.ensures.len)
+    omega (arith, fits, c.len-entries.ensures)
 
 pub give-requires-clause-journal : goal.give-requires-clause-journal
 give-requires-clause-journal c =
@@ -53,7 +53,7 @@ returns-clause-kept c =
     let s = sees u m c.args.inside.store.journal c.look-mark.result c.requires.held c.look-mark.ensures.held in
     let t = turned c.args.inside.store.config c.args.inside.store.config c.args.number c.args.nth.now (to_z w64 (of_z w64 c.args.at)) c.args.call u m w c.args.inside.store.journal c.ask_as-answer.new.store.journal c.look-mark.result
     c.ask_as-answer.result refl c.requires.kept c.requires.held s c.ask_as-answer.ensures.ok c.ask_as-answer.ensures.err in
-    subst (λ (k : ℕ). IsKept c.args.number (c.args.nth.now + (k - c.look-mark.result)) w) (sym c.entries-entries.ensures.len) (t.kept c.give.ensures.same c.give.ensures.entry)
+    subst (λ (k : ℕ). IsKept c.args.number (c.args.nth.now + (k - c.look-mark.result)) w) (sym c.len-entries.ensures) (t.kept c.give.ensures.same c.give.ensures.entry)
 
 pub returns-clause-ok : goal.returns-clause-ok
 returns-clause-ok c =
