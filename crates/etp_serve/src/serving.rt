@@ -82,7 +82,7 @@ fn poll<L: Link, R: Wait>(
 {
     // For the proof alone: what holds of a run that goes on by an event.
     laws();
-    let front = hub.news(pass);
+    let front = hub.front(pass);
     let Ok(call) = session.poll(alloc, front) else {
         return Some(Ended::NoMemory);
     };

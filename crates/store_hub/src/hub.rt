@@ -130,13 +130,13 @@ impl Hub {
 
     /// How many entries the journal has, as one load finds it, without memory and without waiting. It may have more by the
     /// time that the number is read.
-    pub fn news(&self, pass: &mut Pass) -> u64
+    pub fn front(&self, pass: &mut Pass) -> u64
         requires own { IsPassOf self.now pass.old }
         ensures own { IsPassOf self.now pass.new × (pass.new.number ≡ pass.old.number) }
         ensures least { length (known pass.old).seen ≤ result }
         ensures view { known pass.new ≡ hearing result (known pass.old) }
     {
-        turns::news(&self.book, &mut pass.seat)
+        turns::front(&self.book, &mut pass.seat)
     }
 
     /// Takes in what an ended session knew.

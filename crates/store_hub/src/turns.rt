@@ -241,7 +241,7 @@ fn enter_store(store: &mut Boxed<Store>, alloc: Global, at: i64) -> Result<u64, 
 }
 
 /// Looks at the journal's length without the turn.
-pub(crate) fn news(book: &TurnBook<StoreBook>, seat: &mut Seat<StoreBook>) -> u64
+pub(crate) fn front(book: &TurnBook<StoreBook>, seat: &mut Seat<StoreBook>) -> u64
     requires own { IsSeatOf (λ b. b.store.config) book.now seat.old }
     requires idle { (view seat.old).held ≡ None }
     ensures own { IsSeatOf (λ b. b.store.config) book.now seat.new }
