@@ -9,7 +9,8 @@ ghost use Rattle.store_hub.specs.Passes.{IsFresh, IsPassOf, config_of, known};
 ghost use Rattle.etp_serve.specs.Accepted.{Accepts, IsBegun, IsDone, IsOneLess, IsReached, ServesAll};
 ghost use Rattle.etp_serve.specs.declared.served.Served.TheVariants.{Stopped};
 
-use crate::children::{Child, Handle, put_last, settle_all, settle_ended, settle_first, take_in};
+use crate::children::{Child, Handle, put_last, settle_all, settle_ended, take_in};
+use crate::endings::Endings;
 use crate::laws::laws;
 use crate::served::Served;
 use crate::thread::{Finished, Started, serve_one};
@@ -19,7 +20,6 @@ use std::alloc::Global;
 use std::collections::VecDeque;
 use std::snapshot::Snapshot;
 use std::sync::Wait;
-use std::sync::atomic::{AtomicU64, Ordering};
 use std::thread;
 use std::thread::{Scope, Threads};
 use store_hub::{EnterError, Hub, Pass};
@@ -44,10 +44,10 @@ fn free_bit<H>(children: &VecDeque<Child<H>>) -> u64 {
     free & free.wrapping_neg()
 }
 
-/// The same, told of nobody: whoever had the bit before is taken in, and may have left it among those that have ended.
-fn claim_bit<H>(children: &VecDeque<Child<H>>, over: &AtomicU64) -> u64 {
+/// The same, of which the endings say nothing: a session that no thread could be started for has left its bit there.
+fn claim_bit<H>(children: &VecDeque<Child<H>>, endings: &Endings) -> u64 {
     let bit = free_bit(children);
-    over.fetch_and(!bit, Ordering::SeqCst);
+    endings.forget(bit);
     bit
 }
 
@@ -57,7 +57,7 @@ fn entering<C: Clock>(clock: &C) -> i64 {
     own.now()
 }
 
-/// Hands a link back for which no session was let in.
+/// Closes a link for which no session was let in, and hands it back. Nothing came over it, so it has no goodbye to wait for.
 fn turn_away<A: Listener>(door: &mut A, link: A::Link, end: u8)
     ensures back { Told (A.backs door.old) (A.backs door.new) (TakesBack (A.given door.old)
         (back_of 0 end (A.Link.faults link) (A.Link.ended link) (A.Link.talk link))) }
@@ -81,7 +81,7 @@ fn begin<'s, 'e, A: Listener, C: Clock, G: Gate, R: Threads + Wait + Sync>(
     clock: &C,
     gate: &'s G,
     conf: &'s Config,
-    over: &'s AtomicU64,
+    endings: &'s Endings,
     children: &mut VecDeque<Child<Handle<A::Link, C>>>,
     opened: &Snapshot<A>,
     first: &Snapshot<Pass>,
@@ -117,7 +117,7 @@ where
 {
     // For the proof alone: a full journal stays full.
     room_laws();
-    let bit = claim_bit(children, over);
+    let bit = claim_bit(children, endings);
     let own = clock.another();
     let started = Started {
         hub: Snapshot::of(hub),
@@ -134,7 +134,7 @@ where
         ensures own { IsPassOf hub.entry.now result.pass × (result.pass.number ≡ entered.number) }
         ensures done { IsDone (C.passes own) (config_of hub.entry.now) entered.number (known result.pass) result.end
             (A.Link.talk link) (A.Link.talk result.link) (A.Link.faults link) (A.Link.faults result.link) (A.Link.ended result.link) }
-    { serve_one(rt, alloc, link, hub, entered, own, gate, conf, over, bit) };
+    { serve_one(rt, alloc, link, hub, entered, own, gate, conf, endings, bit) };
     match scope.spawn_with(started, work) {
         Ok(handle) => put_last(children, Child { handle, bit }),
         Err(refused) => {
@@ -155,7 +155,7 @@ fn let_in<'s, 'e, A: Listener, C: Clock, G: Gate, R: Threads + Wait + Sync>(
     clock: &C,
     gate: &'s G,
     conf: &'s Config,
-    over: &'s AtomicU64,
+    endings: &'s Endings,
     children: &mut VecDeque<Child<Handle<A::Link, C>>>,
     opened: &Snapshot<A>,
     first: &Snapshot<Pass>,
@@ -192,7 +192,7 @@ where
     match hub.enter(rt, alloc, pass, entering(clock)) {
         Ok(entered) => {
             begin(
-                rt, alloc, scope, door, hub, pass, clock, gate, conf, over, children, opened,
+                rt, alloc, scope, door, hub, pass, clock, gate, conf, endings, children, opened,
                 first, link, entered,
             );
             None
@@ -219,7 +219,7 @@ fn welcome<'s, 'e, A: Listener, C: Clock, G: Gate, R: Threads + Wait + Sync>(
     clock: &C,
     gate: &'s G,
     conf: &'s Config,
-    over: &'s AtomicU64,
+    endings: &'s Endings,
     children: &mut VecDeque<Child<Handle<A::Link, C>>>,
     opened: &Snapshot<A>,
     first: &Snapshot<Pass>,
@@ -251,7 +251,7 @@ where
 {
     match door.next(alloc) {
         Next::Link(link) => let_in(
-            rt, alloc, scope, door, hub, pass, clock, gate, conf, over, children, opened, first,
+            rt, alloc, scope, door, hub, pass, clock, gate, conf, endings, children, opened, first,
             link,
         ),
         Next::Stop => Some(Served::Stopped),
@@ -286,7 +286,7 @@ fn serve_links<'s, 'e, A: Listener, C: Clock, G: Gate, R: Threads + Wait + Sync>
     clock: &C,
     gate: &'s G,
     conf: &'s Config,
-    over: &'s AtomicU64,
+    endings: &'s Endings,
     children: &mut VecDeque<Child<Handle<A::Link, C>>>,
     opened: &Snapshot<A>,
     first: &Snapshot<Pass>,
@@ -319,19 +319,9 @@ where
         let Some(after) = one_less(left) else {
             return Served::Stopped;
         };
-        make_room(
-            rt,
-            hub,
-            door,
-            pass,
-            clock,
-            children,
-            over.swap(0, Ordering::SeqCst),
-            opened,
-            first,
-        );
+        make_room(rt, hub, door, pass, clock, endings, children, opened, first);
         if let Some(end) = welcome(
-            rt, alloc, scope, door, hub, pass, clock, gate, conf, over, children, opened, first,
+            rt, alloc, scope, door, hub, pass, clock, gate, conf, endings, children, opened, first,
         ) {
             return end;
         }
@@ -340,15 +330,15 @@ where
     unreachable!()
 }
 
-/// Takes in the children whose bits these are, and the first one where there is still no room for a further one.
-fn make_room<A: Listener, C: Clock, R: Threads>(
+/// Takes in the children that have ended. Where there is no room for a further one, it waits until one ends, whichever that is.
+fn make_room<A: Listener, C: Clock, R: Threads + Wait>(
     rt: &R,
     hub: &Hub,
     door: &mut A,
     pass: &mut Pass,
     clock: &C,
+    endings: &Endings,
     children: &mut VecDeque<Child<Handle<A::Link, C>>>,
-    bits: u64,
     opened: &Snapshot<A>,
     first: &Snapshot<Pass>,
 )
@@ -369,10 +359,15 @@ fn make_room<A: Listener, C: Clock, R: Threads>(
     ensures stopped { A.stopped door.new ≡ A.stopped door.old }
     ensures kept { A.faults door.old ≤ A.faults door.new }
 {
-    settle_ended(rt, hub, door, pass, clock, children, bits, opened, first);
-    if children.len() >= MOST {
-        settle_first(rt, hub, door, pass, clock, children, None, opened, first);
+    for _ in rt.forever() {
+        let bits = endings.take();
+        settle_ended(rt, hub, door, pass, clock, children, bits, opened, first);
+        if children.len() < MOST {
+            return;
+        }
+        endings.wait(rt);
     }
+    unreachable!()
 }
 
 /// Serves links in threads of a scope, and waits until all their sessions have ended.
@@ -386,7 +381,7 @@ fn accept<'s, 'e, A: Listener, C: Clock, G: Gate, R: Threads + Wait + Sync>(
     clock: &C,
     gate: &'s G,
     conf: &'s Config,
-    over: &'s AtomicU64,
+    endings: &'s Endings,
     most: Option<u64>,
 ) -> Served
 where
@@ -420,7 +415,7 @@ where
         clock,
         gate,
         conf,
-        over,
+        endings,
         &mut children,
         &opened,
         &first,
@@ -436,7 +431,7 @@ fn take_back<T>(x: &mut T)
 {}
 
 /// Serves the links that a listener gives, each in a thread of its own, until it stops, `most` links came, it fails, or memory
-/// is refused. At most 64 sessions are served at the same time; a further link waits at the listener until one has ended.
+/// is refused. At most 64 sessions are served at the same time; a further link waits at the listener until any of them has ended.
 /// Then it waits until each session has ended, and hands each link back with its session's number and end:
 ///
 /// - 1 the client closed it, 2 the session was refused, 3 its message ids were spent, 4 the peer ended the link, 6 the link
@@ -464,8 +459,8 @@ pub fn serve_all<A: Listener, C: Clock, G: Gate, R: Threads + Wait + Sync>(
     ensures kept { A.faults door.old ≤ A.faults door.new }
     ensures cause { result ≡ Served.ListenFault → Rose (A.faults door.old) (A.faults door.new) }
 {
-    let over = AtomicU64::new(0);
-    let over = &over;
+    let endings = Endings::new();
+    let endings = &endings;
     let (door, pass, end) = thread::scope(
         thread::scope_env(),
         rt,
@@ -484,7 +479,7 @@ pub fn serve_all<A: Listener, C: Clock, G: Gate, R: Threads + Wait + Sync>(
             ensures cause { result.2 ≡ Served.ListenFault → Rose (A.faults door.entry.now) (A.faults result.0.now) }
         {
             let end = accept(
-                rt, alloc, scope, door, hub, pass, clock, gate, conf, over, most,
+                rt, alloc, scope, door, hub, pass, clock, gate, conf, endings, most,
             );
             (door, pass, end)
         },

@@ -1,5 +1,5 @@
 //! Sessions that are served in threads of their own, until they are taken in.
-ghost use Rattle.std.specs.Prelude.{◌≡◌, ◌≤◌, ◌<◌, ◌+◌, ◌++◌, ◌∷◌, [], ℕ, suc, List, ℤ, Bool, false, Option, None, length};
+ghost use Rattle.std.specs.Prelude.{◌≡◌, ◌≤◌, ◌<◌, ◌+◌, ◌++◌, ◌∷◌, [], ℕ, suc, List, ℤ, Bool, Option, length};
 ghost use Rattle.std.specs.List.{AllByRecursion};
 ghost use Rattle.std.specs.VecDeque.{deque_capacity, deque_len};
 ghost use Rattle.etp_outside.specs.Doors.{Back, TakesBack, back_of};
@@ -109,16 +109,15 @@ pub(crate) fn put_last<T: Drop>(children: &mut VecDeque<T>, child: T)
     };
 }
 
-/// Takes in the first of the children, where its bit is one of these, and else puts it behind the others. Without bits it
-/// waits for that child's end.
-pub(crate) fn settle_first<A: Listener, C: Clock, R: Threads>(
+/// Takes in the first of the children, where its bit is one of these, and else puts it behind the others.
+fn settle_first<A: Listener, C: Clock, R: Threads>(
     rt: &R,
     hub: &Hub,
     door: &mut A,
     pass: &mut Pass,
     clock: &C,
     children: &mut VecDeque<Child<Handle<A::Link, C>>>,
-    bits: Option<u64>,
+    bits: u64,
     opened: &Snapshot<A>,
     first: &Snapshot<Pass>,
 )
@@ -133,7 +132,6 @@ pub(crate) fn settle_first<A: Listener, C: Clock, R: Threads>(
     ensures way { Accepts Stopped (C.passes clock.now) (config_of hub.now) (known first.now.value) (known pass.new)
         (A.given opened.now.value) (A.given door.new) (length children.new.items) (A.backs opened.now.value) (A.backs door.new) }
     ensures fewer { deque_len children.new ≤ deque_len children.old }
-    ensures room { bits ≡ None → 0 < deque_len children.old → deque_len children.new < deque_len children.old }
     ensures capacity { deque_capacity children.new ≡ deque_capacity children.old }
     ensures given { A.given door.new ≡ A.given door.old }
     ensures stopped { A.stopped door.new ≡ A.stopped door.old }
@@ -142,20 +140,10 @@ pub(crate) fn settle_first<A: Listener, C: Clock, R: Threads>(
     let Some(child) = children.pop_front() else {
         return;
     };
-    if is_running(child.bit, bits) {
+    if child.bit & bits == 0 {
         put_last(children, child);
     } else {
         join_child(rt, hub, door, pass, child);
-    }
-}
-
-/// Whether there are bits, and this one is none of them.
-fn is_running(bit: u64, bits: Option<u64>) -> bool
-    ensures { bits ≡ None → result ≡ false }
-{
-    match bits {
-        None => false,
-        Some(bits) => bit & bits == 0,
     }
 }
 
@@ -188,17 +176,7 @@ pub(crate) fn settle_ended<A: Listener, C: Clock, R: Threads>(
     ensures kept { A.faults door.old ≤ A.faults door.new }
 {
     for _ in 0..children.len() {
-        settle_first(
-            rt,
-            hub,
-            door,
-            pass,
-            clock,
-            children,
-            Some(bits),
-            opened,
-            first,
-        );
+        settle_first(rt, hub, door, pass, clock, children, bits, opened, first);
     }
 }
 

@@ -24,6 +24,7 @@
 mod accepting;
 mod children;
 mod ended;
+mod endings;
 mod laws;
 mod served;
 mod serving;

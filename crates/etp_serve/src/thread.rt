@@ -5,13 +5,13 @@ ghost use Rattle.store_hub.specs.Passes.{IsFresh, IsPassOf, config_of, known};
 ghost use Rattle.etp_serve.specs.Accepted.{IsDone};
 
 use crate::ended::Ended;
+use crate::endings::Endings;
 use crate::serving::serve_session;
 use etp_outside::{Clock, Gate, Link};
 use server_config::Config;
 use std::alloc::Global;
 use std::snapshot::Snapshot;
 use std::sync::Wait;
-use std::sync::atomic::{AtomicU64, Ordering};
 use std::thread::Promise;
 use store_hub::{Hub, Pass};
 
@@ -49,7 +49,7 @@ fn moments_pass<C: Clock>(clock: &C)
     let _ = clock;
 }
 
-/// Serves a session that was just let in until it ends, closes its link, and sets its bit among those that have ended.
+/// Serves a session that was just let in until it ends, closes its link, and notes among the endings that it has ended.
 pub(crate) fn serve_one<L: Link, C: Clock, G: Gate, R: Wait>(
     rt: &R,
     alloc: Global,
@@ -59,7 +59,7 @@ pub(crate) fn serve_one<L: Link, C: Clock, G: Gate, R: Wait>(
     clock: C,
     gate: &G,
     conf: &Config,
-    over: &AtomicU64,
+    endings: &Endings,
     bit: u64,
 ) -> Finished<L>
     requires own { IsPassOf hub.now pass }
@@ -78,6 +78,6 @@ pub(crate) fn serve_one<L: Link, C: Clock, G: Gate, R: Wait>(
     let end = serve_session(rt, alloc, &mut link, hub, &mut pass, &mut clock, gate, conf);
     moments_pass(&clock);
     link.close();
-    over.fetch_or(bit, Ordering::SeqCst);
+    endings.note(bit);
     Finished { link, pass, end }
 }
