@@ -124,13 +124,20 @@ def runs():
     seen.link(opened, put("w"), put("x"), closed)
     seen.link(opened, listed, put("y"), closed)
     yield seen, None
-    # each session is held until the last one was answered
-    for last in 2, 8:
+    # each session is held until the last one was answered, so all of them are served at the same time
+    for last in 2, 8, 64:
         held = Run()
         held.rules = [(session, 0, last, 1) for session in range(1, last)]
         for _ in range(last):
             held.link(opened, closed)
         yield held, None
+    # one more link than are served at the same time, of which the first is held until the last was answered: it is let in as soon as
+    # any other session has ended
+    crowded = Run()
+    crowded.rules = [(1, 0, 65, 1)]
+    for _ in range(65):
+        crowded.link(opened, closed)
+    yield crowded, None
 
 
 def main():

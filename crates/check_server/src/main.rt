@@ -29,7 +29,7 @@ use std::sync::Wait;
 use std::thread::Threads;
 
 /// No session of a run has a greater number.
-const LAST: u64 = 9;
+const LAST: u64 = 65;
 
 /// Serves the links of the door, and prints the report and the status.
 fn serve<R: AllocGlobal + Files + Print + Threads + Wait + Sync>(
