@@ -17,14 +17,32 @@ from sessions import INSTANCE, JOURNAL_FULL, PEER_END, Server
 HEAD = f'instance = "{INSTANCE}"\nname = "wd"\n'
 CONFIGS = {"server.toml": (HEAD, 4_194_304), "two_entries.toml": (HEAD + "journal = 2\n", 2)}
 LINK_FAULT = b"\6"
+# the status of a program whose listener failed
+LISTEN_FAULT = 7
+
+
+class Broken(Exception):
+    """The call of a link that fails."""
+
+
+class Calls:
+    """The calls that a session makes of its link, those of receiving with those of sending."""
+
+    def __init__(self, fail):
+        self.fail, self.made = fail, 0
+
+    def make(self):
+        self.made += 1
+        if self.made == self.fail:
+            raise Broken
 
 
 class Run:
-    """Links, each with its messages, and the order in which the sessions' messages are answered; `fail` has the number of a
-    link's call that fails, and how many answers are sent before it."""
+    """Links, each with its messages, and the order in which the sessions' messages are answered; `fail` has by a link's place the number
+    of its call that fails, and `door` is the number of the listener's call that fails, for one link that is served before."""
 
-    def __init__(self, config="server.toml"):
-        self.config, self.links, self.rules, self.idle, self.fail = config, [], [], False, {}
+    def __init__(self, config="server.toml", door=0):
+        self.config, self.links, self.rules, self.idle, self.fail, self.door = config, [], [], False, {}, door
 
     def link(self, *calls):
         """A link whose client makes these calls, each a function of the client and a moment."""
@@ -37,17 +55,21 @@ class Run:
     def line(self):
         front = "-," if self.idle else ""
         links = [
-            f"{self.fail.get(tag, (0, 0))[0]}:" + ",".join(front + data.hex().upper() for data in messages)
+            f"{self.fail.get(tag, 0)}:" + ",".join(front + data.hex().upper() for data in messages)
             for tag, messages in enumerate(self.links)
         ]
         rules = ",".join(".".join(map(str, rule)) for rule in self.rules) or "-"
-        return " ".join(["serve", self.config, str(len(links)), rules, *links])
+        # with a call of the listener that fails, one session more is wanted than there are links
+        sessions = f"{len(links) + 1}@{self.door}" if self.door else str(len(links))
+        return " ".join(["serve", self.config, sessions, rules, *links])
 
     def answer(self, order=None):
         """What is printed, where the messages are answered in the order of these links, or one link after the other."""
         server = Server(CONFIGS[self.config][1])
         writes, sent, ends, numbers = {0: 0}, {}, {}, {}
-        for tag in range(len(self.links)):
+        calls = {tag: Calls(self.fail.get(tag, 0)) for tag in range(len(self.links))}
+        # the listener's calls are that by which it listens, and one for each link
+        for tag in range(min(self.door - 2, len(self.links)) if self.door else len(self.links)):
             # a poll lets the session in
             replies = server.play(2, tag, 0)
             full = (19, tag, 0, JOURNAL_FULL) in replies
@@ -57,21 +79,32 @@ class Run:
                 writes[numbers[tag]] = 0
         places = dict.fromkeys(numbers, 0)
         for tag in order or [tag for tag, messages in enumerate(self.links) for _ in messages]:
-            if ends[tag] is not None:
+            if tag not in numbers or ends[tag] is not None:
                 continue
             length = server.store.length
-            places[tag] += 1
-            for kind, _, _, data in server.play(1, tag, places[tag], self.links[tag][places[tag] - 1]):
-                if kind == 19:
-                    ends[tag] = data
-                elif tag in self.fail and len(sent[tag]) == self.fail[tag][1]:
-                    ends[tag] = LINK_FAULT
-                else:
-                    sent[tag].append(data.hex().upper())
+            try:
+                for _ in range(1 + self.idle):
+                    calls[tag].make()
+                places[tag] += 1
+                for kind, _, _, data in server.play(1, tag, places[tag], self.links[tag][places[tag] - 1]):
+                    if kind == 19:
+                        ends[tag] = data
+                    else:
+                        calls[tag].make()
+                        sent[tag].append(data.hex().upper())
+            except Broken:
+                ends[tag] = LINK_FAULT
             writes[numbers[tag]] += server.store.length - length
+        for tag in numbers:
+            # behind the last message the peer has gone, which a call tells
+            if ends[tag] is None:
+                try:
+                    calls[tag].make()
+                except Broken:
+                    ends[tag] = LINK_FAULT
         lines = [f"entries {server.store.length}"]
         lines += [f"session {number} writes {count}" for number, count in sorted(writes.items())]
-        lines.append("= 0")
+        lines.append(f"= {LISTEN_FAULT if self.door else 0}")
         for tag in sorted(numbers, key=numbers.get):
             lines.append(f"session {numbers[tag]} ended {(ends[tag] or PEER_END)[0]}")
             lines += sent[tag]
@@ -100,11 +133,19 @@ def runs():
     alone.idle = True
     alone.link(opened, put("w"), listed, closed)
     yield alone, None
-    # the calls of the link are: idle, message, sent; idle, message, sent
-    failing = Run()
-    failing.idle, failing.fail = True, {0: (6, 1)}
-    failing.link(opened, put("w"))
-    yield failing, None
+    # Each call of the link fails in turn: those that receive a message and those that send its answer, with idle turns between and without, and
+    # the last one, after which none fails; of a client that closes its session and of one that goes.
+    for idle, calls in ((False, (opened, put("w"), listed, closed)), (True, (opened, put("w"), listed, closed)), (False, (opened, put("w")))):
+        for number in range(1, (3 if idle else 2) * len(calls) + 2):
+            failing = Run()
+            failing.idle, failing.fail = idle, {0: number}
+            failing.link(*calls)
+            yield failing, None
+    # so does each call of the listener: that by which it listens, and those that give the first link and a second one
+    for number in 1, 2, 3:
+        failing = Run(door=number)
+        failing.link(opened, put("w"), listed, closed)
+        yield failing, None
     leaving = Run()
     leaving.link(opened)
     yield leaving, None

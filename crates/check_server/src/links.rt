@@ -36,11 +36,11 @@ fn link(alloc: Global, word: &str) -> Result<MemLink, NoMemory> {
     Ok(MemLink::new(alloc, items(alloc, coming)?, only(alloc, fails)?))
 }
 
-/// A listener that gives the links of these words.
-pub(crate) fn door_of(alloc: Global, words: &[&str]) -> Result<MemDoor, NoMemory> {
+/// A listener that gives the links of these words. Its call of the number that `fails` spells fails.
+pub(crate) fn door_of(alloc: Global, fails: &str, words: &[&str]) -> Result<MemDoor, NoMemory> {
     let mut links = Vec::new(alloc);
     for word in words {
         links.push(link(alloc, word)?)?;
     }
-    MemDoor::new(alloc, List::from_vec(links), List::new(alloc))
+    MemDoor::new(alloc, List::from_vec(links), only(alloc, fails)?)
 }

@@ -2,7 +2,7 @@
 //! answered, in hexadecimal.
 //!
 //! A line `serve CONFIG SESSIONS RULES LINK ..` of the input is a run. CONFIG is the file of the configuration, and SESSIONS how many
-//! links are served. A link is `FAIL:ITEM,..`: the number of its call that fails, or 0, and what comes over it, where `-` is an idle
+//! links are served; `SESSIONS@FAIL` has the number of the listener's call that fails, too. A link is `FAIL:ITEM,..`: the number of its call that fails, or 0, and what comes over it, where `-` is an idle
 //! turn and anything else a message in hexadecimal. The rules, `-` for none, hold sessions up where the order of what they do matters (`gates`).
 //! What is printed is the server's report and its status, and then, in the order of their numbers, how each session ended and what
 //! it was sent.
@@ -88,10 +88,11 @@ fn run<R: AllocGlobal + Files + Print + Threads + Wait + Sync>(
     rt: &R,
     words: &[String],
     rules: &str,
+    fails: &str,
     links: &[&str],
 ) -> io::Result<()> {
     let gate = gate_of(rt.alloc(), rules).map_err(|_| AllocError)?;
-    let mut door = door_of(rt.alloc(), links).map_err(|_| AllocError)?;
+    let mut door = door_of(rt.alloc(), fails, links).map_err(|_| AllocError)?;
     serve(rt, words, &mut door, &gate)?;
     if gate.was_missed() {
         println!(rt; "someone waited in vain")?;
@@ -107,8 +108,12 @@ fn run_case<R: AllocGlobal + Files + Print + Threads + Wait + Sync>(
     rules: &str,
     links: &[&str],
 ) -> io::Result<()> {
-    let command = command(rt.alloc(), config, sessions).map_err(|_| AllocError)?;
-    run(rt, command.as_slice(), rules, links)
+    let (count, fails) = match sessions.split_once('@') {
+        Some((count, fails)) => (count, fails),
+        None => (sessions, "0"),
+    };
+    let command = command(rt.alloc(), config, count).map_err(|_| AllocError)?;
+    run(rt, command.as_slice(), rules, fails, links)
 }
 
 fn run_line<R: AllocGlobal + Files + Print + Threads + Wait + Sync>(
