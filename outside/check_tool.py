@@ -280,13 +280,33 @@ def add_long_array(cases):
     cases.add_line(f"{file}+{limit}", "check", [((line + "frames 1 messages 1 refused 1\n").encode(), "refused 1")])
 
 
+def shipped():
+    """The frames of the shipped session, and those that answer them, one each."""
+    close = message("C", 0, 5, 8, dict(reason=""))
+    return (
+        [(1, 0, 1, opening()), (1, 0, 2, put(4, {"a": dataspace("w", shown="w")})), (1, 0, 3, listing(6)), (1, 0, 4, close)],
+        [(17, 0, 1, opened(1, 1)), (17, 0, 2, put_done(3, 4)), (17, 0, 3, listed(5, 6, [("w", 2)])), (19, 0, 4, b"\1")])
+
+
+def add_failing_calls(cases):
+    """Each read of the shipped session and each write of its answers fails in turn, and then one that is never made.
+
+    The input gives a byte a read, so a read fails after as many bytes as there were reads before it; what answers the frames
+    that are whole by then is written. The magic of the answers is a write of its own, made when that of the capture was read."""
+    frames, answers = shipped()
+    given = capture(*frames)
+    ends = [len(capture(*frames[:count + 1])) for count in range(len(frames))]
+    for number in range(1, len(given) + 3):
+        done = [answer for answer, end in zip(answers, ends) if end < number]
+        written = capture(*done) if number > len(wire.MAGIC) else b""
+        cases.add("session.cap", "replay server.toml", given, [(written, "read fault" if number <= len(given) + 1 else "")], read=number)
+    for number, written in (1, b""), (2, wire.MAGIC), (3, capture(*answers)):
+        cases.add("session.cap", "replay server.toml", given, [(written, "write fault" if number < 3 else "")], write=number)
+
+
 def add_sessions(cases):
     """Whole sessions: one with its end, one that begins with another message, and several by turns."""
-    close = message("C", 0, 5, 8, dict(reason=""))
-    cases.replay(
-        "session.cap",
-        capture((1, 0, 1, opening()), (1, 0, 2, put(4, {"a": dataspace("w", shown="w")})), (1, 0, 3, listing(6)), (1, 0, 4, close)),
-        capture((17, 0, 1, opened(1, 1)), (17, 0, 2, put_done(3, 4)), (17, 0, 3, listed(5, 6, [("w", 2)])), (19, 0, 4, b"\1")))
+    cases.replay("session.cap", *map(lambda frames: capture(*frames), shipped()))
     cases.replay("ping_first.cap", capture((1, 0, 1, ping())), capture((17, 0, 1, refusal(1, 0, 2, 8))))
     frames = capture((2, 7, 1), (1, 4, 2, ping()), (3, 7, 3), (1, 4, -4, ping()))
     cases.replay(
@@ -426,6 +446,7 @@ def main():
     add_beginnings(cases)
     add_configs(cases)
     add_sessions(cases)
+    add_failing_calls(cases)
     add_refusals(cases)
     add_limits(cases)
     add_listings(cases)
