@@ -32,12 +32,16 @@ def key_of(paragraph):
     return None
 
 
+def lines_of(text):
+    return sum(1 for line in text.splitlines() if line.strip())
+
+
 class TextFile:
     def __init__(self, path, top):
         self.path, self.name = path, str(path.relative_to(top))
         self.before = path.read_text() if path.exists() else ""
         self.paragraphs = re.split(r"\n\n(?=\S)", self.before.rstrip("\n")) if self.before else []
-        self.written = []
+        self.written, self.tail = [], None
 
     @property
     def text(self):
@@ -75,6 +79,15 @@ class TextFile:
             self.written.append(key)
             last = at
 
+    def counts(self):
+        """How many lines of the file as it stands are written, and how many by hand, without blank ones."""
+        standing = re.split(r"\n\n(?=\S)", self.before.rstrip("\n"))
+        if self.tail is not None:
+            written = lines_of(self.before[self.tail:])
+        else:
+            written = sum(lines_of(each) for each in standing if key_of(each) in self.written)
+        return written, lines_of(self.before) - written
+
     def put_after(self, key, comment, code):
         """The same of one paragraph, which comes after that of `key` where it is new."""
         if self.place(key_of(code)) is None:
@@ -90,11 +103,11 @@ class TextFile:
         found = re.search("^" + re.escape(begin), whole, re.M)
         if found is None:
             raise LookupError(f"{self.name}: no line begins with {begin}")
-        self.paragraphs = [(whole[:found.start()] + text).rstrip("\n")]
+        self.paragraphs, self.tail = [(whole[:found.start()] + text).rstrip("\n")], found.start()
         self.written.append("the rest from " + begin)
 
     def put_whole(self, text):
-        self.paragraphs = [text.rstrip("\n")]
+        self.paragraphs, self.tail = [text.rstrip("\n")], 0
         self.written.append("the whole file")
 
     def alias(self, declared):
