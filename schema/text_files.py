@@ -47,6 +47,10 @@ class TextFile:
     def text(self):
         return "\n\n".join(self.paragraphs) + "\n"
 
+    def must_stand(self):
+        if not self.before:
+            raise LookupError(f"{self.name}: begin this file by hand, with its head and what it imports, and name it in the crate")
+
     def place(self, key):
         return next((at for at, each in enumerate(self.paragraphs) if key_of(each) == key), None)
 
@@ -61,6 +65,7 @@ class TextFile:
     def put(self, paragraphs):
         """Puts (comment, code) pairs in their places; a new one comes after the one before it. A comment of None is that which
         stands, and one that begins with a question mark is taken where there is none."""
+        self.must_stand()
         last = None
         for comment, code in paragraphs:
             key = key_of(code)
@@ -112,11 +117,13 @@ class TextFile:
 
     def alias(self, declared):
         """The name by which this file calls the module `declared`, of a `use` with `as`; none where it names what it takes."""
+        self.must_stand()
         found = re.search(r"\b" + re.escape(declared) + r" as (\w+)", self.text)
         return found[1] + "." if found else ""
 
     def import_names(self, begin, names, before=None):
         """Adds names to the list in braces of the `use` that begins so: at the end, or before the name `before`."""
+        self.must_stand()
         whole = self.text
         found = re.search(r"^" + re.escape(begin) + r"\{([^}]*)\}", whole, re.M)
         if found is None:
@@ -130,6 +137,7 @@ class TextFile:
 
     def import_lines(self, lines):
         """Adds whole lines of `use`; a new one comes after the line before it in the list."""
+        self.must_stand()
         whole = self.text
         for before, line in zip([None, *lines], lines):
             if re.search("^" + re.escape(line) + "$", whole, re.M):

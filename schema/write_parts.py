@@ -1,6 +1,6 @@
 """Writes what the crates above the messages have case by case: the parts of long messages (etp_frame), how a client puts them
 together (client_parts), and the lemmas that go over all messages of a protocol (etp_frame, session_core, client_laws)."""
-from write_messages import nested, rust_type
+from write_messages import form, rust_type
 
 PARTS_FILES = {"Core": "exceptions"}
 COPIES = {"IndexInterval": "copied_interval"}
@@ -9,7 +9,6 @@ COPIES = {"IndexInterval": "copied_interval"}
 def grown(message):
     """The type of an item, its form, and what counts it."""
     type = message.grows.type
-    from write_messages import form
     count = "entry_amount" if type.kind == "map" else "item_amount"
     return rust_type(type.parts[0]), f"({count} {form(type.parts[0])})"
 
@@ -110,10 +109,17 @@ def parts_match(protocol, written):
             f"other => one_part(alloc, Message::{protocol.name}(Boxed::new(alloc, other)?)),\n}}\n}}")
 
 
-def write_part_functions(protocol, file):
+def names_of(schema, message):
+    """The types of a message and of its items, where both are of one crate."""
+    item = schema.named.get(message.grows.type.parts[0].name)
+    same = item is not None and item.file.crate == message.file.crate
+    return [message.name, item.name] if same else [message.name]
+
+
+def write_part_functions(schema, protocol, file):
     written = file(f"etp_frame/src/parts/{PARTS_FILES.get(protocol.name, protocol.snake)}.rt")
     alias = written.alias(f"{protocol.enum}.TheVariants")
-    written.import_names(f"use {protocol.file.crate}::", [each.name for each in cut(protocol)])
+    written.import_names(f"use {protocol.file.crate}::", [each for message in cut(protocol) for each in names_of(schema, message)])
     items = []
     for each in cut(protocol):
         items.append((None, with_items(protocol, alias, each)))
@@ -213,7 +219,7 @@ def write_etp_frame(schema, file):
     for protocol in schema.protocols.values():
         if not protocol.growing:
             continue
-        write_part_functions(protocol, file)
+        write_part_functions(schema, protocol, file)
         for name, paragraph in [("specs/Splitting", splitting), ("proofs/PartLemmas", whole_lemma)]:
             written = file(f"etp_frame/{name}.antt")
             import_items(schema, written, protocol)
