@@ -106,9 +106,11 @@ def say_messages(found, earned, name, first, last):
 
 
 def say_lines(found, earned, name, limit="160"):
-    """The lines of a sample, a session by its tag; long ones are cut."""
+    """The lines of a sample but for the openings, a session by its tag; long ones are cut."""
     lines = []
     for frame in messages_of(found[name]):
+        if frame.kind in SIDES and shown(frame).startswith(("RequestSession", "OpenSession")):
+            continue
         who = f"{SIDES.get(frame.kind, 'server' if frame.kind == 19 else 'client')} {frame.tag}"
         text = short(shown(frame), int(limit)) if frame.kind in (1, 17, 19) else wire.KINDS[frame.kind]
         size = f" ({len(frame.data):,} bytes)" if frame.kind in SIDES and len(shown(frame)) > int(limit) else ""
@@ -177,7 +179,7 @@ def say_bytes(found, earned, name, number):
     for rows, what in (header.rows, "header"), (body.rows, "body"):
         for start, end, path, text in rows:
             if text.startswith("= "):
-                text = {"= 0": "0, the end of the items"}.get(text, f"{text[2:]} items")
+                text = {"= 0": "0: no more items", "= 1": "1 item"}.get(text, f"{text[2:]} items")
             lines.append(f"| `{frame.data[start:end].hex(' ')}` | {what}: {path} | {text} |\n")
     return "".join(lines).rstrip()
 
