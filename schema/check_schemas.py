@@ -3,9 +3,9 @@
 
     schema/check_schemas.py
 
-1. With the reader from outside, bench/wire.py, whose tables are written by hand: every schema, number, name and sender.
+1. With the reader from outside, outside/wire.py, whose tables are written by hand: every schema, number, name and sender.
 2. With the product: the table of etp_schema with the names of capture_text, read as text.
-3. With python3-avro (`apt-get install python3-avro`): each sample message of crates/frame_samples is read by its schema to the
+3. With python3-avro (`apt-get install python3-avro`): each sample message of crates/check_frames is read by its schema to the
    values that the reader from outside reads. Without the package this part is skipped, which is said.
 
 Prints what differs, and ends with 1 then.
@@ -22,7 +22,7 @@ TOP = pathlib.Path(__file__).resolve().parent.parent
 SCHEMAS = TOP / "docs/schemas"
 SYSTEM_PYTHON = "/usr/bin/python3"
 sys.dont_write_bytecode = True
-sys.path.insert(0, str(TOP / "bench"))
+sys.path.insert(0, str(TOP / "outside"))
 import wire
 
 SENDERS = {"C": ("client", "both"), "S": ("server", "both")}
@@ -165,7 +165,7 @@ def compare_product(differences):
 def sample_messages():
     """The letter of the sender and the bytes of each sample message that the reader from outside takes."""
     for name in SAMPLES:
-        capture = (TOP / "crates/frame_samples/data" / name).read_bytes()
+        capture = (TOP / "crates/check_frames/data" / name).read_bytes()
         frames = []
         try:
             for frame in wire.read_frames(capture):
@@ -266,7 +266,7 @@ def main(words):
             print("python3-avro is not installed: the sample messages were not read by it")
         return done or 0
     differences = Differences()
-    print(f"{compare_outside(differences)} schemas and bench/wire.py: {differences.found} differences")
+    print(f"{compare_outside(differences)} schemas and outside/wire.py: {differences.found} differences")
     before = differences.found
     print(f"{compare_product(differences)} places of the product's table: {differences.found - before} differences")
     return main(["samples"]) or (1 if differences.found else 0)

@@ -1,5 +1,5 @@
 """The sessions of docs/samples: what their clients send, message by message. What is answered is left to the server from outside,
-bench/transactions.py."""
+outside/transactions.py."""
 import uuid
 
 import row_samples

@@ -6,7 +6,7 @@
                                          does not read the samples to the values of the reader from outside
     schema/samples.py --check ETPTOOL    also plays each sample by this etptool, whose answers and shown lines must be the same
 
-What is answered is said by the server from outside, bench/transactions.py, which shares nothing with the product. The prose of
+What is answered is said by the server from outside, outside/transactions.py, which shares nothing with the product. The prose of
 docs/WIRE.md is schema/by_hand/WIRE.md; a line {{word ..}} there stands for what this script puts in its place.
 """
 import ast
@@ -19,7 +19,7 @@ import tempfile
 TOP = pathlib.Path(__file__).resolve().parent.parent
 FOLDER = TOP / "docs/samples"
 sys.dont_write_bytecode = True
-sys.path[:0] = [str(TOP / "schema"), str(TOP / "bench")]
+sys.path[:0] = [str(TOP / "schema"), str(TOP / "outside")]
 import check_schemas
 import sample_sessions
 import short_sessions
