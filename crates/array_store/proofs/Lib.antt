@@ -1,5 +1,6 @@
 pub mod ApplyingLemmas
 pub mod CountLemmas
+pub mod ExchangeLemmas
 pub mod GatheredLemmas
 pub mod KeyLemmas
 pub mod RowLemmas

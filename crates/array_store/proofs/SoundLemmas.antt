@@ -1,9 +1,10 @@
 -- Every array of the table stays one that a put accepts.
-use Rattle.std.proofs.Common.{OnOk, OnErr, ℕ, ◌*◌, nat_lt, ◌≡◌, ℤ, Bool, true, false, cond, List, Option, Some, None, Result, Ok, Err, refl, sym, ap, ◌∙◌}
+use Rattle.std.proofs.Common.{OnOk, OnErr, ℕ, ◌*◌, ◌≤◌, nat_lt, ◌≡◌, arith, ℤ, Bool, true, false, cond, List, Option, Some, None, Result, Ok, Err, refl, sym, ap, ◌∙◌}
 use Rattle.std.specs.Map.{lookup}
 use Rattle.std.specs.Option.{unwrap_or}
 use Rattle.std.specs.Prelude.{is_ok}
 use Rattle.std.proofs.lemmas.Bool.{false≢true}
+use Rattle.std.proofs.lemmas.Bool.Decides.{nat_tests}
 use Rattle.etp_values.specs.declared.data.AnyArray.{AnyArray}
 use Rattle.etp_values.specs.declared.data.AnyArray.TheVariants.{ArrayOfBoolean, ArrayOfInt, ArrayOfLong, ArrayOfFloat, ArrayOfDouble, ArrayOfString, Bytes}
 use Rattle.array_store.specs.declared.key.ArrayKey.{ArrayKey}
@@ -94,6 +95,17 @@ refusal-patch_array r ss cs values sound h =
 weight-none : (a : AnyArray) (r : Result ℕ ArrayError) → elements_refusal a r ≡ None → weight_refusal a ≡ None
 weight-none a (Ok n) h = h
 weight-none a (Err e) h = absurd cc
+
+light_number : (n : ℕ) → cond (nat_lt 33554432 n) (Some TooLarge) None ≡ None → n ≤ 33554432
+light_number n h = by (nat_lt 33554432 n) refl h
+  where
+    by : (b : Bool) → nat_lt 33554432 n ≡ b → cond b (Some TooLarge) None ≡ None → n ≤ 33554432
+    by true e k = absurd cc
+    by false e k = grind (arith, nat_tests)
+
+-- what an array's elements count
+pub light_sound : (r : ArrayRecord) → record_refusal r ≡ None → size_of r.values ≤ 33554432
+light_sound r h = light_number (size_of r.values) (weight-none r.values (dims_of r.dims (Some (elements r.values))) h)
 
 second-none : (a b c : Option ArrayError) → c ≡ None → first_refusal a (first_refusal b c) ≡ first_refusal a b
 second-none (Some e) b c none = refl

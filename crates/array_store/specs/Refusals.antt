@@ -2,6 +2,7 @@
 use Rattle.std.specs.Prelude.{ℕ, ◌≡◌, ◌==◌, ℤ, Bool, true, not, ◌&&◌, nat_lt, nat_le, if◌then◌else◌, List, length, Option, Some, None, Result, Ok, Err, MatchResult}
 use Rattle.std.specs.List.{list_any}
 use Rattle.std.specs.Option.{unwrap_or}
+use Rattle.etp_values.specs.Weight.{bytes_weight, capped, weigh}
 use Rattle.etp_values.specs.declared.data.AnyArray.{AnyArray}
 use Rattle.etp_values.specs.declared.data.AnyArray.TheVariants.{ArrayOfString}
 use Rattle.array_store.specs.declared.error.ArrayError.{ArrayError}
@@ -80,12 +81,17 @@ write_refusal r ss cs values = first_refusal (record_refusal r) (patch_refusal r
 abbrev pub Refuses : {X : Type 0} → Result X ArrayError → Option ArrayError → Type 0
 Refuses result refusal = MatchResult result (λ _. refusal ≡ None) (λ e. e ≡ unwrap_or refusal NoMemory)
 
--- an array as it is after a patch, or as it was, with the reason
-abbrev pub Patches : Result AnyArray (AnyArray × ArrayError) → AnyArray → AnyArray → Type 0
-Patches (Ok a) held wanted = (a ≡ wanted) × (weight_refusal wanted ≡ None)
+-- what elements count, where looking at them is not refused, and else why it is
+abbrev pub Counts : Result ℕ ArrayError → Option ArrayError → AnyArray → Type 0
+Counts (Ok n) refusal values = (refusal ≡ None) × (n ≡ capped (size_of values))
+Counts (Err e) refusal values = refusal ≡ Some e
+
+-- an array as it is after a patch with what it counts, or as it was, with the reason
+abbrev pub Patches : Result (AnyArray × ℕ) (AnyArray × ArrayError) → AnyArray → AnyArray → Type 0
+Patches (Ok p) held wanted = (p.0 ≡ wanted) × (weight_refusal wanted ≡ None) × (p.1 ≡ capped (size_of wanted))
 Patches (Err p) held wanted = (p.0 ≡ held) × (p.1 ≡ unwrap_or (weight_refusal wanted) NoMemory) × (p.1 ≡ NoMemory → is_bytes held ≡ true)
 
--- texts as they are after a patch, or as they were, where they would count too much
-abbrev pub PatchesTexts : Result (List (List ℕ)) (List (List ℕ)) → List (List ℕ) → List (List ℕ) → Type 0
-PatchesTexts (Ok l) held wanted = (l ≡ wanted) × (texts_refusal wanted ≡ None)
+-- texts as they are after a patch with what they count, or as they were, where they would count too much
+abbrev pub PatchesTexts : Result (List (List ℕ) × ℕ) (List (List ℕ)) → List (List ℕ) → List (List ℕ) → Type 0
+PatchesTexts (Ok p) held wanted = (p.0 ≡ wanted) × (texts_refusal wanted ≡ None) × (p.1 ≡ capped (weigh bytes_weight wanted))
 PatchesTexts (Err l) held wanted = (l ≡ held) × (texts_refusal wanted ≡ Some TooLarge)

@@ -1,5 +1,5 @@
 //! How many elements an array has, and what they count.
-ghost use Rattle.std.specs.Prelude.{◌≡◌, nat_lt};
+ghost use Rattle.std.specs.Prelude.{◌≡◌};
 ghost use Rattle.etp_values.specs.Weight.{capped, weigh, bytes_weight};
 ghost use Rattle.array_store.specs.Arrays.{elements, size_of, kind, is_bytes, is_same_kind, has_numbers};
 ghost use Rattle.array_store.specs.Refusals.{weight_refusal};
@@ -41,7 +41,8 @@ pub fn array_bytes(values: &AnyArray) -> u64
     }
 }
 
-fn text_bytes(texts: &[Text]) -> u64
+/// What texts count.
+pub(crate) fn text_bytes(texts: &[Text]) -> u64
     ensures { result ≡ capped (weigh bytes_weight texts.now) }
 {
     let mut sum = 0u64;
@@ -59,13 +60,6 @@ pub(crate) fn weight_refusal(values: &AnyArray) -> Option<ArrayError>
         return Some(ArrayError::TooLarge);
     }
     None
-}
-
-/// Whether these texts count too much for an array.
-pub(crate) fn are_too_large(texts: &[Text]) -> bool
-    ensures { result ≡ nat_lt 33554432 (weigh bytes_weight texts.now) }
-{
-    text_bytes(texts) > MAX_BYTES
 }
 
 /// Whether two arrays have elements of one kind.

@@ -9,7 +9,7 @@ ghost use Rattle.array_store.specs.declared.op.ArrayOp.{ArrayOp as AnOp};
 
 use crate::key::ArrayKey;
 use crate::op::ArrayOp;
-use crate::record::ArrayRecord;
+use crate::weighed::WeighedArray;
 use etp_values::{AnyArray, List, NoMemory, StoreUri, Text};
 use indexmap::IndexSet;
 use std::alloc::Global;
@@ -94,7 +94,7 @@ impl GoingArrays {
     }
 
     /// Puts a set before what is left to do, where its array doesn't go.
-    fn turn_set(&self, queue: &mut VecDeque<ArrayOp>, key: ArrayKey, array: ArrayRecord)
+    fn turn_set(&self, queue: &mut VecDeque<ArrayOp>, key: ArrayKey, array: WeighedArray)
         requires { deque_len queue.old < deque_capacity queue.old }
         ensures each { Turns self.now self.now (op.SetArray key array) queue.old.items queue.new.items }
         ensures len { deque_len queue.new ≤ deque_len queue.old + 1 }

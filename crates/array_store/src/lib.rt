@@ -2,7 +2,8 @@
 //!
 //! An [`ArrayStore`] holds an [`ArrayRecord`] for each [`ArrayKey`]: the elements of one kind in row-major order, with the
 //! dimensions that tell where each stands. A region of an array is read by [`ArrayStore::slice`] and written in place by
-//! [`ArrayStore::patch`]. [`dims`] tells how many elements given dimensions have, and whether an array may have them.
+//! [`ArrayStore::patch`]. [`dims`] tells how many elements given dimensions have, and whether an array may have them. Each
+//! record is held as a [`WeighedArray`], which knows what the elements count: texts are weighed once, when they come in.
 //!
 //! [`ArrayStore::reserve`] takes the memory for further keys, and [`ArrayStore::apply`] then does a list of [`ArrayOp`]s and
 //! can't fail. So whoever changes several tables at once can take all memory first. A record that stands in no store is read
@@ -22,6 +23,7 @@ mod region;
 mod shape;
 mod store;
 mod table;
+mod weighed;
 mod window;
 
 pub use elements::{MAX_BYTES, array_bytes, array_kind, element_count, has_bytes, has_numbers};
@@ -33,3 +35,4 @@ pub use record::ArrayRecord;
 pub use refusals::{numbers_refusal, record_refusal};
 pub use shape::{MAX_ELEMENTS, MAX_RANK, dims};
 pub use store::ArrayStore;
+pub use weighed::WeighedArray;

@@ -1,6 +1,6 @@
 //! What is done to the store.
 use crate::key::ArrayKey;
-use crate::record::ArrayRecord;
+use crate::weighed::WeighedArray;
 use etp_values::{AnyArray, List, StoreUri, Text};
 
 /// One operation on the store.
@@ -8,7 +8,7 @@ use etp_values::{AnyArray, List, StoreUri, Text};
 pub enum ArrayOp {
     /// Puts an array, in place of the one of its key. A record that is no array changes nothing. The moment is the
     /// record's `written`; what its `created` says is not looked at.
-    SetArray(ArrayKey, ArrayRecord),
+    SetArray(ArrayKey, WeighedArray),
     /// Moves values into a region of the array of a key, in place, and notes the moment. It takes no memory: an array of
     /// bytes, whose patch would, stays as it is. So does one that the patch doesn't fit, and where there is no array,
     /// there is none after it.

@@ -1,15 +1,16 @@
 //! An array's own calls: reading a region and writing one.
 ghost use Rattle.std.specs.Prelude.{◌≡◌, Err, None, IfOk, OnOk, OnErr, true};
+ghost use Rattle.etp_values.specs.Weight.{capped};
 ghost use Rattle.array_store.specs.Shape.{sizes};
-ghost use Rattle.array_store.specs.Arrays.{slice_of, is_bytes};
-ghost use Rattle.array_store.specs.Refusals.{record_refusal, region_refusal, patch_refusal, slice_refusal, write_refusal, Refuses};
-ghost use Rattle.array_store.specs.Table.{patch_array, patched_in_place};
+ghost use Rattle.array_store.specs.Arrays.{size_of, slice_of, is_bytes};
+ghost use Rattle.array_store.specs.Refusals.{record_refusal, region_refusal, patch_refusal, slice_refusal, write_refusal, Counts, Refuses};
+ghost use Rattle.array_store.specs.Table.{patch_array};
 
-use crate::elements::has_bytes;
+use crate::elements::array_bytes;
 use crate::error::ArrayError;
 use crate::record::ArrayRecord;
-use crate::refusals::{record_refusal, region_refusal, values_refusal};
-use crate::window::{patch_values, slice_values};
+use crate::refusals::{record_refusal, region_refusal, values_refusal, weighed_refusal};
+use crate::window::{patch_values, region_bytes, slice_values};
 use etp_values::{AnyArray, Blob, List};
 use std::alloc::Global;
 use std::mem;
@@ -46,29 +47,20 @@ pub fn write_patch(
     ensures sound { OnOk result (record_refusal array.new ≡ None) }
     ensures memory { result ≡ Err ArrayError.NoMemory → is_bytes array.old.values ≡ true }
 {
-    if let Some(error) = record_refusal(array) {
+    let bytes = array_bytes(&array.values);
+    if let Some(error) = weighed_refusal(array, bytes) {
         return Err(error);
     }
-    patch_record(alloc, array, starts.as_slice(), counts.as_slice(), values)
-}
-
-/// Moves values into a region of a record that has no bytes, and notes the moment. Where they don't fit, it stays as it was.
-pub(crate) fn write_in_place(
-    alloc: Global,
-    array: &mut ArrayRecord,
-    at: i64,
-    starts: &List<i64>,
-    counts: &List<i64>,
-    values: AnyArray,
-)
-    ensures value { array.new ≡ patched_in_place at starts.now counts.now values array.old }
-    ensures sound { record_refusal array.old ≡ None → record_refusal array.new ≡ None }
-{
-    if has_bytes(&array.values) {
-        return;
-    }
-    if write_patch(alloc, array, starts, counts, values).is_ok() {
-        array.written = at;
+    match patch_record(
+        alloc,
+        array,
+        bytes,
+        starts.as_slice(),
+        counts.as_slice(),
+        values,
+    ) {
+        Ok(_) => Ok(()),
+        Err(error) => Err(error),
     }
 }
 
@@ -94,17 +86,38 @@ pub(crate) fn slice_record(
     }
 }
 
-/// Moves values into a region.
+/// What the elements of a region count, told without copying them.
+pub(crate) fn slice_bytes(
+    array: &ArrayRecord,
+    starts: &[i64],
+    counts: &[i64],
+) -> Result<u64, ArrayError>
+    requires { record_refusal array.now ≡ None }
+    ensures { Counts result (region_refusal array.now.dims starts.now counts.now)
+        (slice_of (sizes array.now.dims) (sizes starts.now) (sizes counts.now) array.now.values) }
+{
+    let dims = array.dims.as_slice();
+    if let Some(error) = region_refusal(dims, starts, counts) {
+        return Err(error);
+    }
+    Ok(region_bytes(&array.values, dims, starts, counts))
+}
+
+/// Moves values into a region of an array whose elements count `bytes`, and answers what they count then.
+#[tactic(auto, using(crate::proofs::SoundLemmas::light_sound))]
 pub(crate) fn patch_record(
     alloc: Global,
     array: &mut ArrayRecord,
+    bytes: u64,
     starts: &[i64],
     counts: &[i64],
     values: AnyArray,
-) -> Result<(), ArrayError>
-    requires { record_refusal array.old ≡ None }
+) -> Result<u64, ArrayError>
+    requires sound { record_refusal array.old ≡ None }
+    requires weighed { bytes ≡ capped (size_of array.old.values) }
     ensures done { Refuses result (patch_refusal array.old starts.now counts.now values) }
     ensures ok { OnOk result (array.new ≡ patch_array array.old starts.now counts.now values) }
+    ensures weighed { IfOk result (λ n. n ≡ capped (size_of array.new.values)) }
     ensures err { OnErr result (array.new ≡ array.old) }
     ensures memory { result ≡ Err ArrayError.NoMemory → is_bytes array.old.values ≡ true }
 {
@@ -115,10 +128,18 @@ pub(crate) fn patch_record(
         return Err(error);
     }
     let held = mem::replace(&mut array.values, AnyArray::Bytes(Blob::new()));
-    match patch_values(alloc, held, values, array.dims.as_slice(), starts, counts) {
-        Ok(patched) => {
+    match patch_values(
+        alloc,
+        held,
+        bytes,
+        values,
+        array.dims.as_slice(),
+        starts,
+        counts,
+    ) {
+        Ok((patched, bytes)) => {
             array.values = patched;
-            Ok(())
+            Ok(bytes)
         }
         Err((held, error)) => {
             array.values = held;

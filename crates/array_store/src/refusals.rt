@@ -1,9 +1,10 @@
 //! Why arrays, regions and values are refused.
 ghost use Rattle.std.specs.Prelude.{◌≡◌, true};
-ghost use Rattle.array_store.specs.Arrays.{has_numbers};
+ghost use Rattle.etp_values.specs.Weight.{capped};
+ghost use Rattle.array_store.specs.Arrays.{has_numbers, size_of};
 ghost use Rattle.array_store.specs.Refusals.{record_refusal, region_refusal, values_refusal, write_refusal};
 
-use crate::elements::{element_count, is_same_kind, weight_refusal};
+use crate::elements::{MAX_BYTES, element_count, is_same_kind, weight_refusal};
 use crate::error::ArrayError;
 use crate::record::ArrayRecord;
 use crate::region::is_region;
@@ -18,6 +19,20 @@ pub fn record_refusal(array: &ArrayRecord) -> Option<ArrayError>
         Ok(_) => weight_refusal(&array.values),
         Err(error) => Some(error),
     }
+}
+
+/// The same of a record whose elements are known to count so much.
+pub(crate) fn weighed_refusal(array: &ArrayRecord, bytes: u64) -> Option<ArrayError>
+    requires { bytes ≡ capped (size_of array.now.values) }
+    ensures { result ≡ record_refusal array.now }
+{
+    if let Err(error) = dims(&array.dims, Some(element_count(&array.values) as u64)) {
+        return Some(error);
+    }
+    if bytes > MAX_BYTES {
+        return Some(ArrayError::TooLarge);
+    }
+    None
 }
 
 /// Why starts and counts are no region of an array of these dimensions.

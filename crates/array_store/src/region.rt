@@ -1,13 +1,15 @@
-//! Regions of an array's elements: reading one, and exchanging it with other values.
+//! Regions of an array's elements: reading one, weighing its texts, and exchanging it with other values.
 //!
-//! Both go down the dimensions and move a whole run of the last dimension at once.
+//! All go down the dimensions and take a whole run of the last dimension at once.
 ghost use Rattle.std.specs.Prelude.{◌≡◌, ◌+◌, ◌++◌, ◌<◌, true, OnOk, length};
+ghost use Rattle.etp_values.specs.Weight.{bytes_weight, capped, weigh};
 ghost use Rattle.array_store.specs.Shape.{sizes, volume};
 ghost use Rattle.array_store.specs.Region.{is_span, is_region, IsOuter, sliced, patched};
 
 use crate::element::Element;
+use crate::elements::text_bytes;
 use crate::shape::size;
-use etp_values::NoMemory;
+use etp_values::{NoMemory, Text};
 use std::alloc::Global;
 
 /// Whether these starts and counts lie within these dimensions.
@@ -111,6 +113,37 @@ pub(crate) fn read_region<T: Element>(
         )?;
     }
     Ok(())
+}
+
+/// What the texts of a region count.
+pub(crate) fn weigh_region(texts: &[Text], dims: &[i64], starts: &[i64], counts: &[i64]) -> u64
+    requires region { is_region dims.now starts.now counts.now ≡ true }
+    requires some { 0 < length dims.now }
+    requires full { length texts.now ≡ volume (sizes dims.now) }
+    ensures { result ≡ capped (weigh bytes_weight
+        (sliced (sizes dims.now) (sizes starts.now) (sizes counts.now) texts.now)) }
+{
+    let outer = first_dimension(dims, starts, counts);
+    let (first, rows) = (outer.first, outer.rows);
+    if outer.dims.is_empty() {
+        return text_bytes(&texts[first..first + rows]);
+    }
+    if rows == 0 {
+        return 0;
+    }
+    let width = texts.len() / outer.depth;
+    let mut sum = 0u64;
+    for row in 0..rows {
+        let at = (first + row) * width;
+        let part = weigh_region(
+            &texts[at..at + width],
+            outer.dims,
+            outer.starts,
+            outer.counts,
+        );
+        sum = sum.saturating_add(part);
+    }
+    sum
 }
 
 /// Exchanges the elements of a region with these values.

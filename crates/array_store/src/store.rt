@@ -8,10 +8,10 @@ use crate::key::ArrayKey;
 use crate::op::ArrayOp;
 use crate::patch::slice_record;
 use crate::record::ArrayRecord;
-use crate::refusals::record_refusal;
 use crate::table::{
     drop_going, drop_object, drop_space, patch_array, patch_at, put_array, set_written,
 };
+use crate::weighed::WeighedArray;
 use etp_values::{AnyArray, List, NoMemory, StoreUri, Text};
 use indexmap::IndexMap;
 use std::alloc::Global;
@@ -20,7 +20,7 @@ use std::marker::Model;
 /// Arrays by their keys. A contract sees them in the order of the table, and as `spare` how many more fit, and how many operations
 /// can be done, without memory.
 pub struct ArrayStore {
-    arrays: IndexMap<ArrayKey, ArrayRecord>,
+    arrays: IndexMap<ArrayKey, WeighedArray>,
     /// What a list of operations removes, while it is done.
     going: GoingArrays,
 }
@@ -67,6 +67,16 @@ impl ArrayStore {
     pub fn get(&self, key: &ArrayKey) -> Option<&ArrayRecord>
         ensures { option_copied result ≡ array_in self.now key.now }
     {
+        match self.arrays.get(key) {
+            Some(array) => Some(array.as_record()),
+            None => None,
+        }
+    }
+
+    /// The array of a key, with what its elements count.
+    pub fn weighed(&self, key: &ArrayKey) -> Option<&WeighedArray>
+        ensures { option_copied result ≡ array_in self.now key.now }
+    {
         self.arrays.get(key)
     }
 
@@ -80,7 +90,19 @@ impl ArrayStore {
         ensures succeeds { 0 < self.old.spare → record_refusal value ≡ None → IsOk result }
         ensures room { self.old.spare ≤ self.new.spare + 1 }
     {
-        if let Some(error) = record_refusal(&value) {
+        self.put_weighed(key, WeighedArray::weigh(value))
+    }
+
+    /// Puts an array whose elements were weighed.
+    fn put_weighed(&mut self, key: ArrayKey, value: WeighedArray) -> Result<(), ArrayError>
+        ensures done { Refuses result (record_refusal value) }
+        ensures ok { OnOk result
+            (Sets self.old self.new key (put_array (array_in self.old key) value)) }
+        ensures err { OnErr result (self.new.arrays ≡ self.old.arrays) }
+        ensures succeeds { 0 < self.old.spare → record_refusal value ≡ None → IsOk result }
+        ensures room { self.old.spare ≤ self.new.spare + 1 }
+    {
+        if let Some(error) = value.refusal() {
             return Err(error);
         }
         put_array(&mut self.arrays, key, value)
@@ -104,7 +126,12 @@ impl ArrayStore {
         let Some(array) = self.arrays.get(key) else {
             unreachable!();
         };
-        slice_record(alloc, array, starts.as_slice(), counts.as_slice())
+        slice_record(
+            alloc,
+            array.as_record(),
+            starts.as_slice(),
+            counts.as_slice(),
+        )
     }
 
     /// Moves values into a region. Only a patch of bytes takes memory, since others may read the bytes of a [`Blob`].
@@ -200,7 +227,7 @@ impl ArrayStore {
     {
         match op {
             ArrayOp::SetArray(key, array) => {
-                let _ = self.put(key, array);
+                let _ = self.put_weighed(key, array);
             }
             ArrayOp::PatchArray {
                 key,

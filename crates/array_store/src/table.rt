@@ -11,28 +11,16 @@ ghost use Rattle.array_store.specs.Refusals.{record_refusal, patch_refusal, Refu
 use crate::error::ArrayError;
 use crate::going::GoingArrays;
 use crate::key::ArrayKey;
-use crate::patch::{patch_record, write_in_place};
-use crate::record::ArrayRecord;
+use crate::weighed::WeighedArray;
 use etp_values::{AnyArray, List, StoreUri, Text};
 use indexmap::IndexMap;
 use std::alloc::Global;
 
-/// The record as it is put, in place of the one before.
-fn made(before: Option<&ArrayRecord>, mut value: ArrayRecord) -> ArrayRecord
-    ensures { result ≡ table.put_array (option_copied before.entry) value }
-{
-    match before {
-        Some(before) => value.created = before.created,
-        None => value.created = value.written,
-    }
-    value
-}
-
 /// Puts an array in place of the one of its key.
 pub(crate) fn put_array(
-    arrays: &mut IndexMap<ArrayKey, ArrayRecord>,
+    arrays: &mut IndexMap<ArrayKey, WeighedArray>,
     key: ArrayKey,
-    value: ArrayRecord,
+    value: WeighedArray,
 ) -> Result<(), ArrayError>
     requires { record_refusal value ≡ None }
     ensures each { OnOk result (SetsAmong arrays.old.entries arrays.new.entries key
@@ -43,7 +31,7 @@ pub(crate) fn put_array(
     ensures succeeds { 0 < spare arrays.old → IsOk result }
     ensures room { spare arrays.old ≤ spare arrays.new + 1 }
 {
-    let value = made(arrays.get(&key), value);
+    let value = value.made(arrays.get(&key));
     match arrays.insert(key, value) {
         Ok(_) => Ok(()),
         Err(_) => Err(ArrayError::NoMemory),
@@ -53,7 +41,7 @@ pub(crate) fn put_array(
 /// Moves values into a region of the array of a key.
 pub(crate) fn patch_array(
     alloc: Global,
-    arrays: &mut IndexMap<ArrayKey, ArrayRecord>,
+    arrays: &mut IndexMap<ArrayKey, WeighedArray>,
     key: &ArrayKey,
     starts: &[i64],
     counts: &[i64],
@@ -75,12 +63,12 @@ pub(crate) fn patch_array(
     let Some(array) = arrays.get_mut(key) else {
         unreachable!();
     };
-    patch_record(alloc, array, starts, counts, values)
+    array.patch_array(alloc, starts, counts, values)
 }
 
 /// Moves values into a region of the array of a key, where there is one. It takes no memory.
 pub(crate) fn patch_at(
-    arrays: &mut IndexMap<ArrayKey, ArrayRecord>,
+    arrays: &mut IndexMap<ArrayKey, WeighedArray>,
     key: &ArrayKey,
     at: i64,
     starts: &List<i64>,
@@ -95,11 +83,11 @@ pub(crate) fn patch_at(
     let Some(array) = arrays.get_mut(key) else {
         return;
     };
-    write_in_place(alloc, array, at, starts, counts, values);
+    array.patch_in_place(alloc, at, starts, counts, values);
 }
 
 /// Notes when the array of a key was last written.
-pub(crate) fn set_written(arrays: &mut IndexMap<ArrayKey, ArrayRecord>, key: &ArrayKey, at: i64)
+pub(crate) fn set_written(arrays: &mut IndexMap<ArrayKey, WeighedArray>, key: &ArrayKey, at: i64)
     requires { IsSome (array_among arrays.old.entries key.now) }
     ensures each { IfSome (array_among arrays.old.entries key.now)
         (λ r. SetsAmong arrays.old.entries arrays.new.entries key.now (table.rewritten r at)) }
@@ -109,18 +97,18 @@ pub(crate) fn set_written(arrays: &mut IndexMap<ArrayKey, ArrayRecord>, key: &Ar
     let Some(array) = arrays.get_mut(key) else {
         unreachable!();
     };
-    array.written = at;
+    array.set_written(at);
 }
 
 /// Takes out the arrays of an object.
-pub(crate) fn drop_object(arrays: &mut IndexMap<ArrayKey, ArrayRecord>, uri: &StoreUri) -> u64
+pub(crate) fn drop_object(arrays: &mut IndexMap<ArrayKey, WeighedArray>, uri: &StoreUri) -> u64
     ensures each { DropsAmong arrays.old.entries arrays.new.entries (is_of_object uri.now) }
     ensures count { result ≡ length (filter (λ e. is_of_object uri.now e.0) arrays.old.entries) }
     ensures room { spare arrays.old ≤ spare arrays.new }
 {
     let before = arrays.len();
     arrays.retain(
-        |key: &ArrayKey, array: &mut ArrayRecord| -> bool
+        |key: &ArrayKey, array: &mut WeighedArray| -> bool
             ensures { (result ≡ not (is_of_object uri.entry.now key.now))
                 × (array.new ≡ array.old) }
         { !uri.same(&key.uri) },
@@ -129,14 +117,14 @@ pub(crate) fn drop_object(arrays: &mut IndexMap<ArrayKey, ArrayRecord>, uri: &St
 }
 
 /// Takes out the arrays of a dataspace.
-pub(crate) fn drop_space(arrays: &mut IndexMap<ArrayKey, ArrayRecord>, path: &Text) -> u64
+pub(crate) fn drop_space(arrays: &mut IndexMap<ArrayKey, WeighedArray>, path: &Text) -> u64
     ensures each { DropsAmong arrays.old.entries arrays.new.entries (is_in_space path.now) }
     ensures count { result ≡ length (filter (λ e. is_in_space path.now e.0) arrays.old.entries) }
     ensures room { spare arrays.old ≤ spare arrays.new }
 {
     let held = arrays.len();
     arrays.retain(
-        |key: &ArrayKey, array: &mut ArrayRecord| -> bool
+        |key: &ArrayKey, array: &mut WeighedArray| -> bool
             ensures { (result ≡ not (is_in_space path.entry.now key.now))
                 × (array.new ≡ array.old) }
         { *path != key.uri.space },
@@ -145,12 +133,12 @@ pub(crate) fn drop_space(arrays: &mut IndexMap<ArrayKey, ArrayRecord>, path: &Te
 }
 
 /// Keeps the arrays that don't go.
-fn retain_staying(arrays: &mut IndexMap<ArrayKey, ArrayRecord>, going: &GoingArrays)
+fn retain_staying(arrays: &mut IndexMap<ArrayKey, WeighedArray>, going: &GoingArrays)
     ensures each { DropsAmong arrays.old.entries arrays.new.entries (goes going.now) }
     ensures room { spare arrays.old ≤ spare arrays.new }
 {
     arrays.retain(
-        |key: &ArrayKey, array: &mut ArrayRecord| -> bool
+        |key: &ArrayKey, array: &mut WeighedArray| -> bool
             ensures { (result ≡ not (goes going.entry.now key.now))
                 × (array.new ≡ array.old) }
         { !going.has(key) },
@@ -158,7 +146,7 @@ fn retain_staying(arrays: &mut IndexMap<ArrayKey, ArrayRecord>, going: &GoingArr
 }
 
 /// Takes out the arrays that go, in one pass, and in none where nothing goes.
-pub(crate) fn drop_going(arrays: &mut IndexMap<ArrayKey, ArrayRecord>, going: &GoingArrays)
+pub(crate) fn drop_going(arrays: &mut IndexMap<ArrayKey, WeighedArray>, going: &GoingArrays)
     ensures each { DropsAmong arrays.old.entries arrays.new.entries (goes going.now) }
     ensures room { spare arrays.old ≤ spare arrays.new }
 {

@@ -1,14 +1,15 @@
 //! Regions of arrays of every kind.
-ghost use Rattle.std.specs.Prelude.{◌≡◌, ◌<◌, ◌≤◌, true, IfOk, None, length, MatchResult};
+ghost use Rattle.std.specs.Prelude.{◌≡◌, ℕ, ◌+◌, ◌*◌, ◌<◌, ◌≤◌, nat_lt, true, IfOk, None, length, MatchResult};
+ghost use Rattle.etp_values.specs.Weight.{bytes_weight, capped, weigh};
 ghost use Rattle.array_store.specs.Shape.{sizes, volume};
 ghost use Rattle.array_store.specs.Region.{is_region, sliced, patched};
-ghost use Rattle.array_store.specs.Arrays.{elements, is_same_kind, slice_of, patch_of};
+ghost use Rattle.array_store.specs.Arrays.{elements, is_same_kind, size_of, slice_of, patch_of};
 ghost use Rattle.array_store.specs.Refusals.{Patches, PatchesTexts};
 
 use crate::element::Element;
-use crate::elements::are_too_large;
+use crate::elements::{MAX_BYTES, text_bytes};
 use crate::error::ArrayError;
-use crate::region::{read_region, swap_region};
+use crate::region::{read_region, swap_region, weigh_region};
 use crate::shape::volume;
 use etp_values::{AnyArray, Blob, List, NoMemory, Text};
 use std::alloc::Global;
@@ -86,6 +87,52 @@ fn slice_blob(
     Blob::from_vec(out)
 }
 
+/// What the elements of a region count: of numbers the counts tell it, and of texts those of the region alone are weighed.
+pub(crate) fn region_bytes(values: &AnyArray, dims: &[i64], starts: &[i64], counts: &[i64]) -> u64
+    requires region { is_region dims.now starts.now counts.now ≡ true }
+    requires some { 0 < length dims.now }
+    requires full { elements values.now ≡ volume (sizes dims.now) }
+    ensures { result ≡ capped (size_of
+        (slice_of (sizes dims.now) (sizes starts.now) (sizes counts.now) values.now)) }
+{
+    match values {
+        AnyArray::ArrayOfBoolean(_) => counted_bytes(counts, 1),
+        AnyArray::ArrayOfInt(_) => counted_bytes(counts, 4),
+        AnyArray::ArrayOfLong(_) => counted_bytes(counts, 8),
+        AnyArray::ArrayOfFloat(_) => counted_bytes(counts, 4),
+        AnyArray::ArrayOfDouble(_) => counted_bytes(counts, 8),
+        AnyArray::ArrayOfString(texts) => {
+            region_text_bytes(texts.as_slice(), dims, starts, counts)
+        }
+        AnyArray::Bytes(_) => counted_bytes(counts, 1),
+    }
+}
+
+/// What so many elements count of which each counts `size`.
+fn counted_bytes(counts: &[i64], size: u64) -> u64
+    requires { 0 < size }
+    ensures { result ≡ capped (size * volume (sizes counts.now)) }
+{
+    match volume(counts) {
+        Some(count) => size.saturating_mul(count),
+        None => u64::MAX,
+    }
+}
+
+/// What the texts of a region count. Without texts it looks at no dimension, as `slice_items`.
+fn region_text_bytes(texts: &[Text], dims: &[i64], starts: &[i64], counts: &[i64]) -> u64
+    requires region { is_region dims.now starts.now counts.now ≡ true }
+    requires some { 0 < length dims.now }
+    requires full { length texts.now ≡ volume (sizes dims.now) }
+    ensures { result ≡ capped (weigh bytes_weight
+        (sliced (sizes dims.now) (sizes starts.now) (sizes counts.now) texts.now)) }
+{
+    if let Some(0) = volume(counts) {
+        return 0;
+    }
+    weigh_region(texts, dims, starts, counts)
+}
+
 /// A new list of the elements of a region. Without elements it looks at no dimension, since an array without elements can
 /// have as many empty rows as a dimension may count.
 fn slice_items<T: Element>(
@@ -111,20 +158,23 @@ fn slice_items<T: Element>(
     Ok(out)
 }
 
-/// The array with these values in a region, or as it was with the reason. They are of its kind, as many as the region has,
-/// and are moved in. Memory is taken for bytes alone, since others may read a [`Blob`]'s bytes.
+/// The array with these values in a region and what it counts then, or as it was with the reason. They are of its kind, as
+/// many as the region has, and are moved in. The elements that stay are not weighed again. Memory is taken for bytes alone,
+/// since others may read a [`Blob`]'s bytes.
 pub(crate) fn patch_values(
     alloc: Global,
     held: AnyArray,
+    bytes: u64,
     values: AnyArray,
     dims: &[i64],
     starts: &[i64],
     counts: &[i64],
-) -> Result<AnyArray, (AnyArray, ArrayError)>
+) -> Result<(AnyArray, u64), (AnyArray, ArrayError)>
     requires region { is_region dims.now starts.now counts.now ≡ true }
     requires some { 0 < length dims.now }
     requires full { elements held ≡ volume (sizes dims.now) }
-    requires few { elements held ≤ 4194304 }
+    requires light { size_of held ≤ 33554432 }
+    requires weighed { bytes ≡ capped (size_of held) }
     requires kinds { is_same_kind held values ≡ true }
     requires all { elements values ≡ volume (sizes counts.now) }
     ensures { Patches result held
@@ -132,29 +182,34 @@ pub(crate) fn patch_values(
 {
     match (held, values) {
         (AnyArray::ArrayOfBoolean(held), AnyArray::ArrayOfBoolean(values)) => {
-            Ok(AnyArray::ArrayOfBoolean(patch_list(held, values, dims, starts, counts)))
+            let held = patch_list(held, values, dims, starts, counts);
+            Ok((AnyArray::ArrayOfBoolean(held), bytes))
         }
         (AnyArray::ArrayOfInt(held), AnyArray::ArrayOfInt(values)) => {
-            Ok(AnyArray::ArrayOfInt(patch_list(held, values, dims, starts, counts)))
+            let held = patch_list(held, values, dims, starts, counts);
+            Ok((AnyArray::ArrayOfInt(held), bytes))
         }
         (AnyArray::ArrayOfLong(held), AnyArray::ArrayOfLong(values)) => {
-            Ok(AnyArray::ArrayOfLong(patch_list(held, values, dims, starts, counts)))
+            let held = patch_list(held, values, dims, starts, counts);
+            Ok((AnyArray::ArrayOfLong(held), bytes))
         }
         (AnyArray::ArrayOfFloat(held), AnyArray::ArrayOfFloat(values)) => {
-            Ok(AnyArray::ArrayOfFloat(patch_list(held, values, dims, starts, counts)))
+            let held = patch_list(held, values, dims, starts, counts);
+            Ok((AnyArray::ArrayOfFloat(held), bytes))
         }
         (AnyArray::ArrayOfDouble(held), AnyArray::ArrayOfDouble(values)) => {
-            Ok(AnyArray::ArrayOfDouble(patch_list(held, values, dims, starts, counts)))
+            let held = patch_list(held, values, dims, starts, counts);
+            Ok((AnyArray::ArrayOfDouble(held), bytes))
         }
         (AnyArray::ArrayOfString(held), AnyArray::ArrayOfString(values)) => {
-            match patch_texts(held, values, dims, starts, counts) {
-                Ok(held) => Ok(AnyArray::ArrayOfString(held)),
+            match patch_texts(held, bytes, values, dims, starts, counts) {
+                Ok((held, bytes)) => Ok((AnyArray::ArrayOfString(held), bytes)),
                 Err(held) => Err((AnyArray::ArrayOfString(held), ArrayError::TooLarge)),
             }
         }
         (AnyArray::Bytes(held), AnyArray::Bytes(values)) => {
             match patch_blob(alloc, held, values, dims, starts, counts) {
-                Ok(held) => Ok(AnyArray::Bytes(held)),
+                Ok(held) => Ok((AnyArray::Bytes(held), bytes)),
                 Err(held) => Err((AnyArray::Bytes(held), ArrayError::NoMemory)),
             }
         }
@@ -182,29 +237,52 @@ fn patch_list<T: Drop>(
     List::from_vec(items)
 }
 
-/// As `patch_list`, or the texts as they were, where they would count too much. What the patch took out is put back then.
+/// As `patch_list`, with what the texts count then, or the texts as they were, where they would count too much. What the patch
+/// took out is put back then.
 fn patch_texts(
     held: List<Text>,
+    bytes: u64,
     values: List<Text>,
     dims: &[i64],
     starts: &[i64],
     counts: &[i64],
-) -> Result<List<Text>, List<Text>>
+) -> Result<(List<Text>, u64), List<Text>>
     requires region { is_region dims.now starts.now counts.now ≡ true }
     requires some { 0 < length dims.now }
     requires full { length held ≡ volume (sizes dims.now) }
+    requires light { weigh bytes_weight held ≤ 33554432 }
+    requires weighed { bytes ≡ capped (weigh bytes_weight held) }
     requires all { length values ≡ volume (sizes counts.now) }
     ensures { PatchesTexts result held
         (patched (sizes dims.now) (sizes starts.now) (sizes counts.now) held values) }
 {
+    let added = text_bytes(values.as_slice());
     let mut items = held.into_vec();
     let mut values = values.into_vec();
     swap_items(&mut items, &mut values, dims, starts, counts);
-    if are_too_large(items.as_slice()) {
+    let taken = text_bytes(values.as_slice());
+    let weight = exchanged_bytes(bytes, taken, added);
+    if are_too_heavy(weight) {
         swap_items(&mut items, &mut values, dims, starts, counts);
         return Err(List::from_vec(items));
     }
-    Ok(List::from_vec(items))
+    let patched = List::from_vec(items);
+    Ok((patched, weight))
+}
+
+/// Whether elements that count so much are too many for an array.
+fn are_too_heavy(bytes: u64) -> bool
+    ensures { result ≡ nat_lt 33554432 bytes }
+{
+    bytes > MAX_BYTES
+}
+
+/// What elements count once some of them were taken out for others.
+fn exchanged_bytes(bytes: u64, taken: u64, added: u64) -> u64
+    ensures { (out rest put : ℕ) → out + rest ≤ 33554432 → bytes ≡ capped (out + rest)
+        → taken ≡ capped out → added ≡ capped put → result ≡ capped (put + rest) }
+{
+    added.saturating_add(bytes.saturating_sub(taken))
 }
 
 /// As `patch_list`, in a copy of the bytes, or the bytes as they were, where memory was refused.

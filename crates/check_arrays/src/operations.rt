@@ -1,7 +1,7 @@
 //! Lists of operations, with semicolons between them.
 use crate::calls::{key_of, record_of};
 use crate::elements::{elements, numbers};
-use array_store::{ArrayOp, ArrayStore};
+use array_store::{ArrayOp, ArrayStore, WeighedArray};
 use etp_values::{List, NoMemory};
 use std::alloc::Global;
 use std::io;
@@ -45,7 +45,8 @@ fn op_of(alloc: Global, words: &[&str]) -> Result<Option<ArrayOp>, NoMemory> {
         ["set", space, path, dims, kind, values, at] => {
             let values = elements(alloc, kind, values)?;
             let record = record_of(alloc, dims, values, at)?;
-            Ok(Some(ArrayOp::SetArray(key_of(alloc, space, path)?, record)))
+            let array = WeighedArray::weigh(record);
+            Ok(Some(ArrayOp::SetArray(key_of(alloc, space, path)?, array)))
         }
         ["patch", space, path, starts, counts, kind, values, at] => {
             let op = patch_of(alloc, space, path, starts, counts, kind, values, at)?;

@@ -1,13 +1,12 @@
 use Rattle.std.proofs.Common.{◌≡◌, None, rules, ap, ◌∙◌}
-use Rattle.array_store.specs.Refusals.{record_refusal, patch_refusal}
-use Rattle.array_store.proofs.SoundLemmas.{on_ok_both, done-refusal, refusal-patch_array}
+use Rattle.array_store.specs.Refusals.{record_refusal}
+use Rattle.array_store.proofs.SoundLemmas.{refusal-patch_array}
 use Rattle.array_store.proofs.patch.write_patch.Goals as goal
 
-pub returns-clause-sound : goal.returns-clause-sound
-returns-clause-sound c =
+pub returns-in-Ok-clause-sound : goal.returns-in-Ok-clause-sound
+returns-in-Ok-clause-sound c =
     let array = c.args.array.now in
     let starts = c.as_slice.result.now in
     let counts = c.as_slice-2.result.now in
     let sound : record_refusal array ≡ None = search rules in
-    let accepted = done-refusal c.patch_record.result (patch_refusal array starts counts c.args.values) c.patch_record.ensures.done in
-    on_ok_both c.patch_record.result (λ e f. ap record_refusal e ∙ refusal-patch_array array starts counts c.args.values sound f) c.patch_record.ensures.ok accepted
+    ap record_refusal c.in-Ok.ensures.ok ∙ refusal-patch_array array starts counts c.args.values sound c.in-Ok.ensures.done

@@ -20,12 +20,12 @@ returns-clause-each c =
     let old = c.args.arrays.now.entries in
     let key = c.args.key.now in
     let array = c.in-Some.array.now in
-    let w = c.write_in_place.new.array in
+    let w = c.patch_in_place.new.self in
     let new = (c.get_mut.follows.lender w).entries in
     let raw : lookup (ghosts.eq key) old ≡ Some array = sym c.in-Some.ensures.value in
     let updates = (c.get_mut.follows.holds w).3 (ap is_some raw) in
     let made : w ≡ patched_in_place c.args.at c.args.starts.now c.args.counts.now c.args.values array =
-    c.write_in_place.ensures.value ∙ ap (λ z. patched_in_place z c.args.starts.now c.args.counts.now c.args.values array) (to_z-of_z w64 c.args.at c.ranges.at) in
+    c.patch_in_place.ensures.value ∙ ap (λ z. patched_in_place z c.args.starts.now c.args.counts.now c.args.values array) (to_z-of_z w64 c.args.at c.ranges.at) in
     patch_written old new key array w c.args.at c.args.starts.now c.args.counts.now c.args.values raw made (λ q. written_is old new key q w (updates.0 q))
 
 pub returns-clause-sound : goal.returns-clause-sound
@@ -33,8 +33,8 @@ returns-clause-sound c = λ all.
     let old = c.args.arrays.now.entries in
     let key = c.args.key.now in
     let array = c.in-Some.array.now in
-    let w = c.write_in_place.new.array in
+    let w = c.patch_in_place.new.self in
     let new = (c.get_mut.follows.lender w).entries in
     let raw : lookup (ghosts.eq key) old ≡ Some array = sym c.in-Some.ensures.value in
     let updates = (c.get_mut.follows.holds w).3 (ap is_some raw) in
-    sound-set old new key w all (c.write_in_place.ensures.sound (all key array (found_is old key array raw))) (λ q. written_is old new key q w (updates.0 q))
+    sound-set old new key w all (c.patch_in_place.ensures.sound (all key array (found_is old key array raw))) (λ q. written_is old new key q w (updates.0 q))

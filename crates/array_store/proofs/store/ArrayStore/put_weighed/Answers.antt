@@ -4,7 +4,7 @@ use Rattle.std.specs.Map.{lookup}
 use Rattle.array_store.specs.declared.key.ArrayKey.{ArrayKey}
 use Rattle.array_store.specs.Table as table
 use Rattle.array_store.specs.Table.{same_key, array_in}
-use Rattle.array_store.proofs.store.ArrayStore.put.Goals as goal
+use Rattle.array_store.proofs.store.ArrayStore.put_weighed.Goals as goal
 
 pub invariant_of-self : goal.invariant_of-self
 invariant_of-self c = c.put_array.ensures.sound c.self.invariant
