@@ -24,7 +24,7 @@ use crate::patching::{before, is_concerned, patch_set, place_of_set};
 use crate::plan::Plan;
 use crate::standing::{array_after, array_made, object_after, space_after};
 use crate::value::patch_array;
-use array_store::{ArrayKey, ArrayRecord, ArrayStore, has_numbers, numbers_refusal};
+use array_store::{ArrayKey, ArrayRecord, ArrayStore, WeighedArray, has_numbers, numbers_refusal};
 use etp_values::{AnyArray, ErrorCode, List, NoMemory, StoreUri, Text};
 use object_store::{ObjectRecord, ObjectStore, SpaceRecord};
 use std::alloc::Global;
@@ -110,14 +110,14 @@ impl Contents {
         alloc: Global,
         plan: &Plan,
         key: &ArrayKey,
-    ) -> Result<Option<ArrayRecord>, NoMemory>
+    ) -> Result<Option<WeighedArray>, NoMemory>
         ensures { IfOk result (λ o.
             o ≡ fold (array_given key.now) (array_in self.now.arrays key.now) plan.now.arrays.items) }
     {
         if !self.has_array(plan, key) {
             return Ok(None);
         }
-        array_made(alloc, self.arrays.get(key), plan.arrays.as_slice(), key)
+        array_made(alloc, self.arrays.weighed(key), plan.arrays.as_slice(), key)
     }
 
     /// The array of a key in the tables, where it has numbers and no operation of a plan concerns it.
@@ -460,12 +460,12 @@ impl Contents {
             Want::Space(path) => see_space(alloc, self.objects.space(path)),
             Want::Known(uri) => Ok(see_known(self.objects.look(uri))),
             Want::Object(uri) => give_object(alloc, self.objects.look(uri), room),
-            Want::Array(key) => give_array(alloc, self.arrays.get(key), room),
+            Want::Array(key) => give_array(alloc, self.arrays.weighed(key), room),
             Want::Slice {
                 key,
                 starts,
                 counts,
-            } => give_slice(alloc, self.arrays.get(key), starts, counts, room),
+            } => give_slice(alloc, self.arrays.weighed(key), starts, counts, room),
             Want::Shape(key) => see_shape(alloc, self.arrays.get(key)),
         }
     }

@@ -1,11 +1,16 @@
 //! What is asked of a value, and what is seen of it.
-ghost use Rattle.std.specs.Prelude.{◌≡◌, ◌≤◌, IfOk};
+ghost use Rattle.std.specs.Prelude.{◌≡◌, ◌≤◌, IfOk, None, Some};
 ghost use Rattle.std.specs.Option.{option_copied};
 ghost use Rattle.etp_values.specs.Weight.{capped};
+ghost use Rattle.array_store.specs.Arrays.{size_of, slice_of};
+ghost use Rattle.array_store.specs.Refusals.{slice_refusal};
+ghost use Rattle.array_store.specs.Shape.{sizes};
 ghost use Rattle.tx_stage.specs.Looks.{payload_of, space_seen, known_seen, object_seen, array_seen, slice_seen, shape_seen, memory_or_refused, seen_of, given};
 
 use crate::value::{Value, as_array, as_object, as_space};
-use array_store::{ArrayError, ArrayKey, ArrayRecord, array_bytes, array_kind, read_slice};
+use array_store::{
+    ArrayError, ArrayKey, ArrayRecord, WeighedArray, array_bytes, array_kind, read_slice,
+};
 use etp_values::{AnyArray, Copied, DataValue, ErrorCode, List, Named, NoMemory, StoreUri, Text};
 use object_store::{ObjectRecord, SpaceRecord};
 use std::alloc::Global;
@@ -199,7 +204,7 @@ pub(crate) fn give_object(
 /// An array, unless its elements count more than what is left; then they are not copied.
 pub(crate) fn give_array(
     alloc: Global,
-    array: Option<&ArrayRecord>,
+    array: Option<&WeighedArray>,
     room: u64,
 ) -> Result<Looked, NoMemory>
     requires { room ≤ MAX_PAYLOAD }
@@ -208,27 +213,16 @@ pub(crate) fn give_array(
     let Some(array) = array else {
         return Ok(Looked::Missing);
     };
-    if array_bytes(&array.values) > room {
+    if array.bytes() > room {
         return Ok(Looked::Refused(ErrorCode::LimitExceeded));
     }
-    Ok(Looked::Array(array.copy(alloc)?))
+    Ok(Looked::Array(array.as_record().copy(alloc)?))
 }
 
-/// What is seen, unless it has more payload than what is left.
-fn within(looked: Looked, room: u64) -> Looked
-    requires { room ≤ MAX_PAYLOAD }
-    ensures { result ≡ given room looked }
-{
-    if payload_of(&looked) > room {
-        return Looked::Refused(ErrorCode::LimitExceeded);
-    }
-    looked
-}
-
-/// The elements of a region, unless they count more than what is left.
+/// The elements of a region, unless they count more than what is left; then they are not copied.
 pub(crate) fn give_slice(
     alloc: Global,
-    array: Option<&ArrayRecord>,
+    array: Option<&WeighedArray>,
     starts: &List<i64>,
     counts: &List<i64>,
     room: u64,
@@ -237,6 +231,35 @@ pub(crate) fn give_slice(
     ensures { IfOk result (λ l.
         l ≡ given room (slice_seen starts.now counts.now (option_copied array.entry))) }
 {
-    let looked = see_slice(alloc, array, starts, counts)?;
-    Ok(within(looked, room))
+    let Some(array) = array else {
+        return Ok(Looked::Missing);
+    };
+    match array.slice_bytes(starts, counts) {
+        Ok(bytes) => give_region(alloc, array, starts, counts, bytes, room),
+        Err(error) => Ok(Looked::Refused(error.code())),
+    }
+}
+
+/// The elements of a region that the array has, of which it is known what they count.
+fn give_region(
+    alloc: Global,
+    array: &WeighedArray,
+    starts: &List<i64>,
+    counts: &List<i64>,
+    bytes: u64,
+    room: u64,
+) -> Result<Looked, NoMemory>
+    requires room { room ≤ MAX_PAYLOAD }
+    requires fits { slice_refusal array.now starts.now counts.now ≡ None }
+    requires weighed { bytes ≡ capped (size_of
+        (slice_of (sizes array.now.dims) (sizes starts.now) (sizes counts.now) array.now.values)) }
+    ensures { IfOk result (λ l. l ≡ given room (slice_seen starts.now counts.now (Some array.now))) }
+{
+    if bytes > room {
+        return Ok(Looked::Refused(ErrorCode::LimitExceeded));
+    }
+    match array.slice(alloc, starts, counts) {
+        Ok(values) => Ok(Looked::Slice(values)),
+        Err(_) => Err(NoMemory),
+    }
 }

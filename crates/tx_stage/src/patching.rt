@@ -6,7 +6,7 @@ ghost use Rattle.std.specs.List.{list_any};
 ghost use Rattle.tx_stage.specs.Patching.{SetsLater, array_set, concerns, is_sound, patched_op, patches, set_refusal, sets, takes_away};
 
 use crate::value::patch_in_place;
-use array_store::{ArrayKey, ArrayOp, ArrayRecord, record_refusal};
+use array_store::{ArrayKey, ArrayOp, WeighedArray};
 use etp_values::{AnyArray, Copied, ErrorCode, List, NoMemory};
 use std::alloc::Global;
 
@@ -15,7 +15,7 @@ pub(crate) fn sets(op: &ArrayOp, key: &ArrayKey) -> bool
     ensures { result ≡ sets key.now op.now }
 {
     match op {
-        ArrayOp::SetArray(other, array) => *key == *other && record_refusal(array).is_none(),
+        ArrayOp::SetArray(other, array) => *key == *other && array.refusal().is_none(),
         ArrayOp::PatchArray { .. } => false,
         ArrayOp::DropArraysOf(_) => false,
         ArrayOp::DropArraysIn(_) => false,
@@ -92,7 +92,7 @@ pub(crate) fn before(ops: &[ArrayOp], place: usize) -> &[ArrayOp]
 }
 
 /// A copy of the array that an operation sets.
-pub(crate) fn copy_of_set(alloc: Global, op: &ArrayOp) -> Result<Option<ArrayRecord>, NoMemory>
+pub(crate) fn copy_of_set(alloc: Global, op: &ArrayOp) -> Result<Option<WeighedArray>, NoMemory>
     ensures { IfOk result (λ array. array ≡ array_set op.now) }
 {
     match op {

@@ -8,7 +8,7 @@ ghost use Rattle.tx_stage.specs.declared.key.Key.TheVariants as keyed;
 ghost use Rattle.tx_stage.specs.declared.op.OpWhat.TheVariants as done;
 
 use crate::op::OpWhat;
-use array_store::{ArrayKey, ArrayOp, ArrayRecord};
+use array_store::{ArrayKey, ArrayOp, ArrayRecord, WeighedArray};
 use etp_values::{AnyArray, Copied, DataValue, List, Named, NoMemory, SpacePath, StoreUri, Text};
 use object_store::{KeyedObject, KeyedSpace, ObjectOp, ObjectRecord, SpaceRecord};
 use std::alloc::Global;
@@ -128,7 +128,7 @@ impl Plan {
     {
         let mut array = array.copy(alloc)?;
         array.written = at;
-        self.push_array(alloc, key, array)
+        self.push_array(alloc, key, WeighedArray::weigh(array))
     }
 
     /// Adds an array that is to be put as it is.
@@ -136,7 +136,7 @@ impl Plan {
         &mut self,
         alloc: Global,
         key: &ArrayKey,
-        array: ArrayRecord,
+        array: WeighedArray,
     ) -> Result<(), NoMemory>
         ensures arrays { OnOk result (
             self.new.arrays.items ≡ self.old.arrays.items ++ set.SetArray key.now array ∷ []) }

@@ -6,7 +6,7 @@ ghost use Rattle.tx_stage.specs.Standing.{space_stands, object_stands, array_sta
 
 use crate::patching::{copy_of_set, place_of_set, sets, takes_away};
 use crate::value::patch_array;
-use array_store::{ArrayKey, ArrayOp, ArrayRecord, has_bytes, record_refusal};
+use array_store::{ArrayKey, ArrayOp, WeighedArray, has_bytes};
 use etp_values::{AnyArray, Copied, List, NoMemory, StoreUri, Text};
 use object_store::ObjectOp;
 use std::alloc::Global;
@@ -78,19 +78,19 @@ pub(crate) fn array_after(ops: &[ArrayOp], key: &ArrayKey, before: bool) -> bool
 /// An array as a patch in place leaves it.
 fn patch_given(
     alloc: Global,
-    before: Option<ArrayRecord>,
+    before: Option<WeighedArray>,
     at: i64,
     starts: &List<i64>,
     counts: &List<i64>,
     values: &AnyArray,
-) -> Result<Option<ArrayRecord>, NoMemory>
+) -> Result<Option<WeighedArray>, NoMemory>
     ensures { IfOk result (λ o.
         o ≡ option_map (patched_in_place at starts.now counts.now values.now) before) }
 {
     let Some(array) = before else {
         return Ok(None);
     };
-    if has_bytes(&array.values) {
+    if has_bytes(&array.as_record().values) {
         return Ok(Some(array));
     }
     let (array, _) = patch_array(alloc, array, at, starts, counts, values)?;
@@ -100,15 +100,15 @@ fn patch_given(
 /// The array of a key that an operation leaves as it was given, made of the one before.
 fn array_given(
     alloc: Global,
-    before: Option<ArrayRecord>,
+    before: Option<WeighedArray>,
     op: &ArrayOp,
     key: &ArrayKey,
-) -> Result<Option<ArrayRecord>, NoMemory>
+) -> Result<Option<WeighedArray>, NoMemory>
     ensures { IfOk result (λ o. o ≡ array_given key.now before op.now) }
 {
     match op {
         ArrayOp::SetArray(other, array) => {
-            if *key == *other && record_refusal(array).is_none() {
+            if *key == *other && array.refusal().is_none() {
                 return Ok(Some(array.copy(alloc)?));
             }
             Ok(before)
@@ -141,7 +141,10 @@ fn array_given(
 }
 
 /// A copy of an array that is lent.
-fn copy_of_lent(alloc: Global, array: Option<&ArrayRecord>) -> Result<Option<ArrayRecord>, NoMemory>
+fn copy_of_lent(
+    alloc: Global,
+    array: Option<&WeighedArray>,
+) -> Result<Option<WeighedArray>, NoMemory>
     ensures { IfOk result (λ o. o ≡ option_copied array.entry) }
 {
     match array {
@@ -153,10 +156,10 @@ fn copy_of_lent(alloc: Global, array: Option<&ArrayRecord>) -> Result<Option<Arr
 /// The array of a key that operations leave as it was given, made one operation after the other.
 fn array_through(
     alloc: Global,
-    before: Option<&ArrayRecord>,
+    before: Option<&WeighedArray>,
     ops: &[ArrayOp],
     key: &ArrayKey,
-) -> Result<Option<ArrayRecord>, NoMemory>
+) -> Result<Option<WeighedArray>, NoMemory>
     ensures { IfOk result (λ o. o ≡ fold (array_given key.now) (option_copied before.entry) ops.now) }
 {
     let mut made = copy_of_lent(alloc, before)?;
@@ -171,10 +174,10 @@ fn array_through(
 /// patches it.
 pub(crate) fn array_made(
     alloc: Global,
-    before: Option<&ArrayRecord>,
+    before: Option<&WeighedArray>,
     ops: &[ArrayOp],
     key: &ArrayKey,
-) -> Result<Option<ArrayRecord>, NoMemory>
+) -> Result<Option<WeighedArray>, NoMemory>
     ensures { IfOk result (λ o. o ≡ fold (array_given key.now) (option_copied before.entry) ops.now) }
 {
     match place_of_set(ops, key) {

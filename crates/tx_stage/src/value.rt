@@ -8,7 +8,7 @@ ghost use Rattle.tx_stage.specs.Ops.{made_at, patched_value, op_left};
 ghost use Rattle.tx_stage.specs.Values.{as_space, as_object, as_array, memory_or_code};
 
 use crate::op::{Op, OpWhat};
-use array_store::{ArrayError, ArrayRecord, write_patch};
+use array_store::{ArrayError, ArrayRecord, WeighedArray};
 use etp_values::{AnyArray, Copied, ErrorCode, List, NoMemory};
 use object_store::{ObjectRecord, SpaceRecord};
 use std::alloc::Global;
@@ -95,7 +95,7 @@ pub fn memory_or_code(error: ArrayError) -> Result<ErrorCode, NoMemory>
 /// is answered.
 pub(crate) fn patch_in_place(
     alloc: Global,
-    array: &mut ArrayRecord,
+    array: &mut WeighedArray,
     at: i64,
     starts: &List<i64>,
     counts: &List<i64>,
@@ -107,9 +107,9 @@ pub(crate) fn patch_in_place(
     ensures sound { IfOk result (λ code. code ≡ None → record_refusal array.new ≡ None) }
 {
     let values = values.copy(alloc)?;
-    match write_patch(alloc, array, starts, counts, values) {
+    match array.patch(alloc, starts, counts, values) {
         Ok(()) => {
-            array.written = at;
+            array.set_written(at);
             Ok(None)
         }
         Err(error) => {
@@ -122,12 +122,12 @@ pub(crate) fn patch_in_place(
 /// An array with values in a region, written at this moment; or as it was, with the code of the refusal.
 pub(crate) fn patch_array(
     alloc: Global,
-    mut array: ArrayRecord,
+    mut array: WeighedArray,
     at: i64,
     starts: &List<i64>,
     counts: &List<i64>,
     values: &AnyArray,
-) -> Result<(ArrayRecord, Option<ErrorCode>), NoMemory>
+) -> Result<(WeighedArray, Option<ErrorCode>), NoMemory>
     ensures value { IfOk result (λ p. p.0 ≡ patched_at at starts.now counts.now values.now array) }
     ensures code { IfOk result (λ p.
         p.1 ≡ option_map code_of (write_refusal array starts.now counts.now values.now)) }
@@ -152,8 +152,9 @@ fn patch_value(
         Value::Space(space) => Ok(Value::Space(space)),
         Value::Object(object) => Ok(Value::Object(object)),
         Value::Array(array) => {
+            let array = WeighedArray::weigh(array);
             let (array, _) = patch_array(alloc, array, at, starts, counts, values)?;
-            Ok(Value::Array(array))
+            Ok(Value::Array(array.into_record()))
         }
     }
 }

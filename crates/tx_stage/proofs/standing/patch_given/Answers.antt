@@ -15,6 +15,6 @@ returns c =
     let array = c.in-Some.array in
     let made : c.in_ok-array.array ≡ patched_at at starts counts values array =
     c.in_ok-array.ensures.value ∙ ap (λ z. patched_at z starts counts values array) (to_z-of_z w64 at c.ranges.at) in
-    let plain : is_bytes array.values ≡ false = sym c.has_bytes.ensures ∙ c.if-has_bytes.false in
+    let plain : is_bytes array.values ≡ false = sym (c.has_bytes.ensures ∙ ap (λ (r : ArrayRecord). is_bytes r.values) c.as_record.ensures) ∙ c.if-has_bytes.false in
     ap (λ (r : ArrayRecord). Some r) (made ∙ ap (λ b. cond b array (patched_at at starts counts values array)) (sym plain))
     ∙ ap (option_map (patched_in_place at starts counts values)) (sym c.in-Some.is)

@@ -21,5 +21,5 @@ returns c =
     let key = c.args.key.now in
     let ops = c.args.plan.now.arrays.items in
     let found = array_in c.args.self.now.arrays key in
-    let given : fold (array_given key) (option_copied c.get.result) c.as_slice.result.now ≡ fold (array_given key) found ops = (λ j. fold (array_given key) (c.get.ensures j) (c.as_slice.ensures.value j)) in
+    let given : fold (array_given key) (option_copied c.weighed.result) c.as_slice.result.now ≡ fold (array_given key) found ops = (λ j. fold (array_given key) (c.weighed.ensures j) (c.as_slice.ensures.value j)) in
     subst (λ m. IfOk c.array_made.result (λ o. o ≡ m)) given c.array_made.ensures

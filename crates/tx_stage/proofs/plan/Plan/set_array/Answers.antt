@@ -16,5 +16,5 @@ returns c =
     let made : record given { written = to_z w64 (of_z w64 at) } ≡ record c.args.array.now { written = at } = (λ j. record (c.in_ok-array.ensures j) { written = moment j }) in
     on_ok_weaker c.push_array.result
     (λ added t. sets-array t old c.push_array.new.self key c.args.array.now at (ap (λ v. v.items) c.push_array.ensures.objects)
-    (added ∙ ap (λ (r : ArrayRecord). old.arrays.items ++ set.SetArray key r ∷ []) made))
+    (added ∙ ap (λ (r : ArrayRecord). old.arrays.items ++ set.SetArray key r ∷ []) (c.weigh.ensures ∙ made)))
     c.push_array.ensures.arrays
