@@ -11,6 +11,10 @@
                                                     behind ENTRIES loads of a point, each an entry, COUNT transactions put the same SIZE
                                                     objects each, and are committed
     python3 row_load.py patches COUNT > FILE       one transaction of COUNT patches of one array of 4,194,304 doubles, and its commit
+    python3 row_load.py texts KEYS > FILE          an array of 3,145,728 texts is made; then one request patches one text of it under each of KEYS
+                                                   keys, and one reads one under each
+    python3 row_load.py rooms KEYS > FILE          an array of 4,194,304 doubles is made; then one request asks for the whole of it under each of
+                                                   KEYS keys, of which two have room in the answer
 """
 import sys
 import uuid
@@ -141,6 +145,31 @@ def patches(count, size=4_194_304, part=16):
     client.message(18, 3, dict(transactionUuid=uuid.uuid5(uuid.UUID(int=1), "tx:1:1").bytes))
 
 
+def made_array(size, transport, logical):
+    """A client, and the uid of an array that it made."""
+    client = Client()
+    client.open()
+    client.put(1, b"")
+    uid = dict(uri=well(), pathInResource="a")
+    client.message(9, 9, dict(dataArrays={"k": dict(uid=uid, metadata=dict(
+        dimensions=[size], preferredSubarrayDimensions=[], transportArrayType=transport, logicalArrayType=logical, storeLastWrite=0,
+        storeCreated=0, customData={}))}))
+    return client, uid
+
+
+def texts(keys, size=3_145_728):
+    client, uid = made_array(size, 5, 19)
+    values = (5, dict(values=["written"]))
+    client.message(9, 5, dict(dataSubarrays={
+        f"k{number}": dict(uid=uid, data=dict(item=values), starts=[number], counts=[1]) for number in range(keys)}))
+    client.message(9, 3, dict(dataSubarrays={f"k{number}": dict(uid=uid, starts=[number], counts=[1]) for number in range(keys)}))
+
+
+def rooms(keys, size=4_194_304):
+    client, uid = made_array(size, 4, 10)
+    client.message(9, 3, dict(dataSubarrays={f"k{number}": dict(uid=uid, starts=[0], counts=[size]) for number in range(keys)}))
+
+
 def main():
     match sys.argv[1]:
         case "config":
@@ -162,6 +191,12 @@ def main():
         case "patches":
             sys.stdout.buffer.write(wire.MAGIC)
             patches(int(sys.argv[2]))
+        case "texts":
+            sys.stdout.buffer.write(wire.MAGIC)
+            texts(int(sys.argv[2]))
+        case "rooms":
+            sys.stdout.buffer.write(wire.MAGIC)
+            rooms(int(sys.argv[2]))
 
 
 if __name__ == "__main__":
