@@ -3,14 +3,18 @@ use Rattle.std.proofs.Common.{ℕ, zero, suc, ◌+◌, ◌-◌, ◌<◌, ◌≤�
 use Rattle.std.specs.Prelude.{find, nat_le, slice_get}
 use Rattle.std.specs.List.{AllByRecursion, last_or}
 use Rattle.std.specs.Option.{option_or}
+use Rattle.std.proofs.lemmas.Bool.{false≢true}
+use Rattle.std.proofs.lemmas.Bool.Decides.{nat_tests}
 use Rattle.std.proofs.lemmas.List.{get_or_append_left, length-append}
 use Rattle.std.proofs.lemmas.List.Folds.{find-append}
 use Rattle.std.proofs.lemmas.List.Sums.{fold_push}
 use Rattle.std.proofs.Math.Seq.{get_or-append_seam}
 use Rattle.std.proofs.lemmas.Option.{same_Some, slice_get-get_or, slice_get_within}
+use mathlib.Core.List.{IsPrefix}
 use Rattle.entry_index.specs.declared.chains.Step.{Step}
-use Rattle.entry_index.specs.Chains.{chain, last_of}
-use Rattle.entry_index.specs.Steps.{chains_of, with_step, IsChained}
+use Rattle.etp_values.proofs.PrefixLemmas.{prefix_snoc, prefix_trans}
+use Rattle.entry_index.specs.Chains.{chain, is_reached, last_of}
+use Rattle.entry_index.specs.Steps.{chains_of, with_step, Begins, IsChained}
 
 pub nat_le-false : (a b : ℕ) → b < a → nat_le a b ≡ false
 nat_le-false a b h = search (arith, rules)
@@ -80,18 +84,33 @@ slice-push [] x (suc n) y at = absurd cc
 slice-push (z ∷ zs) x zero y at = inl at
 slice-push (z ∷ zs) x (suc n) y at = ⊎_elim (λ h. inl h) (λ h. inr (ap suc h.0, h.1)) (slice-push zs x n y at)
 
-pub chained-push : (steps : List Step) (s : Step) → IsChained steps → s.before ≤ length steps → AllByRecursion (λ p. p ≤ s.place) (chain (chains_of steps) s.before) → IsChained (steps ++ s ∷ [])
-chained-push steps s old before rises = record {
+-- what was begun before one more step is begun after it
+begins-kept : (steps more : List Step) (a b : ℕ) → ((m : ℕ) → m ≤ length steps → chain (chains_of more) m ≡ chain (chains_of steps) m) → b ≤ length steps → Begins steps a b → Begins more a b
+begins-kept steps more a b same within begins =
+    let there : IsPrefix (chain (chains_of steps) a) (chain (chains_of more) b) = subst (IsPrefix (chain (chains_of steps) a)) (sym (same b within)) begins.1 in
+    (begins.0, subst (λ c. IsPrefix c (chain (chains_of more) b)) (sym (same a (omega (arith, within, begins.0)))) there)
+
+pub chained-push : (steps : List Step) (s : Step) → IsChained steps → s.before ≤ length steps → AllByRecursion (λ p. p ≤ s.place) (chain (chains_of steps) s.before) → Begins steps s.jump.to s.before
+    → IsChained (steps ++ s ∷ [])
+chained-push steps s old before rises begins = record {
   goes_on = λ n t at.
-      let c = chain (chains_of steps) s.before ++ s.place ∷ [] in
-      let kept = λ (m : ℕ) (h : m ≤ length steps). chain-push (chains_of steps) c m (subst (λ l. m ≤ l) (sym (length-chains steps)) h) in
-      let same : (m : ℕ) → m ≤ length steps → chain (chains_of (steps ++ s ∷ [])) m ≡ chain (chains_of steps) m = λ m h. ap (λ cs. chain cs m) (chains-push steps s) ∙ kept m h in
       ⊎_elim
       (λ h. let told = old.goes_on n t h in (told.0, subst (AllByRecursion (λ p. p ≤ t.place)) (sym (same t.before (omega (arith, told.0, slice_get_within steps n t h)))) told.1))
       (λ h. subst (λ u. (u.before ≤ n) × AllByRecursion (λ p. p ≤ u.place) (chain (chains_of (steps ++ s ∷ [])) u.before)) h.1
       (subst (λ m. s.before ≤ m) (sym h.0) before, subst (AllByRecursion (λ p. p ≤ s.place)) (sym (same s.before before)) rises))
       (slice-push steps s n t at);
+  jumps = λ n t at.
+      ⊎_elim
+      (λ h. begins-kept steps (steps ++ s ∷ []) t.jump.to t.before same (omega (arith, (old.goes_on n t h).0, slice_get_within steps n t h)) (old.jumps n t h))
+      (λ h. subst (λ u. Begins (steps ++ s ∷ []) u.jump.to u.before) h.1 (begins-kept steps (steps ++ s ∷ []) s.jump.to s.before same before begins))
+      (slice-push steps s n t at);
 }
+  where
+    c : List ℕ
+    c = chain (chains_of steps) s.before ++ s.place ∷ []
+
+    same : (m : ℕ) → m ≤ length steps → chain (chains_of (steps ++ s ∷ [])) m ≡ chain (chains_of steps) m
+    same m h = ap (λ cs. chain cs m) (chains-push steps s) ∙ chain-push (chains_of steps) c m (subst (λ l. m ≤ l) (sym (length-chains steps)) h)
 
 -- ---- what is found in a chain
 
@@ -110,11 +129,12 @@ pub record IsStepOf (steps : List Step) (n : ℕ) (s : Step) : Type 0 where
   pub earlier : s.before < n
   pub rises : AllByRecursion (λ p. p ≤ s.place) (chain (chains_of steps) s.before)
   pub chain_is : chain (chains_of steps) n ≡ chain (chains_of steps) s.before ++ s.place ∷ []
+  pub jumps : Begins steps s.jump.to s.before
 
 step-of-suc : (steps : List Step) (k : ℕ) (s : Step) → IsChained steps → slice_get steps k ≡ Some s → IsStepOf steps (suc k) s
 step-of-suc steps k s chained at =
     let told = chained.goes_on k s at in
-    record { earlier = omega (arith, told.0); rises = told.1; chain_is = chain-step steps k s at told.0 }
+    record { earlier = omega (arith, told.0); rises = told.1; chain_is = chain-step steps k s at told.0; jumps = chained.jumps k s at }
 
 pub step-of : (steps : List Step) (n : ℕ) (d : Step) → IsChained steps → 0 < n → n ≤ length steps → IsStepOf steps n (get_or steps (n - 1) d)
 step-of steps zero d chained h within = absurd (omega (arith, h))
@@ -147,3 +167,37 @@ found-before steps n from s found whole is before h =
 
 pub last-step : (steps : List Step) (n : ℕ) (s : Step) → IsStepOf steps n s → last_of (chain (chains_of steps) n) ≡ Some s.place
 last-step steps n s is = ap last_of is.chain_is ∙ last-push (chain (chains_of steps) s.before) s.place None
+
+-- ---- jumps
+
+-- where a step's jump leads begins its own chain
+pub jump-begins : (steps : List Step) (n : ℕ) (s : Step) → IsStepOf steps n s → Begins steps s.jump.to n
+jump-begins steps n s is =
+    let xs = chain (chains_of steps) s.before in (
+      omega (arith, is.earlier, is.jumps.0),
+      subst (IsPrefix (chain (chains_of steps) s.jump.to)) (sym is.chain_is) (prefix_snoc (chain (chains_of steps) s.jump.to) xs s.place is.jumps.1),
+    )
+
+pub begins-through : (steps : List Step) (a b n : ℕ) → Begins steps a b → Begins steps b n → Begins steps a n
+begins-through steps a b n p q = (
+  omega (arith, p.0, q.0),
+  prefix_trans (chain (chains_of steps) a) (chain (chains_of steps) b) (chain (chains_of steps) n) p.1 q.1,
+)
+
+-- what is found up to a last place that is past it is found in the whole
+found-front : (from p x : ℕ) (xs rest : List ℕ) → last_or (Some x) xs ≡ Some p → from ≤ p → find (nat_le from) (x ∷ (xs ++ rest)) ≡ find (nat_le from) (x ∷ xs)
+found-front from p x [] rest h on =
+    let here : nat_le from x ≡ true = nat_le-true from x (subst (λ y. from ≤ y) (sym (same_Some x p h)) on) in
+    ap (λ b. cond b (Some x) (find (nat_le from) rest)) here ∙ sym (ap (λ b. cond b (Some x) None) here)
+found-front from p x (y ∷ ys) rest h on = ap (λ o. cond (nat_le from x) (Some x) o) (found-front from p y ys rest h on)
+
+found-begun : (from p : ℕ) (xs ys : List ℕ) → IsPrefix xs ys → last_of xs ≡ Some p → from ≤ p → find (nat_le from) xs ≡ find (nat_le from) ys
+found-begun from p [] ys begins h on = absurd cc
+found-begun from p (x ∷ xs) ys begins h on = sym (found-front from p x xs begins.0 h on) ∙ ap (find (nat_le from)) begins.1
+
+pub found-jumped : (from : ℕ) (o : Option ℕ) (xs ys : List ℕ) → IsPrefix xs ys → o ≡ last_of xs → is_reached from o ≡ true → find (nat_le from) xs ≡ find (nat_le from) ys
+found-jumped from None xs ys begins h on = absurd (false≢true on)
+found-jumped from (Some p) xs ys begins h on = found-begun from p xs ys begins (sym h) (reached from p on)
+  where
+    reached : (a b : ℕ) → nat_le a b ≡ true → a ≤ b
+    reached a b h = grind (arith, nat_tests, h)

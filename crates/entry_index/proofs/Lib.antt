@@ -1,3 +1,4 @@
 pub mod ChainLemmas
 pub mod IndexLemmas
+pub mod MarkLemmas
 pub mod WhereLemmas

@@ -1,18 +1,28 @@
 //! Chains of places that share their beginnings.
-ghost use Rattle.std.specs.Prelude.{◌≡◌, ◌<◌, ◌+◌, ◌≤◌, ◌++◌, ◌∷◌, [], OnOk, find, length, nat_le};
+ghost use Rattle.std.specs.Prelude.{◌≡◌, ◌<◌, ◌+◌, ◌≤◌, ◌++◌, ◌∷◌, [], OnOk, find, length, nat_le, slice_set, true};
 ghost use Rattle.std.specs.List.{AllByRecursion};
-ghost use Rattle.entry_index.specs.Chains.{chain, last_of};
-ghost use Rattle.entry_index.specs.Steps.{chains_of, IsChained};
+ghost use Rattle.entry_index.specs.Chains.{chain, is_reached, last_of};
+ghost use Rattle.entry_index.specs.Marks.{marked_places};
+ghost use Rattle.entry_index.specs.Steps.{chains_of, Begins, IsChained};
 
 use etp_values::NoMemory;
 use std::alloc::Global;
 use std::marker::Model;
 
-/// The last place of a chain, and the number of the chain that it goes on from.
+/// The number of a chain with which another one begins, and how many places that one has more. The lengths are those of skew
+/// binary numbers, so that from the end of a chain a few jumps lead near any of its places.
+#[derive(Clone, Copy, Drop)]
+struct Jump {
+    to: usize,
+    length: usize,
+}
+
+/// The last place of a chain, the number of the chain that it goes on from, and the jump from there.
 #[derive(Clone, Copy, Drop)]
 struct Step {
     place: u64,
     before: usize,
+    jump: Jump,
 }
 
 /// Chains of places, each an earlier one and a further place. They are numbered from 1, and 0 is the empty chain. A contract
@@ -64,7 +74,12 @@ impl Chains {
         ensures number { result ≡ length self.new.chains }
         ensures room { self.old.spare ≤ self.new.spare + 1 }
     {
-        let _ = self.steps.push(Step { place, before });
+        let jump = new_jump(self.steps.as_slice(), before);
+        let _ = self.steps.push(Step {
+            place,
+            before,
+            jump,
+        });
         self.steps.len()
     }
 
@@ -83,6 +98,14 @@ impl Chains {
     {
         first_place(self.steps.as_slice(), number, from)
     }
+
+    /// Sets the marks of the places of a chain from a place on. The first mark is that of the place `first`.
+    pub(crate) fn mark_from(&self, number: usize, from: u64, first: u64, marks: &mut [bool])
+        requires { number ≤ length self.now.chains }
+        ensures { marks.new ≡ marked_places from first (chain self.now.chains number) marks.old }
+    {
+        mark_places(self.steps.as_slice(), number, from, first, marks);
+    }
 }
 
 fn last_place(steps: &[Step], number: usize) -> Option<u64>
@@ -97,6 +120,67 @@ fn last_place(steps: &[Step], number: usize) -> Option<u64>
     Some(step.place)
 }
 
+/// The jump of the last step of a chain. That of the empty chain leads nowhere.
+fn jump_of(steps: &[Step], number: usize) -> Jump
+    requires chained { IsChained steps.now }
+    requires known { number ≤ length steps.now }
+    ensures { Begins steps.now result.to number }
+{
+    if number == 0 {
+        return Jump { to: 0, length: 0 };
+    }
+    let step = steps[number - 1];
+    step.jump
+}
+
+/// The jump of a step that goes on from a chain: over two jumps that are as long, or else over one place.
+fn new_jump(steps: &[Step], before: usize) -> Jump
+    requires chained { IsChained steps.now }
+    requires known { before ≤ length steps.now }
+    ensures { Begins steps.now result.to before }
+{
+    let first = jump_of(steps, before);
+    let second = jump_of(steps, first.to);
+    if first.length == second.length {
+        return Jump {
+            to: second.to,
+            length: first.length.saturating_add(second.length).saturating_add(1),
+        };
+    }
+    Jump {
+        to: before,
+        length: 1,
+    }
+}
+
+/// Whether the last place of a chain is at or past a place.
+fn is_reached(last: Option<u64>, from: u64) -> bool
+    ensures { result ≡ is_reached from last }
+{
+    match last {
+        Some(last) => last >= from,
+        None => false,
+    }
+}
+
+/// The number of the chain in which to search next, after a step that is at or past a place: that of the jump, if its last place
+/// is still at or past it, and else the one before.
+fn next_chain(steps: &[Step], step: &Step, from: u64) -> usize
+    requires chained { IsChained steps.now }
+    requires known { step.now.before ≤ length steps.now }
+    requires begins { Begins steps.now step.now.jump.to step.now.before }
+    ensures within { result ≤ step.now.before }
+    ensures found { find (nat_le from) (chain (chains_of steps.now) result)
+        ≡ find (nat_le from) (chain (chains_of steps.now) step.now.before) }
+{
+    if is_reached(last_place(steps, step.jump.to), from) {
+        return step.jump.to;
+    }
+    step.before
+}
+
+/// The first place of a chain from a place on. It goes back from the last one by jumps, so that twice as long a chain costs it a
+/// few steps more.
 fn first_place(steps: &[Step], number: usize, from: u64) -> Option<u64>
     requires chained { IsChained steps.now }
     requires known { number ≤ length steps.now }
@@ -110,7 +194,35 @@ fn first_place(steps: &[Step], number: usize, from: u64) -> Option<u64>
             return found;
         }
         found = Some(step.place);
-        last = step.before;
+        last = next_chain(steps, &step, from);
     }
     found
+}
+
+/// Sets the marks of the places of a chain from a place on. The first mark is that of the place `first`.
+fn mark_places(steps: &[Step], number: usize, from: u64, first: u64, marks: &mut [bool])
+    requires chained { IsChained steps.now }
+    requires known { number ≤ length steps.now }
+    ensures { marks.new ≡ marked_places from first (chain (chains_of steps.now) number) marks.old }
+{
+    let least = from.max(first);
+    let mut last = number;
+    while last > 0 {
+        let step = steps[last - 1];
+        if step.place < least {
+            return;
+        }
+        set_mark(marks, step.place - first);
+        last = step.before;
+    }
+}
+
+/// Sets a mark, if there is one of this number.
+fn set_mark(marks: &mut [bool], number: u64)
+    ensures { marks.new ≡ slice_set marks.old number true }
+{
+    if number >= marks.len() as u64 {
+        return;
+    }
+    marks[number as usize] = true;
 }

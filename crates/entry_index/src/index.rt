@@ -4,6 +4,7 @@ ghost use Rattle.std.specs.List.{list_any};
 ghost use Rattle.indexmap.specs.IndexMap.{spare};
 ghost use Rattle.entry_index.specs.Chains.{chain};
 ghost use Rattle.entry_index.specs.Index.{ends_at, noted, noted_all, number_in, places_of, KeepsChains};
+ghost use Rattle.entry_index.specs.Marks.{marked_places};
 
 use crate::chains::Chains;
 use etp_values::{List, NoMemory};
@@ -129,6 +130,15 @@ impl<K: Eq + Hash> EntryIndex<K> {
         ensures { result ≡ find (nat_le from) (places_of K.eq self.now key.now) }
     {
         self.chains.first_from(number_of(&self.latest, key), from)
+    }
+
+    /// Sets the marks of the places from a place on at which a key was noted. The first mark is that of the place `first`. It goes
+    /// back over these places once and does not allocate.
+    pub fn mark_from(&self, key: &K, from: u64, first: u64, marks: &mut [bool])
+        ensures { marks.new ≡ marked_places from first (places_of K.eq self.now key.now) marks.old }
+    {
+        self.chains
+            .mark_from(number_of(&self.latest, key), from, first, marks);
     }
 }
 

@@ -1,7 +1,8 @@
 //! In which entries of a journal a key occurs.
 //!
 //! An [`EntryIndex`] knows at which places each key was noted. It finds the first of them from a given place on by going
-//! back from the latest, so a look costs what happened at that key since, and not the journal.
+//! back from the latest in jumps: that costs the logarithm of how often the key was noted. It marks all of them from a place
+//! on at the cost of their number. Neither costs more where the journal is long.
 #![tactic(auto)]
 
 mod chains;
