@@ -1,7 +1,8 @@
 -- How many entries have changes to be told of, by marks that are set channel by channel.
-use Rattle.std.specs.Prelude.{ℕ, zero, suc, ◌≡◌, ◌+◌, ◌-◌, ◌==◌, ◌&&◌, ◌||◌, nat_le, Bool, true, false, cond, List, [], ◌∷◌, ◌++◌, Option, Some, None, if◌then◌else◌, is_some, length, filter, find, replicate, refl}
+use Rattle.std.specs.Prelude.{ℕ, zero, suc, ◌≡◌, ◌+◌, ◌-◌, ◌<◌, ◌≤◌, ◌==◌, ◌&&◌, ◌||◌, nat_le, Bool, true, false, cond, List, [], ◌∷◌, ◌++◌, Option, Some, None, if◌then◌else◌, is_some, length, filter, find, replicate, refl}
 use Rattle.std.specs.Option.{option_to_list}
-use Rattle.std.proofs.Common.{ap, sym, ◌∙◌, arith}
+use Rattle.std.proofs.Common.{get_or, ap, sym, ◌∙◌, arith}
+use Rattle.std.proofs.lemmas.List.{length-replicate}
 use Rattle.std.proofs.Math.Bool.{or-false}
 use Rattle.channel_store.specs.declared.change.ChannelChange.{ChannelChange}
 use Rattle.channel_store.specs.Channels.{Channel}
@@ -9,7 +10,7 @@ use Rattle.channel_store.specs.Marks.{marked}
 use Rattle.channel_store.specs.Store.{changes_at}
 use Rattle.store_machine.specs.declared.news.Followed.{Followed}
 use Rattle.store_machine.specs.News.{is_some_due, lag}
-use Rattle.store_machine.specs.Telling.{due_at, dues_at, marked_by, set_marks}
+use Rattle.store_machine.specs.Telling.{due_at, dues_at, marked_by, marks_at, set_marks}
 
 -- ---- the marks of all channels
 
@@ -60,11 +61,37 @@ count-due cs fs place zero = refl
 count-due cs fs place (suc count) =
     lag-next (due_at cs fs place) (dues_at cs fs (place + 1) count) (set_marks (with_due cs fs (place + 1) (replicate count false))) (count-due cs fs (place + 1) count)
 
--- what is counted of marks none of which was set before
-pub lag_marked : (cs : List Channel) (fs : List Followed) (place count lags : ℕ) (given marks : List Bool) → given ≡ marks → marks ≡ replicate count false → lags ≡ set_marks (marked_by cs fs place given)
-    → lags ≡ lag (dues_at cs fs place count)
-lag_marked cs fs place count lags given marks same none is =
-    is ∙ ap (λ l. set_marks (marked_by cs fs place l)) (same ∙ none) ∙ ap set_marks (marked-due cs fs place (replicate count false)) ∙ count-due cs fs place count
+-- what is counted of the marks of so many entries
+pub lag_marked : (cs : List Channel) (fs : List Followed) (place count lags : ℕ) (marks : List Bool) → marks ≡ marks_at cs fs place count → lags ≡ set_marks marks → lags ≡ lag (dues_at cs fs place count)
+lag_marked cs fs place count lags marks same is =
+    is ∙ ap set_marks (same ∙ marked-due cs fs place (replicate count false)) ∙ count-due cs fs place count
+
+-- ---- each mark
+
+mark-there : (cs : List Channel) (fs : List Followed) (place count k : ℕ) (d : Bool) → k < count → get_or (with_due cs fs place (replicate count false)) k d ≡ is_some_due (due_at cs fs (place + k))
+mark-there cs fs place zero k d h = absurd (omega (arith, h))
+mark-there cs fs place (suc count) zero d h = let here : place ≡ place + 0 = omega arith in ap (λ p. is_some_due (due_at cs fs p)) here
+mark-there cs fs place (suc count) (suc k) d h =
+    let there : (place + 1) + k ≡ place + suc k = omega arith in
+    mark-there cs fs (place + 1) count k d (omega (arith, h)) ∙ ap (λ p. is_some_due (due_at cs fs p)) there
+
+-- the mark of an entry tells whether something is due
+pub mark_is : (cs : List Channel) (fs : List Followed) (place from mark : ℕ) (marks : List Bool) (d : Bool) → marks ≡ marks_at cs fs place (mark - place) → place ≤ from → from < mark
+    → get_or marks (from - place) d ≡ is_some_due (due_at cs fs from)
+mark_is cs fs place from mark marks d same begun within =
+    let there : place + (from - place) ≡ from = omega (arith, begun) in
+    ap (λ l. get_or l (from - place) d) (same ∙ marked-due cs fs place (replicate (mark - place) false))
+    ∙ mark-there cs fs place (mark - place) (from - place) d (omega (arith, begun, within))
+    ∙ ap (λ p. is_some_due (due_at cs fs p)) there
+
+with_due-length : (cs : List Channel) (fs : List Followed) (place : ℕ) (bs : List Bool) → length (with_due cs fs place bs) ≡ length bs
+with_due-length cs fs place [] = refl
+with_due-length cs fs place (b ∷ bs) = ap suc (with_due-length cs fs (place + 1) bs)
+
+-- there are as many marks as entries
+pub marks_length : (cs : List Channel) (fs : List Followed) (place count : ℕ) (marks : List Bool) → marks ≡ marks_at cs fs place count → length marks ≡ count
+marks_length cs fs place count marks same =
+    ap length (same ∙ marked-due cs fs place (replicate count false)) ∙ with_due-length cs fs place (replicate count false) ∙ length-replicate count false
 
 -- ---- where there is nothing to count
 

@@ -174,13 +174,13 @@ all_found true path v o h = value-record path v o
 all_found false path v o h = sym (h refl)
 
 -- the definition's list stands for the changes
-stands-dataspaces : (cs : List Change) → Stands (dataspaces cs) cs
+pub stands-dataspaces : (cs : List Change) → Stands (dataspaces cs) cs
 stands-dataspaces cs = record {
   rise = subst (IsStrictlySortedBy path_cmp) (sym (paths-dataspaces cs (paths cs))) (IsStrictlySortedBy-filter path_cmp (λ path. is_some (value (Space path) cs)) (paths cs) (paths-rise cs));
   finds = λ q. ap (option_map valued.Space) (found-dataspaces cs q (paths cs)) ∙ all_found (list_any (bytes_eq q) (paths cs)) q (value (Space q) cs) (of-value q cs) (unput q cs);
 }
 
--- ---- two lists that stand for the same changes are one
+-- ---- two lists in order that have the same at each path are one
 
 abbrev pub by_path : List SpaceRecord → List (List ℕ × SpaceRecord)
 by_path rs = map (λ (r : SpaceRecord). (r.path, r)) rs
@@ -197,18 +197,13 @@ records-by_path : (rs : List SpaceRecord) → map (λ (e : List ℕ × SpaceReco
 records-by_path [] = refl
 records-by_path (r ∷ rs) = ap (λ l. r ∷ l) (records-by_path rs)
 
-same_map : (x y : Option SpaceRecord) → option_map valued.Space x ≡ option_map valued.Space y → x ≡ y
+pub same_map : (x y : Option SpaceRecord) → option_map valued.Space x ≡ option_map valued.Space y → x ≡ y
 same_map None None h = refl
 same_map None (Some y) h = absurd (cc)
 same_map (Some x) None h = absurd (cc)
 same_map (Some x) (Some y) h = ap as_space h
 
--- the list that stands for the changes is the definition's
-pub stands-is : (rs : List SpaceRecord) (cs : List Change) → Stands rs cs → rs ≡ dataspaces cs
-stands-is rs cs s =
-    let other = stands-dataspaces cs in
-    let same : by_path rs ≡ by_path (dataspaces cs) = found_alike (by_path rs) (by_path (dataspaces cs))
-    (subst (IsStrictlySortedBy path_cmp) (sym (keys-by_path rs)) s.rise)
-    (subst (IsStrictlySortedBy path_cmp) (sym (keys-by_path (dataspaces cs))) other.rise)
-    (λ q. lookup-by_path q rs ∙ same_map (dataspace_at q rs) (dataspace_at q (dataspaces cs)) (s.finds q ∙ sym (other.finds q)) ∙ sym (lookup-by_path q (dataspaces cs))) in
-    sym (records-by_path rs) ∙ ap (map (λ (e : List ℕ × SpaceRecord). e.1)) same ∙ records-by_path (dataspaces cs)
+pub one_list : (rs ss : List SpaceRecord) → IsStrictlySortedBy path_cmp (paths_in rs) → IsStrictlySortedBy path_cmp (paths_in ss) → ((q : List ℕ) → lookup (bytes_eq q) (by_path rs) ≡ lookup (bytes_eq q) (by_path ss)) → rs ≡ ss
+one_list rs ss rise rises same =
+    let whole : by_path rs ≡ by_path ss = found_alike (by_path rs) (by_path ss) (subst (IsStrictlySortedBy path_cmp) (sym (keys-by_path rs)) rise) (subst (IsStrictlySortedBy path_cmp) (sym (keys-by_path ss)) rises) same in
+    sym (records-by_path rs) ∙ ap (map (λ (e : List ℕ × SpaceRecord). e.1)) whole ∙ records-by_path ss

@@ -1,6 +1,7 @@
 -- The changes that are taken entry by entry.
-use Rattle.std.specs.Prelude.{ℕ, suc, ◌≡◌, ◌+◌, ◌-◌, ◌≤◌, ◌<◌, ◌&&◌, ◌||◌, nat_le, nat_lt, Bool, true, false, List, [], ◌∷◌, ◌++◌, if◌then◌else◌, length, refl}
+use Rattle.std.specs.Prelude.{ℕ, zero, suc, ◌≡◌, ◌+◌, ◌-◌, ◌≤◌, ◌<◌, ◌&&◌, ◌||◌, nat_le, nat_lt, Bool, true, false, List, [], ◌∷◌, ◌++◌, if◌then◌else◌, length, refl}
 use Rattle.std.proofs.Common.{ap, sym, ◌∙◌, subst, append_assoc, append-nil, arith}
+use Rattle.std.proofs.lemmas.Bool.{false≢true}
 use Rattle.std.proofs.lemmas.Bool.Decides.{nat_tests}
 use Rattle.std.proofs.lemmas.List.{length-append}
 use Rattle.etp_values.specs.Weight.{capped, weigh}
@@ -10,8 +11,9 @@ use Rattle.channel_store.specs.Channels.{Channel}
 use Rattle.channel_store.specs.Told.{change_bytes}
 use Rattle.store_machine.specs.declared.news.Followed.{Followed}
 use Rattle.store_machine.specs.declared.call.Reply.TheVariants as replied
-use Rattle.store_machine.specs.News.{fits_behind, joined, lag, news_by, taken}
+use Rattle.store_machine.specs.News.{fits_behind, is_some_due, joined, lag, news_by, taken}
 use Rattle.store_machine.specs.Telling.{Takes, TakesOn, due_at, dues_at}
+use Rattle.store_machine.proofs.LagLemmas.{lag_nobody, lag_nothing}
 
 -- ---- entry by entry
 
@@ -98,6 +100,11 @@ takes_none due given old is fits = (sym (ap (fits_behind (length old) (weigh cha
 pub takes_some : (due given old new : List ChannelChange) → given ≡ due → fits_behind (length old) (weigh change_bytes old) given ≡ true → new ≡ old ++ given → Takes true due old new
 takes_some due given old new is fits made = (sym (ap (fits_behind (length old) (weigh change_bytes old)) is) ∙ fits, made ∙ ap (λ l. old ++ l) is)
 
+-- an entry without a due change
+pub takes_unmarked : (due old : List ChannelChange) → is_some_due due ≡ false → Takes true due old old
+takes_unmarked [] old h = (refl, sym (append-nil old))
+takes_unmarked (c ∷ cs) old h = absurd (false≢true (sym h))
+
 -- what is behind is not taken
 ends : (ds : List (List ChannelChange)) (first place : ℕ) (xs : List ChannelChange) (rest : List (List ChannelChange)) → TakesOn ds first place xs rest → taken (length xs) (weigh change_bytes xs) rest ≡ []
     → (place ≡ first + length (taken 0 0 ds)) × (xs ≡ joined (taken 0 0 ds))
@@ -133,3 +140,27 @@ news_told limit from mark count upto ds changes is within at told =
   where
     below : (a b : ℕ) → b ≤ a → nat_lt a b ≡ false
     below a b h = grind (arith, nat_tests, h)
+
+-- where nothing is due, all entries are taken and nothing of them
+nothing_taken : (n b : ℕ) (ds : List (List ChannelChange)) → lag ds ≡ 0 → (length (taken n b ds) ≡ length ds) × (joined (taken n b ds) ≡ [])
+nothing_taken n b [] h = (refl, refl)
+nothing_taken n b ([] ∷ ds) h = let rest = nothing_taken (n + 0) (b + 0) ds h in (ap suc rest.0, rest.1)
+nothing_taken n b ((c ∷ cs) ∷ ds) h = absurd (omega (arith, h))
+
+dues-length : (cs : List Channel) (fs : List Followed) (place count : ℕ) → length (dues_at cs fs place count) ≡ count
+dues-length cs fs place zero = refl
+dues-length cs fs place (suc count) = ap suc (dues-length cs fs (place + 1) count)
+
+pub news_untold : (cs : List Channel) (fs : List Followed) (limit from mark : ℕ) → from ≤ mark → 0 ≡ lag (dues_at cs fs from (mark - from)) → replied.News mark 0 [] ≡ news_by limit from mark (dues_at cs fs from (mark - from))
+news_untold cs fs limit from mark within none =
+    let ds = dues_at cs fs from (mark - from) in
+    let all = nothing_taken 0 0 ds (sym none) in
+    let upto : mark ≡ from + length (taken 0 0 ds) = omega (arith, within, all.0, dues-length cs fs from (mark - from)) in
+    news_told limit from mark 0 mark ds [] none (omega arith) upto (sym all.1)
+
+-- where nobody follows, or there is no entry
+pub news_nobody : (cs : List Channel) (fs : List Followed) (limit from mark : ℕ) → from ≤ mark → length fs ≡ 0 → replied.News mark 0 [] ≡ news_by limit from mark (dues_at cs fs from (mark - from))
+news_nobody cs fs limit from mark within none = news_untold cs fs limit from mark within (lag_nobody cs fs from (mark - from) none)
+
+pub news_here : (cs : List Channel) (fs : List Followed) (limit from mark : ℕ) → from ≡ mark → replied.News mark 0 [] ≡ news_by limit from mark (dues_at cs fs from (mark - from))
+news_here cs fs limit from mark same = news_untold cs fs limit from mark (omega (arith, same)) (lag_nothing cs fs from mark same)

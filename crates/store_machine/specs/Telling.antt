@@ -1,5 +1,5 @@
 -- What the code knows of the channels that are followed, and of the changes that it takes for them.
-use Rattle.std.specs.Prelude.{ℕ, zero, suc, min, ◌≡◌, ◌+◌, ◌==◌, ◌&&◌, nat_le, int_lt, Bool, true, false, List, [], ◌∷◌, ◌++◌, Option, Some, None, if◌then◌else◌, length, find, fold}
+use Rattle.std.specs.Prelude.{ℕ, zero, suc, min, ◌≡◌, ◌+◌, ◌==◌, ◌&&◌, nat_le, int_lt, Bool, true, false, List, [], ◌∷◌, ◌++◌, Option, Some, None, if◌then◌else◌, length, find, fold, replicate}
 use Rattle.std.specs.List.{list_any}
 use Rattle.std.specs.Option.{option_to_list}
 use Rattle.std.specs.Ordering.{int_eq}
@@ -72,6 +72,10 @@ dues_at cs fs place (suc count) = due_at cs fs place ∷ dues_at cs fs (place + 
 abbrev pub marked_by : List Channel → List Followed → ℕ → List Bool → List Bool
 marked_by cs [] place marks = marks
 marked_by cs (f ∷ fs) place marks = marked_by cs fs place (marked f.from place (changes_at cs f.channel) marks)
+
+-- the marks of so many entries, none of which was set before
+abbrev pub marks_at : List Channel → List Followed → ℕ → ℕ → List Bool
+marks_at cs fs place count = marked_by cs fs place (replicate count false)
 
 -- how many marks are set
 abbrev pub set_marks : List Bool → ℕ

@@ -242,8 +242,8 @@ impl Alterations {
         Ok(earlier(self.own_first(key, from), owner))
     }
 
-    /// The first place whose entry altered a key that was touched before. What it costs grows with the touched keys and with how
-    /// often they were altered since, and not with the journal.
+    /// The first place whose entry altered a key that was touched before. Each touched key costs three look-ups at most, each of
+    /// them the logarithm of how often its key was altered.
     pub(crate) fn conflict(
         &self,
         alloc: Global,

@@ -6,8 +6,9 @@ ghost use Rattle.channel_store.specs.declared.change.ChannelChange.{ChannelChang
 ghost use Rattle.channel_store.specs.Marks.{marked};
 ghost use Rattle.channel_store.specs.Store.{changes_at};
 ghost use Rattle.channel_store.specs.Told.{change_bytes};
-ghost use Rattle.store_machine.specs.News.{fits_behind, joined, lag, news_by, taken as taken_of};
-ghost use Rattle.store_machine.specs.Telling.{Takes, below, due_at, due_here, dues_at, followed_by, followed_with, marked_by, same_from, set_marks};
+ghost use Rattle.store_machine.specs.News.{fits_behind, is_some_due, joined, news_by, taken as taken_of};
+ghost use Rattle.store_machine.specs.Telling.{Takes, below, due_at, due_here, dues_at, followed_by, followed_with, marked_by, marks_at, same_from, set_marks};
+ghost use Rattle.store_machine.specs.declared.call.Reply.TheVariants as replied;
 
 use crate::call::Reply;
 use channel_store::{ChannelChange, ChannelStore, Sub, change_bytes};
@@ -131,19 +132,6 @@ fn count_set(marks: &[bool]) -> u64
     count
 }
 
-/// How many marks are set with those of the entries with changes to be told of. The first mark is that of the entry at `place`.
-fn count_marked(
-    channels: &ChannelStore,
-    followed: &[Followed],
-    place: u64,
-    marks: &mut [bool],
-) -> u64
-    ensures { result ≡ set_marks (marked_by channels.now followed.now place marks.old) }
-{
-    mark_all(channels, followed, place, marks);
-    count_set(marks)
-}
-
 /// So many marks, none of which is set.
 fn no_marks(alloc: Global, count: u64) -> Result<Vec<bool>, NoMemory>
     ensures { IfOk result (λ m. m.items ≡ replicate count false) }
@@ -153,24 +141,21 @@ fn no_marks(alloc: Global, count: u64) -> Result<Vec<bool>, NoMemory>
     Ok(marks)
 }
 
-/// How many entries from `place` on, below `mark`, have changes to be told of. Each change is visited once, and no entry is searched for.
-#[tactic(auto, using(crate::proofs::LagLemmas::lag_marked, crate::proofs::LagLemmas::lag_nobody, crate::proofs::LagLemmas::lag_nothing))]
-fn lag_from(
+/// The marks of the entries from `place` on, below `mark`, that have changes to be told of. Each change is visited once, and no
+/// entry is searched for.
+fn marks_from(
     alloc: Global,
     channels: &ChannelStore,
     followed: &[Followed],
     place: u64,
     mark: u64,
-) -> Result<u64, NoMemory>
+) -> Result<Vec<bool>, NoMemory>
     requires { place ≤ mark }
-    ensures { IfOk result (λ n.
-        n ≡ lag (dues_at channels.now followed.now place (mark - place))) }
+    ensures { IfOk result (λ m. m.items ≡ marks_at channels.now followed.now place (mark - place)) }
 {
-    if followed.is_empty() || place == mark {
-        return Ok(0);
-    }
     let mut marks = no_marks(alloc, mark - place)?;
-    Ok(count_marked(channels, followed, place, marks.as_mut_slice()))
+    mark_all(channels, followed, place, marks.as_mut_slice());
+    Ok(marks)
 }
 
 /// The changes by the entry at a place that are to be told of, in the order of their channels.
@@ -255,16 +240,40 @@ fn take_entry(
     Ok(true)
 }
 
-/// Takes entries in order from `place` on as long as they fit, and answers the place up to which they were taken.
+/// Takes the changes by the entry at a place, where they fit. An entry that is not marked has none, and is not looked at.
+fn take_marked(
+    alloc: Global,
+    channels: &ChannelStore,
+    followed: &[Followed],
+    place: u64,
+    marked: bool,
+    taken: &mut Taken,
+) -> Result<bool, NoMemory>
+    requires marked { marked ≡ is_some_due (due_at channels.now followed.now place) }
+    requires bytes { taken.old.bytes ≡ capped (weigh change_bytes taken.old.changes.items) }
+    ensures takes { IfOk result (λ b.
+        Takes b (due_at channels.now followed.now place) taken.old.changes.items taken.new.changes.items) }
+    ensures bytes { IfOk result (λ b. taken.new.bytes ≡ capped (weigh change_bytes taken.new.changes.items)) }
+{
+    if !marked {
+        return Ok(true);
+    }
+    take_entry(alloc, channels, followed, place, taken)
+}
+
+/// Takes entries in order from `place` on as long as they fit, and answers the place up to which they were taken. It looks at the
+/// marked ones alone.
 fn take_from(
     alloc: Global,
     channels: &ChannelStore,
     followed: &[Followed],
     place: u64,
     mark: u64,
+    marks: &[bool],
     taken: &mut Taken,
 ) -> Result<u64, NoMemory>
     requires within { place ≤ mark }
+    requires marks { marks.now ≡ marks_at channels.now followed.now place (mark - place) }
     requires none { taken.old.changes.items ≡ [] }
     requires bytes { taken.old.bytes ≡ 0 }
     ensures upto { IfOk result (λ u.
@@ -274,7 +283,8 @@ fn take_from(
 {
     let mut from = place;
     while from < mark {
-        let took = take_entry(alloc, channels, followed, from, taken)?;
+        let marked = marks[(from - place) as usize];
+        let took = take_marked(alloc, channels, followed, from, marked, taken)?;
         if !took {
             return Ok(from);
         }
@@ -283,9 +293,60 @@ fn take_from(
     Ok(from)
 }
 
+/// That nothing is told of.
+fn nothing(alloc: Global, upto: u64, lag: u64) -> Reply
+    ensures { result ≡ replied.News upto lag [] }
+{
+    Reply::News {
+        upto,
+        lag,
+        changes: List::from_vec(Vec::new(alloc)),
+    }
+}
+
+/// What the entries from `from` on tell those who follow these channels, by their marks.
+#[tactic(auto, using(crate::proofs::LagLemmas::lag_marked, crate::proofs::TakingLemmas::news_lagged, crate::proofs::TakingLemmas::news_untold, crate::proofs::TakingLemmas::news_nobody, crate::proofs::TakingLemmas::news_here, crate::proofs::TakingLemmas::news_told))]
+fn news_from(
+    alloc: Global,
+    channels: &ChannelStore,
+    limit: u64,
+    mark: u64,
+    from: u64,
+    followed: &[Followed],
+) -> Result<Reply, NoMemory>
+    requires { from ≤ mark }
+    ensures { IfOk result (λ r. r ≡ news_by limit from mark
+        (dues_at channels.now followed.now from (mark - from))) }
+{
+    if followed.is_empty() {
+        return Ok(nothing(alloc, mark, 0));
+    }
+    if from == mark {
+        return Ok(nothing(alloc, mark, 0));
+    }
+    let marks = marks_from(alloc, channels, followed, from, mark)?;
+    let lag = count_set(marks.as_slice());
+    if lag > limit {
+        return Ok(nothing(alloc, mark, lag));
+    }
+    if lag == 0 {
+        return Ok(nothing(alloc, mark, 0));
+    }
+    let mut taken = Taken {
+        changes: Vec::new(alloc),
+        bytes: 0,
+    };
+    let marks = marks.as_slice();
+    let upto = take_from(alloc, channels, followed, from, mark, marks, &mut taken)?;
+    Ok(Reply::News {
+        upto,
+        lag,
+        changes: List::from_vec(taken.changes),
+    })
+}
+
 /// What subscriptions are to be told of from `cursor` on, where the journal has the length `mark`. Where more than `limit`
 /// entries have such changes, it is none of them.
-#[tactic(auto, using(crate::proofs::TakingLemmas::news_lagged, crate::proofs::TakingLemmas::news_told))]
 pub(crate) fn news(
     alloc: Global,
     channels: &ChannelStore,
@@ -299,22 +360,5 @@ pub(crate) fn news(
 {
     let followed = followed_by(alloc, subs)?;
     let from = cursor.min(mark);
-    let lag = lag_from(alloc, channels, followed.as_slice(), from, mark)?;
-    let mut taken = Taken {
-        changes: Vec::new(alloc),
-        bytes: 0,
-    };
-    if lag > limit {
-        return Ok(Reply::News {
-            upto: mark,
-            lag,
-            changes: List::from_vec(taken.changes),
-        });
-    }
-    let upto = take_from(alloc, channels, followed.as_slice(), from, mark, &mut taken)?;
-    Ok(Reply::News {
-        upto,
-        lag,
-        changes: List::from_vec(taken.changes),
-    })
+    news_from(alloc, channels, limit, mark, from, followed.as_slice())
 }

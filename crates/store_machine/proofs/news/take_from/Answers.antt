@@ -1,5 +1,6 @@
-use Rattle.std.proofs.Common.{◌<◌, ◌≤◌, ◌-◌, subst, arith}
+use Rattle.std.proofs.Common.{◌<◌, ◌≤◌, ◌-◌, false, subst, arith}
 use Rattle.store_machine.specs.Telling.{Takes, due_at, dues_at}
+use Rattle.store_machine.proofs.LagLemmas.{mark_is, marks_length}
 use Rattle.store_machine.proofs.TakingLemmas.{bytes_first, dues_end, dues_step, takes_end, takes_first, takes_next, takes_stop}
 use Rattle.store_machine.proofs.news.take_from.Goals as goal
 
@@ -8,16 +9,28 @@ loop-from-init c =
     let a = c.args in
     record {
       takes = takes_first (dues_at a.channels.now a.followed.now a.place (a.mark - a.place)) a.place a.taken.now.changes.items c.requires.none;
+      begun = omega arith;
       within = c.requires.within;
       bytes = bytes_first a.taken.now.changes.items a.taken.now.bytes c.requires.none c.requires.bytes;
     }
+
+pub bounds-marks-from : goal.bounds-marks-from
+bounds-marks-from c =
+    let a = c.args in
+    let long = marks_length a.channels.now a.followed.now a.place (a.mark - a.place) a.marks.now c.requires.marks in
+    omega (arith, long, c.loop-from.invariant.begun, c.loop-from-test.true)
+
+pub take_marked-requires-clause-marked : goal.take_marked-requires-clause-marked
+take_marked-requires-clause-marked c =
+    let a = c.args in
+    mark_is a.channels.now a.followed.now a.place c.loop-from.from a.mark a.marks.now false c.requires.marks c.loop-from.invariant.begun c.loop-from-test.true
 
 pub returns-then-not-took-clause-upto : goal.returns-then-not-took-clause-upto
 returns-then-not-took-clause-upto c =
     let a = c.args in
     let l = c.loop-from in
     let within : l.from < a.mark = omega arith in
-    let takes = subst (λ b. Takes b (due_at a.channels.now a.followed.now l.from) l.taken.changes.items c.take_entry.new.taken.changes.items) c.if-not-took.true c.in_ok-took.ensures.takes in
+    let takes = subst (λ b. Takes b (due_at a.channels.now a.followed.now l.from) l.taken.changes.items c.take_marked.new.taken.changes.items) c.if-not-took.true c.in_ok-took.ensures.takes in
     (takes_stop (dues_at a.channels.now a.followed.now a.place (a.mark - a.place)) a.place l.from l.taken.changes.items _ _ _ _ l.invariant.takes (dues_step a.channels.now a.followed.now l.from a.mark within) takes).0
 
 pub returns-then-not-took-clause-changes : goal.returns-then-not-took-clause-changes
@@ -25,7 +38,7 @@ returns-then-not-took-clause-changes c =
     let a = c.args in
     let l = c.loop-from in
     let within : l.from < a.mark = omega arith in
-    let takes = subst (λ b. Takes b (due_at a.channels.now a.followed.now l.from) l.taken.changes.items c.take_entry.new.taken.changes.items) c.if-not-took.true c.in_ok-took.ensures.takes in
+    let takes = subst (λ b. Takes b (due_at a.channels.now a.followed.now l.from) l.taken.changes.items c.take_marked.new.taken.changes.items) c.if-not-took.true c.in_ok-took.ensures.takes in
     (takes_stop (dues_at a.channels.now a.followed.now a.place (a.mark - a.place)) a.place l.from l.taken.changes.items _ _ _ _ l.invariant.takes (dues_step a.channels.now a.followed.now l.from a.mark within) takes).1
 
 pub loop-from-preserved : goal.loop-from-preserved
@@ -33,9 +46,10 @@ loop-from-preserved c =
     let a = c.args in
     let l = c.loop-from in
     let within : l.from < a.mark = omega arith in
-    let takes = subst (λ b. Takes b (due_at a.channels.now a.followed.now l.from) l.taken.changes.items c.take_entry.new.taken.changes.items) c.if-not-took.false c.in_ok-took.ensures.takes in
+    let takes = subst (λ b. Takes b (due_at a.channels.now a.followed.now l.from) l.taken.changes.items c.take_marked.new.taken.changes.items) c.if-not-took.false c.in_ok-took.ensures.takes in
     record {
       takes = takes_next (dues_at a.channels.now a.followed.now a.place (a.mark - a.place)) a.place l.from l.taken.changes.items _ _ _ _ l.invariant.takes (dues_step a.channels.now a.followed.now l.from a.mark within) takes;
+      begun = omega (arith, l.invariant.begun);
       within = omega arith;
       bytes = c.in_ok-took.ensures.bytes;
     }

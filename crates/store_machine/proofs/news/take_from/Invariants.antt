@@ -7,6 +7,7 @@ use Rattle.store_machine.proofs.news.take_from.Given as goal
 abbrev pub invariant-loop-from : goal.invariant-loop-from
 invariant-loop-from l = record {
   takes : TakesOn (dues_at l.channels l.followed l.place (l.mark - l.place)) l.place l.from l.taken.changes.items (dues_at l.channels l.followed l.from (l.mark - l.from));
+  begun : l.place ≤ l.from;
   within : l.from ≤ l.mark;
   bytes : l.taken.bytes ≡ capped (weigh change_bytes l.taken.changes.items);
 }
