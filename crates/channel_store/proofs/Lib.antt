@@ -11,4 +11,5 @@ pub mod NumberedLemmas
 pub mod PointLemmas
 pub mod RowLemmas
 pub mod StagedLemmas
+pub mod TableLemmas
 pub mod TrackLemmas

@@ -9,5 +9,6 @@ pub mod Rows
 pub mod Splits
 pub mod Store
 pub mod Sweeps
+pub mod Tables
 pub mod Told
 pub mod Tracks

@@ -1,5 +1,5 @@
 -- What a change tells, and what that counts.
-use Rattle.std.specs.Prelude.{ℕ, Bool, false, List, [], ◌∷◌, ◌++◌, length, Option, Some, None, Result, Ok, Err, nat_lt}
+use Rattle.std.specs.Prelude.{ℕ, Bool, false, List, [], ◌∷◌, ◌++◌, length, Option, Some, None, Result, Ok, Err, nat_le, nat_lt, if◌then◌else◌}
 use Rattle.etp_values.specs.declared.point.Point.{Point}
 use Rattle.etp_values.specs.Weight.{capped, weigh}
 use Rattle.channel_points.specs.Bytes.{point_bytes}
@@ -33,10 +33,19 @@ stands_before place (Some x) = nat_lt x.place place
 abbrev pub size_of : List Point → PointSize
 size_of xs = record { points = length xs; bytes = capped (weigh point_bytes xs) }
 
--- the same of an answer with points, or the refusal
+-- the same where there are so many points at most
+abbrev pub size_within : ℕ → List Point → Option PointSize
+size_within most xs = if nat_le (length xs) most then Some (size_of xs) else None
+
+-- the size of an answer with points, or the refusal
 abbrev pub sized : {E : Type 0} → Result (List Point) E → Result PointSize E
 sized (Ok xs) = Ok (size_of xs)
 sized (Err e) = Err e
+
+-- the same where it has so many points at most
+abbrev pub sized_within : {E : Type 0} → ℕ → Result (List Point) E → Result (Option PointSize) E
+sized_within most (Ok xs) = Ok (size_within most xs)
+sized_within most (Err e) = Err e
 
 -- how a call ended, without what it gave
 abbrev pub ending : {A E : Type 0} → Result A E → Result (Unit {0}) E

@@ -3,7 +3,7 @@ ghost use Rattle.std.specs.Prelude.{◌≡◌, ◌≤◌, ◌+◌, ◌++◌, len
 ghost use Rattle.std.specs.Vec.{vec_len, vec_capacity};
 ghost use Rattle.channel_store.specs.Points.{Rises, after, at_most, first_of, index_from_end, inside, last_of, outside, past, put_below, up_to};
 ghost use Rattle.channel_store.specs.Splits.{IsSplit};
-ghost use Rattle.channel_store.specs.Told.{size_of, told_by};
+ghost use Rattle.channel_store.specs.Told.{size_of, size_within, told_by};
 
 use crate::change::What;
 use channel_points::{count_below, points_bytes};
@@ -79,6 +79,17 @@ fn size_behind(points: &[Point], place: usize, count: usize) -> PointSize
     size_of(&points[place..place + count])
 }
 
+/// The same, where `count` is `most` at most: more points are not looked at.
+fn size_of_few(points: &[Point], place: usize, count: usize, most: u64) -> Option<PointSize>
+    requires { place + count ≤ length points.now }
+    ensures { result ≡ size_within most (take count (drop place points.now)) }
+{
+    if count as u64 > most {
+        return None;
+    }
+    Some(size_behind(points, place, count))
+}
+
 /// How many points lie below an interval, and how many in it.
 fn place_inside(points: &[Point], from: i64, to: i64) -> (usize, usize)
     requires { Rises points.now }
@@ -113,6 +124,15 @@ pub fn size_inside(points: &[Point], from: i64, to: i64) -> PointSize
     size_behind(points, start, count)
 }
 
+/// The size of the points from `from` to `to`, where they are `most` at most: more points are not looked at.
+pub fn size_inside_within(points: &[Point], from: i64, to: i64, most: u64) -> Option<PointSize>
+    requires { Rises points.now }
+    ensures { result ≡ size_within most (inside from to points.now) }
+{
+    let (start, count) = place_inside(points, from, to);
+    size_of_few(points, start, count, most)
+}
+
 /// Copies of the points at or past `start`.
 pub fn copy_past(alloc: Global, points: &[Point], start: i64) -> Result<List<Point>, NoMemory>
     requires { Rises points.now }
@@ -129,6 +149,15 @@ pub fn size_past(points: &[Point], start: i64) -> PointSize
 {
     let place = count_below(points, start);
     size_of(&points[place..])
+}
+
+/// The size of the points at or past `start`, where they are `most` at most: more points are not looked at.
+pub fn size_past_within(points: &[Point], start: i64, most: u64) -> Option<PointSize>
+    requires { Rises points.now }
+    ensures { result ≡ size_within most (past start points.now) }
+{
+    let place = count_below(points, start);
+    size_of_few(points, place, points.len() - place, most)
 }
 
 /// Copies of `count` points behind the first `place`.

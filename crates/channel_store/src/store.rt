@@ -7,7 +7,7 @@ ghost use Rattle.channel_store.specs.Refusals.{Refuses, append_refusal, cut_refu
 ghost use Rattle.channel_store.specs.Marks.{marked};
 ghost use Rattle.channel_store.specs.Points.{Rises, first_of, index_from_end, last_of};
 ghost use Rattle.channel_store.specs.Store.{Changes, IsNewPlace, appended, changes_at, id_of, range_of, replaced, tail_of, truncated};
-ghost use Rattle.channel_store.specs.Told.{ending, sized};
+ghost use Rattle.channel_store.specs.Told.{ending, sized, sized_within};
 
 use crate::calls::{append_all, replace_all, test_append, test_replace, truncate_all};
 use crate::change::ChannelChange;
@@ -15,9 +15,10 @@ use crate::checks::{check_cut, track_at};
 use crate::error::ChannelError;
 use crate::points::PointSize;
 use crate::track::Track;
-use crate::tracks::{channel_of, fresh_tracks};
+use crate::tracks::{fresh_tracks, id_in, ids_by_uri};
 use channel_points::ChannelPoints;
 use etp_values::{ChannelPoint, List, NoMemory, Point, StoreUri};
+use indexmap::IndexMap;
 use server_config::Config;
 use std::alloc::Global;
 use std::marker::Model;
@@ -30,6 +31,7 @@ use std::marker::Model;
 pub struct ChannelStore {
     alloc: Global,
     tracks: Vec<Track>,
+    ids: IndexMap<StoreUri, i64>,
 }
 
 impl Model for ChannelStore {
@@ -38,11 +40,12 @@ impl Model for ChannelStore {
 
     ghost Value = { Items Channel };
 
-    ghost use Rattle.channel_store.specs.Sweeps.{shown_of, IsIdle};
+    ghost use Rattle.channel_store.specs.Sweeps.{shown_of};
+    ghost use Rattle.channel_store.specs.Tables.{IsStore};
 
     ghost view = { λ s. shown_of s.tracks.items };
 
-    ghost invariant = { λ s. IsIdle s.tracks.items };
+    ghost invariant = { λ s. IsStore s.ids.entries s.tracks.items };
 }
 
 impl ChannelStore {
@@ -51,15 +54,17 @@ impl ChannelStore {
         ensures channels { IfOk result (λ s. s ≡ map fresh config.now.channels) }
         ensures places { IfOk result (λ s. (place : ℕ) → IsNewPlace place s) }
     {
-        let tracks = fresh_tracks(alloc, config.channels.get().as_slice())?;
-        Ok(ChannelStore { alloc, tracks })
+        let defs = config.channels.get().as_slice();
+        let tracks = fresh_tracks(alloc, defs)?;
+        let ids = ids_by_uri(alloc, defs)?;
+        Ok(ChannelStore { alloc, tracks, ids })
     }
 
-    /// The id of the channel that is this object.
+    /// The id of the channel that is this object. It costs one look into a table, however many channels there are.
     pub fn channel_of(&self, uri: &StoreUri) -> Option<i64>
         ensures { result ≡ id_of uri.now self.now }
     {
-        channel_of(self.tracks.as_slice(), uri)
+        id_in(&self.ids, uri)
     }
 
     /// Adds points behind the last ones of their channels, as the changes of the entry at `place`.
@@ -238,6 +243,26 @@ impl ChannelStore {
         Ok(track.range_size(from, to))
     }
 
+    /// How many points a channel has from `from` to `to`, and what they count, where they are `most` at most. More points cost
+    /// no more than finding the ends of the range.
+    pub fn range_size_within(
+        &self,
+        channel: i64,
+        from: i64,
+        to: i64,
+        most: u64,
+    ) -> Result<Option<PointSize>, ChannelError>
+        ensures { result ≡ sized_within most (range_of self.now channel from to) }
+    {
+        let Some(track) = track_at(self.tracks.as_slice(), channel) else {
+            return Err(ChannelError::NoChannel(channel));
+        };
+        if from > to {
+            return Err(ChannelError::Interval);
+        }
+        Ok(track.range_size_within(from, to, most))
+    }
+
     /// Copies of a channel's points at or past `start`.
     pub fn tail(&self, channel: i64, start: i64) -> Result<List<Point>, ChannelError>
         ensures { Gives ChannelError.NoMemory result (tail_of self.now channel start) }
@@ -256,6 +281,22 @@ impl ChannelStore {
             return Err(ChannelError::NoChannel(channel));
         };
         Ok(track.tail_size(start))
+    }
+
+    /// How many points a channel has at or past `start`, and what they count, where they are `most` at most. More points cost no
+    /// more than finding `start`.
+    pub fn tail_size_within(
+        &self,
+        channel: i64,
+        start: i64,
+        most: u64,
+    ) -> Result<Option<PointSize>, ChannelError>
+        ensures { result ≡ sized_within most (tail_of self.now channel start) }
+    {
+        let Some(track) = track_at(self.tracks.as_slice(), channel) else {
+            return Err(ChannelError::NoChannel(channel));
+        };
+        Ok(track.tail_size_within(start, most))
     }
 
     /// The index of a channel's first point.

@@ -4,7 +4,7 @@ ghost use Rattle.std.specs.Option.{option_copied};
 ghost use Rattle.channel_store.specs.Channels.{fresh, IsKept};
 ghost use Rattle.channel_store.specs.Marks.{marked};
 ghost use Rattle.channel_store.specs.Points.{Rises, first_of, index_from_end, inside, last_of, past};
-ghost use Rattle.channel_store.specs.Told.{size_of, told_by};
+ghost use Rattle.channel_store.specs.Told.{size_of, size_within, told_by};
 ghost use Rattle.channel_store.specs.Rows.{Becomes, IsDue, added, begun, cleared, done, plain, what_by};
 
 use crate::change::ChannelChange;
@@ -13,7 +13,7 @@ use crate::error::ChannelError;
 use crate::places::{change_at, mark_changes, next_place};
 use crate::points::{
     PointSize, apply, copy_inside, copy_past, first_index, index_from_end, last_index, size_inside,
-    size_past,
+    size_inside_within, size_past, size_past_within,
 };
 use channel_points::{Points, Rows};
 use etp_values::{Copied, List, NoMemory, Point, StoreUri};
@@ -102,6 +102,20 @@ impl Track {
         ensures { result ≡ size_of (inside from to self.now.shown.points) }
     {
         size_inside(self.points.as_slice(), from, to)
+    }
+
+    /// How many points lie from `from` to `to`, and what they count, where they are `most` at most.
+    pub fn range_size_within(&self, from: i64, to: i64, most: u64) -> Option<PointSize>
+        ensures { result ≡ size_within most (inside from to self.now.shown.points) }
+    {
+        size_inside_within(self.points.as_slice(), from, to, most)
+    }
+
+    /// How many points lie at or past `start`, and what they count, where they are `most` at most.
+    pub fn tail_size_within(&self, start: i64, most: u64) -> Option<PointSize>
+        ensures { result ≡ size_within most (past start self.now.shown.points) }
+    {
+        size_past_within(self.points.as_slice(), start, most)
     }
 
     /// How many points lie at or past `start`, and what they count.

@@ -1,11 +1,12 @@
 use Rattle.std.proofs.Common.{◌≡◌, sym, ap, subst, ◌∙◌, w64, to_z, of_z}
 use Rattle.std.proofs.lemmas.Int.{to_z-of_z}
 use Rattle.channel_store.specs.Refusals.{Refuses, replace_refusal}
-use Rattle.channel_store.specs.Sweeps.{IsIdle, shown_of}
+use Rattle.channel_store.specs.Sweeps.{shown_of}
+use Rattle.channel_store.specs.Tables.{IsStore}
 use Rattle.channel_store.proofs.store.ChannelStore.test_replace.Goals as goal
 
 pub invariant_of-self : goal.invariant_of-self
-invariant_of-self c = subst IsIdle (sym c.test_replace.ensures.same) c.self.invariant
+invariant_of-self c = subst (IsStore c.self.inside.ids.entries) (sym c.test_replace.ensures.same) c.self.invariant
 
 pub returns-clause-answer : goal.returns-clause-answer
 returns-clause-answer c =

@@ -1,0 +1,19 @@
+use Rattle.std.proofs.Common.{ap, ◌∙◌, ◌≡◌}
+use mir.Syntax.{w64}
+use mir.Val.{to_z, of_z}
+use Rattle.std.proofs.lemmas.Int.{to_z-of_z}
+use Rattle.channel_store.specs.Points.{inside}
+use Rattle.channel_store.specs.Told.{size_within}
+use Rattle.channel_store.proofs.PointLemmas.{copied-is, ends-within}
+use Rattle.channel_store.proofs.points.size_inside_within.Goals as goal
+
+pub size_of_few-requires : goal.size_of_few-requires
+size_of_few-requires c = ends-within _ _ c.args.points.now c.place_inside-start.result.0 c.place_inside-start.result.1 c.place_inside-start.ensures.below c.place_inside-start.ensures.inside
+
+pub returns : goal.returns
+returns c =
+    let xs = c.args.points.now in
+    let from : to_z w64 (of_z w64 c.args.from) ≡ c.args.from = to_z-of_z w64 c.args.from c.ranges.from in
+    let to : to_z w64 (of_z w64 c.args.to) ≡ c.args.to = to_z-of_z w64 c.args.to c.ranges.to in
+    let is = copied-is (to_z w64 (of_z w64 c.args.from)) (to_z w64 (of_z w64 c.args.to)) xs c.place_inside-start.result.0 c.place_inside-start.result.1 c.place_inside-start.ensures.below c.place_inside-start.ensures.inside in
+    c.size_of_few.ensures ∙ ap (size_within c.args.most) (is ∙ (λ j. inside (from j) (to j) xs))
