@@ -13,6 +13,9 @@ import asyncio
 import sys
 import time
 import uuid
+from pathlib import Path
+
+sys.path.insert(0, str(Path(__file__).resolve().parent.parent / "outside"))
 
 import web_socket
 import wire
