@@ -44,7 +44,7 @@ fn free_bit<H>(children: &VecDeque<Child<H>>) -> u64 {
     free & free.wrapping_neg()
 }
 
-/// The same, of which the endings say nothing: a session that no thread could be started for has left its bit there.
+/// The same, cleared among the endings: a session for which no thread could be started has left its bit there.
 fn claim_bit<H>(children: &VecDeque<Child<H>>, endings: &Endings) -> u64 {
     let bit = free_bit(children);
     endings.forget(bit);

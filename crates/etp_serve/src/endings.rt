@@ -3,7 +3,7 @@ use std::sync::Wait;
 use std::sync::atomic::{AtomicU64, Ordering};
 use std::thread::Parker;
 
-/// The threads that have ended and were not asked for yet, by a bit for each. The accepting thread waits for a further one here.
+/// The threads that have ended since the accepting thread last asked, by a bit for each. It waits for a further one here.
 #[derive(Drop)]
 pub(crate) struct Endings {
     bits: AtomicU64,
@@ -30,7 +30,7 @@ impl Endings {
         self.bits.swap(0, Ordering::SeqCst)
     }
 
-    /// Gives a bit to a further thread, which has not ended.
+    /// Clears a bit, which a further thread gets.
     pub(crate) fn forget(&self, bit: u64) {
         self.bits.fetch_and(!bit, Ordering::SeqCst);
     }
