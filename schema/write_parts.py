@@ -303,33 +303,67 @@ def each_lemma(protocol, written):
             f"(x : {protocol.enum}) → AllByRecursion P ({protocol.snake}_parts limit x)\n" + "\n".join(lines))
 
 
+def ends_word(protocol, alias):
+    return "result" if parts_word(protocol) == "result" else alias[:-1]
+
+
+def rises_word(protocol):
+    """The name of what is asked of a message's names: SubscribeRises, LoadRises, CoreRises, .."""
+    return protocol.name.removeprefix("Channel").removeprefix("Data") + "Rises" if protocol.name.startswith("Channel") else protocol.name + "Rises"
+
+
 def ends_lemma(protocol, written):
     """That a client has the whole after the last of its parts, or refuses each alike."""
-    alias, word, five = written.alias(f"{protocol.enum}.TheVariants"), parts_word(protocol), "refl, refl, refl, refl, refl"
-    name = "result_ends" if word == "result" else f"{alias[:-1]}_ends"
-    rising = f"{protocol.name.removeprefix('Channel').removeprefix('Data') if protocol.name.startswith('Channel') else protocol.name}Rises"
-    has_rise = any(each.joined for each in protocol.growing)
-    rise = " rise" if has_rise else ""
+    alias, five = written.alias(f"{protocol.enum}.TheVariants"), "refl, refl, refl, refl, refl"
+    name, rise = ends_word(protocol, alias) + "_ends", " rise" if joined_of(protocol) else ""
+    last = {"names_end": " rise", "items_end": "", "unread_end": f" (λ a h t. refl)\n    (λ a. ({five}, refl, refl, refl, refl))"}
 
     def line(each):
         ends = "unread_end" if not each.joined else "names_end" if is_map(each) else "items_end"
         wrap = f"(λ g. message.{protocol.name} ({with_field(alias, each, 'g')}))"
-        last = {"names_end": " rise", "items_end": "", "unread_end": f" (λ a h t. refl)\n    (λ a. ({five}, refl, refl, refl, refl))"}[ends]
         flag = "true" if each.of_every_protocol else "false"
         return (f"{name} limit ({alias}{each.name} x){rise} =\n    {ends} {flag} {wrap} (λ g. ({five})) {grown(each)[1]} limit "
-                f"x.{each.grows.rust} (λ a b. refl){last}")
+                f"x.{each.grows.rust} (λ a b. refl){last[ends]}")
 
     cases = one_each(written, name, cut(protocol), line, f"{name} limit x{rise} = alone (message.{protocol.name} x)")
-    given = f" → {rising} x" if has_rise else ""
-    return (f"{name} : (limit : ℕ) (x : {protocol.enum}){given} → Parted ({word}_parts limit x) (message.{protocol.name} x)\n{cases}")
+    given = f" → {rises_word(protocol)} x" if rise else ""
+    return (f"{name} : (limit : ℕ) (x : {protocol.enum}){given} → Parted ({parts_word(protocol)}_parts limit x) "
+            f"(message.{protocol.name} x)\n{cases}")
+
+
+def shape_lemma(protocol, written):
+    """That a message is its one part, or its parts are like it."""
+    alias = written.alias(f"{protocol.enum}.TheVariants")
+    name = ends_word(protocol, alias) + "_shape"
+
+    def line(each):
+        wrap = f"(λ g. message.{protocol.name} ({with_field(alias, each, 'g')}))"
+        return (f"{name} limit ({alias}{each.name} x) = in_groups {wrap} {grown(each)[1]} limit x.{each.grows.rust} "
+                "(λ g. (refl, refl, refl, refl))")
+
+    cases = one_each(written, name, cut(protocol), line, f"{name} limit x = inl refl")
+    return (f"{name} : (limit : ℕ) (x : {protocol.enum}) → Shape (message.{protocol.name} x) ({parts_word(protocol)}_parts limit x)\n{cases}")
+
+
+def rises(protocol, written):
+    """What is asked of the names of a message that a client puts together by names."""
+    alias, name = written.alias(f"{protocol.enum}.TheVariants"), rises_word(protocol)
+    messages = [each for each in joined_of(protocol) if is_map(each)]
+    cases = one_each(written, name, messages, lambda each: f"{name} ({alias}{each.name} x) = Rise x.{each.grows.rust}", f"{name} _ = Unit {{0}}")
+    return f"abbrev pub {name} : {protocol.enum} → Type 0\n{cases}"
 
 
 def write_part_lemmas(schema, file):
-    session, client = file("session_core/proofs/MessagePartLemmas.antt"), file("client_laws/proofs/PartsLemmas.antt")
+    session = file("session_core/proofs/MessagePartLemmas.antt")
     for protocol in schema.protocols.values():
         if not protocol.growing:
             continue
         if parts_word(protocol) != "result" and protocol.name != "ChannelSubscribe":
             session.put([(None, each_lemma(protocol, session))])
-        import_items(schema, client, protocol)
-        client.put([(None, ends_lemma(protocol, client))])
+        for name, paragraph in ("PartsLemmas", ends_lemma), ("RefusedLemmas", shape_lemma):
+            written = file(f"client_laws/proofs/{name}.antt")
+            import_items(schema, written, protocol)
+            written.put([(None, paragraph(protocol, written))])
+        if joined_of(protocol):
+            written = file("client_laws/specs/Parts.antt")
+            written.put([(None, rises(protocol, written))])
