@@ -1,5 +1,6 @@
 """The sessions of docs/samples: what their clients send, message by message. What is answered is left to the server from outside,
 outside/transactions.py."""
+import struct
 import uuid
 
 import row_samples
@@ -26,8 +27,9 @@ class Sample:
         self.server = transactions.Server(CHANNELS, 65_536, journal or 4_194_304, TYPES)
 
     def client(self, tag=0, **opening):
+        """The client of a tag, which opens its session, but for one with `open=False`."""
         client = Client(self, tag)
-        if opening is not None and opening.pop("open", True):
+        if opening.pop("open", True):
             client.open(**opening)
         return client
 
@@ -135,7 +137,6 @@ def uid(uri, path="depth"):
 
 def doubles(*values):
     """Elements of 64 bits, of which the reader from outside takes the bits."""
-    import struct
     return dict(item=(4, dict(values=[struct.unpack("<Q", struct.pack("<d", each))[0] for each in values])))
 
 
@@ -291,41 +292,37 @@ def full_journal():
 SAMPLES = [first_session, notices, parts, chunks, transactions_of_two, arrays, full_journal]
 
 
-# ---- Refusals: the code, why, and the message that earns it. Each is sent in the order of this list, in one of five sessions.
+# ---- Refusals: the code, why, and the message that earns it, in the order in which they are sent.
 
 
 class Refusals:
-    """The sessions of refusals.cap: `rig` has all protocols, `spare` Dataspace alone, and the others are refused at once."""
+    """The sessions of refusals.cap, over one store. `found` has for each refusal its code, why, and the place of its exchange."""
 
     def __init__(self):
         self.sample = Sample("refusals")
         self.found, self.tag = [], 0
-        self.rig = None
 
     def earn(self, code, why, answers):
         """Notes that the last message was refused with this code, as the server from outside says."""
-        bodies = [wire.read_message(each.data, "S")[2] for each in answers if each.kind == 17 and b"" != each.data]
+        bodies = [wire.read_message(each.data, "S")[2] for each in answers if each.kind == 17]
         infos = [info for body in bodies if "errors" in body for info in [body["error"][1], *body["errors"].values()] if info]
         if [info["code"] for info in infos] != [code] * len(infos) or not infos:
             raise AssertionError(f"{why}: {infos} is not {code}")
         self.found.append((code, why, len(self.sample.exchanges) - 1))
 
     def new_client(self, **opening):
-        client = Client(self.sample, self.tag)
         self.tag += 1
-        if opening.pop("open", True):
-            client.open(**opening)
-        return client
+        return self.sample.client(self.tag - 1, **opening)
 
 
 def refusals():
     earned = Refusals()
     earn, new = earned.earn, earned.new_client
     openings(earn, new)
-    rig = new()
+    rig, small, other = new(), new(limit=65_536), new(formats=("json",))
     messages(earn, rig)
-    spaces_and_objects(earn, rig)
-    data_arrays(earn, rig)
+    spaces_and_objects(earn, rig, other)
+    data_arrays(earn, rig, small)
     in_transactions(earn, new())
     channels(earn, rig)
     return earned
@@ -352,7 +349,7 @@ def messages(earn, rig):
     earn(19, "bytes after the body", rig.ping(after=b"\0"))
 
 
-def spaces_and_objects(earn, rig):
+def spaces_and_objects(earn, rig, other):
     def spaced(**uris):
         return rig.say("PutDataspaces", spaces(**uris))
 
@@ -374,10 +371,17 @@ def spaces_and_objects(earn, rig):
     earn(11, "a dataspace that does not exist", rig.say("PutDataObjects", put(w=data_object(well(1, "none")))))
     earn(5, "a chunk that no put awaits", rig.say("Chunk", dict(blobId=bytes(16), data=b"x", final=True)))
     earn(11, "no such object", rig.say("DeleteDataObjects", dict(uris=dict(w=well(9)), pruneContainedObjects=False)))
+    earn(5, "pruning of contained objects", rig.say("DeleteDataObjects", dict(uris=dict(w=well(9)), pruneContainedObjects=True)))
+    rig.say("PutDataObjects", put(w=data_object(well(1), b"", blob=bytes(16))))
+    earn(5, "a put while another awaits chunks", rig.say("PutDataObjects", put(w=data_object(well(1)))))
+    rig.say("PutDataObjects", put(w=data_object(well(1), b"", blob=bytes(16))))
+    earn(5, "a chunk of another blob than the put awaits", rig.say("Chunk", dict(blobId=b"\1" * 16, data=b"x", final=True), correlation=rig.id))
+    other.say("PutDataObjects", put(w=data_object(well(2), b"{}", form="json")))
+    earn(21, "an object that is in another format than is asked for", rig.say("GetDataObjects", get("xml", w=well(2))))
     rig.say("PutDataObjects", put(w=data_object(well(1))))
 
 
-def data_arrays(earn, rig):
+def data_arrays(earn, rig, small):
     def asked(name, field, **items):
         return rig.say(name, {field: items})
 
@@ -388,6 +392,12 @@ def data_arrays(earn, rig):
     earn(11, "no such object", asked("PutDataArrays", "dataArrays", a=array(well(9), [1], doubles(1))))
     earn(17, "too many elements", asked("PutUninitializedDataArrays", "dataArrays", a=blank(well(1), [5_000_000])))
     earn(5, "preferred dimensions that are not as many as the dimensions", asked("PutUninitializedDataArrays", "dataArrays", a=blank(well(1), [2], [1, 1])))
+    earn(5, "no dimensions", asked("PutUninitializedDataArrays", "dataArrays", a=blank(well(1), [])))
+    large = array(well(1), [1], doubles(1))
+    earn(17, "custom data of more than 16,384 bytes", asked("PutDataArrays", "dataArrays", a=dict(large, customData=custom(16_384))))
+    asked("PutUninitializedDataArrays", "dataArrays", a=blank(well(1), [10_000]))
+    earn(17, "an array that is too large for a message to this client, which takes 65,536 bytes", small.say(
+        "GetDataArrays", dict(dataArrays=dict(a=uid(well(1))))))
     asked("PutDataArrays", "dataArrays", a=array(well(1), [2, 2], doubles(1, 2, 3, 4)))
     earn(5, "a region that does not lie in the array", asked("GetDataSubarrays", "dataSubarrays", a=region(well(1), [1, 1], [2, 1])))
     earn(5, "elements of another kind than the array's", asked(
@@ -427,14 +437,20 @@ def channels(earn, rig):
     earn(5, "a value of another kind than the channel's", load(point(1, 7)))
     load(point(2_000_000))
     earn(31, "an index that does not rise", load(point(2_000_000)))
+    earn(5, "an index out of range", load(point(-(1 << 63))))
     earn(5, "a replacement that names no channel", rig.say("ReplaceRange", replace(1, 2, [])))
     earn(11, "a channel that is not open", rig.say("ReplaceRange", replace(1, 2, [9])))
     earn(20, "an end that is no long", rig.say("ReplaceRange", replace(NO_LONG, 2, [0])))
+    earn(5, "a channel that is named twice", rig.say("ReplaceRange", replace(1, 2, [0, 0])))
+    earn(5, "an interval that ends before it begins", rig.say("ReplaceRange", replace(2, 1, [0])))
+    earn(5, "an item of a channel that is not named", rig.say("ReplaceRange", replace(1, 2, [0], point(1, "x", 1))))
     earn(5, "an item outside the interval", rig.say("ReplaceRange", replace(1, 2, [0], point(3))))
     earn(31, "items whose indexes do not rise", rig.say("ReplaceRange", replace(1, 9, [0], point(3), point(3))))
     earn(11, "a channel that is not open", rig.say("TruncateChannels", truncate(9, 1)))
     earn(20, "an end that is no long", rig.say("TruncateChannels", truncate(0, NO_LONG)))
     earn(5, "an end out of range", rig.say("TruncateChannels", truncate(0, -(1 << 63))))
+    twice = {key: dict(channelId=0, newEndIndex=index(3_000_000)) for key in "ab"}
+    earn(5, "a channel that an earlier key names", asked("TruncateChannels", "channels", **twice))
     subscriptions(earn, rig, asked)
 
 
@@ -451,4 +467,6 @@ def subscriptions(earn, rig, asked):
     earn(5, "a start out of range", asked("SubscribeChannels", "channels", s=subscription(0, -(1 << 63))))
     asked("SubscribeChannels", "channels", s=subscription(0))
     earn(8, "a channel that is subscribed already", asked("SubscribeChannels", "channels", s=subscription(0)))
-    earn(11, "a channel that is not subscribed", asked("UnsubscribeChannels", "channelIds", s=1))
+    both = {key: subscription(1) for key in "ab"}
+    earn(8, "a channel that an earlier key names", asked("SubscribeChannels", "channels", **both))
+    earn(11, "a channel that is not subscribed", asked("UnsubscribeChannels", "channelIds", s=9))

@@ -52,6 +52,10 @@ def samples():
         found[made.name] = Sample(made.name, made.capture, made.answers, config, made.config)
     for name, (config_name, config), capture, answers in short_sessions.cases():
         found[name] = Sample(name, capture, answers, config_name, config)
+    shipped = TOP / "crates/etptool/data"
+    found["put_and_list"] = Sample(
+        "put_and_list", *((shipped / name).read_bytes() for name in ("session.cap", "answers.cap")), "two_channels",
+        (shipped / "server.toml").read_text())
     return found, refusals.found
 
 
@@ -232,7 +236,7 @@ SHOWS = {
     "arrays": "an array that is put, patched and read", "full_journal": "a journal that is full: 12, and a session that ends at once",
     "refusals": "every refusal, above", "journal_of_three": "a full journal", "loads_in_order": "two channels that are loaded",
     "one_put": "an object", "regions_of_an_array": "regions of an array", "replaced_ranges": "replacements",
-    "three_commits": "three transactions",
+    "three_commits": "three transactions", "put_and_list": "a dataspace that is put and listed",
 }
 WORDS = {"messages": say_messages, "lines": say_lines, "bytes": say_bytes, "refusals": say_refusals, "samples": say_samples}
 
@@ -249,6 +253,8 @@ def files():
     found, earned = samples()
     yield TOP / "docs/WIRE.md", wire_document(found, earned).encode()
     for sample in found.values():
+        if any(other.config != sample.config for other in found.values() if other.config_name == sample.config_name):
+            raise ValueError(f"two configurations {sample.config_name}.toml")
         yield FOLDER / f"{sample.name}.cap", sample.capture
         yield FOLDER / f"{sample.name}.answers.cap", sample.answers
         yield FOLDER / f"{sample.config_name}.toml", sample.config.encode()
