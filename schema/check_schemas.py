@@ -1,5 +1,5 @@
 #!/usr/bin/env python3
-"""Compares docs/schemas with what has the schema besides.
+"""Compares docs/schemas with the other places that have the schema.
 
     schema/check_schemas.py
 
@@ -111,7 +111,7 @@ def plain_of(schema, known):
 
 
 def product_table():
-    """What stands at each place of the product's table, with the names of fields, and the name of the message there."""
+    """The type at each place of the product's table, with the names of fields, and the name of the message there."""
     places = {name: int(place) for name, place in re.findall(r"pub const (\w+): u32 = (\d+);", read_source("etp_schema/src/places.rt"))}
     table = read_source("etp_schema/src/table.rt").split("nodes: &[", 1)[1]
     nodes = re.findall(r"Node::(\w+)(?:\((?:&\[)?([^\])]*)\]?\))?,", table)
@@ -235,7 +235,7 @@ def compare_samples(differences):
         read_body = avro.io.DatumReader(parse(files[key][1])).read(decoder)
         differences.compare(f"the header of a {body.name}", read_header, header)
         differences.compare(f"a {body.name}", bits(read_body), bits(outside_value(body, value)))
-        differences.compare(f"what is left behind a {body.name}", source.read(), b"")
+        differences.compare(f"the bytes after a {body.name}", source.read(), b"")
         seen.add(key)
         count += 1
     missing = {name for (_, _, letter), (name, _) in files.items() if letter in "CS"} - {files[key][0] for key in seen}

@@ -216,7 +216,7 @@ def first_session():
 
 
 def notices():
-    """A rig loads, and an office is told at its polls."""
+    """A rig loads, and an office gets notices at its polls."""
     sample = Sample("notices")
     rig, office = sample.client(0), sample.client(1)
     rig.say("OpenChannels", dict(uris=dict(c=URI[0])))

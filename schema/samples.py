@@ -7,7 +7,7 @@
     schema/samples.py --check ETPTOOL    also plays each sample by this etptool, whose answers and shown lines must be the same
 
 What is answered is said by the server from outside, outside/transactions.py, which shares nothing with the product. The prose of
-docs/WIRE.md is schema/by_hand/WIRE.md; a line {{word ..}} there stands for what this script puts in its place.
+docs/WIRE.md is schema/by_hand/WIRE.md, with text of this script in the place of each line {{word ..}}.
 """
 import ast
 import pathlib
@@ -189,14 +189,14 @@ def say_bytes(found, earned, name, number):
 
 
 def say_refusals(found, earned):
-    """Each code with a message that earns it, and all that earn it besides."""
+    """Each code with a message that is refused with it, and a table of all of them."""
     exchanges, texts = list(found["refusals"].exchanges), []
     for code in sorted({code for code, _, _ in earned}):
         rows = [(why, *exchanges[at]) for own, why, at in earned if own == code]
         why, frame, answers = min(rows, key=lambda row: len(row[1].data))
         lines = [message_block(frame), *(message_block(each) for each in answers)]
         text = f"### {code}: `{sample_sessions.row_samples.TEXTS[code]}`\n\nHere: {why}.\n\n{block(lines)}\n\n"
-        text += "| sent | refused is | session, id | why |\n|---|---|---|---|\n"
+        text += "| sent | refused | session, id | why |\n|---|---|---|---|\n"
         for why, frame, answers in rows:
             text += f"| {name_of(frame)} | {whole_or_key(answers)} | {frame.tag}, {id_of(frame)} | {why} |\n"
         texts.append(text.rstrip())
@@ -231,10 +231,10 @@ def say_samples(found, earned):
 
 
 SHOWS = {
-    "first_session": "the first messages, above", "notices": "a subscription, and what it is told", "parts": "an answer in parts",
+    "first_session": "the first messages", "notices": "a subscription and its notices", "parts": "an answer in parts",
     "chunks": "an object's data in chunks, both ways", "transactions_of_two": "two transactions of which the later one conflicts",
     "arrays": "an array that is put, patched and read", "full_journal": "a journal that is full: 12, and a session that ends at once",
-    "refusals": "every refusal, above", "journal_of_three": "a full journal", "loads_in_order": "two channels that are loaded",
+    "refusals": "refusals", "journal_of_three": "a full journal", "loads_in_order": "two channels that are loaded",
     "one_put": "an object", "regions_of_an_array": "regions of an array", "replaced_ranges": "replacements",
     "three_commits": "three transactions", "put_and_list": "a dataspace that is put and listed",
 }

@@ -172,7 +172,7 @@ class Schema:
 
     def begin(self, what, words):
         if what.name in self.named:
-            raise SchemaError(f"{what.name} stands twice")
+            raise SchemaError(f"{what.name} is defined twice")
         self.named[what.name] = what
         self.block, self.lines = what, []
 
@@ -224,7 +224,7 @@ class Schema:
         if text in LEAVES:
             return Type("leaf", text)
         if text not in self.named:
-            raise SchemaError(f"no type {text} stands before")
+            raise SchemaError(f"no type {text} is defined above")
         return Type("named", text)
 
     def check(self, path):

@@ -5,7 +5,7 @@
 
 - What is said to be written is written: each such paragraph and file is spoiled, and after schema/write all files are as they were.
 - A new message comes into each file that goes over messages, and a second run of schema/write changes nothing.
-- A message that is taken out is told where something of it is left.
+- What is left of a removed message is reported.
 """
 import importlib.machinery
 import importlib.util
@@ -96,7 +96,7 @@ class WritingTest(unittest.TestCase):
 
     def test_lines_that_cannot_be_read_are_refused(self):
         for line, why in [
-            ("message Core 7 Late client\n", "not in the order"), ("record Twice\n    x int\nrecord Twice\n    x int\n", "stands twice"),
+            ("message Core 7 Late client\n", "not in the order"), ("record Twice\n    x int\nrecord Twice\n    x int\n", "is defined twice"),
             ("record New\n    x Unknown\n", "no type Unknown"), ("message Core 2000 Odd somebody\n", "client, server or both"),
             ("message Core 2000 Odd client grows x\n    x int\n", "could grow"), ("word\n", "no such kind of line"),
         ]:

@@ -63,8 +63,8 @@ class TextFile:
         return sorted(whats, key=lambda what: order[what.name])
 
     def put(self, paragraphs):
-        """Puts (comment, code) pairs in their places; a new one comes after the one before it. A comment of None is that which
-        stands, and one that begins with a question mark is taken where there is none."""
+        """Puts (comment, code) pairs in their places; a new one comes after the one before it. With None the
+        existing comment stays, and a comment that begins with a question mark is used where there is none."""
         self.must_stand()
         last = None
         for comment, code in paragraphs:

@@ -33,7 +33,7 @@ def cut(protocol):
 
 
 def parts_word(protocol):
-    """Under which name the parts of these messages stand: Store's are those of its results."""
+    """The name under which the parts of these messages are defined: Store has those of its results apart."""
     return "result" if any(each.chunks for each in protocol.growing) else protocol.snake
 
 
@@ -132,7 +132,7 @@ def write_part_functions(schema, protocol, file):
 
 
 def one_each(written, name, messages, line, end):
-    """The cases of a definition by messages, in the order in which they stand."""
+    """The cases of a definition by messages, in their existing order."""
     return "\n".join([*(line(each) for each in written.in_order(name, messages)), end])
 
 
