@@ -1,0 +1,376 @@
+"""One session with a server: message ids, replies by their correlations, parts and chunks, notices, and time limits.
+
+A task reads all the time, so the server's pings are answered whatever the caller does. It hands replies to who asked, and notices
+and refusals of loads to who follows them. What breaks the rules ends the session by a named error, which every open request gets.
+"""
+from __future__ import annotations
+
+import asyncio
+import itertools
+import time
+import uuid
+from typing import Any, Callable, Iterable, Optional
+
+from . import codec, schema
+from .channel_data import read_items
+from .codec import FINAL, NUMBERS, Header
+from .errors import EtpError, LinkLost, PeerError, Refused, TimeLimit, WireError, refusal
+from .websocket import WebSocket
+
+PROTOCOLS = (4, 9, 18, 21, 22, 24)
+# What a client sends may not be longer, nor what a server sends by our leave.
+MESSAGE_LIMIT = 16_777_216
+# The most bytes of a reply in all its parts, and of the data of objects that come in chunks.
+REPLY_LIMIT, BLOBS_LIMIT = 1 << 30, 67_108_864
+# A time limit is put off by a second for each so many bytes that go or come: a slow line is waited for, one that drips is not.
+LEAST_RATE = 16_384
+# Seconds of silence after which a ping is sent, and after which the server is given up.
+PING_AFTER, GIVE_UP_AFTER = 30.0, 90.0
+POINTS_ALONE = ("ChannelData", "GetRangesResponse")
+
+
+def now() -> int:
+    """The moment, in microseconds since 1970-01-01 UTC."""
+    return time.time_ns() // 1000
+
+
+class Reply:
+    """What answers a request: the response's body with the items of all its parts, None where there is none; and the refusals."""
+
+    def __init__(self) -> None:
+        self.value: Optional[dict] = None
+        self.refused: dict[str, Refused] = {}
+        self.error: Optional[Refused] = None
+        self.blobs: dict[bytes, bytearray] = {}
+        self.unfinished: set[bytes] = set()
+        self.size = 0
+
+    def add_part(self, name: str, value: dict) -> None:
+        field = schema.GROWING.get(name)
+        if self.value is None:
+            self.value = value
+        elif field is None:
+            raise PeerError(f"a second {name} in a reply")
+        elif isinstance(self.value[field], dict):
+            if any(key in self.value[field] for key in value[field]):
+                raise PeerError(f"a key that comes twice in the parts of a {name}")
+            self.value[field].update(value[field])
+        else:
+            self.value[field].extend(value[field])
+
+    def add_exception(self, value: dict) -> None:
+        if value["error"] is not None:
+            self.error = refusal(value["error"]["code"], value["error"]["message"])
+        for key, info in value["errors"].items():
+            self.refused[key] = refusal(info["code"], info["message"], key)
+
+    def await_blobs(self, objects: Iterable[dict]) -> None:
+        for each in objects:
+            if each["blobId"] is not None:
+                if each["blobId"] in self.blobs or each["data"]:
+                    raise PeerError("an object whose data come twice")
+                self.blobs[each["blobId"]] = bytearray()
+                self.unfinished.add(each["blobId"])
+
+    def add_chunk(self, value: dict) -> None:
+        blob = value["blobId"]
+        if blob not in self.unfinished:
+            raise PeerError("a chunk that none awaits")
+        if sum(map(len, self.blobs.values())) + len(value["data"]) > BLOBS_LIMIT:
+            raise PeerError(f"more than {BLOBS_LIMIT} bytes in the chunks of one reply", 1009)
+        self.blobs[blob] += value["data"]
+        if value["final"]:
+            self.unfinished.remove(blob)
+
+    def fill_blobs(self) -> None:
+        """Puts the data that came in chunks into the objects."""
+        if self.unfinished:
+            raise PeerError("a reply that ends before its chunks")
+        for each in (self.value or {}).get("dataObjects", {}).values() if self.blobs else ():
+            if each["blobId"] is not None:
+                each["data"], each["blobId"] = bytes(self.blobs[each["blobId"]]), None
+
+
+class Session:
+    """An open session. Its calls belong to the loop that it was made on."""
+
+    def __init__(self, link: WebSocket, timeout: float):
+        self.link, self.timeout = link, timeout
+        self.sent_id = self.heard_id = self.sent_bytes = 0
+        self.asks: dict[int, tuple[Reply, asyncio.Future]] = {}
+        self.abandoned: set[int] = set()
+        self.between: Any = None
+        self.notice: dict[str, Any] = {}
+        self.lost: Optional[EtpError] = None
+        self.opened: dict = {}
+        self.channels: dict[str, dict] = {}
+        self.put_turn = asyncio.Lock()
+        self.load_refused: dict[int, Callable[[Refused], None]] = {}
+        self.followers: dict[int, Callable[[str, Any], None]] = {}
+        self.on_lost: list[Callable[[EtpError], None]] = []
+        self.task = asyncio.create_task(self._read_all())
+        self.beat = asyncio.create_task(self._keep_alive())
+
+    # -- sending
+
+    def post(self, name: str, body: bytes, flags: int = FINAL, correlation: int = 0) -> int:
+        """Hands a message to the link and returns its id. Nothing is waited for."""
+        if self.lost is not None:
+            raise self.lost
+        protocol, kind = NUMBERS[name]
+        message = codec.write_header(Header(protocol, kind, correlation, self.sent_id + 2, flags)) + body
+        if len(message) > MESSAGE_LIMIT:
+            raise refusal(17, f"a {name} of {len(message)} bytes, more than {MESSAGE_LIMIT}")
+        self.link.post(message)
+        self.sent_id += 2
+        self.sent_bytes = len(message)
+        return self.sent_id
+
+    def _expect(self, number: int) -> tuple[Reply, asyncio.Future]:
+        row = Reply(), asyncio.get_running_loop().create_future()
+        self.asks[number] = row
+        return row
+
+    async def ask(self, name: str, fields: dict[str, Any], seen: Optional[Callable[[int], None]] = None) -> Reply:
+        """Sends a request and waits for its whole reply. A refusal of the whole request is raised as `Refused`, the end of the link as
+        `LinkLost`, and silence as `TimeLimit`. `seen` is told of the bytes that came, as they come."""
+        row = codec.body_value(name, fields)
+        body = bytearray()
+        codec.BODIES[NUMBERS[name]].write(body, row)
+        number = self.post(name, bytes(body))
+        return await self.finish([number], name, seen)
+
+    async def finish(
+        self, numbers: list[int], name: str, seen: Optional[Callable[[int], None]] = None, timeout: Optional[float] = None,
+    ) -> Reply:
+        """Waits for the reply to the message with the first of these ids, which one to any of the others stands for too."""
+        limit = (self.timeout if timeout is None else timeout) + self.sent_bytes / LEAST_RATE
+        reply, future = self._expect(numbers[0])
+        for number in numbers[1:]:
+            self.asks[number] = reply, future
+        try:
+            await self.link.drain()
+            await self._wait(future, name, limit, seen)
+        finally:
+            for number in numbers:
+                if self.asks.pop(number, None) and not future.done():
+                    self.abandoned.add(number)
+        if reply.error is not None:
+            raise reply.error
+        return reply
+
+    async def _wait(self, future: asyncio.Future, name: str, limit: float, seen: Optional[Callable[[int], None]]) -> None:
+        clock, reader = asyncio.get_running_loop().time, self.link.reader
+        begun, before = clock(), reader.total
+        while True:
+            came = reader.total - before
+            left = begun + limit + came / LEAST_RATE - clock()
+            if left <= 0:
+                raise TimeLimit(f"no whole reply to {name} within {clock() - begun:.1f} s, in which {came} bytes came")
+            await asyncio.wait({future}, timeout=min(left, 0.1) if seen else left)
+            if seen:
+                seen(reader.total - before)
+            if future.done():
+                return future.result()
+
+    async def ping(self) -> None:
+        """Returns when the server has taken all that was sent before."""
+        await self.ask("Ping", {"currentDateTime": now()})
+
+    def post_ping(self) -> tuple[int, asyncio.Future]:
+        """Sends a Ping whose Pong ends the future, without waiting."""
+        body = bytearray()
+        codec.put_number(body, now())
+        number = self.post("Ping", bytes(body))
+        return number, self._expect(number)[1]
+
+    # -- reading
+
+    async def _read_all(self) -> None:
+        try:
+            while True:
+                self.take(await self.link.recv())
+        except EtpError as error:
+            self.fail(error)
+        except asyncio.CancelledError:
+            self.fail(LinkLost("the session was closed", 1000))
+            raise
+        except Exception as error:
+            self.fail(PeerError(f"a message that can't be taken: {error!r}"))
+
+    def fail(self, error: EtpError) -> None:
+        """Ends the session: every open request gets the error."""
+        if self.lost is not None:
+            return
+        self.lost = error if isinstance(error, LinkLost) else LinkLost(str(error), 1002)
+        self.lost.__cause__ = error if self.lost is not error else None
+        self.link.start_close(1000 if isinstance(error, LinkLost) and error.code == 1000 else 1002)
+        self.link.writer.close()
+        self.beat.cancel()
+        for _, future in self.asks.values():
+            if not future.done():
+                future.set_exception(error)
+                future.exception()
+        for tell in self.on_lost:
+            tell(self.lost)
+
+    def take(self, data: bytes) -> None:
+        """Takes one message of the server's."""
+        header, body, at = codec.read_header(data)
+        if header.id <= self.heard_id:
+            raise PeerError(f"a message id that doesn't rise: {header.id} after {self.heard_id}")
+        self.heard_id = header.id
+        value = self._body(data, body, at)
+        if body.name == "Acknowledge":
+            return
+        if body.name == "CloseSession":
+            raise LinkLost(f"the server closed the session: {value['reason']}", 1000)
+        if body.name == "Ping":
+            self.post("Pong", codec.encoded("long", now()), FINAL, header.id)
+            return
+        place = header.correlation, body.name if header.correlation == 0 else ""
+        if self.between is not None and self.between != place:
+            raise PeerError(f"a {body.name} between the parts of another message")
+        self.between = None if header.flags & FINAL else place
+        if header.correlation == 0:
+            self._take_notice(header, body.name, value)
+        else:
+            self._take_reply(header, body.name, value, len(data))
+
+    @staticmethod
+    def _body(data: bytes, body: codec.Body, at: int) -> dict:
+        """The body; points come as columns."""
+        if body.name in POINTS_ALONE:
+            columns, end = read_items(data, at)
+            if end < len(data):
+                raise WireError("rest", end, "message")
+            return {"data": columns}
+        if body.name != "RangeReplaced":
+            return codec.read_body(data, body, at)
+        cursor = codec.Cursor(data, at)
+        value = {name: codec.coder(part)[0](cursor) for name, part in body.fields[:-1]}
+        value["data"], end = read_items(data, cursor.at)
+        if end < len(data):
+            raise WireError("rest", end, "message")
+        return value
+
+    def _take_reply(self, header: Header, name: str, value: dict, size: int) -> None:
+        number = header.correlation
+        if number in self.abandoned:
+            if header.flags & FINAL:
+                self.abandoned.discard(number)
+            return
+        if name == "ProtocolException" and number in self.load_refused:
+            info = value["error"] or {"code": 0, "message": ""}
+            self.load_refused.pop(number)(refusal(info["code"], info["message"]))
+            return
+        if number not in self.asks:
+            raise PeerError(f"a {name} that answers nothing")
+        reply, future = self.asks[number]
+        reply.size += size
+        if reply.size > REPLY_LIMIT:
+            raise PeerError(f"a reply of more than {REPLY_LIMIT} bytes", 1009)
+        if name == "ProtocolException":
+            reply.add_exception(value)
+        elif name == "Chunk":
+            reply.add_chunk(value)
+        else:
+            reply.add_part(name, value)
+            if name == "GetDataObjectsResponse":
+                reply.await_blobs(value["dataObjects"].values())
+        if header.flags & FINAL and not future.done():
+            reply.fill_blobs()
+            future.set_result(None)
+
+    def _take_notice(self, header: Header, name: str, value: dict) -> None:
+        if name == "ProtocolException":
+            info = value["error"] or {"code": 0, "message": ""}
+            raise PeerError(f"the server can't read what it was sent: {info['code']} {info['message']}")
+        if name not in ("ChannelData", "RangeReplaced", "ChannelsTruncated", "SubscriptionsStopped"):
+            raise PeerError(f"a {name} that nobody asked for")
+        self._keep_notice(name, value)
+        if header.flags & FINAL:
+            whole, self.notice = self.notice, {}
+            self._tell(name, whole)
+
+    def _keep_notice(self, name: str, value: dict) -> None:
+        field = schema.GROWING[name]
+        if not self.notice:
+            self.notice = value
+        elif isinstance(value[field], dict):
+            self.notice[field].update(value[field])
+        else:
+            self.notice[field].extend(value[field])
+        if name == "ChannelData" and sum(len(each.indexes) for each in self.notice[field]) > 1 << 24:
+            raise PeerError("a notice of more than 16,777,216 points", 1009)
+
+    def _tell(self, name: str, value: dict) -> None:
+        """Hands a whole notice to the followers of its channels."""
+        if name == "SubscriptionsStopped":
+            for tell in [self._follower(channel, name) for channel in value["channelIds"].values()]:
+                tell("stopped", value["reason"])
+        elif name == "ChannelsTruncated":
+            for each in value["channels"]:
+                self._follower(each["channelId"], name)("truncate", _long(each["newEndIndex"]))
+        elif name == "RangeReplaced":
+            ends = tuple(_long(value["changedInterval"][end]) for end in ("startIndex", "endIndex"))
+            for channel in value["channelIds"]:
+                pieces = [each for each in value["data"] if each.channel == channel]
+                self._follower(channel, name)("replace", (*ends, pieces))
+        else:
+            for channel, pieces in itertools.groupby(value["data"], lambda each: each.channel):
+                self._follower(channel, name)("append", list(pieces))
+
+    def _follower(self, channel: int, name: str) -> Callable[[str, Any], None]:
+        if channel not in self.followers:
+            raise PeerError(f"a {name} of channel {channel}, to which nobody subscribed")
+        return self.followers[channel]
+
+    # -- the session's beginning and end
+
+    async def open(self, application: str, version: str, formats: Iterable[str], protocols: Iterable[int] = PROTOCOLS) -> dict:
+        """Asks for the session and returns the body of OpenSession."""
+        asked = [
+            codec.filled("SupportedProtocol", protocol=number, protocolVersion=codec.filled("Version", major=1, minor=2), role="store")
+            for number in protocols
+        ]
+        reply = await self.ask("RequestSession", {
+            "applicationName": application, "applicationVersion": version, "clientInstanceId": uuid.uuid4().bytes,
+            "requestedProtocols": asked, "supportedFormats": list(formats), "currentDateTime": now(),
+            "endpointCapabilities": {"MaxWebSocketMessagePayloadSize": {"item": (3, MESSAGE_LIMIT)}},
+        })
+        if reply.value is None or "sessionId" not in reply.value:
+            raise PeerError("no OpenSession for a RequestSession")
+        self.opened = reply.value
+        return reply.value
+
+    async def _keep_alive(self) -> None:
+        """Pings a silent server, and gives it up."""
+        reader = self.link.reader
+        while True:
+            await asyncio.sleep(PING_AFTER / 3)
+            silent = reader.clock() - reader.heard
+            if silent > GIVE_UP_AFTER:
+                self.link.abort()
+                self.fail(LinkLost(f"nothing came from the server for {silent:.0f} s"))
+            elif silent > PING_AFTER:
+                self.link.ping()
+
+    async def close(self, reason: str = "") -> None:
+        """Closes the session, and waits for the server's goodbye for at most two seconds."""
+        if self.lost is None:
+            try:
+                self.post("CloseSession", codec.encoded("string", reason))
+                await asyncio.wait({self.task}, timeout=2)
+            except EtpError:
+                pass
+        self.task.cancel()
+        self.beat.cancel()
+        await asyncio.gather(self.task, self.beat, return_exceptions=True)
+
+
+def _long(index: dict) -> int:
+    branch, value = index["item"]
+    if branch != 1:
+        raise PeerError("an index that is no long")
+    return value

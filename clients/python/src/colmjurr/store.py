@@ -1,0 +1,346 @@
+"""A server's store over asyncio: dataspaces, objects, arrays, channels and transactions."""
+from __future__ import annotations
+
+import asyncio
+import base64
+import os
+import uuid
+from typing import Any, Awaitable, Callable, Generator, Iterable, Mapping, NamedTuple, Optional
+
+from . import codec, websocket
+from .arrays import Array
+from .channels import Channel, Watch
+from .codec import FINAL, NUMBERS
+from .data_value import custom_from_wire, custom_to_wire
+from .errors import EtpError, LinkLost, PeerError, Refused, SomeRefused, TimeLimit
+from .session import Reply, Session
+from .transactions import Transaction
+from .uris import space_uri
+from .version import VERSION
+
+# Data of more bytes go in chunks of this size.
+CHUNK = 4_194_304
+# The most keys of a request.
+MOST_KEYS = 1_024
+# Seconds between tries to dial again.
+WAITS = (0.1, 0.25, 0.5, 1.0, 2.0, 4.0, 8.0, 16.0, 30.0)
+
+Progress = Callable[[int, Optional[int]], None]
+
+
+class Space(NamedTuple):
+    """A dataspace. `written` and `created` are in microseconds since 1970-01-01 UTC."""
+
+    uri: str
+    path: str
+    written: int
+    created: int
+    custom: dict[str, Any]
+
+
+class DataObject(NamedTuple):
+    """An object: its URI, its name, its format (`xml` or `json`), its data, and what else is kept of it. Moments are in microseconds
+    since 1970-01-01 UTC."""
+
+    uri: str
+    name: str
+    format: str
+    data: bytes
+    alternate_uris: list[str]
+    custom: dict[str, Any]
+    changed: int
+    written: int
+    created: int
+
+
+class ServerInfo(NamedTuple):
+    """What a server says of itself as it opens a session."""
+
+    name: str
+    version: str
+    instance: uuid.UUID
+    session: uuid.UUID
+    types: list[str]
+    formats: list[str]
+
+
+class Patience:
+    """How long a caller goes on dialing after broken links: for `Store.patience` seconds since the first one, or since `reset`."""
+
+    def __init__(self, store: "Store"):
+        self.store, self.tries = store, 0
+        self.since: Optional[float] = None
+
+    def reset(self) -> None:
+        """What was done in the session got on."""
+        self.tries, self.since = 0, None
+
+    async def wait(self, lost: EtpError) -> None:
+        """Waits, each time longer, until the next try. Raises the error where patience is at its end or the store is closed."""
+        clock = asyncio.get_running_loop().time
+        pause = WAITS[min(self.tries, len(WAITS) - 1)]
+        self.since = clock() if self.since is None else self.since
+        if self.store.is_closed or clock() - self.since + pause > self.store.patience:
+            raise lost
+        self.tries += 1
+        await asyncio.sleep(pause)
+
+
+class Connector:
+    """How to reach a server. It can be awaited for a `Store`, or entered by `async with`, which closes the store at the end."""
+
+    def __init__(self, store: "Store"):
+        self.store = store
+
+    def __await__(self) -> Generator[Any, None, "Store"]:
+        return self._opened().__await__()
+
+    async def _opened(self) -> "Store":
+        await self.store.session()
+        return self.store
+
+    async def __aenter__(self) -> "Store":
+        return await self._opened()
+
+    async def __aexit__(self, *error: Any) -> None:
+        await self.store.close()
+
+
+def connect(
+    url: str, *, user: Optional[str] = None, password: Optional[str] = None, ca: Optional[str] = None,
+    cert: Optional[websocket.Certificate] = None, headers: Optional[Mapping[str, str]] = None, timeout: float = 10.0,
+    ask_timeout: float = 30.0, patience: float = 60.0, formats: Iterable[str] = ("xml", "json"), application: str = "colmjurr",
+) -> Connector:
+    """Connects to the server at `ws://HOST:PORT/PATH` or `wss://HOST:PORT/PATH`.
+
+    `user` and `password` go to the front of the server as HTTP's basic authentication; `headers` are sent with the handshake. `ca`
+    is a file of the authorities that are trusted, in place of the system's; `cert` a client's certificate with its key, or the pair of
+    both files. `timeout` is the limit in seconds for dialing and the handshake together, and for the session's opening; `ask_timeout`
+    that of each request, put off by a second for each 16,384 bytes that come. After a broken link it is dialed again for at most
+    `patience` seconds, where a request can be repeated and where a channel is loaded or watched.
+
+    Raises `DialError`, `HandshakeError` or `TimeLimit` where there is no connection, and `Refused` where the session is."""
+    sent = dict(headers or {})
+    if user is not None:
+        token = base64.b64encode(f"{user}:{password or ''}".encode()).decode()
+        sent.setdefault("Authorization", f"Basic {token}")
+    dial = lambda: websocket.connect(url, headers=sent, ca=ca, cert=cert, timeout=timeout)
+    return Connector(Store(dial, timeout, ask_timeout, patience, tuple(formats), application))
+
+
+class Store:
+    """A server's store, over one session at a time. After a broken link the next request opens a new one."""
+
+    def __init__(
+        self, dial: Callable[[], Any], timeout: float, ask_timeout: float, patience: float, formats: tuple[str, ...], application: str,
+    ):
+        self._dial, self._timeout, self._ask_timeout, self.patience = dial, timeout, ask_timeout, patience
+        self._formats, self._application = formats, application
+        self._session: Optional[Session] = None
+        self._turn = asyncio.Lock()
+        self.is_closed = False
+        self.reconnects = -1
+
+    # -- the session
+
+    async def session(self) -> Session:
+        """The open session; one is opened where there is none."""
+        async with self._turn:
+            if self.is_closed:
+                raise LinkLost("the store was closed", 1000)
+            if self._session is None or self._session.lost is not None:
+                self._session = await self._opened()
+                self.reconnects += 1
+            return self._session
+
+    async def _opened(self) -> Session:
+        session = Session(await self._dial(), self._timeout)
+        try:
+            await session.open(self._application, VERSION, self._formats)
+        except BaseException:
+            session.link.abort()
+            await session.close()
+            raise
+        session.timeout = self._ask_timeout
+        return session
+
+    @property
+    def info(self) -> ServerInfo:
+        """What the server said of itself when the session was opened."""
+        if self._session is None:
+            raise LinkLost("no session is open")
+        opened = self._session.opened
+        return ServerInfo(
+            opened["applicationName"], opened["applicationVersion"], uuid.UUID(bytes=opened["serverInstanceId"]),
+            uuid.UUID(bytes=opened["sessionId"]), [each["qualifiedType"] for each in opened["supportedDataObjects"]],
+            list(opened["supportedFormats"]))
+
+    async def close(self) -> None:
+        """Closes the session. Nothing can be asked after that."""
+        self.is_closed = True
+        if self._session is not None:
+            await self._session.close()
+
+    async def ask(self, name: str, *, again: bool = False, session: Optional[Session] = None, seen: Any = None, **fields: Any) -> Reply:
+        """Sends the request of this name and returns its reply. With `again` it is repeated after a broken link, where no session is
+        given."""
+        if session is not None or not again:
+            return await (session or await self.session()).ask(name, fields, seen)
+        return await self.insist(lambda used: used.ask(name, fields, seen))
+
+    def patient(self) -> Patience:
+        return Patience(self)
+
+    async def insist(self, action: Callable[[Session], Awaitable[Any]]) -> Any:
+        """Does what can be done again in a session, and again in a new one after a broken link, for at most `patience` seconds."""
+        patience = Patience(self)
+        while True:
+            try:
+                return await action(await self.session())
+            except TimeLimit:
+                raise
+            except LinkLost as error:
+                await patience.wait(error)
+
+    async def ping(self) -> float:
+        """Asks whether the server is there. Returns the seconds until its answer came."""
+        clock = asyncio.get_running_loop().time
+        session, begun = await self.session(), clock()
+        await session.ping()
+        return clock() - begun
+
+    # -- dataspaces
+
+    async def spaces(self, newer_than: Optional[int] = None) -> list[Space]:
+        """All dataspaces in the order of their paths, or those written after a moment (in microseconds)."""
+        reply = await self.ask("GetDataspaces", again=True, storeLastWriteFilter=newer_than)
+        return [
+            Space(each["uri"], each["path"], each["storeLastWrite"], each["storeCreated"], custom_from_wire(each["customData"]))
+            for each in one(reply)["dataspaces"]
+        ]
+
+    async def put_space(self, path: str, custom: Optional[dict[str, Any]] = None) -> str:
+        """Makes a dataspace, or sets the custom data of one. Returns its URI."""
+        uri = space_uri(path)
+        space = codec.filled("Dataspace", uri=uri, path=path, customData=custom_to_wire(custom or {}))
+        one(await self.ask("PutDataspaces", dataspaces={"0": space}))
+        return uri
+
+    async def drop_space(self, path: str) -> None:
+        """Removes a dataspace with all objects and arrays in it. Raises `NotFound` where there is none."""
+        one(await self.ask("DeleteDataspaces", uris={"0": space_uri(path)}))
+
+    # -- objects
+
+    async def get(self, uri: str, format: str = "", progress: Optional[Progress] = None, session: Optional[Session] = None) -> DataObject:
+        """The object of a URI. Raises `NotFound` where there is none, and `Refused` with 21 where it has another format (none stands
+        for `xml`)."""
+        reply = await self.ask(
+            "GetDataObjects", again=True, session=session, seen=progress and (lambda size: progress(size, None)), uris={"0": uri}, format=format)
+        return _data_object(one(reply)["dataObjects"]["0"])
+
+    async def get_many(self, uris: Iterable[str], format: str = "", session: Optional[Session] = None) -> dict[str, DataObject]:
+        """The objects of these URIs, by URI; those that are refused are left out, and named by `SomeRefused` only where all are."""
+        found: dict[str, DataObject] = {}
+        refused: dict[str, Refused] = {}
+        for some in _in_lots(list(dict.fromkeys(uris))):
+            keys = {str(place): uri for place, uri in enumerate(some)}
+            reply = await self.ask("GetDataObjects", again=True, session=session, uris=keys, format=format)
+            found.update({keys[key]: _data_object(each) for key, each in (reply.value or {}).get("dataObjects", {}).items()})
+            refused.update({keys[key]: error for key, error in reply.refused.items()})
+        if refused and not found:
+            raise SomeRefused(refused, {})
+        return found
+
+    async def put(
+        self, uri: str, data: bytes, *, name: str = "", format: str = "", alternate_uris: Iterable[str] = (),
+        custom: Optional[dict[str, Any]] = None, changed: int = 0, session: Optional[Session] = None, progress: Optional[Progress] = None,
+    ) -> None:
+        """Puts an object, new or in place of the one that stands there; `data` has at most 67,108,864 bytes. Where the link breaks
+        meanwhile, `LinkLost` says that it is not known whether the object was put."""
+        raw = data.encode() if isinstance(data, str) else bytes(data)
+        resource = codec.filled(
+            "Resource", uri=uri, name=name, alternateUris=list(alternate_uris), lastChanged=changed, customData=custom_to_wire(custom or {}))
+        is_long = len(raw) > CHUNK
+        blob = os.urandom(16) if is_long else None
+        given = codec.filled("DataObject", resource=resource, format=format, blobId=blob, data=b"" if is_long else raw)
+        body = bytearray()
+        codec.BODIES[NUMBERS["PutDataObjects"]].write(body, {"dataObjects": {"0": given}, "pruneContainedObjects": False})
+        used = session or await self.session()
+        async with used.put_turn:
+            numbers = [used.post("PutDataObjects", bytes(body), 0 if is_long else FINAL)]
+            if blob is not None:
+                await _post_chunks(used, numbers, blob, raw, progress)
+            one(await used.finish(numbers, "PutDataObjects"))
+
+    async def delete(self, uri: str, session: Optional[Session] = None) -> None:
+        """Removes an object with its arrays. Raises `NotFound` where there is none."""
+        one(await self.ask("DeleteDataObjects", session=session, uris={"0": uri}, pruneContainedObjects=False))
+
+    # -- arrays, channels, transactions
+
+    def array(self, uri: str, path: str) -> Array:
+        """The array at a path within an object. Nothing is asked before it is used."""
+        return Array(self, uri, path)
+
+    async def channel(self, uri: str) -> Channel:
+        """The channel of a URI. Raises `NotFound` where there is none."""
+        return (await self.channels([uri]))[0]
+
+    async def channels(self, uris: Iterable[str]) -> list[Channel]:
+        """The channels of these URIs, in their order. Raises `NotFound` with the URI as its key where one is none."""
+        found = []
+        for some in _in_lots(list(uris)):
+            keys = {str(place): uri for place, uri in enumerate(some)}
+            reply = await self.ask("GetChannelMetadata", again=True, uris=keys)
+            for key, error in reply.refused.items():
+                error.key = keys[key]
+                raise error
+            records = one(reply)["metadata"]
+            found += [Channel(self, records[str(place)]) for place in range(len(some))]
+        return found
+
+    def watch(self, channels: Iterable[Channel], **how: Any) -> Watch:
+        """Watches channels together; see `Channel.watch`."""
+        return Watch(list(channels), **how)
+
+    def transaction(self, spaces: Iterable[str] = (), *, read_only: bool = False, message: str = "") -> Transaction:
+        """A transaction over dataspaces, named by URI or path (none stands for the default one), to be entered by `async with`: it is
+        committed at the end, and rolled back where an exception leaves it. Raises `Conflict` where another session changed what it
+        looked at, and `Refused` with 15 where one is open."""
+        uris = [each if each.startswith("eml:") else space_uri(each) for each in spaces]
+        return Transaction(self, uris, read_only, message)
+
+
+def _in_lots(items: list) -> Iterable[list]:
+    for begin in range(0, len(items), MOST_KEYS):
+        yield items[begin:begin + MOST_KEYS]
+
+
+def one(reply: Reply) -> dict:
+    """The body that answers a request of one item, whose refusal is raised."""
+    for error in reply.refused.values():
+        error.key = None
+        raise error
+    if reply.value is None:
+        raise PeerError("a reply without a response")
+    return reply.value
+
+
+async def _post_chunks(session: Session, numbers: list[int], blob: bytes, data: bytes, progress: Optional[Progress]) -> None:
+    """Sends the data of an object; the last chunk ends the request."""
+    for begin in range(0, len(data), CHUNK):
+        piece, is_last = data[begin:begin + CHUNK], begin + CHUNK >= len(data)
+        body = bytearray()
+        codec.BODIES[NUMBERS["Chunk"]].write(body, {"blobId": blob, "data": piece, "final": is_last})
+        numbers.append(session.post("Chunk", bytes(body), FINAL if is_last else 0, numbers[0]))
+        await session.link.drain()
+        if progress:
+            progress(begin + len(piece), len(data))
+
+
+def _data_object(value: dict) -> DataObject:
+    resource = value["resource"]
+    return DataObject(
+        resource["uri"], resource["name"], value["format"], value["data"], resource["alternateUris"],
+        custom_from_wire(resource["customData"]), resource["lastChanged"], resource["storeLastWrite"], resource["storeCreated"])

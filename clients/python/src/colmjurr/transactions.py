@@ -1,0 +1,91 @@
+"""Transactions: several puts, removals and patches of objects and arrays that become one entry of the journal, or none."""
+from __future__ import annotations
+
+import re
+from typing import TYPE_CHECKING, Any, Iterable, Optional
+
+from .arrays import Array
+from .errors import CommitFailed, Conflict, EtpError, LinkLost, ValueRefused
+from .session import Session
+
+if TYPE_CHECKING:
+    from .store import DataObject, Store
+
+
+class Transaction:
+    """An open transaction. What it puts is seen by itself at once, and by others after the commit.
+
+    A server has one transaction a session: while it is open, the store's other requests on objects and arrays are within it too.
+    Dataspaces can't be put or dropped meanwhile (8), and channels stand outside of it."""
+
+    def __init__(self, store: "Store", spaces: list[str], read_only: bool, message: str):
+        self.store, self.spaces, self.read_only, self.message = store, spaces, read_only, message
+        self.id: Optional[bytes] = None
+        self.used: Optional[Session] = None
+
+    async def __aenter__(self) -> "Transaction":
+        await self.start()
+        return self
+
+    async def __aexit__(self, kind: Any, error: Any, trace: Any) -> None:
+        if self.id is None:
+            return
+        if kind is None:
+            await self.commit()
+            return
+        try:
+            await self.rollback()
+        except EtpError:
+            # the session's end rolls it back as well
+            pass
+
+    def open_session(self) -> Session:
+        """The session of the transaction, which ends with it."""
+        if self.used is None or self.id is None:
+            raise ValueRefused("the transaction is not open")
+        if self.used.lost is not None:
+            raise LinkLost(f"the transaction is gone with its connection: {self.used.lost}")
+        return self.used
+
+    async def start(self) -> None:
+        self.used = await self.store.session()
+        reply = await self.used.ask(
+            "StartTransaction", {"readOnly": self.read_only, "message": self.message, "dataspaceUris": self.spaces})
+        self.id = (reply.value or {}).get("transactionUuid")
+
+    async def _end(self, name: str) -> dict:
+        session, number = self.open_session(), self.id
+        self.id = None
+        reply = await session.ask(name, {"transactionUuid": number})
+        return reply.value or {}
+
+    async def commit(self) -> None:
+        """Makes what was put one entry. Raises `Conflict` or `CommitFailed`, and nothing is put then; after `LinkLost` it is not known."""
+        answer = await self._end("CommitTransaction")
+        if not answer.get("successful"):
+            reason = str(answer.get("failureReason", ""))
+            place = re.fullmatch(r"conflict (\d+)", reason)
+            raise Conflict(reason, int(place[1])) if place else CommitFailed(reason)
+
+    async def rollback(self) -> None:
+        """Forgets what was put."""
+        await self._end("RollbackTransaction")
+
+    async def get(self, uri: str, format: str = "") -> "DataObject":
+        """The object of a URI, as the transaction sees it."""
+        return await self.store.get(uri, format, session=self.open_session())
+
+    async def put(self, uri: str, data: bytes, **more: Any) -> None:
+        """Puts an object; see `Store.put`."""
+        await self.store.put(uri, data, session=self.open_session(), **more)
+
+    async def delete(self, uri: str) -> None:
+        """Removes an object with its arrays."""
+        await self.store.delete(uri, session=self.open_session())
+
+    async def get_many(self, uris: Iterable[str], format: str = "") -> dict[str, "DataObject"]:
+        return await self.store.get_many(uris, format, session=self.open_session())
+
+    def array(self, uri: str, path: str) -> Array:
+        """The array at a path within an object, as the transaction sees it."""
+        return Array(self.store, uri, path, self.open_session())

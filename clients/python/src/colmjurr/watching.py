@@ -1,0 +1,333 @@
+"""Watching channels: their changes in order, across broken links and a server that ends the subscriptions."""
+from __future__ import annotations
+
+import asyncio
+import bisect
+import collections
+from dataclasses import dataclass
+from typing import TYPE_CHECKING, Any, Optional, Union
+
+from . import codec
+from .errors import EtpError, LinkLost, Refused, Stopped, TimeLimit, ValueRefused
+from .points import JOINED, LEAST, Columns, Moment, Points, index_of
+from .session import Session
+
+if TYPE_CHECKING:
+    from .channels import Channel
+
+# The most points that wait for a caller who is slower than the channel, and how many of a channel's last points are subscribed to
+# where all of them are more than a server begins with.
+WAITING, LATEST = 4_194_304, 500_000
+
+
+@dataclass(frozen=True)
+class Append:
+    """Points came behind the channel's last one; the first change has those that stood there."""
+
+    channel: "Channel"
+    points: Points
+
+
+@dataclass(frozen=True)
+class Replace:
+    """The points from `start` to `end`, both included, are now these. Microseconds since 1970-01-01 UTC."""
+
+    channel: "Channel"
+    start: int
+    end: int
+    points: Points
+
+
+@dataclass(frozen=True)
+class Truncate:
+    """The points after `end` are gone. Microseconds since 1970-01-01 UTC."""
+
+    channel: "Channel"
+    end: int
+
+
+@dataclass(frozen=True)
+class Restarted:
+    """The watch began anew: all that was told before is replaced by these points."""
+
+    channel: "Channel"
+    points: Points
+
+
+@dataclass(frozen=True)
+class Gap:
+    """The watch went on behind the last point that was told. Corrections of earlier points may have been missed, and are not told any
+    more. `reason` says what broke off."""
+
+    channel: "Channel"
+    reason: str
+
+
+Change = Union[Append, Replace, Truncate, Restarted, Gap]
+
+
+class _Followed:
+    """A channel that is watched: its last index that was told, and whether its next points are those of a new beginning."""
+
+    def __init__(self, channel: "Channel"):
+        self.channel = channel
+        self.last: Optional[int] = None
+        self.begins_anew = False
+        self.tail_from: Optional[int] = None
+
+
+class Watch:
+    """The changes of channels, to be iterated by `async for`; `close` or `async with` ends it.
+
+    `start` is where it begins: None is the channel's first point, "now" what comes from now on, else a moment; `latest` in its
+    place the last so many points. `changes=False` leaves out replacements and truncations.
+
+    `resume` says what happens where the link breaks or the server ends the subscriptions (as it does for one that lags). With
+    "full" the watch begins anew and hands out `Restarted` with all points; with "tail" it goes on behind its last index and hands
+    out `Gap` first; with None it raises `LinkLost` or `Stopped`. A caller who takes changes more slowly than they come, until
+    4,194,304 points wait, is as one that lags.
+
+    A server begins a subscription with at most 1,048,576 points. Of a longer channel that is watched from its first point the last
+    500,000 are subscribed to and those before them are read; corrections of these are not told.
+    """
+
+    def __init__(
+        self, channels: list["Channel"], *, start: Union[None, str, Moment] = None, latest: Optional[int] = None, changes: bool = True,
+        resume: Optional[str] = "full",
+    ):
+        if resume not in ("full", "tail", None):
+            raise ValueRefused(f"resume is 'full', 'tail' or None, not {resume!r}")
+        if not channels or len({channel.id for channel in channels}) < len(channels):
+            raise ValueRefused("channels to watch are at least one, and each comes once")
+        self.followed = {channel.id: _Followed(channel) for channel in channels}
+        self.store = channels[0].store
+        self.start: Union[None, str, int] = start if start is None or start == "now" else index_of(start)
+        self.latest, self.changes, self.resume = latest, changes, resume
+        self.restarts = 0
+        self._queue: collections.deque[Change] = collections.deque()
+        self._waiting = 0
+        self._wake = asyncio.Event()
+        self._session: Optional[Session] = None
+        self._broken: Optional[EtpError] = None
+        self._is_closed = False
+        self._patience = self.store.patient()
+
+    def __aiter__(self) -> "Watch":
+        return self
+
+    async def __aenter__(self) -> "Watch":
+        await self.begin()
+        return self
+
+    async def __aexit__(self, *error: Any) -> None:
+        await self.close()
+
+    async def begin(self) -> None:
+        """Subscribes, if that was not done yet; iterating does it too."""
+        if self._session is None and not self._is_closed:
+            await self.store.insist(lambda session: self._subscribe(session, None))
+
+    async def __anext__(self) -> Change:
+        await self.begin()
+        while True:
+            if self._queue:
+                change = self._queue.popleft()
+                self._patience.reset()
+                self._waiting -= _size(change)
+                return change
+            if self._is_closed:
+                raise StopAsyncIteration
+            if self._broken is not None:
+                await self._go_on()
+                continue
+            self._wake.clear()
+            await self._wake.wait()
+
+    async def close(self) -> None:
+        """Ends the subscriptions. What was told but not taken yet can still be iterated."""
+        if self._is_closed:
+            return
+        self._is_closed = True
+        self._wake.set()
+        session = self._session
+        if session is not None and session.lost is None:
+            try:
+                await self._unsubscribe(session)
+            except EtpError:
+                pass
+
+    # -- subscribing
+
+    async def _subscribe(self, session: Session, lost: Optional[EtpError]) -> None:
+        """Subscribes to all channels in a session, after a break (`lost`) as `resume` says."""
+        self._session, self._broken = session, None
+        session.on_lost.append(lambda error: self._break(session, error))
+        for channel in self.followed:
+            if channel in session.followers:
+                raise Refused(8, "the channel is watched already in this session")
+        for number, followed in self.followed.items():
+            followed.begins_anew = lost is not None and self.resume == "full"
+            followed.tail_from = followed.last + 1 if lost is not None and self.resume == "tail" and followed.last is not None else None
+            if lost is not None and self.resume == "tail":
+                self._put(Gap(followed.channel, str(lost)))
+            session.followers[number] = lambda what, value, it=followed: self._take(session, it, what, value)
+        try:
+            await self._ask_for(session, list(self.followed), self.latest)
+        except Refused:
+            await self._unsubscribe(session)
+            raise
+        await session.ping()
+        for followed in self.followed.values():
+            if followed.begins_anew:
+                self._restart(followed, [])
+
+    async def _ask_for(self, session: Session, numbers: list[int], latest: Optional[int]) -> None:
+        infos = {str(number): self._info(self.followed[number], latest) for number in numbers}
+        reply = await session.ask("SubscribeChannels", {"channels": infos})
+        for key, error in reply.refused.items():
+            if error.code != 12 or latest is not None or self.start == "now":
+                raise error
+            await self._subscribe_long(session, self.followed[int(key)])
+
+    def _info(self, followed: _Followed, latest: Optional[int]) -> dict:
+        if followed.tail_from is not None:
+            latest, index = None, (1, followed.tail_from)
+        else:
+            index = (0, None) if self.start == "now" else (1, LEAST if self.start is None else self.start)
+        return codec.filled(
+            "ChannelSubscribeInfo", channelId=followed.channel.id, startIndex={"item": index}, dataChanges=self.changes,
+            requestLatestIndexCount=latest)
+
+    async def _subscribe_long(self, session: Session, followed: _Followed) -> None:
+        """Subscribes to the last points of a channel that has too many, and hands out those before them first."""
+        begun, held = followed.begins_anew, len(self._queue)
+        start = followed.tail_from if followed.tail_from is not None else self.start if isinstance(self.start, int) else None
+        followed.begins_anew, followed.tail_from = False, None
+        await self._ask_for(session, [followed.channel.id], LATEST)
+        await session.ping()
+        place = next((at for at in range(held, len(self._queue)) if self._queue[at].channel is followed.channel), None)
+        first = self._queue[place] if place is not None else None
+        if not isinstance(first, Append):
+            raise Refused(12, "the channel's points are more than a server begins a subscription with")
+        before = await followed.channel.range(start, int(first.points.indexes[0]) - 1)
+        self._queue[place] = (Restarted if begun else Append)(followed.channel, _both(followed.channel, before, first.points))
+        self._waiting += len(before)
+
+    async def _unsubscribe(self, session: Session) -> None:
+        numbers = {str(number): number for number in self.followed}
+        try:
+            await session.ask("UnsubscribeChannels", {"channelIds": numbers})
+        finally:
+            for number in self.followed:
+                session.followers.pop(number, None)
+
+    async def _go_on(self) -> None:
+        """Begins again after a break, as long as the store's patience lasts."""
+        broken = self._broken
+        if broken is None:
+            return
+        if self.resume is None or isinstance(broken, TimeLimit):
+            raise broken
+        session = self._session
+        if session is not None and session.lost is None:
+            await self._unsubscribe(session)
+        self.restarts += 1
+        while True:
+            try:
+                await self._patience.wait(broken)
+                await self._subscribe(await self.store.session(), broken)
+                return
+            except TimeLimit:
+                raise
+            except LinkLost as error:
+                if error is broken:
+                    raise
+                broken = error
+
+    # -- what comes
+
+    def _break(self, session: Session, error: EtpError) -> None:
+        if session is self._session and self._broken is None:
+            self._broken = error
+            self._wake.set()
+
+    def _take(self, session: Session, followed: _Followed, what: str, value: Any) -> None:
+        """Takes a notice of the session's."""
+        if session is not self._session or self._broken is not None:
+            return
+        if what == "stopped":
+            for number in self.followed:
+                session.followers.pop(number, None)
+            self._break(session, Stopped(value))
+            return
+        if self._waiting > WAITING:
+            self._break(session, Stopped("the caller is slower than the channel"))
+            return
+        self._note(followed, what, value)
+
+    def _note(self, followed: _Followed, what: str, value: Any) -> None:
+        if what == "append":
+            if followed.begins_anew:
+                self._restart(followed, value)
+                return
+            points = followed.channel.points(value)
+            followed.last = int(points.indexes[-1])
+            self._put(Append(followed.channel, points))
+            return
+        if followed.begins_anew:
+            self._restart(followed, [])
+        if what == "replace":
+            start, end, pieces = value
+            points = followed.channel.points(pieces)
+            if followed.last is not None and start <= followed.last <= end:
+                followed.last = int(points.indexes[-1]) if len(points) else start - 1
+            self._put(Replace(followed.channel, start, end, points))
+        else:
+            followed.last = min(followed.last, value) if followed.last is not None else None
+            self._put(Truncate(followed.channel, value))
+
+    def _restart(self, followed: _Followed, pieces: list[Columns]) -> None:
+        followed.begins_anew = False
+        points = followed.channel.points(pieces)
+        followed.last = int(points.indexes[-1]) if len(points) else None
+        self._put(Restarted(followed.channel, points))
+
+    def _put(self, change: Change) -> None:
+        self._queue.append(change)
+        self._waiting += _size(change)
+        self._wake.set()
+
+
+def _size(change: Change) -> int:
+    return 1 + (len(change.points) if isinstance(change, (Append, Replace, Restarted)) else 0)
+
+
+def _columns(points: Points) -> Columns:
+    return Columns(0, points.indexes, JOINED, points.values, points.nulls)
+
+
+def _both(channel: "Channel", first: Points, second: Points) -> Points:
+    return channel.points([_columns(first), _columns(second)])
+
+
+class Copy:
+    """A channel's points as the changes leave them: `apply` each change in order."""
+
+    def __init__(self) -> None:
+        self.indexes: list[int] = []
+        self.values: list[Any] = []
+
+    def apply(self, change: Change) -> None:
+        if isinstance(change, Restarted):
+            self.indexes, self.values = [], []
+        if isinstance(change, Truncate):
+            self._cut(bisect.bisect_right(self.indexes, change.end), len(self.indexes), [])
+        elif isinstance(change, Replace):
+            low, high = bisect.bisect_left(self.indexes, change.start), bisect.bisect_right(self.indexes, change.end)
+            self._cut(low, high, list(change.points))
+        elif isinstance(change, (Append, Restarted)):
+            self._cut(len(self.indexes), len(self.indexes), list(change.points))
+
+    def _cut(self, low: int, high: int, pairs: list) -> None:
+        self.indexes[low:high] = [index for index, _ in pairs]
+        self.values[low:high] = [value for _, value in pairs]

@@ -1,0 +1,274 @@
+"""A client's side of WebSocket (RFC 6455) over asyncio's streams, with TLS where the address begins with `wss`."""
+from __future__ import annotations
+
+import asyncio
+import base64
+import hashlib
+import os
+import ssl
+import urllib.parse
+from typing import Mapping, Optional, Union
+
+from .arrays_of_numbers import numpy
+from .errors import DialError, HandshakeError, LinkLost, PeerError, TimeLimit, ValueRefused
+
+SUBPROTOCOL = "etp12.energistics.org"
+# RFC 6455, section 1.3
+GUID = b"258EAFA5-E914-47DA-95CA-C5AB0DC85B11"
+CONTINUATION, TEXT, BINARY, CLOSE, PING, PONG = 0, 1, 2, 8, 9, 10
+# The longest message that is taken, the longest head of an answer to the handshake, and how much may wait to be sent before pings
+# are left without an answer.
+MESSAGE_LIMIT, HEAD_LIMIT, WAITING_LIMIT = 33_554_432, 16_384, 1 << 20
+# A write that gets nowhere for so many seconds is given up.
+WRITE_LIMIT = 30.0
+
+Certificate = Union[str, tuple[str, str]]
+
+
+class HeardReader(asyncio.StreamReader):
+    """A stream that knows how many bytes came, and when the last one did."""
+
+    def __init__(self, loop: asyncio.AbstractEventLoop):
+        super().__init__(limit=1 << 20, loop=loop)
+        self.clock = loop.time
+        self.total, self.heard = 0, loop.time()
+
+    def feed_data(self, data: bytes) -> None:
+        self.total += len(data)
+        self.heard = self.clock()
+        super().feed_data(data)
+
+
+def masked(data: bytes, mask: bytes) -> bytes:
+    """The bytes under a client's mask (section 5.3)."""
+    size = len(data)
+    if numpy is not None and size > 64:
+        octets = numpy.frombuffer(data, dtype=numpy.uint8)
+        front = size - size % 4
+        out = numpy.empty(size, dtype=numpy.uint8)
+        word = numpy.frombuffer(mask, dtype=numpy.uint32)[0]
+        numpy.bitwise_xor(octets[:front].view(numpy.uint32), word, out=out[:front].view(numpy.uint32))
+        out[front:] = octets[front:] ^ numpy.frombuffer(mask, dtype=numpy.uint8)[:size - front]
+        return out.tobytes()
+    whole = int.from_bytes((mask * (size // 4 + 1))[:size], "big")
+    return (int.from_bytes(data, "big") ^ whole).to_bytes(size, "big")
+
+
+def frame(opcode: int, data: bytes) -> tuple[bytes, bytes]:
+    """The head and the masked bytes of a client's whole frame."""
+    mask = os.urandom(4)
+    size = len(data)
+    head = bytes([0x80 | opcode])
+    if size < 126:
+        head += bytes([0x80 | size])
+    elif size < 1 << 16:
+        head += bytes([0x80 | 126]) + size.to_bytes(2, "big")
+    else:
+        head += bytes([0x80 | 127]) + size.to_bytes(8, "big")
+    return head + mask, masked(data, mask)
+
+
+class WebSocket:
+    """An open connection. `recv` is to be called by one task alone; `post` may be called by any on the same loop."""
+
+    def __init__(self, reader: HeardReader, writer: asyncio.StreamWriter):
+        self.reader, self.writer = reader, writer
+        self.is_closing = False
+        self.asked = b""
+
+    def post(self, data: bytes) -> None:
+        """Hands one binary message to the connection; it may wait there until the peer has read what came before."""
+        if self.is_closing:
+            raise LinkLost("the connection is closed")
+        self.writer.writelines(frame(BINARY, data))
+
+    async def drain(self) -> None:
+        """Waits until little is left to send. Raises `TimeLimit` where the peer reads nothing for WRITE_LIMIT seconds."""
+        try:
+            await asyncio.wait_for(self.writer.drain(), WRITE_LIMIT)
+        except asyncio.TimeoutError:
+            self.abort()
+            raise TimeLimit(f"the server read nothing for {WRITE_LIMIT:.0f} s") from None
+        except (ConnectionError, OSError) as error:
+            raise LinkLost(f"the connection broke off: {error}") from None
+
+    def ping(self) -> None:
+        self._control(PING, b"")
+
+    def _control(self, opcode: int, data: bytes) -> None:
+        if not self.writer.is_closing() and self.writer.transport.get_write_buffer_size() < WAITING_LIMIT:
+            self.writer.writelines(frame(opcode, data))
+
+    async def recv(self) -> bytes:
+        """The next binary message. Pings are answered on the way. Raises `LinkLost` at the end of the connection, and `PeerError`
+        for what a server may not send: a text, a masked frame, frames out of order, a message above MESSAGE_LIMIT."""
+        parts: list[bytes] = []
+        size = 0
+        while True:
+            last, opcode, data = await self._frame(size)
+            if opcode in (CLOSE, PING, PONG):
+                self._take_control(last, opcode, data)
+                continue
+            if (opcode == CONTINUATION) != bool(parts) or opcode not in (CONTINUATION, BINARY):
+                raise PeerError("a text message" if opcode == TEXT else f"a frame out of order, opcode {opcode}", 1002)
+            parts.append(data)
+            size += len(data)
+            if last:
+                return parts[0] if len(parts) == 1 else b"".join(parts)
+
+    async def _frame(self, before: int) -> tuple[bool, int, bytes]:
+        read = self.reader.readexactly
+        try:
+            first, second = await read(2)
+            if first & 0x70 or second & 0x80:
+                raise PeerError("a masked frame, or one with reserved bits", 1002)
+            size = second & 0x7F
+            if first & 0x08 and size > 125:
+                raise PeerError("a long control frame", 1002)
+            if size >= 126:
+                size = int.from_bytes(await read(2 if size == 126 else 8), "big")
+            if size + before > MESSAGE_LIMIT:
+                raise PeerError(f"a message of more than {MESSAGE_LIMIT} bytes", 1009)
+            return bool(first & 0x80), first & 0x0F, await read(size)
+        except asyncio.IncompleteReadError:
+            raise LinkLost("the connection broke off") from None
+        except (ConnectionError, OSError, ssl.SSLError) as error:
+            if isinstance(error, LinkLost):
+                raise
+            raise LinkLost(f"the connection broke off: {error}") from None
+
+    def _take_control(self, last: bool, opcode: int, data: bytes) -> None:
+        if not last:
+            raise PeerError("a control frame in pieces", 1002)
+        if opcode == PING:
+            self._control(PONG, data)
+        elif opcode == CLOSE:
+            code = int.from_bytes(data[:2], "big") if len(data) >= 2 else 1005
+            if not self.is_closing:
+                self._control(CLOSE, data[:2])
+            self.is_closing = True
+            reason = data[2:].decode("utf-8", "replace")
+            raise LinkLost(f"the server closed the connection with {code}{': ' + reason if reason else ''}", code)
+
+    def start_close(self, code: int = 1000) -> None:
+        """Says goodbye; what still comes may be read until the peer says it too."""
+        if not self.is_closing:
+            self._control(CLOSE, code.to_bytes(2, "big"))
+            self.is_closing = True
+
+    def abort(self) -> None:
+        self.is_closing = True
+        self.writer.transport.abort()
+
+
+def tls_context(ca: Optional[str], cert: Optional[Certificate]) -> ssl.SSLContext:
+    """TLS as a client: the server's certificate and name are always checked, by the authorities in `ca` where it is given.
+    `cert` is a file with certificate and key, or the two files, for servers that ask for one."""
+    try:
+        context = ssl.create_default_context(cafile=ca)
+        if cert is not None:
+            context.load_cert_chain(*((cert,) if isinstance(cert, str) else cert))
+    except (OSError, ssl.SSLError) as error:
+        raise ValueRefused(f"a certificate can't be read: {error}") from None
+    return context
+
+
+class Address:
+    """The parts of a server's address, or `ValueRefused` where it is none."""
+
+    def __init__(self, url: str):
+        parts = urllib.parse.urlsplit(url)
+        try:
+            port = parts.port
+        except ValueError:
+            raise ValueRefused(f"{url!r} has a port that is none") from None
+        if parts.scheme not in ("ws", "wss") or not parts.hostname or parts.username or parts.fragment:
+            raise ValueRefused(f"{url!r} is no address of the form ws://HOST:PORT/PATH or wss://HOST:PORT/PATH")
+        if any(not "!" <= each <= "~" for each in url):
+            raise ValueRefused(f"{url!r} has a character that an address can't have")
+        self.is_secure = parts.scheme == "wss"
+        self.host, self.port = parts.hostname, port or (443 if self.is_secure else 80)
+        self.target = (parts.path or "/") + ("?" + parts.query if parts.query else "")
+        self.authority = parts.netloc
+
+
+def _request(address: Address, key: bytes, headers: Mapping[str, str]) -> bytes:
+    lines = [
+        f"GET {address.target} HTTP/1.1", f"Host: {address.authority}", "Upgrade: websocket", "Connection: Upgrade",
+        f"Sec-WebSocket-Key: {key.decode()}", "Sec-WebSocket-Version: 13", f"Sec-WebSocket-Protocol: {SUBPROTOCOL}",
+    ]
+    for name, value in headers.items():
+        if any(each in name + value for each in "\r\n"):
+            raise ValueRefused(f"the header {name!r} has a line break")
+        lines.append(f"{name}: {value}")
+    return "\r\n".join([*lines, "", ""]).encode("latin-1", "replace")
+
+
+async def _head(reader: asyncio.StreamReader) -> list[str]:
+    """The lines of the answer's head, of at most HEAD_LIMIT bytes."""
+    head = b""
+    while not head.endswith(b"\r\n\r\n"):
+        try:
+            line = await reader.readuntil(b"\n")
+        except asyncio.IncompleteReadError:
+            raise HandshakeError("the peer closed the connection without an answer") from None
+        except (ValueError, asyncio.LimitOverrunError):
+            raise HandshakeError("the peer's answer has a line that doesn't end") from None
+        head += line
+        if len(head) > HEAD_LIMIT:
+            raise HandshakeError(f"the peer's answer has a head of more than {HEAD_LIMIT} bytes")
+        if head == b"\r\n" or not head.startswith(b"HTTP/"):
+            raise HandshakeError("the peer answers something that is not HTTP")
+    return head.decode("latin-1").split("\r\n")
+
+
+def _check_answer(lines: list[str], key: bytes) -> None:
+    status = lines[0].split()[1:2]
+    number = int(status[0]) if status and status[0].isdecimal() else 0
+    if number != 101:
+        hints = {401: ": name and password are needed", 403: ": access is denied", 503: ": there are too many clients"}
+        raise HandshakeError(f"the peer answers {lines[0][:100]!r}{hints.get(number, '')}", number)
+    fields = {name.strip().lower(): value.strip() for name, _, value in (line.partition(":") for line in lines[1:] if line)}
+    tokens = [each.strip().lower() for each in fields.get("connection", "").split(",")]
+    if fields.get("upgrade", "").lower() != "websocket" or "upgrade" not in tokens:
+        raise HandshakeError("the peer doesn't upgrade to a WebSocket", number)
+    if fields.get("sec-websocket-accept") != base64.b64encode(hashlib.sha1(key + GUID).digest()).decode():
+        raise HandshakeError("the peer accepts another key", number)
+    if fields.get("sec-websocket-protocol") != SUBPROTOCOL:
+        raise HandshakeError(f"the peer doesn't speak {SUBPROTOCOL}", number)
+    if "sec-websocket-extensions" in fields:
+        raise HandshakeError("the peer has an extension that nobody asked for", number)
+
+
+async def connect(
+    url: str, *, headers: Mapping[str, str], ca: Optional[str] = None, cert: Optional[Certificate] = None, timeout: float = 10.0,
+) -> WebSocket:
+    """Dials and shakes hands, within `timeout` seconds together. Raises `DialError`, `HandshakeError` or `TimeLimit`."""
+    address = Address(url)
+    tls = tls_context(ca, cert) if address.is_secure else None
+    try:
+        return await asyncio.wait_for(_connected(address, tls, headers), timeout)
+    except asyncio.TimeoutError:
+        raise TimeLimit(f"{url} did not answer within {timeout:g} s") from None
+
+
+async def _connected(address: Address, tls: Optional[ssl.SSLContext], headers: Mapping[str, str]) -> WebSocket:
+    loop = asyncio.get_running_loop()
+    reader = HeardReader(loop)
+    protocol = asyncio.StreamReaderProtocol(reader, loop=loop)
+    try:
+        transport, _ = await loop.create_connection(lambda: protocol, address.host, address.port, ssl=tls)
+    except (OSError, ssl.SSLError, UnicodeError) as error:
+        raise DialError(f"no connection to {address.host}:{address.port}: {error}") from None
+    writer = asyncio.StreamWriter(transport, protocol, reader, loop)
+    try:
+        key = base64.b64encode(os.urandom(16))
+        writer.write(_request(address, key, headers))
+        _check_answer(await _head(reader), key)
+    except (ConnectionError, OSError) as error:
+        transport.abort()
+        raise error if isinstance(error, HandshakeError) else HandshakeError(f"the connection broke off: {error}") from None
+    except BaseException:
+        transport.abort()
+        raise
+    return WebSocket(reader, writer)
