@@ -55,14 +55,9 @@ class Array:
     def __repr__(self) -> str:
         return f"<array {self.path!r} of {self.uri}>"
 
-    async def _ask(self, name: str, field: str, value: dict, again: bool = False) -> dict:
+    async def _ask(self, name: str, field: str, value: dict, again: bool = False) -> Any:
         reply: Reply = await self.store.ask(name, again=again, session=self.used, **{field: {"0": value}})
-        for error in reply.refused.values():
-            error.key = None
-            raise error
-        if not reply.value:
-            raise PeerError("a reply without a response")
-        return reply.value[next(iter(reply.value))]["0"] if name.startswith("Get") else reply.value
+        return reply.item(next(name for name, _ in codec.BODIES[codec.NUMBERS[reply.response]].fields))
 
     async def info(self) -> ArrayInfo:
         """Shape, type, moments and custom data. Raises `NotFound` where there is no such array."""

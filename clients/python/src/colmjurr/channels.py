@@ -49,7 +49,7 @@ class Channel:
     async def refresh(self) -> None:
         """Asks for the channel again: `first` and `last` are then those of that moment."""
         reply = await self.store.ask("GetChannelMetadata", again=True, uris={"0": self.uri})
-        self.take_record(_answer(reply)["metadata"]["0"])
+        self.take_record(reply.item("metadata"))
 
     def points(self, pieces: list[Columns]) -> Points:
         """Points of this channel as columns. Raises `PeerError` where they are of another kind."""
@@ -87,7 +87,7 @@ class Channel:
                     left += [(middle + 1, high), (low, middle)]
                 continue
             done += reply.size
-            pieces += self._own(_answer(reply)["data"])
+            pieces += self._own(reply.body()["data"])
         return self.points(pieces)
 
     async def _range(self, low: int, high: int, seen: Any) -> Reply:
@@ -114,7 +114,7 @@ class Channel:
     async def opened(self, session: Session) -> dict:
         """Opens the channel for writing in a session, and returns its record as it is then."""
         reply = await session.ask("OpenChannels", {"uris": {"0": self.uri}})
-        record = _answer(reply)["channels"]["0"]["metadata"]
+        record = reply.item("channels")["metadata"]
         session.channels[self.uri] = record
         self.take_record(record)
         return record
@@ -134,14 +134,14 @@ class Channel:
         out += codec.encoded("[long]", [self.id])
         out += write_items(self.id, self.kind, moments, values)
         reply = await session.finish([session.post("ReplaceRange", bytes(out))], "ReplaceRange")
-        return _answer(reply)["channelChangeTime"]
+        return reply.body()["channelChangeTime"]
 
     async def truncate(self, end: Moment) -> int:
         """Removes the points after `end`. Returns the server's moment of the change, in microseconds."""
         session = await self._writing()
         cut = codec.filled("TruncateInfo", channelId=self.id, newEndIndex={"item": (1, index_of(end))})
         reply = await session.ask("TruncateChannels", {"channels": {"0": cut}})
-        return _answer(reply)["channelsTruncatedTime"]["0"]
+        return reply.item("channelsTruncatedTime")
 
     def loader(self, every: Optional[float] = 0.2, most: int = 1000, **more: Any) -> Loader:
         """Loads points as they come, to be entered by `async with`: they are sent `every` so many seconds (None: only by count), or where
@@ -164,15 +164,6 @@ class Channel:
 
 def _interval(low: int, high: int) -> dict:
     return codec.filled("IndexInterval", startIndex={"item": (1, low)}, endIndex={"item": (1, high)})
-
-
-def _answer(reply: Reply) -> dict:
-    for error in reply.refused.values():
-        error.key = None
-        raise error
-    if reply.value is None:
-        raise PeerError("a reply without a response")
-    return reply.value
 
 
 def columns_of_frame(table: Any) -> tuple[Any, Any]:

@@ -198,9 +198,9 @@ class Loader:
                     await self._begin(session)
                 await self._send_some()
                 return
-            except TimeLimit:
-                raise
             except LinkLost as error:
+                if isinstance(error, TimeLimit) and self._session is not None:
+                    self._session.give_up(error)
                 if self._session is None or self._session.lost is None:
                     await self._patience.wait(error)
 

@@ -26,7 +26,13 @@ REPLY_LIMIT, BLOBS_LIMIT = 1 << 30, 67_108_864
 LEAST_RATE = 16_384
 # Seconds of silence after which a ping is sent, and after which the server is given up.
 PING_AFTER, GIVE_UP_AFTER = 30.0, 90.0
+# Seconds in which a closed connection may still send its goodbye.
+LINGER = 3.0
 POINTS_ALONE = ("ChannelData", "GetRangesResponse")
+# The responses that have another name than their request with `Response` behind it.
+RESPONSES = {
+    "RequestSession": "OpenSession", "Ping": "Pong", "CloseChannels": "ChannelsClosed", "UnsubscribeChannels": "SubscriptionsStopped",
+}
 
 
 def now() -> int:
@@ -37,7 +43,8 @@ def now() -> int:
 class Reply:
     """What answers a request: the response's body with the items of all its parts, None where there is none; and the refusals."""
 
-    def __init__(self) -> None:
+    def __init__(self, request: str) -> None:
+        self.response = RESPONSES.get(request, request + "Response")
         self.value: Optional[dict] = None
         self.refused: dict[str, Refused] = {}
         self.error: Optional[Refused] = None
@@ -47,6 +54,8 @@ class Reply:
 
     def add_part(self, name: str, value: dict) -> None:
         field = schema.GROWING.get(name)
+        if name != self.response:
+            raise PeerError(f"a {name} in place of a {self.response}")
         if self.value is None:
             self.value = value
         elif field is None:
@@ -82,6 +91,22 @@ class Reply:
         if value["final"]:
             self.unfinished.remove(blob)
 
+    def item(self, field: str, key: str = "0") -> Any:
+        """What answers one key of the request, whose refusal is raised."""
+        if key in self.refused:
+            error = self.refused[key]
+            error.key = None
+            raise error
+        if self.value is None or key not in self.value[field]:
+            raise PeerError(f"a {self.response} without an item that was asked for")
+        return self.value[field][key]
+
+    def body(self) -> dict:
+        """The body of a response without keys."""
+        if self.value is None:
+            raise PeerError(f"no {self.response} in a reply")
+        return self.value
+
     def fill_blobs(self) -> None:
         """Puts the data that came in chunks into the objects."""
         if self.unfinished:
@@ -96,7 +121,7 @@ class Session:
 
     def __init__(self, link: WebSocket, timeout: float):
         self.link, self.timeout = link, timeout
-        self.sent_id = self.heard_id = self.sent_bytes = 0
+        self.sent_id = self.heard_id = self.sent_bytes = self.notice_bytes = 0
         self.asks: dict[int, tuple[Reply, asyncio.Future]] = {}
         self.abandoned: set[int] = set()
         self.between: Any = None
@@ -126,8 +151,8 @@ class Session:
         self.sent_bytes = len(message)
         return self.sent_id
 
-    def _expect(self, number: int) -> tuple[Reply, asyncio.Future]:
-        row = Reply(), asyncio.get_running_loop().create_future()
+    def _expect(self, number: int, name: str) -> tuple[Reply, asyncio.Future]:
+        row = Reply(name), asyncio.get_running_loop().create_future()
         self.asks[number] = row
         return row
 
@@ -145,7 +170,7 @@ class Session:
     ) -> Reply:
         """Waits for the reply to the message with the first of these ids, which one to any of the others stands for too."""
         limit = (self.timeout if timeout is None else timeout) + self.sent_bytes / LEAST_RATE
-        reply, future = self._expect(numbers[0])
+        reply, future = self._expect(numbers[0], name)
         for number in numbers[1:]:
             self.asks[number] = reply, future
         try:
@@ -160,18 +185,22 @@ class Session:
         return reply
 
     async def _wait(self, future: asyncio.Future, name: str, limit: float, seen: Optional[Callable[[int], None]]) -> None:
-        clock, reader = asyncio.get_running_loop().time, self.link.reader
-        begun, before = clock(), reader.total
+        clock = asyncio.get_running_loop().time
+        begun, before = clock(), self.reply_bytes()
         while True:
-            came = reader.total - before
+            came = self.reply_bytes() - before
             left = begun + limit + came / LEAST_RATE - clock()
             if left <= 0:
                 raise TimeLimit(f"no whole reply to {name} within {clock() - begun:.1f} s, in which {came} bytes came")
             await asyncio.wait({future}, timeout=min(left, 0.1) if seen else left)
             if seen:
-                seen(reader.total - before)
+                seen(self.reply_bytes() - before)
             if future.done():
                 return future.result()
+
+    def reply_bytes(self) -> int:
+        """The bytes that came, but for control frames and notices: what puts off a time limit."""
+        return self.link.reader.total - self.link.control_bytes - self.notice_bytes
 
     async def ping(self) -> None:
         """Returns when the server has taken all that was sent before."""
@@ -182,7 +211,7 @@ class Session:
         body = bytearray()
         codec.put_number(body, now())
         number = self.post("Ping", bytes(body))
-        return number, self._expect(number)[1]
+        return number, self._expect(number, "Ping")[1]
 
     # -- reading
 
@@ -202,10 +231,11 @@ class Session:
         """Ends the session: every open request gets the error."""
         if self.lost is not None:
             return
-        self.lost = error if isinstance(error, LinkLost) else LinkLost(str(error), 1002)
+        self.lost = error if isinstance(error, LinkLost) else PeerError(str(error), 1002)
         self.lost.__cause__ = error if self.lost is not error else None
         self.link.start_close(1000 if isinstance(error, LinkLost) and error.code == 1000 else 1002)
         self.link.writer.close()
+        asyncio.get_running_loop().call_later(LINGER, self.link.writer.transport.abort)
         self.beat.cancel()
         for _, future in self.asks.values():
             if not future.done():
@@ -213,6 +243,11 @@ class Session:
                 future.exception()
         for tell in self.on_lost:
             tell(self.lost)
+
+    def give_up(self, error: LinkLost) -> None:
+        """Ends a session whose server doesn't answer in time."""
+        self.link.abort()
+        self.fail(error)
 
     def take(self, data: bytes) -> None:
         """Takes one message of the server's."""
@@ -233,6 +268,7 @@ class Session:
             raise PeerError(f"a {body.name} between the parts of another message")
         self.between = None if header.flags & FINAL else place
         if header.correlation == 0:
+            self.notice_bytes += len(data)
             self._take_notice(header, body.name, value)
         else:
             self._take_reply(header, body.name, value, len(data))
@@ -339,10 +375,8 @@ class Session:
             "requestedProtocols": asked, "supportedFormats": list(formats), "currentDateTime": now(),
             "endpointCapabilities": {"MaxWebSocketMessagePayloadSize": {"item": (3, MESSAGE_LIMIT)}},
         })
-        if reply.value is None or "sessionId" not in reply.value:
-            raise PeerError("no OpenSession for a RequestSession")
-        self.opened = reply.value
-        return reply.value
+        self.opened = reply.body()
+        return self.opened
 
     async def _keep_alive(self) -> None:
         """Pings a silent server, and gives it up."""

@@ -76,11 +76,12 @@ class Patience:
         self.tries, self.since = 0, None
 
     async def wait(self, lost: EtpError) -> None:
-        """Waits, each time longer, until the next try. Raises the error where patience is at its end or the store is closed."""
+        """Waits, each time longer, until the next try. Raises the error where patience is at its end or the store is closed, and where the
+        server broke the rules, as it would again."""
         clock = asyncio.get_running_loop().time
         pause = WAITS[min(self.tries, len(WAITS) - 1)]
         self.since = clock() if self.since is None else self.since
-        if self.store.is_closed or clock() - self.since + pause > self.store.patience:
+        if isinstance(lost, PeerError) or self.store.is_closed or clock() - self.since + pause > self.store.patience:
             raise lost
         self.tries += 1
         await asyncio.sleep(pause)
@@ -216,19 +217,19 @@ class Store:
         reply = await self.ask("GetDataspaces", again=True, storeLastWriteFilter=newer_than)
         return [
             Space(each["uri"], each["path"], each["storeLastWrite"], each["storeCreated"], custom_from_wire(each["customData"]))
-            for each in one(reply)["dataspaces"]
+            for each in reply.body()["dataspaces"]
         ]
 
     async def put_space(self, path: str, custom: Optional[dict[str, Any]] = None) -> str:
         """Makes a dataspace, or sets the custom data of one. Returns its URI."""
         uri = space_uri(path)
         space = codec.filled("Dataspace", uri=uri, path=path, customData=custom_to_wire(custom or {}))
-        one(await self.ask("PutDataspaces", dataspaces={"0": space}))
+        (await self.ask("PutDataspaces", dataspaces={"0": space})).item("success")
         return uri
 
     async def drop_space(self, path: str) -> None:
         """Removes a dataspace with all objects and arrays in it. Raises `NotFound` where there is none."""
-        one(await self.ask("DeleteDataspaces", uris={"0": space_uri(path)}))
+        (await self.ask("DeleteDataspaces", uris={"0": space_uri(path)})).item("success")
 
     # -- objects
 
@@ -237,7 +238,7 @@ class Store:
         for `xml`)."""
         reply = await self.ask(
             "GetDataObjects", again=True, session=session, seen=progress and (lambda size: progress(size, None)), uris={"0": uri}, format=format)
-        return _data_object(one(reply)["dataObjects"]["0"])
+        return _data_object(reply.item("dataObjects"))
 
     async def get_many(self, uris: Iterable[str], format: str = "", session: Optional[Session] = None) -> dict[str, DataObject]:
         """The objects of these URIs, by URI; those that are refused are left out, and named by `SomeRefused` only where all are."""
@@ -271,11 +272,12 @@ class Store:
             numbers = [used.post("PutDataObjects", bytes(body), 0 if is_long else FINAL)]
             if blob is not None:
                 await _post_chunks(used, numbers, blob, raw, progress)
-            one(await used.finish(numbers, "PutDataObjects"))
+            (await used.finish(numbers, "PutDataObjects")).item("success")
 
     async def delete(self, uri: str, session: Optional[Session] = None) -> None:
         """Removes an object with its arrays. Raises `NotFound` where there is none."""
-        one(await self.ask("DeleteDataObjects", session=session, uris={"0": uri}, pruneContainedObjects=False))
+        reply = await self.ask("DeleteDataObjects", session=session, uris={"0": uri}, pruneContainedObjects=False)
+        reply.item("deletedUris")
 
     # -- arrays, channels, transactions
 
@@ -296,8 +298,7 @@ class Store:
             for key, error in reply.refused.items():
                 error.key = keys[key]
                 raise error
-            records = one(reply)["metadata"]
-            found += [Channel(self, records[str(place)]) for place in range(len(some))]
+            found += [Channel(self, reply.item("metadata", str(place))) for place in range(len(some))]
         return found
 
     def watch(self, channels: Iterable[Channel], **how: Any) -> Watch:
@@ -315,16 +316,6 @@ class Store:
 def _in_lots(items: list) -> Iterable[list]:
     for begin in range(0, len(items), MOST_KEYS):
         yield items[begin:begin + MOST_KEYS]
-
-
-def one(reply: Reply) -> dict:
-    """The body that answers a request of one item, whose refusal is raised."""
-    for error in reply.refused.values():
-        error.key = None
-        raise error
-    if reply.value is None:
-        raise PeerError("a reply without a response")
-    return reply.value
 
 
 async def _post_chunks(session: Session, numbers: list[int], blob: bytes, data: bytes, progress: Optional[Progress]) -> None:

@@ -51,19 +51,19 @@ class Transaction:
         self.used = await self.store.session()
         reply = await self.used.ask(
             "StartTransaction", {"readOnly": self.read_only, "message": self.message, "dataspaceUris": self.spaces})
-        self.id = (reply.value or {}).get("transactionUuid")
+        self.id = reply.body()["transactionUuid"]
 
     async def _end(self, name: str) -> dict:
         session, number = self.open_session(), self.id
         self.id = None
         reply = await session.ask(name, {"transactionUuid": number})
-        return reply.value or {}
+        return reply.body()
 
     async def commit(self) -> None:
         """Makes what was put one entry. Raises `Conflict` or `CommitFailed`, and nothing is put then; after `LinkLost` it is not known."""
         answer = await self._end("CommitTransaction")
-        if not answer.get("successful"):
-            reason = str(answer.get("failureReason", ""))
+        if not answer["successful"]:
+            reason = answer["failureReason"]
             place = re.fullmatch(r"conflict (\d+)", reason)
             raise Conflict(reason, int(place[1])) if place else CommitFailed(reason)
 

@@ -71,6 +71,7 @@ class _Followed:
 
     def __init__(self, channel: "Channel"):
         self.channel = channel
+        self.start: Optional[int] = None
         self.last: Optional[int] = None
         self.begins_anew = False
         self.tail_from: Optional[int] = None
@@ -102,6 +103,8 @@ class Watch:
         self.followed = {channel.id: _Followed(channel) for channel in channels}
         self.store = channels[0].store
         self.start: Union[None, str, int] = start if start is None or start == "now" else index_of(start)
+        for followed in self.followed.values():
+            followed.start = self.start if isinstance(self.start, int) else None
         self.latest, self.changes, self.resume = latest, changes, resume
         self.restarts = 0
         self._queue: collections.deque[Change] = collections.deque()
@@ -125,7 +128,15 @@ class Watch:
     async def begin(self) -> None:
         """Subscribes, if that was not done yet; iterating does it too."""
         if self._session is None and not self._is_closed:
+            if self.start == "now":
+                await self._pin_starts()
             await self.store.insist(lambda session: self._subscribe(session, None))
+
+    async def _pin_starts(self) -> None:
+        """Notes where each channel ends now, so that a new beginning begins there too."""
+        uris = [followed.channel.uri for followed in self.followed.values()]
+        for followed, found in zip(self.followed.values(), await self.store.channels(uris)):
+            followed.start = LEAST if found.last is None else found.last + 1
 
     async def __anext__(self) -> Change:
         await self.begin()
@@ -185,7 +196,7 @@ class Watch:
         infos = {str(number): self._info(self.followed[number], latest) for number in numbers}
         reply = await session.ask("SubscribeChannels", {"channels": infos})
         for key, error in reply.refused.items():
-            if error.code != 12 or latest is not None or self.start == "now":
+            if error.code != 12 or latest is not None:
                 raise error
             await self._subscribe_long(session, self.followed[int(key)])
 
@@ -193,7 +204,7 @@ class Watch:
         if followed.tail_from is not None:
             latest, index = None, (1, followed.tail_from)
         else:
-            index = (0, None) if self.start == "now" else (1, LEAST if self.start is None else self.start)
+            index = (1, LEAST if followed.start is None else followed.start)
         return codec.filled(
             "ChannelSubscribeInfo", channelId=followed.channel.id, startIndex={"item": index}, dataChanges=self.changes,
             requestLatestIndexCount=latest)
@@ -201,7 +212,7 @@ class Watch:
     async def _subscribe_long(self, session: Session, followed: _Followed) -> None:
         """Subscribes to the last points of a channel that has too many, and hands out those before them first."""
         begun, held = followed.begins_anew, len(self._queue)
-        start = followed.tail_from if followed.tail_from is not None else self.start if isinstance(self.start, int) else None
+        start = followed.tail_from if followed.tail_from is not None else followed.start
         followed.begins_anew, followed.tail_from = False, None
         await self._ask_for(session, [followed.channel.id], LATEST)
         await session.ping()
@@ -226,7 +237,7 @@ class Watch:
         broken = self._broken
         if broken is None:
             return
-        if self.resume is None or isinstance(broken, TimeLimit):
+        if self.resume is None:
             raise broken
         session = self._session
         if session is not None and session.lost is None:
@@ -237,11 +248,11 @@ class Watch:
                 await self._patience.wait(broken)
                 await self._subscribe(await self.store.session(), broken)
                 return
-            except TimeLimit:
-                raise
             except LinkLost as error:
                 if error is broken:
                     raise
+                if isinstance(error, TimeLimit) and self._session is not None:
+                    self._session.give_up(error)
                 broken = error
 
     # -- what comes

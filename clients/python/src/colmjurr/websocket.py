@@ -74,7 +74,7 @@ class WebSocket:
     def __init__(self, reader: HeardReader, writer: asyncio.StreamWriter):
         self.reader, self.writer = reader, writer
         self.is_closing = False
-        self.asked = b""
+        self.control_bytes = 0
 
     def post(self, data: bytes) -> None:
         """Hands one binary message to the connection; it may wait there until the peer has read what came before."""
@@ -83,12 +83,12 @@ class WebSocket:
         self.writer.writelines(frame(BINARY, data))
 
     async def drain(self) -> None:
-        """Waits until little is left to send. Raises `TimeLimit` where the peer reads nothing for WRITE_LIMIT seconds."""
+        """Waits until little is left to send. Raises `LinkLost` where the peer reads nothing for WRITE_LIMIT seconds."""
         try:
             await asyncio.wait_for(self.writer.drain(), WRITE_LIMIT)
         except asyncio.TimeoutError:
             self.abort()
-            raise TimeLimit(f"the server read nothing for {WRITE_LIMIT:.0f} s") from None
+            raise LinkLost(f"the server read nothing for {WRITE_LIMIT:.0f} s") from None
         except (ConnectionError, OSError) as error:
             raise LinkLost(f"the connection broke off: {error}") from None
 
@@ -138,6 +138,7 @@ class WebSocket:
             raise LinkLost(f"the connection broke off: {error}") from None
 
     def _take_control(self, last: bool, opcode: int, data: bytes) -> None:
+        self.control_bytes += 2 + len(data)
         if not last:
             raise PeerError("a control frame in pieces", 1002)
         if opcode == PING:
