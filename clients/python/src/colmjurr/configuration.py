@@ -109,7 +109,7 @@ class _Checked:
         types = self.types()
         tables = self.channel_tables()
         channels = [self.channel(place, each) for place, each in enumerate(tables, 1)]
-        return Configuration(uuid.UUID(instance), name, lag, journal, types, channels)
+        return Configuration(uuid.UUID(instance.lower()), name, lag, journal, types, channels)
 
     def text(self, table: dict[str, Any], key: str, channel: int, least: int, most: int) -> str:
         value = table.get(key)
