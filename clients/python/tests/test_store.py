@@ -282,7 +282,7 @@ class Kinds(Case):
             self.assertEqual((len(channel.range(11, 19)), len(channel.range(30, 20))), (0, 0))
             channel.refresh()
             self.assertEqual((channel.first, channel.last), (10, 40))
-            if channel.kind in ("double", "boolean", "string"):
+            if numpy is not None and channel.kind in ("double", "boolean", "string"):
                 frame = found.to_pandas()
                 self.assertEqual((list(frame.columns), len(frame), frame.attrs["uom"]), ([channel.name], 4, channel.unit))
                 self.assertEqual(frame.index[0].isoformat(), "1970-01-01T00:00:00.000010+00:00")

@@ -52,7 +52,11 @@ def write_varints(values: Any) -> bytes:
 def varints_at(data: Any, starts: Any, sizes: Any) -> Any:
     """The signed numbers whose varints begin at these places of an array of bytes and have these sizes, of at most LONGEST."""
     raw = numpy.zeros(len(starts), dtype=numpy.uint64)
+    least = int(sizes.min(initial=LONGEST))
     for place in range(int(sizes.max(initial=0))):
+        if place < least:
+            raw |= (data[starts + place] & 0x7F).astype(numpy.uint64) << numpy.uint64(7 * place)
+            continue
         chosen = sizes > place
         group = (data[starts[chosen] + place] & 0x7F).astype(numpy.uint64)
         raw[chosen] |= group << numpy.uint64(7 * place)

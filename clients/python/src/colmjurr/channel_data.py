@@ -291,23 +291,73 @@ def _written_fast(channel: int, branch: int, indexes: Any, values: Any) -> bytes
     raw_values = zigzag(values) if is_number else None
     width = {1: 1, 4: 4, 5: 8}.get(branch, 0)
     value_sizes = varint_sizes(raw_values) if is_number else numpy.full(len(values), width, dtype=numpy.int64)
-    sizes = len(front) + index_sizes + len(back) + value_sizes + 1
+    parts = _Parts(front, raw_indexes, index_sizes, back, values, raw_values, value_sizes)
+    return _alike_rows(parts) if _all_same(index_sizes) and _all_same(value_sizes) else _rows_in_turn(parts)
+
+
+class _Parts(NamedTuple):
+    """What a run of points is written from: the bytes before and behind each index, the numbers, and their sizes."""
+
+    front: bytearray
+    indexes: Any
+    index_sizes: Any
+    back: bytes
+    values: Any
+    numbers: Any
+    value_sizes: Any
+
+
+def _all_same(sizes: Any) -> bool:
+    return bool((sizes == sizes[0]).all())
+
+
+def _octets(values: Any, width: int) -> Any:
+    return numpy.ascontiguousarray(values).view(numpy.uint8).reshape(len(values), width)
+
+
+def _alike_rows(parts: _Parts) -> bytes:
+    """Points that all have as many bytes: rows of a table."""
+    index_at, index_size = len(parts.front), int(parts.index_sizes[0])
+    value_at, value_size = index_at + index_size + len(parts.back), int(parts.value_sizes[0])
+    rows = numpy.empty((len(parts.indexes), value_at + value_size + 1), dtype=numpy.uint8)
+    rows[:, :index_at] = numpy.frombuffer(bytes(parts.front), dtype=numpy.uint8)
+    _put_column(rows, index_at, parts.indexes, index_size)
+    rows[:, index_at + index_size:value_at] = numpy.frombuffer(parts.back, dtype=numpy.uint8)
+    if parts.numbers is not None:
+        _put_column(rows, value_at, parts.numbers, value_size)
+    else:
+        rows[:, value_at:-1] = _octets(parts.values, value_size)
+    rows[:, -1] = 0
+    return rows.tobytes()
+
+
+def _put_column(rows: Any, at: int, raw: Any, size: int) -> None:
+    """Writes varints that all have as many bytes."""
+    for place in range(size):
+        group = (raw >> numpy.uint64(7 * place)).astype(numpy.uint8)
+        rows[:, at + place] = group & 0x7F | (0x80 if place < size - 1 else 0)
+
+
+def _rows_in_turn(parts: _Parts) -> bytes:
+    """Points of several sizes: each begins where the one before it ends."""
+    sizes = len(parts.front) + parts.index_sizes + len(parts.back) + parts.value_sizes + 1
     ends = numpy.cumsum(sizes)
     starts = ends - sizes
     out = numpy.zeros(int(ends[-1]), dtype=numpy.uint8)
-    for place, byte in enumerate(front):
+    for place, byte in enumerate(parts.front):
         out[starts + place] = byte
-    index_at = starts + len(front)
-    put_varints(out, index_at, raw_indexes, index_sizes)
-    back_at = index_at + index_sizes
-    out[back_at + 1] = back[1]
-    value_at = back_at + len(back)
-    if is_number:
-        put_varints(out, value_at, raw_values, value_sizes)
-    else:
-        octets = numpy.ascontiguousarray(values).view(numpy.uint8).reshape(len(values), width)
-        for place in range(width):
-            out[value_at + place] = octets[:, place]
+    index_at = starts + len(parts.front)
+    put_varints(out, index_at, parts.indexes, parts.index_sizes)
+    back_at = index_at + parts.index_sizes
+    out[back_at + 1] = parts.back[1]
+    value_at = back_at + len(parts.back)
+    if parts.numbers is not None:
+        put_varints(out, value_at, parts.numbers, parts.value_sizes)
+        return out.tobytes()
+    width = int(parts.value_sizes[0])
+    octets = _octets(parts.values, width)
+    for place in range(width):
+        out[value_at + place] = octets[:, place]
     return out.tobytes()
 
 
