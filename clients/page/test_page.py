@@ -1,0 +1,581 @@
+#!/usr/bin/env python3
+"""The tests of the log page, in a headless browser.
+
+    python3 test_page.py [-v] [TEST ...]
+
+The page is opened from its file. It follows a small server of these tests' own, and where the environment's ETPD names a built server,
+that one too. What has to stand in the page comes from the server's store, from bench/wire.py, or from arithmetic in the test. With
+PICTURE in the environment the picture of the page is written to that path.
+"""
+import asyncio
+import json
+import math
+import os
+import random
+import struct
+import sys
+import time
+import unittest
+import urllib.parse
+import uuid
+from pathlib import Path
+
+FOLDER = Path(__file__).resolve().parent
+sys.path[:0] = [str(FOLDER / "tests"), str((FOLDER.parent.parent / "bench/wire.py").parent)]
+
+import browser  # noqa: E402
+import wire  # noqa: E402
+from picture import Picture  # noqa: E402
+from rig import Etpd, Proxy  # noqa: E402
+from stub import KINDS, Stub, interval, item, long_index, message  # noqa: E402
+
+SECOND = 1_000_000
+ETPD = os.environ.get("ETPD")
+MILLION = 1_000_000
+HOSTILE = '<img src=x onerror="window.harmed=1">\u202e<script>window.harmed=1</script>'
+COPY = "(() => { const c = app.link.channels[%d].column; return Array.from({length: c.count}, (_, i) => [c.times[i], String(c.valueAt(i))]); })()"
+
+
+def is_blue(color):
+    """Whether a pixel is of the first track's curve, or of its edge; the grid is grey."""
+    red, _, blue = color
+    return blue - red > 50
+
+
+def uri(number):
+    return f"eml:///witsml21.Channel({uuid.UUID(int=0x100 + number)})"
+
+
+def specs(*kinds):
+    return [(uri(number), f"channel {number}", kind, "m") for number, kind in enumerate(kinds)]
+
+
+def javascript(value):
+    """The text of a value in JavaScript's `String`, where it has one short form here."""
+    if isinstance(value, bool):
+        return str(int(value))
+    if isinstance(value, bytes):
+        return value.hex()
+    if isinstance(value, float):
+        return str(int(value)) if value == int(value) else repr(value)
+    return str(value)
+
+
+def address(url, uris, **words):
+    pairs = [("url", url), *(("channel", each) for each in uris), *words.items()]
+    return f"{(FOLDER / 'log.html').as_uri()}?{urllib.parse.urlencode(pairs)}"
+
+
+class Case(unittest.IsolatedAsyncioTestCase):
+    async def asyncSetUp(self):
+        asyncio.get_running_loop().set_debug(False)
+        self.browser = await browser.Browser().connect()
+        self.opened, self.helpers = [], []
+
+    async def asyncTearDown(self):
+        for page in self.opened:
+            self.assertEqual(page.errors, self.allowed(page), "errors in the console")
+        await self.browser.disconnect()
+        for helper in reversed(self.helpers):
+            await helper.stop()
+
+    def allowed(self, page):
+        """A link that breaks is an error that the browser itself writes."""
+        return [error for error in page.errors if error.startswith("network: WebSocket connection to") or "ERR_CONNECTION" in error]
+
+    async def helper(self, one):
+        self.helpers.append(one)
+        return await one.start()
+
+    async def open(self, url, uris, width=900, height=700, **words):
+        page = await self.browser.open(address(url, uris, **words), width, height)
+        self.opened.append(page)
+        return page
+
+    async def copies(self, page, number):
+        return [tuple(point) for point in await page.evaluate(COPY % number)]
+
+    async def is_copy(self, page, store, numbers):
+        """Waits until the page's copies are the server's points."""
+        for number in numbers:
+            wanted = [(at, javascript(value)) for at, value in await store.points(number)]
+            for _ in range(200):
+                if (held := await self.copies(page, number)) == wanted:
+                    break
+                await asyncio.sleep(0.05)
+            self.assertEqual(held, wanted, f"channel {number}")
+
+    async def followed(self, page, count):
+        await page.until(f"app.link.channels.filter(it => it.isFollowed).length === {count}")
+
+
+class Followed:
+    """The cases that hold of every server. `store` makes one with these channels."""
+
+    async def test_follows_loads_replacements_and_truncations(self):
+        kinds = ["double", "long", "string", "float", "boolean"]
+        store = await self.store(specs(*kinds))
+        values = {"double": lambda k: k / 8, "long": lambda k: (1 << 61) + k, "string": lambda k: f"sand {k}", "float": lambda k: k / 4,
+                  "boolean": lambda k: k % 2 == 0}
+        chance, held = random.Random(1), {number: [] for number in range(len(kinds))}
+        page = await self.open(store.url, [each[0] for each in store.specs])
+        await self.followed(page, len(kinds))
+        for step in range(150):
+            number = chance.randrange(len(kinds))
+            value, last = values[kinds[number]], held[number][-1] if held[number] else 0
+            what = chance.random()
+            if what < 0.7 or not held[number]:
+                added = [(last + 1 + 2 * k, value(step + k)) for k in range(chance.randrange(1, 600))]
+                await store.load(number, added)
+                held[number] += [at for at, _ in added]
+            elif what < 0.9:
+                begin, end = sorted(chance.sample(range(1, last + 1), 2)) if last > 1 else (1, 1)
+                inside = sorted(chance.sample(range(begin, end + 1), min(end - begin + 1, chance.randrange(0, 300))))
+                await store.replace(number, begin, end, [(at, value(at)) for at in inside])
+                held[number] = sorted({at for at in held[number] if not begin <= at <= end} | set(inside))
+            else:
+                end = chance.randrange(last // 2, last + 1)
+                await store.truncate(number, end)
+                held[number] = [at for at in held[number] if at <= end]
+        await self.is_copy(page, store, range(len(kinds)))
+
+    async def test_comes_back_with_the_right_copy(self):
+        store = await self.store(specs("double", "double"))
+        proxy = await self.helper(Proxy(store.url))
+        await store.load(0, [(at, at / 2) for at in range(1, 500)])
+        page = await self.open(proxy.url, [each[0] for each in store.specs])
+        await self.followed(page, 2)
+        await page.evaluate("app.link.delays = [300]")
+        for round in range(6):
+            proxy.cut()
+            await page.until("document.getElementById('state').className === 'waiting'")
+            self.assertIn("next try in", await page.evaluate("document.getElementById('told').textContent"))
+            await store.load(0, [(1000 * (round + 1) + at, at / 4) for at in range(400)])
+            await store.replace(0, 100 + round, 300, [(200, -1.5 - round)])
+            await store.truncate(0, 1000 * (round + 1) + 350)
+            await store.load(1, [(5 * round + 1, 1.5)])
+            await self.followed(page, 2)
+            await store.load(0, [(1000 * (round + 1) + 900, 7.25)])
+            await self.is_copy(page, store, [0, 1])
+
+    async def test_tells_what_the_server_lacks(self):
+        store = await self.store(specs("double"))
+        page = await self.open(store.url, [store.specs[0][0], uri(77)])
+        await self.followed(page, 1)
+        await page.until("app.tracks[1].note.textContent === 'not found (11)'")
+        self.assertEqual(await page.evaluate("app.tracks[0].note.textContent"), "")
+
+    async def test_takes_the_latest_points_of_a_channel_that_has_too_many(self):
+        store = await self.store(specs("double"))
+        self.limit_to_a_million(store)
+        await store.load(0, [(at, float(at % 97)) for at in range(1, 1_048_576 + 2)])
+        page = await self.open(store.url, [store.specs[0][0]])
+        await page.until("app.link.channels[0].column.count === 500000")
+        await page.until("app.tracks[0].note.textContent.startsWith('the latest 500,000 points')")
+        self.assertEqual(await page.evaluate("app.link.channels[0].column.times[0]"), 1_048_577 - 499_999)
+        await store.load(0, [(2_000_000, 3.5)])
+        await page.until("app.link.channels[0].column.count === 500001")
+
+    def limit_to_a_million(self, store):
+        pass
+
+    async def test_draws_a_million_points_in_a_frame(self):
+        store = await self.store(specs("double"))
+        await store.load(0, [(at * SECOND, 50 + 40 * math.sin(at / 5000) + at % 7) for at in range(1, MILLION + 1)])
+        page = await self.open(store.url, [store.specs[0][0]], span=0)
+        begun = time.monotonic()
+        await page.until(f"app.link.channels[0].column.count === {MILLION}", 120)
+        held = time.monotonic() - begun
+        for words in ("app.view.all = true", "app.view.all = false; app.view.span = 3600e6"):
+            await page.evaluate(words)
+            times = await page.evaluate("""(async () => {
+              const times = [];
+              for (let k = 0; k < 15; k++) {
+                await new Promise(next => requestAnimationFrame(next));
+                app.link.channels[0].column.note(app.link.channels[0].column.lastTime);
+                app.draw();
+                app.axis.getContext('2d').getImageData(0, 0, 1, 1);
+                app.tracks[0].canvas.getContext('2d').getImageData(0, 0, 1, 1);
+                times.push(app.frameTime);
+              }
+              return times.sort((a, b) => a - b);
+            })()""")
+            print(f"  {type(self).__name__}: a million points held after {held:.1f} s, {words!r}: median {times[7]:.1f} ms, most {times[-1]:.1f} ms",
+                  file=sys.stderr)
+            self.assertLess(times[7], 50)
+
+
+class WithStub(Followed, Case):
+    async def store(self, channels):
+        store = await self.helper(Stub(channels))
+        store.specs = channels
+        return store
+
+
+@unittest.skipUnless(ETPD, "ETPD doesn't name a built server")
+class WithEtpd(Followed, Case):
+    async def store(self, channels):
+        return await self.helper(Etpd(ETPD, channels))
+
+    async def test_begins_at_a_moment(self):
+        store = await self.store(specs("double"))
+        now = int(time.time())
+        await store.load(0, [((now - 600 + at) * SECOND, at / 2) for at in range(600)])
+        page = await self.open(store.url, [store.specs[0][0]], **{"from": "-300"})
+        await self.followed(page, 1)
+        await page.until("app.link.channels[0].column.count > 200")
+        first = await page.evaluate("app.link.channels[0].column.times[0]")
+        self.assertLess(abs(first / SECOND - (now - 300)), 20)
+        await page.until("/^\\d+ s behind$/.test(document.getElementById('behind').textContent)")
+        behind = int((await page.evaluate("document.getElementById('behind').textContent")).split()[0])
+        self.assertLess(abs(behind - (time.time() - now + 1)), 3)
+
+
+class Drawn(Case):
+    """What stands in the pixels, and what the page says."""
+
+    async def ramp(self, points, **words):
+        store = await self.helper(Stub(specs("double")))
+        await store.load(0, points)
+        page = await self.open(store.channels and store.url, [uri(0)], scale="0:100", **words)
+        await page.until(f"app.link.channels[0].column.count === {len(points)}")
+        await asyncio.sleep(0.3)
+        box = await page.evaluate("(() => { const b = app.tracks[0].canvas.getBoundingClientRect(); return [b.left, b.top, b.width, b.height]; })()")
+        return store, page, Picture(await page.screenshot()), box
+
+    def xs(self, picture, box, y):
+        left, top, width, _ = box
+        return [x - left for x in picture.columns(round(top + y), math.ceil(left), int(left + width), is_blue)]
+
+    async def test_pixels_stand_where_the_values_say(self):
+        # A value that rises from 0 to 100 in 1,000 s; 2 hundredths of the span stay free at the bottom.
+        points = [(at * SECOND, at / 10) for at in range(1001)]
+        _, _, picture, box = await self.ramp(points, span=1000)
+        _, _, width, height = box
+        for second in range(60, 1000, 47):
+            y = (second - 1000 + 0.98 * 1000) / 1000 * height
+            found, wanted = self.xs(picture, box, y), second / 1000 * width
+            self.assertTrue(found, f"nothing is drawn at {second} s")
+            self.assertLessEqual(max(abs(x - wanted) for x in found), 3, f"{second} s")
+
+    async def test_a_spike_among_a_thousand_points_in_a_row_is_drawn(self):
+        points = [(at * 1000, 100.0 if at == 250_000 else 10.0) for at in range(1, 500_001)]
+        _, _, picture, box = await self.ramp(points, span=500)
+        _, _, width, height = box
+        row = round(0.48 * height)
+        reached = max(max(self.xs(picture, box, y), default=0) for y in range(row - 2, row + 3))
+        self.assertGreater(reached, width - 4)
+        for y in (0.3 * height, 0.7 * height):
+            self.assertLess(max(self.xs(picture, box, y)), 0.1 * width + 3)
+
+    async def test_a_break_stays_free(self):
+        points = [(at * SECOND, 50.0) for at in [*range(400), *range(600, 1001)]]
+        _, _, picture, box = await self.ramp(points, span=1000)
+        _, _, _, height = box
+        row = lambda second: (second - 20) / 1000 * height
+        self.assertEqual(self.xs(picture, box, row(500)), [])
+        self.assertTrue(self.xs(picture, box, row(300)) and self.xs(picture, box, row(700)))
+
+    async def test_depth_goes_down_the_page(self):
+        # The depth goes from 1,000 to 1,100 m in 1,000 s; the curve's value is a hundredth of its depth above 1,000.
+        store = await self.helper(Stub([(uri(0), "GR", "double", "gAPI"), (uri(1), "Hole depth", "double", "m")]))
+        await store.load(1, [(at * SECOND, 1000 + at / 10) for at in range(0, 1001, 5)])
+        await store.load(0, [(at * SECOND + 1, at / 10) for at in range(0, 1001, 5)])
+        page = await self.open(store.url, [uri(0)], depth=uri(1), span=100, scale="0:100")
+        await page.until("app.link.channels[0].column.count === 201")
+        await asyncio.sleep(0.3)
+        box = await page.evaluate("(() => { const b = app.tracks[0].canvas.getBoundingClientRect(); return [b.left, b.top, b.width, b.height]; })()")
+        picture, (_, _, width, height) = Picture(await page.screenshot()), box
+        for value in range(10, 100, 9):
+            found = self.xs(picture, box, (value - 2) / 100 * height)
+            self.assertLessEqual(max(abs(x - value / 100 * width) for x in found), 3, f"{1000 + value} m")
+        self.assertEqual(await page.evaluate("document.getElementById('unit').textContent"), "Hole depth, m")
+        # A correction of the depth moves what was measured since.
+        await store.replace(1, 500 * SECOND, 1000 * SECOND, [(500 * SECOND, 1200.0)])
+        await page.until("app.reach()[1] === 1200")
+        self.assertEqual(await page.evaluate("Array.from(app.tracks[0].channel.column.places.subarray(99, 102))"), [1049.5, 1200, 1200])
+
+    async def test_names_are_text(self):
+        store = await self.helper(Stub([(uri(0), HOSTILE, "double", HOSTILE), (uri(1), "lithology", "string", "")], name=HOSTILE))
+        await store.load(0, [(SECOND, 1.0)])
+        await store.load(1, [(SECOND, HOSTILE)])
+        page = await self.open(store.url, [uri(0), uri(1)])
+        await page.until("app.link.channels.every(it => it.column.count === 1)")
+        await asyncio.sleep(1.2)
+        self.assertEqual(await page.evaluate("app.tracks[0].name.textContent"), HOSTILE)
+        self.assertEqual(await page.evaluate("app.tracks[1].value.textContent"), HOSTILE)
+        self.assertIsNone(await page.evaluate("window.harmed"))
+        self.assertEqual(await page.evaluate("document.querySelectorAll('img').length"), 0)
+        self.assertEqual(await page.evaluate("document.querySelectorAll('script').length"), 1)
+
+    async def test_moves_by_wheel_drag_and_keys_and_comes_back_to_the_newest(self):
+        store, page, _, (left, top, width, height) = await self.ramp([(at * SECOND, 1.0) for at in range(5000)], span=1000)
+        end = "Math.round(app.view.end / 1e6)"
+        self.assertEqual(await page.evaluate(end), 5019)
+        mouse = lambda kind, **words: self.browser.ask("Input.dispatchMouseEvent", page.session, type=kind, x=left + 50, **words)
+        await mouse("mouseWheel", y=top + 100, deltaX=0, deltaY=-height)
+        await page.until(f"{end} === 4019")
+        await mouse("mousePressed", y=top + 100, button="left", clickCount=1)
+        await mouse("mouseMoved", y=top + 100 + height / 10, button="left")
+        await mouse("mouseReleased", y=top + 100 + height / 10, button="left")
+        await page.until(f"{end} === 3919")
+        await page.evaluate("window.dispatchEvent(new KeyboardEvent('keydown', {key: 'PageDown'}))")
+        await page.until(f"{end} === 4819")
+        await store.load(0, [(5000 * SECOND, 1.0)])
+        await asyncio.sleep(0.3)
+        self.assertEqual(await page.evaluate(end), 4819, "it doesn't follow where one looks back")
+        await page.evaluate("document.getElementById('newest').click()")
+        await page.until(f"{end} === 5020")
+
+
+class Hostile(Case):
+    """A server that says what it should not."""
+
+    async def refused(self, say, told, count=1):
+        """Each session that is opened is sent what `say` sends; the page has to tell it."""
+        store = await self.helper(Stub(specs("double")))
+        store.after_open = say
+        page = await self.open(store.url, [uri(0)])
+        await page.until(f"document.getElementById('told').textContent.startsWith({json.dumps('message refused: ' + told)})")
+        return page
+
+    async def test_200_broken_messages_are_told(self):
+        wholes = [message(*each) for each in whole_messages()]
+        chance, broken = random.Random(7), []
+        while len(broken) < 200:
+            data = bytearray(chance.choice(wholes))
+            for _ in range(chance.randrange(1, 4)):
+                data[chance.randrange(len(data))] = chance.randrange(256)
+            data = bytes(data[:chance.randrange(len(data) + 1)] if chance.random() < 0.3 else data)
+            if told := fault_of(data):
+                broken.append((data, told))
+        left = iter(broken)
+        store = await self.helper(Stub(specs("double")))
+        store.after_open = lambda session: session.write(next(left, (message(0, 9, 0, 3, dict(currentDateTime=0)), 0))[0])
+        page = await self.open(store.url, [uri(0)])
+        await page.evaluate("app.link.delays = [1]")
+        await page.until("app.events.filter(it => it.includes('message refused')).length >= 200", 300)
+        await self.followed(page, 1)
+        events = [each.split(" ", 1)[1] for each in await page.evaluate("app.events") if "message refused: " in each]
+        self.assertEqual([each.removeprefix("message refused: ").rsplit(";", 1)[0] for each in events], [told for _, told in broken])
+
+    async def test_refuses_what_may_not_come(self):
+        point = lambda *each: item(0, "double", *each)
+        cases = [
+            (lambda it: it.write(message(0, 9, 0, 1, dict(currentDateTime=0))), "the id 1 comes after 1"),
+            (lambda it: it.write(b"text", 1), "a text message"),
+            (lambda it: it.say(21, 4, 0, dict(data=[point(1, 1.0)])), "points of the channel 0, which is not subscribed"),
+            (lambda it: it.say(21, 12, 99, dict(success={})), "SubscribeChannelsResponse was not asked for"),
+            (lambda it: (it.say(21, 6, 0, dict(changeTime=0, channelIds=[], changedInterval=interval(0, 9), data=[]), False),
+                         it.say(21, 4, 0, dict(data=[]))), "ChannelData amid the parts of RangeReplaced"),
+            (lambda it: it.say(21, 6, 0, dict(changeTime=0, channelIds=[], changedInterval=interval(0, None), data=[])), "an index that is no long"),
+            (lambda it: it.say(21, 8, 0, dict(reason="gone", channelIds={"a": 5})), "the end of the channel 5, which is not subscribed"),
+        ]
+        for say, told in cases:
+            with self.subTest(told):
+                await self.refused(say, told)
+
+    async def test_refuses_points_out_of_order(self):
+        point = lambda *each: item(0, "double", *each)
+        notices = [
+            ([(4, dict(data=[point(5, 1.0), point(5, 2.0)]))], "the point at 5 doesn't come after the last one, at 5"),
+            ([(4, dict(data=[point(1 << 53, 1.0)]))], "a time beyond 2^53, 9007199254740992, which the page can't draw"),
+            ([(4, dict(data=[dict(point(1, 1.0), indexes=[])]))], "a point without one index that is a long"),
+            ([(6, dict(changeTime=0, channelIds=[0], changedInterval=interval(0, 9), data=[point(10, 1.0)]))],
+             "a replacement has a point at 10, outside of its interval"),
+            ([(6, dict(changeTime=0, channelIds=[0], changedInterval=interval(0, 9), data=[point(5, 1.0), point(4, 1.0)]))],
+             "a replacement has a point at 4 out of order"),
+            ([(6, dict(changeTime=0, channelIds=[], changedInterval=interval(0, 9), data=[point(5, 1.0)]))],
+             "a replacement has points of the channel 0, which it doesn't name"),
+        ]
+        for said, told in notices:
+            with self.subTest(told):
+                store = await self.helper(Stub(specs("double")))
+                page = await self.open(store.url, [uri(0)])
+                await self.followed(page, 1)
+                for kind, value in said:
+                    for session in store.sessions:
+                        session.say(21, kind, 0, value)
+                await page.until(f"document.getElementById('told').textContent.startsWith({json.dumps('message refused: ' + told)})")
+
+    async def test_follows_anew_after_lagging(self):
+        store = await self.helper(Stub(specs("double", "double")))
+        store.specs = specs("double", "double")
+        await store.load(0, [(at, at / 2) for at in range(1, 100)])
+        page = await self.open(store.url, [uri(0), uri(1)])
+        await self.followed(page, 2)
+        for session in store.sessions:
+            session.lag()
+        await store.replace(0, 5, 50, [(7, 1.5)])
+        await store.load(0, [(200, 2.5)])
+        await self.followed(page, 2)
+        await self.is_copy(page, store, [0, 1])
+        self.assertEqual(store.count, 1, "the link is the same")
+
+    async def test_a_replacement_in_parts_is_one(self):
+        import stub
+        store = await self.helper(Stub(specs("double")))
+        await store.load(0, [(at, 1.5) for at in range(1, 1000)])
+        page = await self.open(store.url, [uri(0)])
+        await self.followed(page, 1)
+        stub.PART_ITEMS, kept = 7, stub.PART_ITEMS
+        try:
+            await store.replace(0, 100, 900, [(at, 2.5) for at in range(100, 900, 3)])
+        finally:
+            stub.PART_ITEMS = kept
+        await self.is_copy(page, store, [0])
+
+    async def test_gives_up_a_server_that_says_nothing(self):
+        silent = await asyncio.start_server(lambda reader, writer: asyncio.sleep(60), "127.0.0.1", 0)
+        page = await self.open(f"ws://127.0.0.1:{silent.sockets[0].getsockname()[1]}/", [uri(0)])
+        await page.until("document.getElementById('told').textContent.startsWith('no session within 10 s')", 20)
+        silent.close()
+
+
+class Read(Case):
+    """The page's reader beside the one from outside."""
+
+    async def test_reads_as_the_reader_from_outside(self):
+        page = await self.browser.open((FOLDER / "log.html").as_uri())
+        chance, cases = random.Random(3), []
+        for each in whole_messages():
+            protocol, kind, correlation, number, value = each
+            header = dict(protocol=protocol, messageType=kind, correlationId=correlation, messageId=number, messageFlags=2)
+            loose = wire.write_message(header, wire.BODIES[protocol, kind, "S"], value, loose=True)
+            whole = message(*each)
+            cases += [whole, loose, whole + b"\0", *(data[:at] for data in (whole, loose) for at in range(0, len(data), 1 + len(data) // 150))]
+            for _ in range(200):
+                data = bytearray(chance.choice([whole, loose]))
+                data[chance.randrange(len(data))] = chance.choice([0, 1, 2, 127, 128, 255, chance.randrange(256)])
+                cases.append(bytes(data))
+        words = [data.hex() for data in cases if has_table(data)]
+        told = await page.evaluate("""(list => list.map(hex => {
+          const bytes = new Uint8Array(hex.length / 2).map((_, at) => parseInt(hex.substr(2 * at, 2), 16));
+          try { readMessage(bytes); return ''; } catch (error) { return error instanceof Fault ? error.message : 'uncaught ' + error; }
+        }))(%s)""" % json.dumps(words))
+        self.assertGreater(len(words), 3000)
+        self.assertEqual([(hex, said) for hex, said in zip(words, told)], [(hex, fault_of(bytes.fromhex(hex))) for hex in words])
+
+    async def test_has_the_schema_of_the_reader_from_outside(self):
+        ours = {}
+        for line in (FOLDER / "src/schema.txt").read_text().splitlines():
+            form, name, *rest = line.split(" ")
+            if form == "record":
+                self.assertEqual(wire.TYPES[name], wire.parse_record(name, rest))
+            elif form == "enum":
+                self.assertEqual(wire.TYPES[name], wire.Enum(name, rest))
+            elif form == "message":
+                for sender in "CS" if rest[1] == "B" else rest[1]:
+                    ours[int(name), int(rest[0]), sender] = wire.parse_record(rest[2], rest[3:])
+        self.assertEqual(ours, {key: body for key, body in wire.BODIES.items() if key[0] in (0, 21)})
+
+    async def test_keeps_numbers_beyond_a_double(self):
+        page = await self.browser.open((FOLDER / "log.html").as_uri())
+        numbers = [0, -1, 1 << 52, 2**53 - 1, 2**53, -(2**53), 2**53 + 1, 1 << 60, -(1 << 62), 2**63 - 1, -(2**63), -(2**53) - 1, 1_764_584_400_000_000]
+        hexes = [wire.Writer().number(number).hex() for number in numbers]
+        told = await page.evaluate("""(list => list.map(hex => String(new Reader(new Uint8Array(hex.length / 2).map(
+          (_, at) => parseInt(hex.substr(2 * at, 2), 16))).number())))(%s)""" % json.dumps(hexes))
+        self.assertEqual(told, [str(number) for number in numbers])
+
+
+def fault_of(data):
+    """Why the reader from outside refuses a server's message, or an empty text."""
+    try:
+        wire.read_message(data, "S")
+    except wire.Fault as fault:
+        return str(fault)
+    return ""
+
+
+def has_table(data):
+    """Whether a message is of the protocols that the page reads, or of none at all."""
+    try:
+        return wire.Reader(data).value(wire.HEADER)["protocol"] not in set(wire.PROTOCOLS) - {0, 21}
+    except wire.Refusal:
+        return True
+
+
+def whole_messages():
+    """A server's messages that the page reads, with values of every kind."""
+    values = [wire_any(branch) for branch in range(19)]
+    items = [dict(channelId=0, indexes=[long_index(9)], value=dict(item=value), valueAttributes=[]) for value in values]
+    odd = dict(channelId=1 << 40, indexes=[dict(item=(2, 5)), dict(item=(3, dict({"pass": 1}, direction=2, depth=7))), long_index(None)],
+               value=dict(item=(5, 1)), valueAttributes=[dict(attributeId=1, attributeValue=dict(item=(3, 4)))])
+    doubles = [item(0, "double", at, at / 3) for at in range(1_764_584_400_000_000, 1_764_584_400_000_020)]
+    custom = {f"k{branch}": dict(item=value) for branch, value in enumerate(values)}
+    record = Stub([(uri(0), "ROP \u00e4\u6df1", "double", "m/h")]).channels[0].record() | dict(customData=custom, axisVectorLengths=[3, -4])
+    error = dict(message="not found", code=11)
+    return [
+        (0, 9, 2, 1, dict(currentDateTime=-5)), (0, 5, 0, 3, dict(reason="b\u00fcy")),
+        (0, 1000, 2, 5, dict(error=(1, error), errors={})), (21, 1000, 2, 7, dict(error=(0, None), errors={"a": error, "b": error})),
+        (21, 2, 4, 9, dict(metadata={"c0": record, "c1": record})), (21, 4, 0, 11, dict(data=doubles)), (21, 4, 0, 13, dict(data=[*items, odd])),
+        (21, 6, 0, 15, dict(changeTime=1 << 50, channelIds=[0, 1 << 33], changedInterval=interval(-5, 1 << 61), data=doubles[:3])),
+        (21, 8, 0, 17, dict(reason="lagged 9", channelIds={"0": 0, "x": 300})), (21, 12, 6, 19, dict(success={"c": ""})),
+        (21, 13, 0, 21, dict(changeTime=0, channels=[dict(channelId=0, newEndIndex=long_index(77))])),
+    ]
+
+
+def wire_any(branch):
+    """A value of each branch of a DataValue, as wire.py has it."""
+    array = dict(item=(2, dict(values=[5, -6])))
+    held = [
+        None, True, -3, 1 << 62, struct.unpack("<I", struct.pack("<f", 1.5))[0], struct.unpack("<Q", struct.pack("<d", -2.5))[0], "clay",
+        dict(values=[True, False]), dict(values=[(0, None), (1, True)]), dict(values=[1, 2]), dict(values=[(1, 7), (0, None)]), dict(values=[1 << 40]),
+        dict(values=[(1, 1 << 40)]), dict(values=[1, 2]), dict(values=[3]), dict(values=["a", "\u00df"]), dict(values=[b"", b"xy"]), b"bytes",
+        dict(slices=[dict(start=1, slice=array), dict(start=9, slice=dict(item=(6, b"z")))]),
+    ]
+    return branch, held[branch]
+
+
+class Shown(Case):
+    """The picture of the page that README shows."""
+
+    async def test_picture(self):
+        now = int(time.time())
+        store = await self.helper(Stub([(uri(number), *rest) for number, rest in enumerate(DRILLED)], name="Rig 7"))
+        for number, points in enumerate(drilled(now)):
+            await store.load(number, points)
+        page = await self.open(store.url, [uri(number) for number in range(len(DRILLED))], 1280, 720, **{"span": 2400})
+        await page.evaluate("""app.tracks.forEach((track, place) => track.readScale(%s[place]))""" % json.dumps([each[3] for each in SCALES]))
+        await page.until("app.link.channels.every(it => it.column.count > 5)")
+        await asyncio.sleep(1.2)
+        data = await page.screenshot()
+        self.assertLess(len(data), 150_000)
+        if os.environ.get("PICTURE"):
+            Path(os.environ["PICTURE"]).write_bytes(data)
+
+
+DRILLED = [
+    ("Rate of penetration", "double", "m/h"), ("Weight on bit", "double", "t"), ("Hook load", "double", "t"), ("Rotary speed", "double", "rpm"),
+    ("Standpipe pressure", "double", "bar"), ("Gamma ray", "double", "gAPI"), ("Resistivity", "double", "ohm.m"), ("Lithology", "string", ""),
+]
+SCALES = [(0, 0, 0, scale) for scale in ["0:60", "0:25", "0:200", "0:200", "0:300", "0:150", "0.2:2000:log", ""]]
+
+
+def drilled(now):
+    """Forty minutes of drilling, one connection in their middle: a well that never was."""
+    chance = random.Random(11)
+    begin, curves, slow = now - 2400, [[] for _ in range(7)], [0.0] * 7
+    for second in range(0, 2399, 2):
+        pipe = 1000 <= second < 1260
+        shale = 0.5 + 0.5 * math.tanh(2.2 * (math.sin(second / 370 + 0.6) + 0.7 * math.sin(second / 97) + 0.5 * math.sin(second / 41 + 2)))
+        for at, pull in enumerate([0.3, 0.25, 0.2, 0.3, 0.15, 0.06, 0.05]):
+            slow[at] += pull * (chance.gauss(0, 1) - slow[at])
+        rop = 0 if pipe else 22 + 14 * (1 - shale) + 5 * slow[0]
+        values = [
+            max(rop, 0), 0 if pipe else 12 + 3 * shale + 1.2 * slow[1], 48 + slow[2] if 1060 <= second < 1200 else 142 - (0 if pipe else 12) + 1.5 * slow[2],
+            0 if pipe else 120 + 4 * slow[3], 0 if pipe and second > 1020 else 214 + 3 * slow[4], 38 + 78 * shale + 18 * slow[5],
+            10 ** (1.9 - 1.5 * shale + 0.35 * slow[6])]
+        for curve, value in zip(curves, values):
+            curve.append(((begin + second) * SECOND, value))
+    rocks = ["sandstone, fine", "siltstone", "shale, grey", "shale, silty", "sandstone", "limestone streak", "sandstone, coarse"]
+    texts = [((begin + 90 + 340 * place) * SECOND, rock) for place, rock in enumerate(rocks)]
+    return [*curves, texts]
+
+
+if __name__ == "__main__":
+    if browser.found() is None:
+        print("test_page.py: skipped, no Chromium is installed (Debian: chromium)")
+        sys.exit(0)
+    with browser.running():
+        unittest.main(warnings="ignore")
