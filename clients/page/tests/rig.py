@@ -9,7 +9,7 @@ from pathlib import Path
 
 import web_socket
 import wire
-from stub import VERSION, interval, item, long_index
+from stub import VERSION, double_items, interval, item, long_index, number_bytes
 
 SUBPROTOCOL = "etp12.energistics.org"
 PATIENCE = 60
@@ -24,16 +24,6 @@ def config(channels, name):
 
 def quoted(text):
     return '"' + text.replace("\\", "\\\\").replace('"', '\\"') + '"'
-
-
-def number_bytes(value):
-    return wire.Writer().number(value)
-
-
-def double_items(number, points):
-    """The items of doubles, packed faster than wire.py does it."""
-    front, pack = number_bytes(number) + b"\2\2", struct.Struct("<d").pack
-    return b"".join(front + number_bytes(index) + b"\0\x0a" + pack(value) + b"\0" for index, value in points)
 
 
 class Etpd:

@@ -43,6 +43,16 @@ def message(protocol, kind, correlation, number, value, final=True):
     return wire.write_message(header, wire.BODIES[protocol, kind, "S"], value)
 
 
+def number_bytes(value):
+    return wire.Writer().number(value)
+
+
+def double_items(number, points):
+    """The items of doubles, packed faster than wire.py does it."""
+    front, pack = number_bytes(number) + b"\2\2", struct.Struct("<d").pack
+    return b"".join(front + number_bytes(index) + b"\0\x0a" + pack(value) + b"\0" for index, value in points)
+
+
 class Channel:
     def __init__(self, number, uri, name, kind, uom=""):
         self.number, self.uri, self.name, self.kind, self.uom, self.points = number, uri, name, kind, uom, {}
@@ -102,6 +112,13 @@ class Session:
         for at in range(0, max(len(items), 1), PART_ITEMS):
             self.say(21, kind, 0, dict(data=items[at:at + PART_ITEMS], **rest), at + PART_ITEMS >= len(items))
 
+    def say_doubles(self, number, points):
+        """ChannelData with doubles, packed faster than wire.py does it."""
+        for at in range(0, len(points), PART_ITEMS):
+            part, is_last = points[at:at + PART_ITEMS], at + PART_ITEMS >= len(points)
+            header = dict(protocol=21, messageType=4, correlationId=0, messageId=next(self.ids), messageFlags=2 if is_last else 0)
+            self.write(wire.Writer().value(wire.HEADER, header) + number_bytes(len(part)) + double_items(number, part) + b"\0")
+
     async def serve(self):
         await self.shake_hands()
         while True:
@@ -140,14 +157,16 @@ class Session:
             channel = self.server.channels[info["channelId"]]
             latest = info["requestLatestIndexCount"][1]
             start = sorted(channel.points)[-latest:][0] if latest else info["startIndex"]["item"][1]
-            items = channel.items(start)
-            if len(items) > self.server.most:
+            points = sorted((index, value) for index, value in channel.points.items() if index >= start)
+            if len(points) > self.server.most:
                 self.refuse(21, number, {key: dict(message="limit exceeded", code=12)})
                 continue
             self.starts[channel.number] = start
             self.say(21, 12, number, dict(success={key: ""}))
-            if items:
-                self.say_parts(4, items)
+            if channel.kind == "double":
+                self.say_doubles(channel.number, points)
+            elif points:
+                self.say_parts(4, channel.items(start))
 
     def lag(self):
         """Ends all subscriptions, as where the client fell behind."""
@@ -190,7 +209,7 @@ class Stub:
         return [(session, session.starts[number]) for session in self.sessions if number in session.starts]
 
     async def load(self, number, points):
-        channel = self.channels[number]
+        channel, points = self.channels[number], list(points)
         channel.points.update(points)
         for session, start in self.followers(number):
             session.say_parts(4, channel.items(start, points))
