@@ -75,7 +75,7 @@ class Link {
     const socket = new WebSocket(this.url, [SUBPROTOCOL]);
     this.socket = socket;
     socket.binaryType = 'arraybuffer';
-    socket.onopen = () => this.openSession();
+    socket.onopen = () => this.socket === socket && this.openSession();
     socket.onmessage = event => this.socket === socket && this.hear(event.data);
     socket.onclose = event => this.socket === socket && this.lose(event.reason || `the link broke (${event.code})`);
     this.heard = Date.now();

@@ -30,6 +30,7 @@ class Track {
     this.readScale(scale || '');
     this.node = element('section', 'track');
     this.canvas = element('canvas', 'plot');
+    this.canvas.setAttribute('role', 'img');
     this.note = element('p', 'note');
     this.node.append(this.makeHead(), this.canvas, this.note);
   }
@@ -94,10 +95,11 @@ class Track {
   tell(view, cursor) {
     const {channel} = this, {column} = channel;
     const place = cursor === null ? column.count - 1 : column.nearest(view.placeOf(cursor));
+    const value = place < 0 ? NaN : column.valueAt(place);
     this.name.textContent = channel.name;
     this.name.title = `${channel.name}\n${channel.uri}`;
+    this.canvas.setAttribute('aria-label', `${channel.name} ${this.textOf(value)} ${channel.uom}`);
     this.uom.textContent = channel.uom;
-    const value = place < 0 ? NaN : column.valueAt(place);
     this.value.textContent = this.textOf(value);
     this.value.title = String(value);
     this.value.classList.toggle('past', cursor !== null);
@@ -309,7 +311,8 @@ class Setup {
   async offer() {
     if (!location.protocol.startsWith('http')) return;
     try {
-      const answer = await fetch('catalog.json');
+      // Not beside location.href, which may have a password in it.
+      const answer = await fetch(new URL('catalog.json', location.origin + location.pathname));
       if (answer.ok) this.list((await answer.json()).channels);
     } catch {
       // Without a catalog the URIs are typed.
