@@ -25,7 +25,7 @@ from pathlib import Path
 
 DEPLOY = Path(__file__).resolve().parent
 ROOT = DEPLOY.parent
-sys.path[:0] = [str((ROOT / "bench/wire.py").parent), str(ROOT / "clients/page/tests")]
+sys.path[:0] = [str((ROOT / "outside/wire.py").parent), str(ROOT / "clients/page/tests")]
 
 import web_socket  # noqa: E402
 import wire  # noqa: E402

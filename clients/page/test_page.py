@@ -4,7 +4,7 @@
     python3 test_page.py [-v] [TEST ...]
 
 The page is opened from its file. It follows a small server of these tests' own, and where the environment's ETPD names a built server,
-that one too. What has to stand in the page comes from the server's store, from bench/wire.py, or from arithmetic in the test. With
+that one too. What has to stand in the page comes from the server's store, from outside/wire.py, or from arithmetic in the test. With
 PICTURE in the environment the picture of the page is written to that path.
 """
 import asyncio
@@ -21,7 +21,7 @@ import uuid
 from pathlib import Path
 
 FOLDER = Path(__file__).resolve().parent
-sys.path[:0] = [str(FOLDER / "tests"), str((FOLDER.parent.parent / "bench/wire.py").parent)]
+sys.path[:0] = [str(FOLDER / "tests"), str((FOLDER.parent.parent / "outside/wire.py").parent)]
 
 import browser  # noqa: E402
 import wire  # noqa: E402

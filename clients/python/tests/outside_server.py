@@ -1,4 +1,4 @@
-"""A server for the tests that shares nothing with the product or the package: the tables of bench/transactions.py behind a WebSocket.
+"""A server for the tests that shares nothing with the product or the package: the tables of outside/transactions.py behind a WebSocket.
 
 It serves any number of clients in a thread of its own, on one port of the loopback. It is plain and slow; what it answers is what
 the profile says.
@@ -11,8 +11,8 @@ import threading
 import time
 from pathlib import Path
 
-BENCH = Path(__file__).resolve().parents[3] / "bench"
-sys.path.insert(0, str(BENCH))
+OUTSIDE = Path(__file__).resolve().parents[3] / "outside"
+sys.path.insert(0, str(OUTSIDE))
 
 import transactions  # noqa: E402
 import wire  # noqa: E402

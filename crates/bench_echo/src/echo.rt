@@ -6,12 +6,13 @@ use std::net::{Net, TcpListener, TcpStream};
 use std::sync::Wait;
 use std::thread;
 use std::thread::Threads;
+use std::time::Clock;
 
 /// Takes so many links from a door, or fewer where it fails, and sends back what comes over them, each link in a thread of its
 /// own. It waits until all have ended. A link for which no thread can be started is dropped.
 pub fn echo_links<'a, N, R>(rt: &R, alloc: Global, door: &mut TcpDoor<'a, N>, links: u64)
 where
-    N: Net<Listener = TcpListener, Stream = TcpStream>,
+    N: Net<Listener = TcpListener, Stream = TcpStream> + Clock,
     R: Threads + Wait + Sync,
 {
     thread::scope(thread::scope_env(), rt, move |scope| {

@@ -7,16 +7,17 @@ use std::alloc::{AllocError, Global};
 use std::net::{Net, TcpListener, TcpStream};
 use std::random::RandomSource;
 use std::thread::Threads;
+use std::time::Clock;
 use std::{io, thread};
 
 /// How many bytes the message has: more than a link keeps before it writes.
 const SIZE: usize = 300_000;
 
-/// How often the door is dialed. It passes over a client that it does not hear of for a second, as on a busy machine.
+/// How often the door is dialed. It passes over a client that it does not hear of for two seconds, as on a busy machine.
 const TRIES: u32 = 50;
 
 /// Sends the first message of the next link back, and waits for the link's end. It says whether both came.
-fn echo<R: Net<Listener = TcpListener, Stream = TcpStream>>(
+fn echo<R: Net<Listener = TcpListener, Stream = TcpStream> + Clock>(
     alloc: Global,
     door: &mut TcpDoor<R>,
 ) -> bool {
@@ -72,7 +73,8 @@ where
         + Threads
         + Sync
         + RandomSource
-        + Net<Listener = TcpListener, Stream = TcpStream>,
+        + Net<Listener = TcpListener, Stream = TcpStream>
+        + Clock,
 {
     let message = message(rt.alloc())?;
     let mut door = TcpDoor::new(rt);
@@ -89,7 +91,8 @@ where
         + Threads
         + Sync
         + RandomSource
-        + Net<Listener = TcpListener, Stream = TcpStream>,
+        + Net<Listener = TcpListener, Stream = TcpStream>
+        + Clock,
 {
     let alloc = rt.alloc();
     let port = door.port().unwrap_or(0);

@@ -1,2 +1,4 @@
-pub mod Arrival
+pub mod Coming
+pub mod Head
+pub mod Headers
 pub mod Silence

@@ -1,29 +1,37 @@
 //! Bells, by which links that wait learn that the store may have changed.
 use mio::unix::SourceFd;
 use mio::{Events, Interest, Poll, Token, Waker};
-use std::alloc::Global;
-use std::net::Net;
+use std::alloc::{AllocError, Global};
+use std::net::{Net, SocketAddr};
 use std::os::fd::RawFd;
-use std::sync::Arc;
-use std::sync::atomic::{AtomicU64, Ordering};
+use std::sync::atomic::{AtomicBool, AtomicU64, Ordering};
+use std::sync::{Arc, OnceLock};
 use std::time::Duration;
 
 /// How many links of a door have a bell: each has a bit of a word. A further one waits for its socket alone.
-const PLACES: u32 = 64;
+const PLACES: usize = 64;
 
 /// What ends a wait.
 const BELL: Token = Token(0);
 
 const SOCKET: Token = Token(1);
 
+const INPUT: Token = Token(2);
+
+/// The descriptor of the standard input.
+pub(crate) const STANDARD_INPUT: RawFd = 0;
+
 /// The bells of a door's links.
 #[derive(Drop)]
 pub(crate) struct Bells {
-    wakers: Vec<Waker>,
+    /// The wakers of all places, of which those have one that had a link.
+    wakers: Vec<OnceLock<Waker>>,
     /// The bits of the links that wait for their bells.
     waiting: AtomicU64,
     /// How often the bells were rung, modulo 2^64.
     rung: AtomicU64,
+    /// Whether all links are to end.
+    stopping: AtomicBool,
 }
 
 /// The bell of one link.
@@ -41,6 +49,23 @@ pub(crate) struct Post {
     poll: Poll,
     events: Events,
     bell: Option<Bell>,
+    /// The socket's descriptor, once it is watched.
+    socket: RawFd,
+    /// Whether the peer was seen to send no more: what it sent may still be there, and then the end.
+    over: bool,
+    /// The peer of the link that waits here.
+    peer: Option<SocketAddr>,
+}
+
+/// The posts of a door: those at which no link waits, and what makes a further one.
+#[derive(Drop)]
+pub(crate) struct Posts {
+    free: Vec<Post>,
+    bells: Arc<Bells, Global>,
+    /// How many have a bell.
+    made: usize,
+    /// Whether the end of the standard input stops the links.
+    input: bool,
 }
 
 /// What ended a wait.
@@ -52,6 +77,25 @@ pub(crate) enum Woken {
 }
 
 impl Bells {
+    fn new(alloc: Global) -> Result<Bells, AllocError> {
+        let mut wakers = Vec::with_capacity(alloc, PLACES)?;
+        for _ in 0..PLACES {
+            wakers.push(OnceLock::new())?;
+        }
+        Ok(Bells {
+            wakers,
+            waiting: AtomicU64::new(0),
+            rung: AtomicU64::new(0),
+            stopping: AtomicBool::new(false),
+        })
+    }
+
+    /// Has all links end.
+    fn stop(&self) {
+        self.stopping.store(true, Ordering::SeqCst);
+        self.ring();
+    }
+
     /// Rings: each link that waits for its bell is woken. It gives how often they had been rung before.
     fn ring(&self) -> u64 {
         let before = self.rung.fetch_add(1, Ordering::SeqCst);
@@ -65,9 +109,9 @@ impl Bells {
     /// Wakes the links of these bits.
     fn wake(&self, bits: u64) {
         let mut left = bits;
-        for waker in self.wakers.iter() {
+        for place in self.wakers.iter() {
             if left & 1 == 1 {
-                let _ = waker.wake();
+                wake(place);
             }
             left >>= 1;
         }
@@ -86,76 +130,166 @@ impl Bell {
     }
 }
 
+/// Wakes the link of a place, if it has had one.
+fn wake(place: &OnceLock<Waker>) {
+    if let Some(waker) = place.get() {
+        let _ = waker.wake();
+    }
+}
+
 /// A post without a bell.
 pub(crate) fn lone_post(net: &impl Net, alloc: Global) -> Option<Post> {
     let Ok(poll) = Poll::new(net) else {
         return None;
     };
-    let Ok(events) = Events::with_capacity(alloc, 2) else {
+    let Ok(events) = Events::with_capacity(alloc, 4) else {
         return None;
     };
     Some(Post {
         poll,
         events,
         bell: None,
+        socket: -1,
+        over: false,
+        peer: None,
     })
 }
 
-/// As many posts as there are bells, or fewer where the system or the memory gives no more.
-pub(crate) fn posts(net: &impl Net, alloc: Global) -> Vec<Post> {
-    let mut wakers = Vec::new(alloc);
-    let mut lone = Vec::new(alloc);
-    for _ in 0..PLACES {
-        let Some(post) = lone_post(net, alloc) else {
-            break;
+impl Posts {
+    /// No post yet. With `input` the end of the standard input ends the links of all posts.
+    pub(crate) fn new(alloc: Global, input: bool) -> Result<Posts, AllocError> {
+        Ok(Posts {
+            free: Vec::new(alloc),
+            bells: Arc::new(alloc, Bells::new(alloc)?)?,
+            made: 0,
+            input,
+        })
+    }
+
+    /// A post for a link with this peer: one at which no link waits any more, or a new one, which has a bell if it is one of the first
+    /// 64. None where the system or the memory gives none.
+    pub(crate) fn take(&mut self, net: &impl Net, alloc: Global, peer: SocketAddr) -> Option<Post> {
+        let mut post = match self.free.pop() {
+            Some(post) => post,
+            None => self.make(net, alloc)?,
+        };
+        post.peer = Some(peer);
+        Some(post)
+    }
+
+    /// Takes a post back. One that finds no room is closed.
+    pub(crate) fn put(&mut self, post: Post) {
+        let _ = self.free.push(post);
+    }
+
+    /// Has all links end.
+    pub(crate) fn stop(&self) {
+        self.bells.stop();
+    }
+
+    fn make(&mut self, net: &impl Net, alloc: Global) -> Option<Post> {
+        let mut post = lone_post(net, alloc)?;
+        let place = self.made;
+        let Some(slot) = self.bells.wakers.get(place) else {
+            return Some(post);
         };
         let Ok(waker) = Waker::new(post.poll.registry(), BELL) else {
-            break;
+            return None;
         };
-        if lone.push(post).is_err() || wakers.push(waker).is_err() {
-            break;
+        let Ok(bells) = Arc::try_clone(&self.bells) else {
+            return None;
+        };
+        if slot.try_set(waker).is_err() {
+            return None;
         }
-    }
-    let bells = Bells {
-        wakers,
-        waiting: AtomicU64::new(0),
-        rung: AtomicU64::new(0),
-    };
-    with_bells(alloc, lone, bells)
-}
-
-/// The same posts with the bells, in order.
-fn with_bells(alloc: Global, lone: Vec<Post>, bells: Bells) -> Vec<Post> {
-    let mut posts = Vec::new(alloc);
-    let Ok(bells) = Arc::new(alloc, bells) else {
-        return posts;
-    };
-    let mut bit = 1u64;
-    for mut post in lone {
-        let Ok(shared) = Arc::try_clone(&bells) else {
-            break;
-        };
+        if self.input {
+            post.watch_input();
+        }
+        self.made = place.saturating_add(1);
         post.bell = Some(Bell {
-            bells: shared,
-            bit,
+            bells,
+            bit: 1u64.wrapping_shl(place as u32),
             seen: 0,
         });
-        bit = bit.wrapping_shl(1);
-        if posts.push(post).is_err() {
-            break;
-        }
+        Some(post)
     }
-    posts
 }
 
 impl Post {
     /// Has the post wait for a socket. False where the system refuses.
-    pub(crate) fn watch(&self, socket: RawFd) -> bool {
+    pub(crate) fn watch(&mut self, socket: RawFd) -> bool {
+        self.socket = socket;
+        self.over = false;
         let mut source = SourceFd(&socket);
         self.poll
             .registry()
             .register(&mut source, SOCKET, Interest::READABLE)
             .is_ok()
+    }
+
+    /// Has the post wait for the end of the standard input too, where the system can.
+    fn watch_input(&self) {
+        let _ = self
+            .poll
+            .registry()
+            .register(&mut SourceFd(&STANDARD_INPUT), INPUT, Interest::READABLE);
+    }
+
+    /// Whether the link is to end.
+    pub(crate) fn is_stopping(&self) -> bool {
+        match &self.bell {
+            Some(bell) => bell.bells.stopping.load(Ordering::SeqCst),
+            None => false,
+        }
+    }
+
+    /// Has the links of all posts end.
+    fn stop(&self) {
+        if let Some(bell) = &self.bell {
+            bell.bells.stop();
+        }
+    }
+
+    /// The peer of the link that waits here.
+    pub(crate) fn peer(&self) -> Option<SocketAddr> {
+        self.peer
+    }
+
+    /// Has the post wait for another readiness of its socket. What is ready by now is told at the next wait.
+    fn turn(&mut self, interest: Interest) -> bool {
+        let socket = self.socket;
+        let mut source = SourceFd(&socket);
+        self.poll
+            .registry()
+            .reregister(&mut source, SOCKET, interest)
+            .is_ok()
+    }
+
+    /// Whether the peer was seen to send no more.
+    pub(crate) fn is_over(&self) -> bool {
+        self.over
+    }
+
+    /// Waits until the socket takes something, or so many milliseconds are over. It gives how many of them count as waited: all
+    /// where nothing happened, and else one.
+    pub(crate) fn wait_for_room(&mut self, limit: u64) -> Option<u64> {
+        if !self.turn(Interest::WRITABLE) {
+            return None;
+        }
+        let woken = self.sleep(limit);
+        if !self.turn(Interest::READABLE) {
+            return None;
+        }
+        match woken {
+            Woken::Time => Some(limit),
+            Woken::Socket | Woken::Bell => Some(1),
+        }
+    }
+
+    /// Waits until the socket has something, or so many milliseconds are over. The bell is not heard, but where it was rung at the end of
+    /// an earlier wait.
+    pub(crate) fn wait_for_socket(&mut self, limit: u64) -> Woken {
+        self.sleep(limit)
     }
 
     /// Looks how often the bells have been rung. What rings them from now on ends the next wait.
@@ -212,10 +346,17 @@ impl Post {
         }
         let mut woken = Woken::Time;
         for event in self.events.iter() {
-            if event.token() == SOCKET {
+            let token = event.token();
+            if token == SOCKET {
+                self.over = self.over || event.is_read_closed() || event.is_error();
                 return Woken::Socket;
             }
-            woken = Woken::Bell;
+            if token == BELL {
+                woken = Woken::Bell;
+            } else if event.is_read_closed() {
+                self.stop();
+                woken = Woken::Bell;
+            }
         }
         woken
     }

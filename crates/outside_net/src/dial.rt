@@ -10,7 +10,7 @@ use std::alloc::{AllocError, Global};
 use std::net::{Net, TcpListener, TcpStream, ToSocketAddrs};
 use std::random::RandomSource;
 use std::time::Duration;
-use tungstenite::RandomKeys;
+use tungstenite::{RandomKeys, Role};
 
 /// How long a connection to an address may take, and how long a read of the handshake waits, in milliseconds.
 const PATIENCE: u64 = 10_000;
@@ -97,7 +97,9 @@ impl<'a, R: Net<Listener = TcpListener, Stream = TcpStream> + RandomSource> TcpD
         let Some(post) = lone_post(self.rt, alloc) else {
             return Err(Missed::Fault);
         };
-        match WsLink::new(socket, post) {
+        let stream = socket.into_inner().into_stream();
+        let keys = RandomKeys::new(self.rt);
+        match WsLink::new(alloc, Role::Client, stream, keys, Vec::new(alloc), post) {
             Some(link) => Ok(link),
             None => Err(Missed::Fault),
         }

@@ -1,37 +1,55 @@
 //! A listener over TCP.
-ghost use Rattle.std.specs.Prelude.{◌≡◌, ◌≤◌, None, false, IfSome};
+ghost use Rattle.std.specs.Prelude.{◌≡◌, ◌≤◌, ◌+◌, ◌||◌, None, false, IfOk, IfSome};
 ghost use Rattle.etp_outside.specs.Faults.{Rose};
-ghost use Rattle.etp_outside.specs.Doors.{IsAccepted};
+ghost use Rattle.etp_outside.specs.Doors.{IfLink, IsAccepted, is_stop, links};
 
-use crate::bells::{Post, lone_post, posts};
-use crate::handshake::shake_hands;
+use crate::bells::{Post, Posts, lone_post};
+use crate::caller::Caller;
+use crate::hall::{Hall, Turn};
+use crate::handshake::acceptance;
+use crate::head::Upgrade;
 use crate::link::WsLink;
+use crate::log::{DoorLog, NoLog};
+use crate::refusal::Refusal;
+use crate::room::Ready;
 use etp_outside::{Link, Listened, Listener, Next};
 use std::alloc::Global;
-use std::io::ErrorKind;
-use std::net::{Net, TcpListener, TcpStream};
-use tungstenite::NoMask;
-
-/// How often an accept that gave no connection, though the listener is well, is made again before it counts as a fault.
-const TRIES: u32 = 64;
+use std::io;
+use std::net::{Net, SocketAddr, TcpListener, TcpStream};
+use std::time::Clock;
+use websocket::protocol::{NoMask, Role};
 
 /// A link to a client that connected.
 pub type ServerLink = WsLink<TcpStream, NoMask>;
 
-/// A listener over TCP, with bells for the links that it gives. It skips a connection whose handshake fails, and does each handshake before it accepts the next
-/// connection, so a client that says nothing holds the others up for a second.
+/// A listener over TCP, with bells for the links that it gives.
+///
+/// While it is asked for a link it waits for the listener and for all connections whose handshake is not done at once, and reads of
+/// each what has come. So a connection that is silent, slow or sends rubbish keeps nobody waiting, and no thread is needed for it.
+/// Each has 2 seconds until its head is whole, and 65,536 bytes. At most 256 are at this point: a further one takes the place of
+/// the one that has waited longest. A refused one is answered with a status of HTTP and the cause. A connection is answered that
+/// it is accepted as its link is handed out, so one for which there is no session yet waits for its answer.
+///
+/// Where the system has no descriptor or no memory for a connection that comes, that one or the one that has waited longest is
+/// turned away, and the door goes on after 50 milliseconds.
 #[derive(Drop)]
 pub struct TcpDoor<'a, R> {
     rt: &'a R,
     listener: Option<TcpListener>,
+    /// Where connections wait. None before the first link is asked for.
+    hall: Option<Hall>,
+    /// Whether the end of the standard input stops the door.
+    input: bool,
+    /// Why it does not listen.
+    cause: Option<io::Error>,
     faults: u64,
     given: u64,
     stopped: bool,
-    /// The posts at which no link waits. None before the first link is asked for.
-    posts: Option<Vec<Post>>,
+    /// Where its links wait. None before the first link is asked for.
+    posts: Option<Posts>,
 }
 
-impl<'a, R: Net<Listener = TcpListener, Stream = TcpStream>> TcpDoor<'a, R> {
+impl<'a, R: Net<Listener = TcpListener, Stream = TcpStream> + Clock> TcpDoor<'a, R> {
     /// A door that does not listen yet.
     pub fn new(rt: &'a R) -> TcpDoor<'a, R>
         ensures faults { ⟦<TcpDoor<'a, R> as Listener>⟧.faults result ≡ 0 }
@@ -41,11 +59,26 @@ impl<'a, R: Net<Listener = TcpListener, Stream = TcpStream>> TcpDoor<'a, R> {
         TcpDoor {
             rt,
             listener: None,
+            hall: None,
+            input: false,
+            cause: None,
             faults: 0,
             given: 0,
             stopped: false,
             posts: None,
         }
+    }
+
+    /// The same door, which gives no further link once the standard input has ended. Where the standard input has ended before
+    /// the first link is asked for, or is a file, it is left alone.
+    pub fn until_input_ends(self) -> TcpDoor<'a, R>
+        ensures faults { ⟦<TcpDoor<'a, R> as Listener>⟧.faults result ≡ ⟦<TcpDoor<'a, R> as Listener>⟧.faults self }
+        ensures given { ⟦<TcpDoor<'a, R> as Listener>⟧.given result ≡ ⟦<TcpDoor<'a, R> as Listener>⟧.given self }
+        ensures stopped { ⟦<TcpDoor<'a, R> as Listener>⟧.stopped result ≡ ⟦<TcpDoor<'a, R> as Listener>⟧.stopped self }
+    {
+        let mut door = self;
+        door.input = true;
+        door
     }
 
     /// The port that it listens at. It is of use where port 0 was asked for, which is any that is free.
@@ -59,6 +92,11 @@ impl<'a, R: Net<Listener = TcpListener, Stream = TcpStream>> TcpDoor<'a, R> {
         }
     }
 
+    /// Why it could not listen when it was last asked to.
+    pub fn cause(&self) -> Option<&io::Error> {
+        self.cause.as_ref()
+    }
+
     fn fault(&mut self)
         ensures rose { Rose self.old.faults self.new.faults }
         ensures kept { self.old.faults ≤ self.new.faults }
@@ -68,98 +106,223 @@ impl<'a, R: Net<Listener = TcpListener, Stream = TcpStream>> TcpDoor<'a, R> {
         self.faults = self.faults.saturating_add(1);
     }
 
-    /// A post for the next link. None where the system gives none.
-    fn post(&mut self, alloc: Global) -> Option<Post>
+    /// A post for a link with this peer. None where the system gives none.
+    fn post(&mut self, alloc: Global, peer: SocketAddr) -> Option<Post>
         ensures faults { self.new.faults ≡ self.old.faults }
         ensures given { self.new.given ≡ self.old.given }
         ensures stopped { self.new.stopped ≡ self.old.stopped }
     {
-        if self.posts.is_none() {
-            self.posts = Some(posts(self.rt, alloc));
-        }
-        let free = match &mut self.posts {
-            Some(free) => free.pop(),
-            None => None,
-        };
-        match free {
-            Some(post) => Some(post),
+        match &mut self.posts {
+            Some(posts) => posts.take(self.rt, alloc, peer),
             None => lone_post(self.rt, alloc),
         }
     }
 
-    /// The link over a connection, if its handshake is done and the system has what it needs to wait.
-    fn welcome(&mut self, alloc: Global, stream: TcpStream) -> Option<ServerLink>
+    /// The link over a connection whose head asks for one, if the system has what it needs to wait and the peer is still there.
+    fn welcome<L: DoorLog>(
+        &mut self,
+        alloc: Global,
+        ready: Ready,
+        log: &mut L,
+    ) -> Option<ServerLink>
         ensures link { IfSome result (λ l. IsAccepted (⟦<ServerLink as Link>⟧.talk l) (⟦<ServerLink as Link>⟧.faults l) (⟦<ServerLink as Link>⟧.ended l)) }
         ensures faults { self.new.faults ≡ self.old.faults }
         ensures given { self.new.given ≡ self.old.given }
         ensures stopped { self.new.stopped ≡ self.old.stopped }
     {
-        let Some(socket) = shake_hands(alloc, stream) else {
-            return None;
+        let Ready { caller, upgrade } = ready;
+        let peer = caller.peer();
+        let link = match self.post(alloc, peer) {
+            Some(post) => link_of(alloc, caller, &upgrade, post),
+            None => Err(refuse(alloc, caller, Refusal::NoPlace)),
         };
-        let post = self.post(alloc)?;
-        match WsLink::new(socket, post) {
-            Some(link) => Some(link),
-            None => None,
-        }
-    }
-
-    /// The next connection. None where the listener failed.
-    fn accept(&self) -> Option<TcpStream> {
-        match &self.listener {
-            Some(listener) => accept(listener),
-            None => None,
-        }
-    }
-
-    /// The next connection whose handshake is done. None where the listener failed.
-    fn next_link(&mut self, alloc: Global) -> Option<ServerLink>
-        ensures link { IfSome result (λ l. IsAccepted (⟦<ServerLink as Link>⟧.talk l) (⟦<ServerLink as Link>⟧.faults l) (⟦<ServerLink as Link>⟧.ended l)) }
-        ensures faults { self.new.faults ≡ self.old.faults }
-        ensures given { self.new.given ≡ self.old.given }
-        ensures stopped { self.new.stopped ≡ self.old.stopped }
-    {
-        for _ in 0..u64::MAX {
-            let Some(stream) = self.accept() else {
-                return None;
-            };
-            if let Some(link) = self.welcome(alloc, stream) {
-                return Some(link);
+        match link {
+            Ok(link) => Some(link),
+            Err(refusal) => {
+                log.refused(&peer, refusal);
+                None
             }
         }
-        None
     }
-}
 
-/// The next connection. None where the listener failed.
-fn accept(listener: &TcpListener) -> Option<TcpStream> {
-    for _ in 0..TRIES {
-        match listener.accept() {
-            Ok((stream, _)) => return Some(stream),
-            Err(error) => {
-                if !is_of_one_connection(error.kind()) {
-                    return None;
+    /// The connection that is ready, if one is.
+    fn next_ready(&mut self) -> Option<Ready>
+        ensures faults { self.new.faults ≡ self.old.faults }
+        ensures given { self.new.given ≡ self.old.given }
+        ensures stopped { self.new.stopped ≡ self.old.stopped }
+    {
+        match &mut self.hall {
+            Some(hall) => hall.next_ready(),
+            None => None,
+        }
+    }
+
+    /// Opens the hall where that was not done. It fails where the door does not listen, or the system or the memory refuses.
+    fn open(&mut self, alloc: Global) -> io::Result<()>
+        ensures faults { self.new.faults ≡ self.old.faults }
+        ensures given { self.new.given ≡ self.old.given }
+        ensures stopped { self.new.stopped ≡ self.old.stopped }
+    {
+        if self.hall.is_some() {
+            return Ok(());
+        }
+        let Some(listener) = &self.listener else {
+            return Err(io::Error::from(io::ErrorKind::NotConnected));
+        };
+        let hall = Hall::open(self.rt, alloc, listener, self.input)?;
+        if self.posts.is_none() {
+            self.posts = Some(Posts::new(alloc, hall.watches_input())?);
+        }
+        self.hall = Some(hall);
+        Ok(())
+    }
+
+    /// A turn of the hall.
+    fn turn<L: DoorLog>(&mut self, alloc: Global, log: &mut L) -> Turn
+        ensures faults { self.new.faults ≡ self.old.faults }
+        ensures given { self.new.given ≡ self.old.given }
+        ensures stopped { self.new.stopped ≡ self.old.stopped }
+    {
+        let Some(listener) = &self.listener else {
+            return Turn::Failed;
+        };
+        match &mut self.hall {
+            Some(hall) => hall.turn(self.rt, alloc, listener, log),
+            None => Turn::Failed,
+        }
+    }
+
+    /// Has all links end, and lets nobody in any more.
+    fn shut(&mut self)
+        ensures faults { self.new.faults ≡ self.old.faults }
+        ensures given { self.new.given ≡ self.old.given }
+        ensures stopped { self.new.stopped ≡ self.old.stopped }
+    {
+        self.hall = None;
+        self.listener = None;
+        if let Some(posts) = &self.posts {
+            posts.stop();
+        }
+    }
+
+    /// The next link.
+    fn next_link<L: DoorLog>(&mut self, alloc: Global, log: &mut L) -> Next<ServerLink>
+        ensures link { IfLink result (λ l. IsAccepted (⟦<ServerLink as Link>⟧.talk l) (⟦<ServerLink as Link>⟧.faults l) (⟦<ServerLink as Link>⟧.ended l)) }
+        ensures faults { self.new.faults ≡ self.old.faults }
+        ensures given { self.new.given ≡ self.old.given }
+        ensures stopped { self.new.stopped ≡ self.old.stopped }
+    {
+        if let Err(error) = self.open(alloc) {
+            log.unaccepted(&error);
+            return Next::Failed;
+        }
+        for _ in 0..u64::MAX {
+            if let Some(ready) = self.next_ready() {
+                if let Some(link) = self.welcome(alloc, ready, log) {
+                    return Next::Link(link);
+                }
+            } else {
+                match self.turn(alloc, log) {
+                    Turn::Again => {}
+                    Turn::Stop => {
+                        self.shut();
+                        return Next::Stop;
+                    }
+                    Turn::Failed => return Next::Failed,
                 }
             }
         }
+        Next::Failed
     }
-    None
+
+    /// The next link, as [`next`](Listener::next) gives it. The log is told which connections are turned away meanwhile.
+    pub fn next_told<L: DoorLog>(&mut self, alloc: Global, log: &mut L) -> Next<ServerLink>
+        ensures link { IfLink result (λ l. IsAccepted (⟦<ServerLink as Link>⟧.talk l) (⟦<ServerLink as Link>⟧.faults l) (⟦<ServerLink as Link>⟧.ended l)) }
+        ensures given { ⟦<TcpDoor<'a, R> as Listener>⟧.given self.new ≡ ⟦<TcpDoor<'a, R> as Listener>⟧.given self.old + links result }
+        ensures stopped { ⟦<TcpDoor<'a, R> as Listener>⟧.stopped self.new ≡ (⟦<TcpDoor<'a, R> as Listener>⟧.stopped self.old || is_stop result) }
+        ensures kept { ⟦<TcpDoor<'a, R> as Listener>⟧.faults self.old ≤ ⟦<TcpDoor<'a, R> as Listener>⟧.faults self.new }
+        ensures cause { result ≡ Next.Failed → Rose (⟦<TcpDoor<'a, R> as Listener>⟧.faults self.old) (⟦<TcpDoor<'a, R> as Listener>⟧.faults self.new) }
+    {
+        if self.stopped || self.given == u64::MAX {
+            self.stopped = true;
+            return Next::Stop;
+        }
+        match self.next_link(alloc, log) {
+            Next::Link(link) => {
+                self.given += 1;
+                Next::Link(link)
+            }
+            Next::Stop => {
+                self.stopped = true;
+                Next::Stop
+            }
+            Next::Failed => {
+                self.fault();
+                Next::Failed
+            }
+            Next::NoMemory => Next::NoMemory,
+        }
+    }
+
+    /// Takes a link back, as [`back`](Listener::back) does, and tells the log how its session ended.
+    pub fn back_told<L: DoorLog>(&mut self, link: ServerLink, number: u64, end: u8, log: &mut L)
+        ensures given { ⟦<TcpDoor<'a, R> as Listener>⟧.given self.new ≡ ⟦<TcpDoor<'a, R> as Listener>⟧.given self.old }
+        ensures stopped { ⟦<TcpDoor<'a, R> as Listener>⟧.stopped self.new ≡ ⟦<TcpDoor<'a, R> as Listener>⟧.stopped self.old }
+        ensures kept { ⟦<TcpDoor<'a, R> as Listener>⟧.faults self.old ≤ ⟦<TcpDoor<'a, R> as Listener>⟧.faults self.new }
+    {
+        let post = link.into_post();
+        if let Some(peer) = post.peer() {
+            log.ended(&peer, number, end);
+        }
+        if let Some(posts) = &mut self.posts {
+            posts.put(post);
+        }
+    }
+
+    /// Listens at an address.
+    fn bind(&mut self, address: &str) -> io::Result<()>
+        ensures faults { self.new.faults ≡ self.old.faults }
+        ensures given { self.new.given ≡ self.old.given }
+        ensures stopped { self.new.stopped ≡ self.old.stopped }
+    {
+        self.hall = None;
+        self.listener = None;
+        self.listener = Some(TcpListener::bind(self.rt, address)?);
+        Ok(())
+    }
 }
 
-/// Whether an accept failed for the connection that it was about, or was interrupted, while the listener is well.
-fn is_of_one_connection(kind: ErrorKind) -> bool {
-    matches!(
-        kind,
-        ErrorKind::Interrupted
-            | ErrorKind::WouldBlock
-            | ErrorKind::ConnectionAborted
-            | ErrorKind::NetworkDown
-            | ErrorKind::NetworkUnreachable
-            | ErrorKind::HostUnreachable
-    )
+/// Answers that the connection is accepted, and gives its link.
+fn link_of(
+    alloc: Global,
+    caller: Caller,
+    upgrade: &Upgrade,
+    post: Post,
+) -> Result<ServerLink, Refusal>
+    ensures { IfOk result (λ l. IsAccepted (⟦<ServerLink as Link>⟧.talk l) (⟦<ServerLink as Link>⟧.faults l) (⟦<ServerLink as Link>⟧.ended l)) }
+{
+    let mut caller = caller;
+    let Some(answer) = acceptance(alloc, upgrade) else {
+        return Err(refuse(alloc, caller, Refusal::NoPlace));
+    };
+    if !caller.send(answer.as_slice()) {
+        return Err(Refusal::Left);
+    }
+    let stream = caller.into_stream();
+    match WsLink::new(alloc, Role::Server, stream, NoMask, Vec::new(alloc), post) {
+        Some(link) => Ok(link),
+        None => Err(Refusal::NoPlace),
+    }
 }
 
-impl<'a, R: Net<Listener = TcpListener, Stream = TcpStream>> Listener for TcpDoor<'a, R> {
+/// Answers a connection that it is refused.
+fn refuse(alloc: Global, caller: Caller, refusal: Refusal) -> Refusal {
+    let mut caller = caller;
+    caller.refuse(alloc, refusal, 0);
+    refusal
+}
+
+impl<'a, R: Net<Listener = TcpListener, Stream = TcpStream> + Clock> Listener for TcpDoor<'a, R> {
     type Link = ServerLink;
 
     ghost faults = { λ d. d.faults };
@@ -173,12 +336,13 @@ impl<'a, R: Net<Listener = TcpListener, Stream = TcpStream>> Listener for TcpDoo
     ghost few = { λ d. tt };
 
     fn listen(&mut self, address: &str) -> Listened {
-        match TcpListener::bind(self.rt, address) {
-            Ok(listener) => {
-                self.listener = Some(listener);
+        match self.bind(address) {
+            Ok(()) => {
+                self.cause = None;
                 Listened::Done
             }
-            Err(_) => {
+            Err(error) => {
+                self.cause = Some(error);
                 self.fault();
                 Listened::Failed
             }
@@ -186,27 +350,10 @@ impl<'a, R: Net<Listener = TcpListener, Stream = TcpStream>> Listener for TcpDoo
     }
 
     fn next(&mut self, alloc: Global) -> Next<ServerLink> {
-        if self.given == u64::MAX {
-            self.stopped = true;
-            return Next::Stop;
-        }
-        match self.next_link(alloc) {
-            Some(link) => {
-                self.given += 1;
-                Next::Link(link)
-            }
-            None => {
-                self.fault();
-                Next::Failed
-            }
-        }
+        self.next_told(alloc, &mut NoLog)
     }
 
-    fn back(&mut self, link: ServerLink, _number: u64, _end: u8) {
-        let post = link.into_post();
-        if let Some(posts) = &mut self.posts {
-            // A post that finds no room is closed.
-            let _ = posts.push(post);
-        }
+    fn back(&mut self, link: ServerLink, number: u64, end: u8) {
+        self.back_told(link, number, end, &mut NoLog);
     }
 }

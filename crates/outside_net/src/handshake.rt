@@ -1,25 +1,19 @@
 //! The opening handshakes of a server and of a client.
-ghost use Rattle.std.specs.Prelude.{IfSome};
-ghost use Rattle.tungstenite.specs.Heads.{Serves};
-
-use crate::metered::Metered;
-use http::{HeaderName, HeaderValue, Request, Response};
+use crate::head::Upgrade;
+use crate::head_only::HeadOnly;
+use http::{HeaderName, HeaderValue, Request};
+use httparse::Header;
 use std::alloc::{AllocError, Global};
 use std::io;
 use std::net::TcpStream;
 use std::random::RandomSource;
 use std::time::Duration;
 use tungstenite::handshake::client;
-use tungstenite::handshake::server::{self, ErrorResponse};
-use tungstenite::{
-    Callback, Error, HandshakeError, NoMask, RandomKeys, WebSocket, WebSocketConfig,
-};
+use tungstenite::{Error, HandshakeError, RandomKeys, WebSocket, WebSocketConfig};
+use websocket::handshake::server::write_response;
 
 /// The subprotocol that a client offers, and that a server chooses where it is offered.
 pub const SUBPROTOCOL: &str = "etp12.energistics.org";
-
-/// How long a server's read of a handshake waits, in milliseconds. It is short, since meanwhile no other connection is accepted.
-const HANDSHAKE_WAIT: u64 = 500;
 
 /// Why a client got no WebSocket.
 #[derive(Clone, Copy, Debug, PartialEq, Eq)]
@@ -49,39 +43,6 @@ const MAX_MESSAGE: usize = 33_554_432;
 /// How many bytes one read of a stream asks for. A socket keeps so many twice.
 const READ_BUFFER: usize = 65_536;
 
-/// Chooses the subprotocol where the client offers it. A client that offers none, or others, is taken too.
-#[derive(Clone, Copy, Debug)]
-struct Choose;
-
-impl Callback for Choose {
-    fn on_request(
-        self,
-        request: &Request<()>,
-        mut response: Response<()>,
-    ) -> Result<Response<()>, ErrorResponse> {
-        let offered = request
-            .headers()
-            .get_all("sec-websocket-protocol")
-            .iter()
-            .any(|value| offers(value.as_bytes()));
-        if offered {
-            let name = HeaderName::from_static("sec-websocket-protocol");
-            let value = HeaderValue::from_static(SUBPROTOCOL);
-            // Without memory for the line the client sees that nothing was chosen, and decides.
-            let _ = response.headers_mut().insert(name, value);
-        }
-        Ok(response)
-    }
-}
-
-/// Whether one of the offers in a header's value is the subprotocol.
-fn offers(value: &[u8]) -> bool {
-    match std::str::from_utf8(value) {
-        Ok(text) => text.split(',').any(|offer| offer.trim() == SUBPROTOCOL),
-        Err(_) => false,
-    }
-}
-
 fn limits() -> WebSocketConfig {
     WebSocketConfig::default()
         .max_message_size(Some(MAX_MESSAGE))
@@ -89,32 +50,26 @@ fn limits() -> WebSocketConfig {
         .read_buffer_size(READ_BUFFER)
 }
 
-/// The WebSocket of a connection that was accepted: its client has asked for one with a valid key. None where the handshake
-/// fails, or a read of it waits too long twice.
-pub fn shake_hands(
-    alloc: Global,
-    stream: TcpStream,
-) -> Option<WebSocket<Metered<TcpStream>, NoMask>>
-    ensures { IfSome result Serves }
-{
-    if stream.set_nodelay(true).is_err() {
-        return None;
+/// The answer that accepts a request for a WebSocket. The subprotocol is chosen where it was offered; a client that offers none, or
+/// others, is taken too.
+pub fn acceptance(alloc: Global, upgrade: &Upgrade) -> Option<Vec<u8>> {
+    let chosen = Header {
+        name: "sec-websocket-protocol",
+        value: SUBPROTOCOL.as_bytes(),
+    };
+    if upgrade.offered {
+        acceptance_with(alloc, &upgrade.accept, &[chosen])
+    } else {
+        acceptance_with(alloc, &upgrade.accept, &[])
     }
-    let wait = Duration::from_millis(HANDSHAKE_WAIT);
-    if stream.set_read_timeout(Some(wait)).is_err() {
-        return None;
-    }
-    if stream.set_write_timeout(Some(wait)).is_err() {
-        return None;
-    }
-    let begun = server::start(alloc, Metered::new(stream), Choose, Some(limits()));
-    match begun.handshake() {
-        Ok(socket) => Some(socket),
-        Err(HandshakeError::Interrupted(half)) => match half.handshake() {
-            Ok(socket) => Some(socket),
-            Err(_) => None,
-        },
-        Err(HandshakeError::Failure(_)) => None,
+}
+
+/// The answer that accepts a request, with these lines.
+fn acceptance_with(alloc: Global, accept: &[u8; 28], extra: &[Header]) -> Option<Vec<u8>> {
+    let mut answer = Vec::new(alloc);
+    match write_response(accept, extra, &mut answer) {
+        Ok(()) => Some(answer),
+        Err(_) => None,
     }
 }
 
@@ -148,7 +103,7 @@ pub fn ask_for_upgrade<'a, R: RandomSource>(
     random: &'a R,
     url: &str,
     patience: Duration,
-) -> Result<WebSocket<Metered<TcpStream>, RandomKeys<&'a R>>, Missed> {
+) -> Result<WebSocket<HeadOnly, RandomKeys<&'a R>>, Missed> {
     stream.set_nodelay(true)?;
     stream.set_read_timeout(Some(patience))?;
     stream.set_write_timeout(Some(patience))?;
@@ -160,7 +115,7 @@ pub fn ask_for_upgrade<'a, R: RandomSource>(
         nonce,
         RandomKeys::new(random),
         request,
-        Metered::new(stream),
+        HeadOnly::new(stream),
         Some(limits()),
     );
     let begun = match begun {

@@ -3,22 +3,35 @@
 //! [`WsLink`] is a [`Link`](etp_outside::Link) over a WebSocket, [`TcpDoor`] a [`Listener`](etp_outside::Listener) that
 //! does a server's handshake with each connection that it accepts, and [`TcpDial`] a [`Dialer`](etp_outside::Dialer) that does a
 //! client's with each connection that it makes. They are part of the trusted edge: what a socket gives and takes, no clause
-//! says. What is proved of them is what every link, listener and dialer owes, and how each answer of the library's WebSocket is
-//! read ([`receive`](arrival::receive)).
+//! says. What is proved of them is what every link, listener and dialer owes, which headers of frames may come ([`may_come`](breach::may_come)),
+//! and how a message is put together of its pieces ([`Coming`](coming::Coming)).
 #![tactic(auto)]
 
 mod arrival;
 mod bells;
+mod breach;
+mod caller;
+mod coming;
 mod dial;
 mod door;
+mod frames;
+mod hall;
 mod handshake;
+mod head;
+mod head_only;
+mod input;
 mod link;
-mod metered;
+mod log;
 mod pace;
+mod refusal;
+mod room;
 mod silence;
+mod utf8;
+mod writing;
 
 pub use dial::{ClientLink, TcpDial};
 pub use door::{ServerLink, TcpDoor};
 pub use handshake::SUBPROTOCOL;
 pub use link::WsLink;
-pub use metered::Metered;
+pub use log::{DoorLog, NoLog};
+pub use refusal::Refusal;

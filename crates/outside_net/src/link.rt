@@ -1,76 +1,134 @@
 //! A WebSocket as a link.
-ghost use Rattle.std.specs.Prelude.{◌≡◌, ◌≤◌, ◌||◌, None, false, IfSome};
+ghost use Rattle.std.specs.Prelude.{◌≡◌, ◌≤◌, ◌||◌, None, false, true, IfSome};
 ghost use Rattle.etp_outside.specs.Faults.{Rose};
 ghost use Rattle.etp_outside.specs.Talk.{is_end};
 
-use crate::arrival::{Arrival, receive};
+use crate::arrival::Arrival;
 use crate::bells::{Post, Woken};
-use crate::metered::Metered;
+use crate::frames::Frames;
+use crate::input::Filled;
 use crate::pace::Pace;
 use crate::silence::{Call, Silence};
-use bytes::Bytes;
+use crate::writing::write_all;
 use etp_outside::{Link, Recv, Sent};
 use etp_values::Blob;
 use std::alloc::Global;
-use std::io::{self, Read, Write};
+use std::io::{Read, Write};
 use std::net::{OpenStream, Shutdown};
 use std::os::fd::AsRawFd;
-use std::time::Duration;
-use tungstenite::{Error, MaskKeys, Message, WebSocket};
+use websocket::error::Error;
+use websocket::protocol::frame::MaskKeys;
+use websocket::protocol::frame::coding::CloseCode;
+use websocket::protocol::{Message, Role};
 
-/// How long a read waits for what is missing of a frame, in milliseconds. A read is begun where something has come, or may
-/// have.
-const READ_WAIT: u64 = 1;
+/// The output leaves where it has more bytes than this, 128 KiB, and else before the link waits.
+const LONG_OUTPUT: usize = 131_072;
 
-/// How long a write waits for the peer to take something, in milliseconds. A peer that takes nothing for so long is a fault.
-const WRITE_WAIT: u64 = 30_000;
+/// A message of more bytes than this, 64 KiB, that a server sends leaves by itself, and is not copied to the output.
+const LONG_MESSAGE: usize = 65_536;
 
-/// How often a link that closes reads for the peer's goodbye, and how long each of these reads waits, in milliseconds.
-const GOODBYE_READS: u32 = 20;
+/// An output of more bytes than this, 512 KiB, gives its memory back once it has left.
+const KEPT_OUTPUT: usize = 524_288;
+
+/// The bells of the others are rung before the link waits, and after so many messages.
+const RUNG_AFTER: u32 = 64;
+
+/// A client that has sent no message for so many milliseconds since its handshake is given up.
+const ASKED_WITHIN: u64 = 30_000;
+
+/// What a read counts, in milliseconds, while the first message is waited for: one that brings fewer bytes than [`DROP`], and one that
+/// brings more. What a client sends in drops doesn't keep its place, and a long message may come as slowly as a link brings it.
+const DROP_COUNTS: u64 = 8;
+
+const PIECE_COUNTS: u64 = 2;
+
+const DROP: usize = 256;
+
+/// How long a goodbye lasts at most, in what its reads count: one that brings nothing waits and counts 50 milliseconds, one that brings
+/// few bytes counts 10, and one that brings many counts 1.
+const GOODBYE: u64 = 1_000;
 
 const GOODBYE_WAIT: u64 = 50;
 
-/// A WebSocket as a link. What is sent waits in its output and leaves at the next receive, past 128 KiB, or as it closes: so
-/// the replies of one turn leave in one write. After a fault every call is a fault.
+const FEW_BYTES: usize = 4_096;
+
+/// A WebSocket as a link.
 ///
-/// A link waits for its socket and for its bell. It rings the bells of the others when it receives again after a message: what
-/// the message was for is done then, and its entry, if any, is in the journal. A bell ends a turn in which nothing came, so that
-/// the session looks at once at what the others did.
+/// What has come is read at once, 256 KiB at most, and handed on message by message without a call to the system. What is sent waits in the output and
+/// leaves before the link waits, past 128 KiB, or as it closes: so the answers to what one read brought leave in one write. A
+/// write waits 30 seconds at most for a peer that takes nothing. A message longer than 16,777,216 bytes is counted and not kept. After a fault
+/// every call is a fault.
+///
+/// A link waits for its socket and for its bell. It rings the bells of the others before it waits, and after 64 messages: what
+/// the messages were for is done then, and their entries, if any, are in the journal. A bell ends a turn in which nothing came, so
+/// that the session looks at once at what the others did.
+///
+/// A peer that breaks the protocol is sent a Close frame with the code of its breach (RFC 6455, section 7.4.1). One of which nothing has come
+/// for 30 seconds is sent a ping, and is given up where nothing came for 60 seconds more. A client of which no message came within 30 seconds is given up.
 #[derive(Drop)]
 pub struct WsLink<S, K> {
-    socket: WebSocket<Metered<S>, K>,
+    alloc: Global,
+    role: Role,
+    stream: S,
+    keys: K,
+    frames: Frames,
+    output: Vec<u8>,
+    /// How many bytes came. The count stays at the greatest `u64`.
+    came: u64,
     faults: u64,
     ended: bool,
     broken: bool,
+    /// Whether the peer was sent a Close frame for a breach. It is given time to read it.
+    refused: bool,
     closed: bool,
     /// Whether the socket may hold more than what was read: it is read before the link waits.
     unread: bool,
-    /// Whether a message was handed on, and the others' bells are not rung yet.
-    handed: bool,
+    /// How many messages were handed on since the others' bells were rung.
+    handed: u32,
+    /// Whether a message has come.
+    asked: bool,
+    /// How many milliseconds were waited for the first message.
+    unasked: u64,
     pace: Pace,
     silence: Silence,
     post: Post,
 }
 
 impl<S: Read + Write + OpenStream + AsRawFd + Drop, K: MaskKeys + Drop> WsLink<S, K> {
-    /// A link over a WebSocket whose handshake is done, which waits at a post. None where the stream takes no limits of time: a
-    /// read or a write of it could wait for ever.
-    pub(crate) fn new(socket: WebSocket<Metered<S>, K>, post: Post) -> Option<WsLink<S, K>>
+    /// A link over a stream whose handshake is done, at whose end of it this endpoint has this role. `early` is what came behind the handshake.
+    /// It waits at a post. None where the stream can't be made not to block, or can't be waited for.
+    pub(crate) fn new(
+        alloc: Global,
+        role: Role,
+        stream: S,
+        keys: K,
+        early: Vec<u8>,
+        post: Post,
+    ) -> Option<WsLink<S, K>>
         ensures faults { IfSome result (λ l. l.faults ≡ 0) }
         ensures ended { IfSome result (λ l. l.ended ≡ false) }
     {
-        let stream = socket.get_ref().stream();
-        if limit(stream).is_err() || !post.watch(stream.as_raw_fd()) {
+        let mut post = post;
+        if stream.set_nonblocking(true).is_err() || !post.watch(stream.as_raw_fd()) {
             return None;
         }
         Some(WsLink {
-            socket,
+            alloc,
+            role,
+            stream,
+            keys,
+            frames: Frames::new(alloc, role, early),
+            output: Vec::new(alloc),
+            came: 0,
             faults: 0,
             ended: false,
             broken: false,
+            refused: false,
             closed: false,
             unread: true,
-            handed: false,
+            handed: 0,
+            asked: false,
+            unasked: 0,
             pace: Pace::new(),
             silence: Silence::new(),
             post,
@@ -79,8 +137,8 @@ impl<S: Read + Write + OpenStream + AsRawFd + Drop, K: MaskKeys + Drop> WsLink<S
 
     /// The post at which the link waited, for another link. The connection is over.
     pub(crate) fn into_post(self) -> Post {
-        let WsLink { socket, post, .. } = self;
-        drop(socket);
+        let WsLink { stream, post, .. } = self;
+        drop(stream);
         post
     }
 }
@@ -110,49 +168,174 @@ impl<S: Read + Write + OpenStream + Drop, K: MaskKeys + Drop> WsLink<S, K> {
         self.faults = self.faults.saturating_add(1);
     }
 
-    /// Waits until there may be something to read, and says what ended that.
-    fn woken(&mut self) -> Woken
+    /// Sends the output. False where it did not leave.
+    fn flush(&mut self) -> bool
         ensures faults { self.new.faults ≡ self.old.faults }
         ensures ended { self.new.ended ≡ self.old.ended }
     {
-        self.pace.begin();
-        if self.unread {
-            return Woken::Socket;
+        if self.output.is_empty() {
+            return true;
         }
-        self.post.wait(self.pace.rest, self.pace.wait)
+        if self.keys.has_failed() {
+            return false;
+        }
+        let left = write_all(&mut self.stream, &mut self.post, self.output.as_slice());
+        if self.output.capacity() > KEPT_OUTPUT {
+            self.output = Vec::new(self.alloc);
+        } else {
+            self.output.clear();
+        }
+        left
     }
 
-    /// A turn that a bell ended.
-    fn belled(&mut self) -> Recv
+    /// Rings the bells of the others, where a message was handed on since they were rung.
+    fn ring(&mut self)
+        ensures faults { self.new.faults ≡ self.old.faults }
+        ensures ended { self.new.ended ≡ self.old.ended }
+    {
+        if self.handed > 0 {
+            self.handed = 0;
+            self.post.ring();
+        }
+    }
+
+    /// What is at the front of what has come.
+    fn next(&mut self) -> Arrival
+        ensures faults { self.new.faults ≡ self.old.faults }
+        ensures ended { self.new.ended ≡ self.old.ended }
+    {
+        self.frames.next(&mut self.output, &mut self.keys)
+    }
+
+    /// Hands on what came.
+    fn hand_on(&mut self, arrival: Arrival) -> Recv
         ensures kept { self.old.faults ≤ self.new.faults }
         ensures cause { result ≡ Recv.Failed → Rose self.old.faults self.new.faults }
         ensures ended { self.new.ended ≡ (self.old.ended || is_end result) }
     {
-        let rested = self.pace.rest;
-        self.pace.belled();
-        self.silent(rested)
+        match arrival {
+            Arrival::Message(message) => {
+                self.asked = true;
+                self.handed = self.handed.saturating_add(1);
+                self.pace.busy();
+                Recv::Got(message)
+            }
+            Arrival::Frame | Arrival::Nothing => Recv::Idle,
+            Arrival::End => {
+                // The answer to a goodbye.
+                let _ = self.flush();
+                self.ended = true;
+                Recv::End
+            }
+            Arrival::Breach(breach) => self.refuse(breach.code()),
+            Arrival::NoMemory => self.spent(),
+        }
     }
 
-    /// A turn in which the socket had no whole frame.
-    fn drained(&mut self) -> Recv
+    /// A turn in which memory was refused. The message may be lost.
+    fn spent(&mut self) -> Recv
         ensures kept { self.old.faults ≤ self.new.faults }
         ensures cause { result ≡ Recv.Failed → Rose self.old.faults self.new.faults }
         ensures ended { self.new.ended ≡ (self.old.ended || is_end result) }
     {
-        self.unread = false;
-        self.silent(READ_WAIT)
+        self.say_close(CloseCode::Error);
+        self.broken = true;
+        Recv::NoMemory
     }
 
-    /// A turn in which nothing came while the link waited. The socket is not read: a read of an empty one would block for longer
-    /// than [`READ_WAIT`] says, by the system's own ticks.
-    fn waited(&mut self) -> Recv
+    /// Tells the peer by a Close frame with this code why the link fails.
+    fn refuse(&mut self, code: CloseCode) -> Recv
         ensures kept { self.old.faults ≤ self.new.faults }
         ensures cause { result ≡ Recv.Failed → Rose self.old.faults self.new.faults }
         ensures ended { self.new.ended ≡ (self.old.ended || is_end result) }
     {
-        let waited = self.pace.wait;
-        self.pace.quiet();
-        self.silent(waited)
+        self.say_close(code);
+        self.fault();
+        Recv::Failed
+    }
+
+    /// Sends a Close frame with this code, as the last that is sent.
+    fn say_close(&mut self, code: CloseCode)
+        ensures faults { self.new.faults ≡ self.old.faults }
+        ensures ended { self.new.ended ≡ self.old.ended }
+    {
+        let put = self.frames.close(code, &mut self.output, &mut self.keys);
+        if put.is_ok() && self.flush() {
+            self.refused = self.stream.shutdown(Shutdown::Write).is_ok();
+        }
+    }
+
+    /// Whether the first message was waited for too long, with so many milliseconds more.
+    fn waited_enough(&mut self, more: u64) -> bool
+        ensures faults { self.new.faults ≡ self.old.faults }
+        ensures ended { self.new.ended ≡ self.old.ended }
+    {
+        if self.asked || self.role == Role::Client {
+            return false;
+        }
+        self.unasked = self.unasked.saturating_add(more);
+        self.unasked >= ASKED_WITHIN
+    }
+
+    /// Whether each wait is to be counted exactly: the first message is waited for, or the answer to a ping. So no bell is heard.
+    fn is_exact(&self) -> bool {
+        (!self.asked && self.role == Role::Server) || self.silence.is_pinged()
+    }
+
+    /// Sends what waits to be sent, and then waits for more, or reads what is there.
+    fn wait(&mut self) -> Recv
+        ensures kept { self.old.faults ≤ self.new.faults }
+        ensures cause { result ≡ Recv.Failed → Rose self.old.faults self.new.faults }
+        ensures ended { self.new.ended ≡ (self.old.ended || is_end result) }
+    {
+        if !self.flush() {
+            self.fault();
+            return Recv::Failed;
+        }
+        self.ring();
+        if self.unread {
+            return self.read();
+        }
+        if self.is_exact() {
+            self.wait_exactly()
+        } else {
+            self.wait_for_bell()
+        }
+    }
+
+    /// A wait that is counted exactly.
+    fn wait_exactly(&mut self) -> Recv
+        ensures kept { self.old.faults ≤ self.new.faults }
+        ensures cause { result ≡ Recv.Failed → Rose self.old.faults self.new.faults }
+        ensures ended { self.new.ended ≡ (self.old.ended || is_end result) }
+    {
+        let limit = self.pace.hushed();
+        match self.post.wait_for_socket(limit) {
+            Woken::Socket => self.read(),
+            Woken::Bell => Recv::Idle,
+            Woken::Time => self.silent(limit),
+        }
+    }
+
+    /// A wait that the bell ends too. Where it does the whole wait counts, so that a peer is asked for a sign of life no later than after
+    /// 30 seconds.
+    fn wait_for_bell(&mut self) -> Recv
+        ensures kept { self.old.faults ≤ self.new.faults }
+        ensures cause { result ≡ Recv.Failed → Rose self.old.faults self.new.faults }
+        ensures ended { self.new.ended ≡ (self.old.ended || is_end result) }
+    {
+        let wait = self.pace.next();
+        match self.post.wait(wait.rest, wait.limit) {
+            Woken::Socket => self.read(),
+            Woken::Bell => {
+                self.pace.belled();
+                self.silent(wait.whole())
+            }
+            Woken::Time => {
+                self.pace.quiet();
+                self.silent(wait.whole())
+            }
+        }
     }
 
     /// A turn in which nothing came for so many milliseconds.
@@ -161,10 +344,12 @@ impl<S: Read + Write + OpenStream + Drop, K: MaskKeys + Drop> WsLink<S, K> {
         ensures cause { result ≡ Recv.Failed → Rose self.old.faults self.new.faults }
         ensures ended { self.new.ended ≡ (self.old.ended || is_end result) }
     {
-        let heard = self.socket.get_ref().heard();
-        match self.silence.after(heard, lasted) {
+        if self.waited_enough(lasted) {
+            return self.refuse(CloseCode::Policy);
+        }
+        match self.silence.after(self.came, lasted) {
             Call::Nothing => Recv::Idle,
-            Call::Ping => match self.put(Message::Ping(Bytes::new())) {
+            Call::Ping => match self.put(Message::Ping(&[])) {
                 Sent::Done => Recv::Idle,
                 Sent::Failed => Recv::Failed,
                 Sent::NoMemory => Recv::NoMemory,
@@ -176,19 +361,92 @@ impl<S: Read + Write + OpenStream + Drop, K: MaskKeys + Drop> WsLink<S, K> {
         }
     }
 
+    /// Reads once.
+    fn read(&mut self) -> Recv
+        ensures kept { self.old.faults ≤ self.new.faults }
+        ensures cause { result ≡ Recv.Failed → Rose self.old.faults self.new.faults }
+        ensures ended { self.new.ended ≡ (self.old.ended || is_end result) }
+    {
+        match self.frames.fill(&mut self.stream) {
+            Filled::Bytes { count, all } => {
+                self.unread = all || self.post.is_over();
+                self.heard(count)
+            }
+            Filled::Nothing => {
+                self.unread = false;
+                Recv::Idle
+            }
+            Filled::Again => Recv::Idle,
+            Filled::End => {
+                self.ended = true;
+                Recv::End
+            }
+            Filled::Fault => {
+                self.fault();
+                Recv::Failed
+            }
+            Filled::NoMemory => self.spent(),
+        }
+    }
+
+    /// Hands on the first of what so many bytes brought.
+    fn heard(&mut self, count: usize) -> Recv
+        ensures kept { self.old.faults ≤ self.new.faults }
+        ensures cause { result ≡ Recv.Failed → Rose self.old.faults self.new.faults }
+        ensures ended { self.new.ended ≡ (self.old.ended || is_end result) }
+    {
+        self.came = self.came.saturating_add(count as u64);
+        let counts = if count < DROP {
+            DROP_COUNTS
+        } else {
+            PIECE_COUNTS
+        };
+        if self.waited_enough(counts) {
+            return self.refuse(CloseCode::Policy);
+        }
+        let arrival = self.next();
+        self.hand_on(arrival)
+    }
+
     /// Puts a message into the output.
-    fn put(&mut self, message: Message) -> Sent
+    fn put(&mut self, message: Message<'_>) -> Sent
         ensures kept { self.old.faults ≤ self.new.faults }
         ensures cause { result ≡ Sent.Failed → Rose self.old.faults self.new.faults }
         ensures ended { self.new.ended ≡ self.old.ended }
     {
-        match self.socket.write(message) {
-            Ok(()) => Sent::Done,
-            Err(error) => self.unsent(&error),
+        match self.frames.write(message, &mut self.output, &mut self.keys) {
+            Ok(()) => {}
+            Err(error) => return self.unsent(&error),
         }
+        if self.output.len() < LONG_OUTPUT || self.flush() {
+            return Sent::Done;
+        }
+        self.fault();
+        Sent::Failed
     }
 
-    /// Why a message was not sent. Where the stream failed its frame is still in the output, so it is never tried again.
+    /// Sends a long message behind the output.
+    fn put_long(&mut self, message: &[u8]) -> Sent
+        ensures kept { self.old.faults ≤ self.new.faults }
+        ensures cause { result ≡ Sent.Failed → Rose self.old.faults self.new.faults }
+        ensures ended { self.new.ended ≡ self.old.ended }
+    {
+        let message = Message::Binary(message);
+        let rest = match self
+            .frames
+            .write_header(message, &mut self.output, &mut self.keys)
+        {
+            Ok(rest) => rest,
+            Err(error) => return self.unsent(&error),
+        };
+        if self.flush() && write_all(&mut self.stream, &mut self.post, rest) {
+            return Sent::Done;
+        }
+        self.fault();
+        Sent::Failed
+    }
+
+    /// Why a message was not put into the output.
     fn unsent(&mut self, error: &Error) -> Sent
         ensures kept { self.old.faults ≤ self.new.faults }
         ensures cause { result ≡ Sent.Failed → Rose self.old.faults self.new.faults }
@@ -203,77 +461,77 @@ impl<S: Read + Write + OpenStream + Drop, K: MaskKeys + Drop> WsLink<S, K> {
         }
     }
 
-    /// Rings the bells of the others, where a message was handed on since they were rung.
-    fn ring(&mut self)
-        ensures faults { self.new.faults ≡ self.old.faults }
-        ensures ended { self.new.ended ≡ self.old.ended }
-    {
-        if self.handed {
-            self.handed = false;
-            self.post.ring();
-        }
-    }
-
-    /// Reads what has come.
-    fn read(&mut self) -> Recv
-        ensures kept { self.old.faults ≤ self.new.faults }
-        ensures cause { result ≡ Recv.Failed → Rose self.old.faults self.new.faults }
-        ensures ended { self.new.ended ≡ (self.old.ended || is_end result) }
-    {
-        match receive(&mut self.socket) {
-            Arrival::Message(message) => {
-                self.unread = true;
-                self.handed = true;
-                self.pace.busy();
-                Recv::Got(message)
-            }
-            Arrival::Frame => {
-                self.unread = true;
-                Recv::Idle
-            }
-            Arrival::Nothing => self.drained(),
-            Arrival::End => {
-                // The answer to a goodbye.
-                let _ = self.socket.flush();
-                self.ended = true;
-                Recv::End
-            }
-            Arrival::Fault => {
-                self.fault();
-                Recv::Failed
-            }
-            Arrival::NoMemory => {
-                // The socket may have lost the message.
-                self.broken = true;
-                Recv::NoMemory
-            }
-        }
-    }
-
-    /// Sends the goodbye, and reads until the peer's has come or has not come in time.
+    /// Sends the goodbye, and reads until the peer's has come, or has not come in time. A client of which no message came was turned away, and
+    /// is not waited for.
     fn say_goodbye(&mut self)
         ensures faults { self.new.faults ≡ self.old.faults }
         ensures ended { self.new.ended ≡ self.old.ended }
     {
-        let wait = Some(Duration::from_millis(GOODBYE_WAIT));
-        if self
-            .socket
-            .get_ref()
-            .stream()
-            .set_read_timeout(wait)
-            .is_err()
-        {
+        let served = self.asked || self.role == Role::Client;
+        let code = if self.post.is_stopping() {
+            CloseCode::Away
+        } else if served {
+            CloseCode::Normal
+        } else {
+            CloseCode::Again
+        };
+        let put = self.frames.close(code, &mut self.output, &mut self.keys);
+        if put.is_err() || !self.flush() || !served {
             return;
         }
-        if self.socket.close(None).is_err() {
-            return;
-        }
-        for _ in 0..GOODBYE_READS {
-            match receive(&mut self.socket) {
-                Arrival::Message(_) | Arrival::Frame | Arrival::Nothing => {}
-                Arrival::End | Arrival::Fault | Arrival::NoMemory => return,
+        let mut left = GOODBYE;
+        for _ in 0..u64::MAX {
+            match self.next() {
+                Arrival::Message(_) | Arrival::Frame => {}
+                Arrival::Nothing => left = left.saturating_sub(self.refill()),
+                Arrival::End | Arrival::Breach(_) | Arrival::NoMemory => return,
+            }
+            if left == 0 {
+                return;
             }
         }
+    }
+
+    /// Reads and drops what the peer of a link that failed still sends, so that what it was told is not lost with it.
+    fn drain(&mut self)
+        ensures faults { self.new.faults ≡ self.old.faults }
+        ensures ended { self.new.ended ≡ self.old.ended }
+    {
+        let mut left = GOODBYE;
+        for _ in 0..GOODBYE {
+            left = left.saturating_sub(self.refill());
+            if left == 0 {
+                return;
+            }
+            self.frames.forget();
+        }
+    }
+
+    /// Reads once for a goodbye, and waits where nothing is there. It gives what that counts.
+    fn refill(&mut self) -> u64
+        ensures faults { self.new.faults ≡ self.old.faults }
+        ensures ended { self.new.ended ≡ self.old.ended }
+    {
+        match self.frames.fill(&mut self.stream) {
+            Filled::Bytes { count, .. } => { if count < FEW_BYTES { 10 } else { 1 } }
+            Filled::Nothing => match self.post.wait_for_socket(GOODBYE_WAIT) {
+                Woken::Time => GOODBYE_WAIT,
+                Woken::Socket | Woken::Bell => 1,
+            },
+            Filled::Again => 1,
+            Filled::End | Filled::Fault | Filled::NoMemory => GOODBYE,
+        }
+    }
+
+    /// The server stops: what waits leaves, the peer is told so, and nothing more comes.
+    fn leave(&mut self) -> Recv
+        ensures faults { self.new.faults ≡ self.old.faults }
+        ensures end { result ≡ Recv.End }
+        ensures ended { self.new.ended ≡ true }
+    {
+        self.end();
+        self.ended = true;
+        Recv::End
     }
 
     /// Says goodbye and shuts the stream down, the first time that it is called.
@@ -286,17 +544,13 @@ impl<S: Read + Write + OpenStream + Drop, K: MaskKeys + Drop> WsLink<S, K> {
         }
         self.closed = true;
         self.ring();
-        if !self.ended && !self.broken {
+        if self.refused {
+            self.drain();
+        } else if !self.ended && !self.broken {
             self.say_goodbye();
         }
-        let _ = self.socket.get_ref().stream().shutdown(Shutdown::Both);
+        let _ = self.stream.shutdown(Shutdown::Both);
     }
-}
-
-/// Sets the limits of time of a link that begins.
-fn limit<S: OpenStream>(stream: &S) -> io::Result<()> {
-    stream.set_read_timeout(Some(Duration::from_millis(READ_WAIT)))?;
-    stream.set_write_timeout(Some(Duration::from_millis(WRITE_WAIT)))
 }
 
 impl<S: Read + Write + OpenStream + Drop + Send, K: MaskKeys + Drop + Send> Link for WsLink<S, K> {
@@ -310,16 +564,19 @@ impl<S: Read + Write + OpenStream + Drop + Send, K: MaskKeys + Drop + Send> Link
         if self.ended {
             return Recv::End;
         }
-        // What was sent leaves now. A read would pass over a peer that takes nothing.
-        if self.broken || self.socket.flush().is_err() {
+        if self.post.is_stopping() {
+            return self.leave();
+        }
+        if self.broken {
             self.fault();
             return Recv::Failed;
         }
-        self.ring();
-        let recv = match self.woken() {
-            Woken::Socket => self.read(),
-            Woken::Bell => self.belled(),
-            Woken::Time => self.waited(),
+        if self.handed >= RUNG_AFTER {
+            self.ring();
+        }
+        let recv = match self.next() {
+            Arrival::Nothing => self.wait(),
+            arrival => self.hand_on(arrival),
         };
         self.post.look();
         recv
@@ -330,11 +587,13 @@ impl<S: Read + Write + OpenStream + Drop + Send, K: MaskKeys + Drop + Send> Link
             self.fault();
             return Sent::Failed;
         }
-        let Ok(shared) = message.share() else {
-            return Sent::NoMemory;
-        };
         self.pace.told();
-        self.put(Message::Binary(shared.into_bytes()))
+        let bytes = message.as_bytes();
+        if bytes.len() > LONG_MESSAGE {
+            self.put_long(bytes)
+        } else {
+            self.put(Message::Binary(bytes))
+        }
     }
 
     fn close(&mut self) {

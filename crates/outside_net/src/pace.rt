@@ -10,57 +10,99 @@ const LONGEST: u64 = 32;
 /// changes.
 const MANY: u32 = 16;
 
-/// How long a link waits, and for how long of that it does not hear its bell, both in milliseconds.
-///
-/// A bell says that the store may have changed, and not whether that is news to this link's session. After a bell the link rests
-/// a millisecond, so that changes that come close together are told together. While bells bring no news the rests grow: a
-/// session that follows nothing is not woken by each write of the others. A link that has sent much neither rests nor waits.
-#[derive(Clone, Copy, Debug)]
-pub(crate) struct Pace {
-    pub(crate) wait: u64,
+/// A wait: for so many milliseconds the bell is not heard, and then for so many it is.
+#[derive(Clone, Copy)]
+pub(crate) struct Wait {
     pub(crate) rest: u64,
+    pub(crate) limit: u64,
+}
+
+impl Wait {
+    /// How long it lasts where nothing ends it.
+    pub(crate) fn whole(self) -> u64 {
+        self.rest.saturating_add(self.limit)
+    }
+}
+
+/// How long a link waits.
+///
+/// A bell says that the store may have changed, and not whether that is news to this link's session. While bells bring no news the
+/// link rests before it hears the next one, and its rests grow: a session that follows nothing is not woken by each write of the others. A
+/// link that has told a little neither rests nor waits long: lone news are told at once. A link that has sent much does not wait, as there may be
+/// more to send, and rests a millisecond once it has sent all, so that changes that come close together are told together.
+#[derive(Clone, Copy)]
+pub(crate) struct Pace {
+    limit: u64,
+    rest: u64,
     /// How many messages were sent since the last wait.
     sent: u32,
+    /// Whether the last wait was ended by the bell.
+    belled: bool,
+    /// Whether the turn before the last sent much.
+    crowded: bool,
 }
 
 impl Pace {
     pub(crate) fn new() -> Pace {
         Pace {
-            wait: SHORTEST,
+            limit: SHORTEST,
             rest: 0,
             sent: 0,
+            belled: false,
+            crowded: false,
         }
     }
 
-    /// A wait begins.
-    pub(crate) fn begin(&mut self) {
-        if self.sent >= MANY {
-            self.wait = 0;
-            self.rest = 0;
-        }
+    /// The wait that begins.
+    pub(crate) fn next(&mut self) -> Wait {
+        let sent = self.sent;
+        let belled = self.belled;
         self.sent = 0;
+        self.belled = false;
+        if sent >= MANY {
+            self.crowded = true;
+            return Wait { rest: 0, limit: 0 };
+        }
+        if self.crowded {
+            self.crowded = false;
+            self.rest = 1;
+        } else if sent > 0 {
+            self.rest = 0;
+        } else if belled {
+            self.rest = self.rest.saturating_mul(2).max(1).min(LONGEST);
+        }
+        Wait {
+            rest: self.rest,
+            limit: self.limit,
+        }
+    }
+
+    /// A wait in which no bell is heard, so that it is counted exactly, begins. It gives how long it lasts, in milliseconds.
+    pub(crate) fn hushed(&mut self) -> u64 {
+        self.sent = 0;
+        self.belled = false;
+        LONGEST
     }
 
     /// A message came.
     pub(crate) fn busy(&mut self) {
-        self.wait = SHORTEST;
+        self.limit = SHORTEST;
     }
 
     /// Something was sent.
     pub(crate) fn told(&mut self) {
-        self.wait = SHORTEST;
-        self.rest = self.rest.min(1);
+        self.limit = SHORTEST;
         self.sent = self.sent.saturating_add(1);
     }
 
     /// The time was over.
     pub(crate) fn quiet(&mut self) {
-        self.wait = self.wait.saturating_mul(2).max(SHORTEST).min(LONGEST);
+        self.limit = self.limit.saturating_mul(2).max(SHORTEST).min(LONGEST);
         self.rest = 0;
     }
 
     /// The bell rang.
     pub(crate) fn belled(&mut self) {
-        self.rest = self.rest.saturating_mul(2).max(1).min(LONGEST);
+        self.belled = true;
     }
 }

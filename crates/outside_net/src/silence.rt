@@ -1,5 +1,5 @@
 //! How long a peer may be silent.
-ghost use Rattle.std.specs.Prelude.{◌≡◌, ◌↔◌, ◌<◌, ◌≤◌};
+ghost use Rattle.std.specs.Prelude.{◌≡◌, ◌↔◌, ◌<◌, ◌≤◌, nat_le};
 ghost use Rattle.outside_net.specs.Silence.{lasts};
 
 /// After so many milliseconds in which nothing came the peer is sent a ping.
@@ -36,7 +36,14 @@ impl Silence {
         }
     }
 
-    /// After a read that waited so many milliseconds, when so many bytes have come in all. A ping is called for once in each
+    /// Whether the peer was sent a ping, and nothing has come since.
+    pub fn is_pinged(&self) -> bool
+        ensures { result ≡ nat_le 30000 self.now.lasted }
+    {
+        self.lasted >= PING_AFTER
+    }
+
+    /// After a wait of so many milliseconds, when so many bytes have come in all. A ping is called for once in each
     /// silence.
     pub fn after(&mut self, heard: u64, wait: u64) -> Call
         ensures heard { self.new.heard ≡ heard }

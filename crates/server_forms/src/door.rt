@@ -1,43 +1,66 @@
 //! A listener that tells where it listens.
 ghost use Rattle.std.specs.Prelude.{◌≡◌, None};
 
-use etp_outside::{Listened, Listener, Next, Sink, write_all};
+use crate::log::Log;
+use etp_outside::{Listened, Listener, Next, Sink};
 use outside_net::{ServerLink, TcpDoor};
 use std::alloc::Global;
+use std::io::ErrorKind;
 use std::net::{Net, TcpListener, TcpStream};
+use std::time::Clock;
 
-/// A listener over TCP that writes a line once it listens: `listening at port PORT`.
+/// A listener over TCP that stops once the standard input has ended, and writes lines: `listening at port PORT` once it listens, or why it
+/// can't, and then one for each connection that is refused and each session that ended, ten a second at most. A session's line comes
+/// when its link is taken back.
 #[derive(Drop)]
 pub(crate) struct ToldDoor<'a, R, W> {
     door: TcpDoor<'a, R>,
-    errors: W,
-    alloc: Global,
+    log: Log<'a, R, W>,
 }
 
-impl<'a, R: Net<Listener = TcpListener, Stream = TcpStream>, W: Sink> ToldDoor<'a, R, W> {
+impl<'a, R: Net<Listener = TcpListener, Stream = TcpStream> + Clock, W: Sink> ToldDoor<'a, R, W> {
     /// A door that does not listen yet.
     pub(crate) fn new(alloc: Global, rt: &'a R, errors: W) -> ToldDoor<'a, R, W> {
         ToldDoor {
-            door: TcpDoor::new(rt),
-            errors,
-            alloc,
+            door: TcpDoor::new(rt).until_input_ends(),
+            log: Log::new(alloc, rt, errors),
         }
     }
 
-    /// Writes the line. What can't be written is lost.
-    fn tell(&mut self)
+    /// Writes at which port it listens.
+    fn tell_port(&mut self)
         ensures { self.new.door ≡ self.old.door }
     {
-        let Some(port) = self.door.port() else {
-            return;
-        };
-        if let Ok(line) = format!(in self.alloc; "listening at port {port}\n") {
-            let _ = write_all(&mut self.errors, line.as_bytes());
+        if let Some(port) = self.door.port() {
+            self.log.listening(port);
         }
+    }
+
+    /// Writes why it can't listen at an address.
+    fn tell_cause(&mut self, address: &str)
+        ensures { self.new.door ≡ self.old.door }
+    {
+        let cause = match self.door.cause() {
+            Some(error) => cause_words(error.kind()),
+            None => "it is refused",
+        };
+        self.log.not_listening(address, cause);
     }
 }
 
-impl<'a, R: Net<Listener = TcpListener, Stream = TcpStream>, W: Sink> Listener
+/// Why the system does not listen at an address.
+fn cause_words(kind: ErrorKind) -> &'static str {
+    match kind {
+        ErrorKind::AddrInUse => "the address is in use",
+        ErrorKind::AddrNotAvailable => "this machine has no such address",
+        ErrorKind::PermissionDenied => "permission denied",
+        ErrorKind::InvalidInput => "this is no address with a port, as 127.0.0.1:9002",
+        ErrorKind::OutOfMemory => "out of memory",
+        _ => "the name is not known, or the system refuses",
+    }
+}
+
+impl<'a, R: Net<Listener = TcpListener, Stream = TcpStream> + Clock, W: Sink> Listener
     for ToldDoor<'a, R, W> {
     type Link = ServerLink;
 
@@ -54,18 +77,21 @@ impl<'a, R: Net<Listener = TcpListener, Stream = TcpStream>, W: Sink> Listener
     fn listen(&mut self, address: &str) -> Listened {
         match self.door.listen(address) {
             Listened::Done => {
-                self.tell();
+                self.tell_port();
                 Listened::Done
             }
-            Listened::Failed => Listened::Failed,
+            Listened::Failed => {
+                self.tell_cause(address);
+                Listened::Failed
+            }
         }
     }
 
     fn next(&mut self, alloc: Global) -> Next<ServerLink> {
-        self.door.next(alloc)
+        self.door.next_told(alloc, &mut self.log)
     }
 
     fn back(&mut self, link: ServerLink, number: u64, end: u8) {
-        self.door.back(link, number, end);
+        self.door.back_told(link, number, end, &mut self.log);
     }
 }

@@ -11,6 +11,7 @@
 
 mod command;
 mod door;
+mod log;
 mod program;
 mod report;
 mod run;

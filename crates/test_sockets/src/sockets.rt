@@ -8,6 +8,7 @@ use std::io::{self, Read, Write};
 use std::net::{Net, TcpListener, TcpStream};
 use std::process::Abort;
 use std::test::Fail;
+use std::time::Clock;
 
 /// A request, which offers the subprotocol in its second line of offers.
 const REQUEST: &[u8] =
@@ -35,6 +36,12 @@ const HELLO_PARTS: &[u8] = &[
 const PING: &[u8] = &[
     0x89, 0x85, 0x37, 0xfa, 0x21, 0x3d, 0x7f, 0x9f, 0x4d, 0x51, 0x58,
 ];
+
+/// The header of a ping that announces 126 bytes, one more than a control frame may have.
+const LONG_PING: &[u8] = &[0x89, 0xfe, 0, 126, 0, 0, 0, 0];
+
+/// The first fragment of a text, with the beginning of half a surrogate pair.
+const BAD_TEXT: &[u8] = &[0x01, 0x82, 0, 0, 0, 0, 0xed, 0xa0];
 
 /// A goodbye.
 const GOODBYE: &[u8] = &[0x88, 0x80, 0, 0, 0, 0];
@@ -85,25 +92,55 @@ const MESSAGES: [Step; 16] = [
     Step::HearsEnd,
 ];
 
-/// A link that is closed twice says goodbye once.
-const GOODBYES: [Step; 5] = [
+/// A link that is closed twice says goodbye once: it has done its work, with the code 1000.
+const GOODBYES: [Step; 7] = [
+    Step::Says(HELLO_PARTS),
+    Step::Gets(b"Hello"),
     Step::Says(GOODBYE),
     Step::Closes,
     Step::Closes,
-    Step::Hears(b"\x88\x00"),
+    Step::Hears(b"\x88\x02\x03\xe8"),
     Step::HearsEnd,
 ];
 
-const FAULTS: [Step; 5] = [
+/// A link that is closed before a message came turns its client away: it may try again later, with the code 1013.
+const TURNED_AWAY: [Step; 3] = [
+    Step::Closes,
+    Step::Hears(b"\x88\x02\x03\xf5"),
+    Step::HearsEnd,
+];
+
+/// A frame without a mask breaks the protocol, with the code 1002.
+const FAULTS: [Step; 7] = [
     Step::Says(UNMASKED),
     Step::Fails,
     Step::Fails,
     Step::Sends(Sent::Failed),
     Step::Closes,
+    Step::Hears(b"\x88\x02\x03\xea"),
+    Step::HearsEnd,
+];
+
+/// A ping that announces 126 bytes is refused before they come.
+const LONG_PINGS: [Step; 5] = [
+    Step::Says(LONG_PING),
+    Step::Fails,
+    Step::Closes,
+    Step::Hears(b"\x88\x02\x03\xea"),
+    Step::HearsEnd,
+];
+
+/// A text is refused at its first fragment that no text begins with, with the code 1007.
+const BAD_TEXTS: [Step; 5] = [
+    Step::Says(BAD_TEXT),
+    Step::Fails,
+    Step::Closes,
+    Step::Hears(b"\x88\x02\x03\xef"),
+    Step::HearsEnd,
 ];
 
 /// A door at a port that the system picks.
-fn open_door<'a, R: Abort + Net<Listener = TcpListener, Stream = TcpStream>>(
+fn open_door<'a, R: Abort + Net<Listener = TcpListener, Stream = TcpStream> + Clock>(
     rt: &'a R,
 ) -> TcpDoor<'a, R> {
     let mut door = TcpDoor::new(rt);
@@ -112,7 +149,7 @@ fn open_door<'a, R: Abort + Net<Listener = TcpListener, Stream = TcpStream>>(
 }
 
 /// A client at the door's port, which has sent these bytes.
-fn client<R: Net<Listener = TcpListener, Stream = TcpStream>>(
+fn client<R: Net<Listener = TcpListener, Stream = TcpStream> + Clock>(
     rt: &R,
     door: &TcpDoor<R>,
     first: &[u8],
@@ -124,7 +161,7 @@ fn client<R: Net<Listener = TcpListener, Stream = TcpStream>>(
 }
 
 /// The next link of a door.
-fn welcomed<R: Net<Listener = TcpListener, Stream = TcpStream>>(
+fn welcomed<R: Net<Listener = TcpListener, Stream = TcpStream> + Clock>(
     alloc: Global,
     door: &mut TcpDoor<R>,
 ) -> Result<ServerLink, &'static str> {
@@ -245,7 +282,7 @@ fn step_client(rt: &impl Abort, peer: &mut TcpStream, step: Step) -> io::Result<
 }
 
 /// A client of the door, and its link, which go through these steps once the client is answered. The client then leaves.
-fn meet<R: AllocGlobal + Abort + Net<Listener = TcpListener, Stream = TcpStream>>(
+fn meet<R: AllocGlobal + Abort + Net<Listener = TcpListener, Stream = TcpStream> + Clock>(
     rt: &R,
     door: &mut TcpDoor<R>,
     steps: &[Step],
@@ -280,7 +317,10 @@ fn a_door_passes_over_what_is_no_client(rt: HostRuntime) -> Result<(), Fail> {
 #[test]
 fn a_link_tells_an_end_from_a_fault(rt: HostRuntime) -> Result<(), Fail> {
     let mut door = open_door(&rt);
+    meet(&rt, &mut door, &TURNED_AWAY)?;
     meet(&rt, &mut door, &FAULTS)?;
+    meet(&rt, &mut door, &LONG_PINGS)?;
+    meet(&rt, &mut door, &BAD_TEXTS)?;
     // A client that has read all goes without a goodbye.
     let mut link = meet(&rt, &mut door, &[])?;
     ends(&rt, rt.alloc(), &mut link);

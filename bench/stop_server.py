@@ -1,0 +1,115 @@
+#!/usr/bin/env python3
+"""Stops a running server by SIGTERM, and checks that it ends well.
+
+    python3 stop_server.py ETPD
+
+ETPD is the built program. It is run by `deploy/etpd-run`, with no client, with one, with 64 of which one reads nothing, and beside
+connections that never become clients. Each time it has to end with status 0 within 35 seconds, write its report, and tell each client that it
+goes away (a Close frame with 1001). A server whose standard input has ended before it began has to serve. It needs the standard library alone.
+"""
+import asyncio
+import os
+import re
+import signal
+import subprocess
+import sys
+import tempfile
+import time
+from pathlib import Path
+
+import attack_door
+import web_socket
+
+RUN = Path(__file__).parent.parent / "deploy" / "etpd-run"
+CONFIG = 'instance = "00000000-0000-0000-0000-000000000001"\nname = "wd"\n'
+GOING_AWAY = 1001
+# How long the end and anything else may take, in seconds.
+END, PATIENCE = 35, 30
+# How many answers a client asks for that reads none.
+UNREAD = 20_000
+
+
+async def opened(port):
+    """A client with a session."""
+    client = await web_socket.connect(f"ws://127.0.0.1:{port}/", [attack_door.SUBPROTOCOL])
+    await client.send(attack_door.request_session())
+    await asyncio.wait_for(client.recv(), PATIENCE)
+    return client
+
+
+async def close_code(client):
+    """The code by which the server ends the link."""
+    await asyncio.wait_for(client.wait_closed(), END)
+    return client.close_code
+
+
+async def visit(port, clients, lazy, stop):
+    """Opens sessions, has the server stop, and gives the codes of the Close frames."""
+    links = [await opened(port) for _ in range(clients)]
+    sleeper = await opened(port) if lazy else None
+    if sleeper:
+        # It asks for more than its socket holds, and reads nothing.
+        sleeper.transport.pause_reading()
+        sleeper.writer.write(web_socket.frame(web_socket.PING, b"a" * 125) * UNREAD)
+    stop()
+    return await asyncio.gather(*(close_code(link) for link in links))
+
+
+def start(config, prefix, **streams):
+    server = subprocess.Popen([*prefix, sys.argv[1], config, "127.0.0.1:0"], stdout=subprocess.PIPE, stderr=subprocess.PIPE, **streams)
+    return server, int(re.search(rb"listening at port (\d+)", server.stderr.readline())[1])
+
+
+def check(config, name, clients, lazy=False, strangers=0):
+    server, port = start(config, [str(RUN)], stdin=subprocess.DEVNULL)
+    siege = attack_door.Siege(("127.0.0.1", port), ["silent", "drips"], strangers)
+    siege.start()
+    begun = None
+
+    def stop():
+        nonlocal begun
+        begun = time.monotonic()
+        server.send_signal(signal.SIGTERM)
+
+    try:
+        codes = asyncio.run(visit(port, clients, lazy, stop))
+        report, _ = server.communicate(timeout=END + 10)
+    finally:
+        server.kill()
+        siege.over = True
+    taken = time.monotonic() - begun
+    assert server.returncode == 0, f"{name}: the server ended with {server.returncode}"
+    assert report.startswith(b"entries "), f"{name}: the report is {report[:100]}"
+    assert all(code == GOING_AWAY for code in codes), f"{name}: Close frames with {set(codes)}"
+    assert taken <= END, f"{name}: it took {taken:.1f} s"
+    print(f"{name}: status 0 after {taken:.2f} s", flush=True)
+
+
+def check_ended_input(config):
+    """An input that has ended before the server began asks nobody to stop."""
+    read, write = os.pipe()
+    os.close(write)
+    server, port = start(config, [], stdin=read)
+    try:
+        time.sleep(1)
+        attack_door.honest(("127.0.0.1", port), attack_door.request_session())
+    finally:
+        server.kill()
+        server.communicate()
+    print("an input that ended before: the server serves", flush=True)
+
+
+def main():
+    with tempfile.TemporaryDirectory() as folder:
+        config = Path(folder) / "wd.toml"
+        config.write_text(CONFIG)
+        check_ended_input(str(config))
+        check(str(config), "no client", 0)
+        check(str(config), "one client", 1)
+        check(str(config), "64 clients", 64)
+        check(str(config), "63 clients, and one that reads nothing", 63, lazy=True)
+        check(str(config), "8 clients beside 100 strangers", 8, strangers=100)
+
+
+if __name__ == "__main__":
+    main()

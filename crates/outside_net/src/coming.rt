@@ -1,0 +1,212 @@
+//! A message of which not all has come.
+ghost use Rattle.std.specs.Prelude.{◌≡◌, ℕ, Bool, List, ◌+◌, [], false, length, IfOk, OnOk};
+ghost use Rattle.outside_net.specs.Coming.{added, kept, is_short, IsWhole, IsTooLong};
+
+use crate::arrival::Arrival;
+use crate::breach::Breach;
+use crate::utf8::Utf8;
+use etp_values::Blob;
+use std::alloc::{AllocError, Global};
+
+/// The longest message that is handed on as it is, in bytes: 16 MiB. Of a longer one only the count is kept, and it is handed on
+/// as one byte more than this, all zero, so that whoever reads it sees that it is too long.
+pub const MAX_MESSAGE: u64 = 16_777_216;
+
+/// The length of what is handed on for a message that is too long.
+const TOO_LONG: usize = 16_777_217;
+
+/// A message of more bytes than this, 1 MiB, gets memory of its own from the system, to which it goes back when the message is
+/// dropped.
+const LARGE: u64 = 1_048_576;
+
+/// So many bytes are asked for at once for a large message. The C library has a mapping of its own for a piece of this size, however much it
+/// keeps of smaller ones; what is not written of it takes no memory, and what is not needed is given back when the message is whole.
+const MAPPED: usize = 33_619_968;
+
+/// What a message is made of.
+#[derive(Clone, Copy)]
+pub enum Kind {
+    Binary,
+    /// A text is no message of the protocol. It is checked, and handed on as an empty message, so that it is refused as one.
+    Text,
+}
+
+/// Why a piece was not added.
+#[derive(Clone, Copy)]
+pub enum Unadded {
+    /// The message breaks the protocol.
+    Breach(Breach),
+    /// Memory was refused.
+    NoMemory,
+}
+
+/// A message of which not all has come. It holds no more than [`MAX_MESSAGE`] bytes.
+#[derive(Drop)]
+pub struct Coming {
+    alloc: Global,
+    kind: Kind,
+    /// What has come of a binary message, while it is not too long.
+    bytes: Vec<u8>,
+    /// How many bytes have come.
+    count: u64,
+    utf8: Utf8,
+}
+
+impl Coming {
+    /// A message of which nothing has come.
+    pub fn new(alloc: Global, kind: Kind) -> Coming
+        ensures bytes { result.bytes.items ≡ [] }
+        ensures count { result.count ≡ 0 }
+        ensures kind { result.kind ≡ kind }
+    {
+        Coming {
+            alloc,
+            kind,
+            bytes: Vec::new(alloc),
+            count: 0,
+            utf8: Utf8::new(),
+        }
+    }
+
+    /// Adds a piece of the payload.
+    pub fn add(&mut self, piece: &[u8]) -> Result<(), Unadded>
+        ensures kind { self.new.kind ≡ self.old.kind }
+        ensures count { OnOk result (self.new.count ≡ self.old.count + length piece.now) }
+        ensures bytes { OnOk result (self.new.bytes.items ≡ added self.old.kind self.new.count self.old.bytes.items piece.now) }
+    {
+        let Some(count) = self.count.checked_add(piece.len() as u64) else {
+            return Err(Unadded::Breach(Breach::TooLong));
+        };
+        match self.kind {
+            Kind::Binary => self.keep(count, piece),
+            Kind::Text => self.check(count, piece),
+        }
+    }
+
+    /// Checks a piece of a text, of which so many bytes have come with it.
+    fn check(&mut self, count: u64, piece: &[u8]) -> Result<(), Unadded>
+        ensures kind { self.new.kind ≡ self.old.kind }
+        ensures count { OnOk result (self.new.count ≡ count) }
+        ensures bytes { self.new.bytes ≡ self.old.bytes }
+    {
+        if !self.utf8.takes(piece) {
+            return Err(Unadded::Breach(Breach::Utf8));
+        }
+        self.count = count;
+        Ok(())
+    }
+
+    /// Keeps a piece of a binary message, of which so many bytes have come with it.
+    fn keep(&mut self, count: u64, piece: &[u8]) -> Result<(), Unadded>
+        ensures kind { self.new.kind ≡ self.old.kind }
+        ensures count { OnOk result (self.new.count ≡ count) }
+        ensures bytes { OnOk result (self.new.bytes.items ≡ kept count self.old.bytes.items piece.now) }
+    {
+        if !is_short(count) {
+            self.bytes = Vec::new(self.alloc);
+            self.count = count;
+            return Ok(());
+        }
+        if self.make_room(count).is_err() || self.bytes.extend_from_slice(piece).is_err() {
+            return Err(Unadded::NoMemory);
+        }
+        self.count = count;
+        Ok(())
+    }
+
+    /// Makes room for a message of so many bytes, where it becomes large.
+    fn make_room(&mut self, count: u64) -> Result<(), AllocError>
+        ensures kind { self.new.kind ≡ self.old.kind }
+        ensures bytes { self.new.bytes.items ≡ self.old.bytes.items }
+    {
+        if count <= LARGE || self.bytes.capacity() >= MAPPED {
+            return Ok(());
+        }
+        let large = moved(self.alloc, self.bytes.as_slice())?;
+        self.bytes = large;
+        Ok(())
+    }
+
+    /// The message, which is whole.
+    pub fn finish(self) -> Arrival
+        ensures { IsWhole self.kind (is_short self.count) self.bytes.items result }
+    {
+        let Coming {
+            alloc,
+            kind,
+            bytes,
+            count,
+            utf8,
+        } = self;
+        match kind {
+            Kind::Text => finish_text(utf8),
+            Kind::Binary => finish_binary(alloc, bytes, count),
+        }
+    }
+}
+
+/// Whether a message of so many bytes is handed on as it is.
+fn is_short(count: u64) -> bool
+    ensures { result ≡ is_short count }
+{
+    count <= MAX_MESSAGE
+}
+
+/// A text that is whole.
+fn finish_text(utf8: Utf8) -> Arrival
+    ensures { (short : Bool) (bytes : List ℕ) → IsWhole Kind.Text short bytes result }
+{
+    if utf8.is_whole() {
+        Arrival::Message(Blob::new())
+    } else {
+        Arrival::Breach(Breach::Utf8)
+    }
+}
+
+/// A binary message that is whole, and of which so many bytes came.
+fn finish_binary(alloc: Global, bytes: Vec<u8>, count: u64) -> Arrival
+    ensures { IsWhole Kind.Binary (is_short count) bytes.items result }
+{
+    if !is_short(count) {
+        drop(bytes);
+        return too_long(alloc);
+    }
+    let mut bytes = bytes;
+    if bytes.capacity() >= MAPPED {
+        bytes.shrink_to_fit();
+    }
+    match Blob::from_vec(bytes) {
+        Ok(message) => Arrival::Message(message),
+        Err(_) => Arrival::NoMemory,
+    }
+}
+
+/// What is handed on for a message that is too long.
+fn too_long(alloc: Global) -> Arrival
+    ensures { (bytes : List ℕ) → IsWhole Kind.Binary false bytes result }
+{
+    let Ok(bytes) = zeros(alloc) else {
+        return Arrival::NoMemory;
+    };
+    match Blob::from_vec(bytes) {
+        Ok(message) => Arrival::Message(message),
+        Err(_) => Arrival::NoMemory,
+    }
+}
+
+fn zeros(alloc: Global) -> Result<Vec<u8>, AllocError>
+    ensures { IfOk result (λ v. IsTooLong v.items) }
+{
+    let mut bytes = Vec::with_capacity(alloc, MAPPED)?;
+    bytes.resize(TOO_LONG, 0)?;
+    Ok(bytes)
+}
+
+/// These bytes in memory for a large message.
+fn moved(alloc: Global, bytes: &[u8]) -> Result<Vec<u8>, AllocError>
+    ensures { IfOk result (λ v. v.items ≡ bytes.now) }
+{
+    let mut large = Vec::with_capacity(alloc, MAPPED)?;
+    large.extend_from_slice(bytes)?;
+    Ok(large)
+}
