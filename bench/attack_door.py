@@ -16,6 +16,9 @@ import sys
 import threading
 import time
 import uuid
+from pathlib import Path
+
+sys.path.insert(0, str(Path(__file__).resolve().parent.parent / "outside"))
 
 import web_socket
 import wire

@@ -16,6 +16,8 @@ import time
 from pathlib import Path
 
 import attack_door
+sys.path.insert(0, str(Path(__file__).resolve().parent.parent / "outside"))
+
 import web_socket
 
 CONFIG = 'instance = "00000000-0000-0000-0000-000000000001"\nname = "wd"\n'

@@ -18,6 +18,8 @@ import time
 from pathlib import Path
 
 import attack_door
+sys.path.insert(0, str(Path(__file__).resolve().parent.parent / "outside"))
+
 import web_socket
 
 RUN = Path(__file__).parent.parent / "deploy" / "etpd-run"
