@@ -1,4 +1,4 @@
-use Rattle.std.proofs.Common.{◌≡◌, ap, ◌∙◌, arith}
+use Rattle.std.proofs.Common.{ap, ◌∙◌, arith}
 use Rattle.array_store.specs.Arrays.{slice_of}
 use Rattle.array_store.specs.Refusals.{slice_refusal}
 use Rattle.array_store.specs.Shape.{sizes}
@@ -6,12 +6,12 @@ use Rattle.tx_stage.specs.declared.look.Looked.TheVariants.{Slice}
 use Rattle.tx_stage.proofs.LookLemmas.{given-heavy, given-light}
 use Rattle.tx_stage.proofs.look.give_region.Goals as goal
 
-pub returns-then-bytes-gt-room : goal.returns-then-bytes-gt-room
-returns-then-bytes-gt-room c =
+pub returns-then-bytes-room : goal.returns-then-bytes-room
+returns-then-bytes-room c =
     let array = c.args.array.now in
     let starts = c.args.starts.now in
     let counts = c.args.counts.now in
-    given-heavy c.args.room c.args.bytes (slice_refusal array starts counts) (slice_of (sizes array.dims) (sizes starts) (sizes counts) array.values) c.requires.fits c.requires.room c.requires.weighed c.if-bytes-gt-room.true
+    given-heavy c.args.room c.args.bytes (slice_refusal array starts counts) (slice_of (sizes array.dims) (sizes starts) (sizes counts) array.values) c.requires.fits c.requires.room c.requires.weighed c.if-bytes-room.true
 
 pub returns-in-Ok : goal.returns-in-Ok
 returns-in-Ok c =
@@ -19,4 +19,4 @@ returns-in-Ok c =
     let starts = c.args.starts.now in
     let counts = c.args.counts.now in
     ap (λ v. Slice v) c.in-Ok.ensures.ok
-    ∙ given-light c.args.room c.args.bytes (slice_refusal array starts counts) (slice_of (sizes array.dims) (sizes starts) (sizes counts) array.values) c.requires.fits c.requires.room c.requires.weighed (omega (arith, c.if-bytes-gt-room.false))
+    ∙ given-light c.args.room c.args.bytes (slice_refusal array starts counts) (slice_of (sizes array.dims) (sizes starts) (sizes counts) array.values) c.requires.fits c.requires.room c.requires.weighed (omega (arith, c.if-bytes-room.false))
