@@ -24,7 +24,7 @@ const GOODBYE: &[u8] = b"\x88\x00";
 /// How many bytes "Hello" has in a client's frame, and the goodbye behind it.
 const CLIENT_HELLO: usize = 11;
 
-const CLIENT_GOODBYE: usize = 6;
+const CLIENT_GOODBYE: usize = 8;
 
 /// Takes the request, with the subprotocol. The key is the answer to the standard's sample.
 const TAKEN: &[u8] =
