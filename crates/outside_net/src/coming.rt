@@ -1,5 +1,5 @@
 //! A message of which not all has come.
-ghost use Rattle.std.specs.Prelude.{◌≡◌, ℕ, Bool, List, ◌+◌, [], false, length, IfOk, OnOk};
+ghost use Rattle.std.specs.Prelude.{◌≡◌, ℕ, Bool, List, ◌+◌, [], length, IfOk, OnOk};
 ghost use Rattle.outside_net.specs.Coming.{added, kept, is_short, IsWhole, IsTooLong};
 
 use crate::arrival::Arrival;
@@ -169,7 +169,13 @@ fn finish_binary(alloc: Global, bytes: Vec<u8>, count: u64) -> Arrival
 {
     if !is_short(count) {
         drop(bytes);
-        return too_long(alloc);
+        let Ok(zeros) = zeros(alloc) else {
+            return Arrival::NoMemory;
+        };
+        let Ok(message) = Blob::from_vec(zeros) else {
+            return Arrival::NoMemory;
+        };
+        return Arrival::Message(message);
     }
     let mut bytes = bytes;
     if bytes.capacity() >= MAPPED {
@@ -182,18 +188,6 @@ fn finish_binary(alloc: Global, bytes: Vec<u8>, count: u64) -> Arrival
 }
 
 /// What is handed on for a message that is too long.
-fn too_long(alloc: Global) -> Arrival
-    ensures { (bytes : List ℕ) → IsWhole Kind.Binary false bytes result }
-{
-    let Ok(bytes) = zeros(alloc) else {
-        return Arrival::NoMemory;
-    };
-    match Blob::from_vec(bytes) {
-        Ok(message) => Arrival::Message(message),
-        Err(_) => Arrival::NoMemory,
-    }
-}
-
 fn zeros(alloc: Global) -> Result<Vec<u8>, AllocError>
     ensures { IfOk result (λ v. IsTooLong v.items) }
 {
