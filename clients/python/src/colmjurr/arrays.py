@@ -164,7 +164,8 @@ def _region(where: Slices, shape: tuple[int, ...]) -> tuple[list[int], list[int]
     if len(parts) > len(shape):
         raise ValueRefused(f"{len(parts)} indexes for an array of {len(shape)} dimensions")
     parts += [slice(None)] * (len(shape) - len(parts))
-    starts, counts, rest = [], [], []
+    starts, counts = [], []
+    rest: list[Any] = []
     for part, size in zip(parts, shape):
         if isinstance(part, slice):
             begin, end, step = part.indices(size)
@@ -319,9 +320,9 @@ def _fitting(held: Any, name: str) -> Any:
 
 def _to_wire(piece: Any, branch: int) -> tuple[int, Any]:
     if isinstance(piece, _Lists):
-        flat = piece.flat_list()
-        return (6, bytes(flat)) if branch == 6 else (branch, {"values": flat})
-    flat = numpy.ascontiguousarray(piece).reshape(-1)
+        plain = piece.flat_list()
+        return (6, bytes(plain)) if branch == 6 else (branch, {"values": plain})
+    flat: Any = numpy.ascontiguousarray(piece).reshape(-1)
     if branch == 6:
         return 6, flat.view(numpy.uint8).tobytes()
     if branch == 5:
@@ -337,10 +338,10 @@ def _of_wire(info: ArrayInfo, values: Any, counts: list[int]) -> Any:
     if info.branch == 6:
         return numpy.frombuffer(values, dtype=info.dtype).reshape(counts).copy()
     if info.branch == 5:
-        made = numpy.empty(len(values), dtype=object)
-        made[:] = values
-        return made.reshape(counts)
-    carried = numpy.array(values, dtype=CARRIED[info.branch])
+        texts = numpy.empty(len(values), dtype=object)
+        texts[:] = values
+        return texts.reshape(counts)
+    carried: Any = numpy.array(values, dtype=CARRIED[info.branch])
     if info.dtype == "uint64":
         return carried.view(numpy.uint64).reshape(counts)
     cast = carried.astype(info.dtype, copy=False)

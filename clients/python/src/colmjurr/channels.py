@@ -1,6 +1,7 @@
 """Channels over asyncio: ranges, corrections, and what is known of a channel. Loading and watching stand in modules of their own."""
 from __future__ import annotations
 
+import functools
 from typing import TYPE_CHECKING, Any, Callable, Optional
 
 from . import codec, schema
@@ -74,7 +75,7 @@ class Channel:
         left, is_clipped = [(begin, stop)], False
         while left:
             low, high = left.pop()
-            seen = progress and (lambda size, before=done: progress(before + size, None))
+            seen = progress and functools.partial(_told, progress, done)
             try:
                 reply = await self._range(low, high, seen)
             except LimitExceeded:
@@ -164,6 +165,10 @@ class Channel:
 
 def _interval(low: int, high: int) -> dict:
     return codec.filled("IndexInterval", startIndex={"item": (1, low)}, endIndex={"item": (1, high)})
+
+
+def _told(progress: Progress, before: int, size: int) -> None:
+    progress(before + size, None)
 
 
 def columns_of_frame(table: Any) -> tuple[Any, Any]:

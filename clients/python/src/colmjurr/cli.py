@@ -106,7 +106,7 @@ def delete(words: argparse.Namespace) -> None:
 
 def moment(text: Optional[str]) -> Optional[int]:
     """A moment of the command line: microseconds, or ISO 8601."""
-    return None if text in (None, "-") else index_of(int(text) if re.fullmatch(r"-?\d+", text) else text)
+    return None if text is None or text == "-" else index_of(int(text) if re.fullmatch(r"-?\d+", text) else text)
 
 
 def range_(words: argparse.Namespace) -> None:
@@ -308,7 +308,8 @@ class server_for:
             raise ValueRefused("a sample without a configuration of its own needs --settings")
         self.process = subprocess.Popen(
             [self.words.etpd, str(self.settings), "127.0.0.1:0"], stdout=subprocess.DEVNULL, stderr=subprocess.PIPE)
-        line = self.process.stderr.readline().decode("utf-8", "replace")
+        said: Any = self.process.stderr
+        line = said.readline().decode("utf-8", "replace")
         found = re.search(r"(\d+)\s*$", line)
         if not found:
             raise DialError(f"the server doesn't start: {line.strip()}")
@@ -327,7 +328,7 @@ class server_for:
 def parser() -> argparse.ArgumentParser:
     top = Parser(prog="colmjurr", description="A client of the well data store.")
     top.add_argument("--version", action="version", version=VERSION)
-    commands = top.add_subparsers(required=True, metavar="COMMAND", parser_class=Parser)
+    commands: Any = top.add_subparsers(required=True, metavar="COMMAND", parser_class=Parser)
     link = connection_options()
 
     def command(name: str, run: Callable[[argparse.Namespace], None], text: str, *, has_url: bool = True) -> argparse.ArgumentParser:
@@ -344,7 +345,7 @@ def parser() -> argparse.ArgumentParser:
 
 
 def connection_options() -> argparse.ArgumentParser:
-    link = Parser(add_help=False)
+    link = argparse.ArgumentParser(add_help=False)
     group = link.add_argument_group("connection")
     group.add_argument("--user", help="a name for the front of the server; the password comes from COLMJURR_PASSWORD or a file")
     group.add_argument("--password-file")

@@ -290,9 +290,10 @@ def _bulk_numbers(cursor: Cursor, count: int, width: int, dtype: str, name: str)
         values = octets[:end].view(dtype) if end < len(octets) else None
     else:
         found = varint_ends(octets, count)
-        whole = found is not None and len(found[0]) == count
-        end = int(found[0][-1] + found[1][-1]) if whole else 0
-        values = varints_at(octets, *found) if whole else None
+        if found is None or len(found[0]) < count:
+            return None
+        end = int(found[0][-1] + found[1][-1])
+        values = varints_at(octets, found[0], found[1])
     if values is None or end >= len(octets) or octets[end] != 0 or not _is_clean(values, name):
         return None
     cursor.at += end + 1

@@ -86,8 +86,10 @@ class Lines:
 
     def of(self, channel: int, key: str) -> int:
         """The line of a key, or else of its table; 0 for what is not in the document."""
-        found = self.places.get((channel, key))
-        return found or self.tables.get(channel) or self.places.get((0, "channel"), 0) if channel else found or 0
+        found = self.places.get((channel, key), 0)
+        if found or not channel:
+            return found
+        return self.tables.get(channel, self.places.get((0, "channel"), 0))
 
 
 class _Checked:

@@ -51,7 +51,7 @@ class Exporter:
             await asyncio.sleep(min(PAUSE, self.every))
 
     async def _session(self) -> None:
-        how = {"timeout": 10.0, "ask_timeout": 10.0, "application": "colmjurr exporter", **self.how, "patience": 0.0}
+        how: dict[str, Any] = {"timeout": 10.0, "ask_timeout": 10.0, "application": "colmjurr exporter", **self.how, "patience": 0.0}
         async with aio.connect(self.url, **how) as store:
             self.connects += 1
             self.opened_at = time.time()
@@ -111,7 +111,7 @@ class Exporter:
         lines: list[str] = []
         self._add(lines, "etp_up", "gauge", "Whether the server answers.", [({}, int(self.is_up))])
         self._add(lines, "etp_ping_seconds", "gauge", "How long the last answer to a Ping took.", [({}, self.ping)] if self.is_up else [])
-        age = [({}, time.time() - self.opened_at)] if self.opened_at is not None else []
+        age: list = [({}, time.time() - self.opened_at)] if self.opened_at is not None else []
         self._add(lines, "etp_session_age_seconds", "gauge", "How long the exporter's session has been open.", age)
         label = lambda uri: {"channel": self.names.get(uri, uri), "uri": uri}
         self._add(

@@ -3,6 +3,7 @@ from __future__ import annotations
 
 import asyncio
 import collections
+import functools
 from typing import TYPE_CHECKING, Any, Callable, Optional
 
 from .arrays_of_numbers import numpy
@@ -236,9 +237,9 @@ class Loader:
                 continue
             self._sent.append(batch)
             batch.number = session.post("LoadChannelData", body)
-            session.load_refused[batch.number] = lambda error, it=batch: self._refused(it, error)
+            session.load_refused[batch.number] = functools.partial(self._refused, batch)
             _, pong = session.post_ping()
-            pong.add_done_callback(lambda done, it=batch, on=session: self._answered(it, on, done))
+            pong.add_done_callback(functools.partial(self._answered, batch, session))
             self._room.set()
             await session.link.drain()
 

@@ -17,7 +17,7 @@ class Bar:
         self.is_shown = self.stream.isatty() if is_shown is None else is_shown
         self.begun = time.monotonic()
         self.shown_at = 0.0
-        self.last = (0, None)
+        self.last: tuple[int, Optional[int]] = (0, None)
 
     def __enter__(self) -> "Bar":
         return self

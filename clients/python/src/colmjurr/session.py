@@ -354,8 +354,8 @@ class Session:
                 pieces = [each for each in value["data"] if each.channel == channel]
                 self._follower(channel, name)("replace", (*ends, pieces))
         else:
-            for channel, pieces in itertools.groupby(value["data"], lambda each: each.channel):
-                self._follower(channel, name)("append", list(pieces))
+            for channel, run in itertools.groupby(value["data"], lambda each: each.channel):
+                self._follower(channel, name)("append", list(run))
 
     def _follower(self, channel: int, name: str) -> Callable[[str, Any], None]:
         if channel not in self.followers:

@@ -3,9 +3,10 @@ from __future__ import annotations
 
 import asyncio
 import base64
+import functools
 import os
 import uuid
-from typing import Any, Awaitable, Callable, Generator, Iterable, Mapping, NamedTuple, Optional
+from typing import Any, Awaitable, Callable, Generator, Iterable, Mapping, NamedTuple, Optional, Union
 
 from . import codec, websocket
 from .arrays import Array
@@ -237,7 +238,7 @@ class Store:
         """The object of a URI. Raises `NotFound` where there is none, and `Refused` with 21 where it has another format (none stands
         for `xml`)."""
         reply = await self.ask(
-            "GetDataObjects", again=True, session=session, seen=progress and (lambda size: progress(size, None)), uris={"0": uri}, format=format)
+            "GetDataObjects", again=True, session=session, seen=progress and functools.partial(_told, progress), uris={"0": uri}, format=format)
         return _data_object(reply.item("dataObjects"))
 
     async def get_many(self, uris: Iterable[str], format: str = "", session: Optional[Session] = None) -> dict[str, DataObject]:
@@ -254,7 +255,7 @@ class Store:
         return found
 
     async def put(
-        self, uri: str, data: bytes, *, name: str = "", format: str = "", alternate_uris: Iterable[str] = (),
+        self, uri: str, data: Union[bytes, str], *, name: str = "", format: str = "", alternate_uris: Iterable[str] = (),
         custom: Optional[dict[str, Any]] = None, changed: int = 0, session: Optional[Session] = None, progress: Optional[Progress] = None,
     ) -> None:
         """Puts an object, new or in place of the one that stands there; `data` has at most 67,108,864 bytes. Where the link breaks
@@ -311,6 +312,10 @@ class Store:
         looked at, and `Refused` with 15 where one is open."""
         uris = [each if each.startswith("eml:") else space_uri(each) for each in spaces]
         return Transaction(self, uris, read_only, message)
+
+
+def _told(progress: Progress, size: int) -> None:
+    progress(size, None)
 
 
 def _in_lots(items: list) -> Iterable[list]:

@@ -4,6 +4,7 @@ from __future__ import annotations
 import asyncio
 import bisect
 import collections
+import functools
 from dataclasses import dataclass
 from typing import TYPE_CHECKING, Any, Optional, Union
 
@@ -102,9 +103,9 @@ class Watch:
             raise ValueRefused("channels to watch are at least one, and each comes once")
         self.followed = {channel.id: _Followed(channel) for channel in channels}
         self.store = channels[0].store
-        self.start: Union[None, str, int] = start if start is None or start == "now" else index_of(start)
+        self.begins_now = isinstance(start, str) and start == "now"
         for followed in self.followed.values():
-            followed.start = self.start if isinstance(self.start, int) else None
+            followed.start = None if start is None or self.begins_now else index_of(start)
         self.latest, self.changes, self.resume = latest, changes, resume
         self.restarts = 0
         self._queue: collections.deque[Change] = collections.deque()
@@ -128,7 +129,7 @@ class Watch:
     async def begin(self) -> None:
         """Subscribes, if that was not done yet; iterating does it too."""
         if self._session is None and not self._is_closed:
-            if self.start == "now":
+            if self.begins_now:
                 await self._pin_starts()
             await self.store.insist(lambda session: self._subscribe(session, None))
 
@@ -181,7 +182,7 @@ class Watch:
             followed.tail_from = followed.last + 1 if lost is not None and self.resume == "tail" and followed.last is not None else None
             if lost is not None and self.resume == "tail":
                 self._put(Gap(followed.channel, str(lost)))
-            session.followers[number] = lambda what, value, it=followed: self._take(session, it, what, value)
+            session.followers[number] = functools.partial(self._take, session, followed)
         try:
             await self._ask_for(session, list(self.followed), self.latest)
         except Refused:
@@ -216,12 +217,13 @@ class Watch:
         followed.begins_anew, followed.tail_from = False, None
         await self._ask_for(session, [followed.channel.id], LATEST)
         await session.ping()
-        place = next((at for at in range(held, len(self._queue)) if self._queue[at].channel is followed.channel), None)
-        first = self._queue[place] if place is not None else None
+        place = next((at for at in range(held, len(self._queue)) if self._queue[at].channel is followed.channel), -1)
+        first = self._queue[place] if place >= 0 else None
         if not isinstance(first, Append):
             raise Refused(12, "the channel's points are more than a server begins a subscription with")
         before = await followed.channel.range(start, int(first.points.indexes[0]) - 1)
-        self._queue[place] = (Restarted if begun else Append)(followed.channel, _both(followed.channel, before, first.points))
+        whole = _both(followed.channel, before, first.points)
+        self._queue[place] = Restarted(followed.channel, whole) if begun else Append(followed.channel, whole)
         self._waiting += len(before)
 
     async def _unsubscribe(self, session: Session) -> None:

@@ -7,7 +7,7 @@ import hashlib
 import os
 import ssl
 import urllib.parse
-from typing import Mapping, Optional, Union
+from typing import Any, Mapping, Optional, Union
 
 from .arrays_of_numbers import numpy
 from .errors import DialError, HandshakeError, LinkLost, PeerError, TimeLimit, ValueRefused
@@ -33,7 +33,7 @@ class HeardReader(asyncio.StreamReader):
         self.clock = loop.time
         self.total, self.heard = 0, loop.time()
 
-    def feed_data(self, data: bytes) -> None:
+    def feed_data(self, data: Any) -> None:
         self.total += len(data)
         self.heard = self.clock()
         super().feed_data(data)
