@@ -58,7 +58,7 @@ class TextFile:
         """Records or messages in the order in which the paragraph of `key` names them; new ones come last."""
         at = self.place(key)
         standing = "" if at is None else parts_of(self.paragraphs[at])[1]
-        found = [re.search(rf"(?:\.|::){what.name}\b", standing) for what in whats]
+        found = [re.search(rf"(?:\.|::|^ +){what.name}\b", standing, re.M) for what in whats]
         order = {what.name: match.start() if match else len(standing) for what, match in zip(whats, found)}
         return sorted(whats, key=lambda what: order[what.name])
 
@@ -119,6 +119,8 @@ class TextFile:
         """The name by which this file calls the module `declared`, of a `use` with `as`; none where it names what it takes."""
         self.must_stand()
         found = re.search(r"\b" + re.escape(declared) + r" as (\w+)", self.text)
+        if found is None and declared + ".{" not in self.text:
+            raise LookupError(f"{self.name}: import {declared} by hand, under a name of its own")
         return found[1] + "." if found else ""
 
     def import_names(self, begin, names, before=None):

@@ -215,17 +215,21 @@ def import_items(schema, written, protocol):
             written.import_names(f"use Rattle.{what.file.crate}.specs.{what.file.forms}.", [what.snake + "_form"])
 
 
+def write_cases(schema, written, protocols, paragraph):
+    """Writes a paragraph for each protocol, with the forms that it names."""
+    for each in protocols:
+        import_items(schema, written, each)
+    written.put([(None, paragraph(each, written)) for each in protocols])
+
+
 def write_etp_frame(schema, file):
-    for protocol in schema.protocols.values():
-        if not protocol.growing:
-            continue
+    growing = [each for each in schema.protocols.values() if each.growing]
+    for protocol in growing:
         write_part_functions(schema, protocol, file)
-        for name, paragraph in [("specs/Splitting", splitting), ("proofs/PartLemmas", whole_lemma)]:
-            written = file(f"etp_frame/{name}.antt")
-            import_items(schema, written, protocol)
-            written.put([(None, paragraph(protocol, written))])
-        written = file("etp_frame/specs/Whole.antt")
-        written.put([(None, joining(protocol, written))])
+    write_cases(schema, file("etp_frame/specs/Splitting.antt"), growing, splitting)
+    write_cases(schema, file("etp_frame/proofs/PartLemmas.antt"), growing, whole_lemma)
+    whole = file("etp_frame/specs/Whole.antt")
+    whole.put([(None, joining(each, whole)) for each in growing])
     objects, store = file("etp_frame/src/parts/objects.rt"), schema.protocols["Store"]
     alias = objects.alias(f"{store.enum}.TheVariants")
     objects.put([(None, with_items(store, alias, each)) for each in store.growing[::-1] if each.chunks])
@@ -354,16 +358,12 @@ def rises(protocol, written):
 
 
 def write_part_lemmas(schema, file):
+    growing = [each for each in schema.protocols.values() if each.growing]
     session = file("session_core/proofs/MessagePartLemmas.antt")
-    for protocol in schema.protocols.values():
-        if not protocol.growing:
-            continue
-        if parts_word(protocol) != "result" and protocol.name != "ChannelSubscribe":
-            session.put([(None, each_lemma(protocol, session))])
-        for name, paragraph in ("PartsLemmas", ends_lemma), ("RefusedLemmas", shape_lemma):
-            written = file(f"client_laws/proofs/{name}.antt")
-            import_items(schema, written, protocol)
-            written.put([(None, paragraph(protocol, written))])
-        if joined_of(protocol):
-            written = file("client_laws/specs/Parts.antt")
-            written.put([(None, rises(protocol, written))])
+    # ChannelSubscribe has no such lemma, and that of Store, with its chunks, is by hand.
+    whole = [each for each in growing if parts_word(each) != "result" and each.name != "ChannelSubscribe"]
+    session.put([(None, each_lemma(each, session)) for each in whole])
+    write_cases(schema, file("client_laws/proofs/PartsLemmas.antt"), growing, ends_lemma)
+    write_cases(schema, file("client_laws/proofs/RefusedLemmas.antt"), growing, shape_lemma)
+    parts = file("client_laws/specs/Parts.antt")
+    parts.put([(None, rises(each, parts)) for each in growing if joined_of(each)])
