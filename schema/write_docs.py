@@ -65,15 +65,15 @@ The bodies of the messages of the [wire profile](PROFILE.md), field by field in 
 written in Avro's binary encoding. [schemas](schemas) has the same for an Avro library: a self-contained schema for each
 message and one for the header, and `messages.json` with the protocol, number, name, sender and file of each.
 
-`[T]` is an array of T and `{T}` a map of T. `T?` is null or a T, and `A \\| B` one of several, both as unions whose branches have
+`[T]` is an array of T and `{T}` a map of T. `T?` is null or a T, and `A | B` one of several; both are unions whose branches have
 the order given. `Uuid` is a fixed value of sixteen bytes. Moments are longs in microseconds since 1970-01-01 UTC.
 
 Every message begins with its header:
 
 """
 
-CUT = """A message that is longer than its receiver takes is cut into parts, of which each has some items of the field in bold and repeats
-the other fields.
+CUT = """A message that is longer than its receiver accepts is cut into parts. Each part has some items of the field in bold, and repeats the
+other fields.
 
 """
 
