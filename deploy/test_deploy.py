@@ -342,7 +342,7 @@ class Front(unittest.IsolatedAsyncioTestCase):
             each.close()
 
     async def test_loads_and_watches_and_is_silent(self):
-        """A rig loads, an office watches; then nothing is said for SILENCE seconds, and both go on."""
+        # A rig loads, an office watches; then nothing is said for SILENCE seconds, and both go on.
         (_, rig), (_, office) = await self.dial(), await self.dial()
         await rig.open()
         await office.open()
