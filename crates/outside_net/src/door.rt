@@ -72,9 +72,9 @@ impl<'a, R: Net<Listener = TcpListener, Stream = TcpStream> + Clock> TcpDoor<'a,
     /// The same door, which gives no further link once the standard input has ended. Where the standard input has ended before
     /// the first link is asked for, or is a file, it is left alone.
     pub fn until_input_ends(self) -> TcpDoor<'a, R>
-        ensures faults { ⟦<TcpDoor<'a, R> as Listener>⟧.faults result ≡ ⟦<TcpDoor<'a, R> as Listener>⟧.faults self }
-        ensures given { ⟦<TcpDoor<'a, R> as Listener>⟧.given result ≡ ⟦<TcpDoor<'a, R> as Listener>⟧.given self }
-        ensures stopped { ⟦<TcpDoor<'a, R> as Listener>⟧.stopped result ≡ ⟦<TcpDoor<'a, R> as Listener>⟧.stopped self }
+        ensures faults { ⟦<TcpDoor<'a, R> as Listener>⟧.faults result ≡ ⟦<TcpDoor<'a, R> as Listener>⟧.faults self.entry }
+        ensures given { ⟦<TcpDoor<'a, R> as Listener>⟧.given result ≡ ⟦<TcpDoor<'a, R> as Listener>⟧.given self.entry }
+        ensures stopped { ⟦<TcpDoor<'a, R> as Listener>⟧.stopped result ≡ ⟦<TcpDoor<'a, R> as Listener>⟧.stopped self.entry }
     {
         let mut door = self;
         door.input = true;
