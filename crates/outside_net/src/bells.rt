@@ -349,12 +349,13 @@ impl Post {
             let token = event.token();
             if token == SOCKET {
                 self.over = self.over || event.is_read_closed() || event.is_error();
-                return Woken::Socket;
+                woken = Woken::Socket;
             }
-            if token == BELL {
-                woken = Woken::Bell;
-            } else if event.is_read_closed() {
+            let stops = token == INPUT && event.is_read_closed();
+            if stops {
                 self.stop();
+            }
+            if woken == Woken::Time && (stops || token == BELL) {
                 woken = Woken::Bell;
             }
         }

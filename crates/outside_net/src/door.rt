@@ -1,5 +1,5 @@
 //! A listener over TCP.
-ghost use Rattle.std.specs.Prelude.{◌≡◌, ◌≤◌, ◌+◌, ◌||◌, None, false, IfOk, IfSome};
+ghost use Rattle.std.specs.Prelude.{◌≡◌, ◌≤◌, ◌+◌, ◌||◌, None, false, IfSome};
 ghost use Rattle.etp_outside.specs.Faults.{Rose};
 ghost use Rattle.etp_outside.specs.Doors.{IfLink, IsAccepted, is_stop, links};
 
@@ -118,6 +118,17 @@ impl<'a, R: Net<Listener = TcpListener, Stream = TcpStream> + Clock> TcpDoor<'a,
         }
     }
 
+    /// Keeps a post, at which no link waits any more, for another link.
+    fn keep(&mut self, post: Post)
+        ensures faults { self.new.faults ≡ self.old.faults }
+        ensures given { self.new.given ≡ self.old.given }
+        ensures stopped { self.new.stopped ≡ self.old.stopped }
+    {
+        if let Some(posts) = &mut self.posts {
+            posts.put(post);
+        }
+    }
+
     /// The link over a connection whose head asks for one, if the system has what it needs to wait and the peer is still there.
     fn welcome<L: DoorLog>(
         &mut self,
@@ -131,18 +142,23 @@ impl<'a, R: Net<Listener = TcpListener, Stream = TcpStream> + Clock> TcpDoor<'a,
         ensures stopped { self.new.stopped ≡ self.old.stopped }
     {
         let Ready { caller, upgrade } = ready;
+        let mut caller = caller;
         let peer = caller.peer();
-        let link = match self.post(alloc, peer) {
-            Some(post) => link_of(alloc, caller, &upgrade, post),
-            None => Err(refuse(alloc, caller, Refusal::NoPlace)),
+        let Some(post) = self.post(alloc, peer) else {
+            caller.refuse(alloc, Refusal::NoPlace, 0);
+            log.refused(&peer, Refusal::NoPlace);
+            return None;
         };
-        match link {
-            Ok(link) => Some(link),
-            Err(refusal) => {
-                log.refused(&peer, refusal);
-                None
-            }
+        if let Err(refusal) = accept(alloc, &mut caller, &upgrade) {
+            self.keep(post);
+            log.refused(&peer, refusal);
+            return None;
         }
+        let link = link_of(alloc, caller, post);
+        if link.is_none() {
+            log.refused(&peer, Refusal::NoPlace);
+        }
+        link
     }
 
     /// The connection that is ready, if one is.
@@ -274,9 +290,7 @@ impl<'a, R: Net<Listener = TcpListener, Stream = TcpStream> + Clock> TcpDoor<'a,
         if let Some(peer) = post.peer() {
             log.ended(&peer, number, end);
         }
-        if let Some(posts) = &mut self.posts {
-            posts.put(post);
-        }
+        self.keep(post);
     }
 
     /// Listens at an address.
@@ -292,34 +306,31 @@ impl<'a, R: Net<Listener = TcpListener, Stream = TcpStream> + Clock> TcpDoor<'a,
     }
 }
 
-/// Answers that the connection is accepted, and gives its link.
-fn link_of(
-    alloc: Global,
-    caller: Caller,
-    upgrade: &Upgrade,
-    post: Post,
-) -> Result<ServerLink, Refusal>
-    ensures { IfOk result (λ l. IsAccepted (⟦<ServerLink as Link>⟧.talk l) (⟦<ServerLink as Link>⟧.faults l) (⟦<ServerLink as Link>⟧.ended l)) }
-{
-    let mut caller = caller;
+/// Answers that a connection is accepted.
+fn accept(alloc: Global, caller: &mut Caller, upgrade: &Upgrade) -> Result<(), Refusal> {
     let Some(answer) = acceptance(alloc, upgrade) else {
-        return Err(refuse(alloc, caller, Refusal::NoPlace));
+        caller.refuse(alloc, Refusal::NoPlace, 0);
+        return Err(Refusal::NoPlace);
     };
-    if !caller.send(answer.as_slice()) {
-        return Err(Refusal::Left);
-    }
-    let stream = caller.into_stream();
-    match WsLink::new(alloc, Role::Server, stream, NoMask, Vec::new(alloc), post) {
-        Some(link) => Ok(link),
-        None => Err(Refusal::NoPlace),
+    if caller.send(answer.as_slice()) {
+        Ok(())
+    } else {
+        Err(Refusal::Left)
     }
 }
 
-/// Answers a connection that it is refused.
-fn refuse(alloc: Global, caller: Caller, refusal: Refusal) -> Refusal {
-    let mut caller = caller;
-    caller.refuse(alloc, refusal, 0);
-    refusal
+/// The link over a connection that was accepted. None where the system refuses it what it needs.
+fn link_of(alloc: Global, caller: Caller, post: Post) -> Option<ServerLink>
+    ensures { IfSome result (λ l. IsAccepted (⟦<ServerLink as Link>⟧.talk l) (⟦<ServerLink as Link>⟧.faults l) (⟦<ServerLink as Link>⟧.ended l)) }
+{
+    WsLink::new(
+        alloc,
+        Role::Server,
+        caller.into_stream(),
+        NoMask,
+        Vec::new(alloc),
+        post,
+    )
 }
 
 impl<'a, R: Net<Listener = TcpListener, Stream = TcpStream> + Clock> Listener for TcpDoor<'a, R> {
