@@ -376,7 +376,10 @@ impl<S: Read + Write + OpenStream + Drop, K: MaskKeys + Drop> WsLink<S, K> {
                 self.unread = false;
                 Recv::Idle
             }
-            Filled::Again => Recv::Idle,
+            Filled::Again => {
+                self.unread = true;
+                Recv::Idle
+            }
             Filled::End => {
                 self.ended = true;
                 Recv::End
