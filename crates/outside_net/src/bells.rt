@@ -63,7 +63,7 @@ pub(crate) struct Posts {
     free: Vec<Post>,
     bells: Arc<Bells, Global>,
     /// How many have a bell.
-    made: usize,
+    made: u32,
     /// Whether the end of the standard input stops the links.
     input: bool,
 }
@@ -190,7 +190,7 @@ impl Posts {
     fn make(&mut self, net: &impl Net, alloc: Global) -> Option<Post> {
         let mut post = lone_post(net, alloc)?;
         let place = self.made;
-        let Some(slot) = self.bells.wakers.get(place) else {
+        let Some(slot) = self.bells.wakers.get(place as usize) else {
             return Some(post);
         };
         let Ok(waker) = Waker::new(post.poll.registry(), BELL) else {
@@ -208,7 +208,7 @@ impl Posts {
         self.made = place.saturating_add(1);
         post.bell = Some(Bell {
             bells,
-            bit: 1u64.wrapping_shl(place as u32),
+            bit: 1u64.wrapping_shl(place),
             seen: 0,
         });
         Some(post)
