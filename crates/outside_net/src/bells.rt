@@ -344,21 +344,57 @@ impl Post {
         if self.poll.poll(&mut self.events, limit).is_err() {
             return Woken::Time;
         }
-        let mut woken = Woken::Time;
-        for event in self.events.iter() {
+        let heard = Heard::of(&self.events);
+        self.over = self.over || heard.over;
+        if heard.stop {
+            self.stop();
+        }
+        heard.woken()
+    }
+}
+
+/// What the events of a wait tell.
+#[derive(Clone, Copy)]
+struct Heard {
+    socket: bool,
+    /// Whether the peer sends no more.
+    over: bool,
+    bell: bool,
+    /// Whether the standard input has ended.
+    stop: bool,
+}
+
+impl Heard {
+    fn of(events: &Events) -> Heard {
+        let mut heard = Heard {
+            socket: false,
+            over: false,
+            bell: false,
+            stop: false,
+        };
+        for event in events.iter() {
             let token = event.token();
+            let closed = event.is_read_closed();
             if token == SOCKET {
-                self.over = self.over || event.is_read_closed() || event.is_error();
-                woken = Woken::Socket;
-            }
-            let stops = token == INPUT && event.is_read_closed();
-            if stops {
-                self.stop();
-            }
-            if woken == Woken::Time && (stops || token == BELL) {
-                woken = Woken::Bell;
+                heard.socket = true;
+                heard.over = heard.over || closed || event.is_error();
+            } else if token == BELL {
+                heard.bell = true;
+            } else {
+                heard.stop = heard.stop || closed;
             }
         }
-        woken
+        heard
+    }
+
+    /// What ended the wait: the socket before a bell or a stop.
+    fn woken(self) -> Woken {
+        if self.socket {
+            Woken::Socket
+        } else if self.bell || self.stop {
+            Woken::Bell
+        } else {
+            Woken::Time
+        }
     }
 }
