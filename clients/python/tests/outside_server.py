@@ -14,6 +14,7 @@ from pathlib import Path
 OUTSIDE = Path(__file__).resolve().parents[3] / "outside"
 sys.path.insert(0, str(OUTSIDE))
 
+import row_samples  # noqa: E402
 import transactions  # noqa: E402
 import wire  # noqa: E402
 
@@ -113,11 +114,35 @@ class LoopThread:
         self.loop.close()
 
 
+class LimitedSession(transactions.Session):
+    """A session that gives at most `most` points by a range, and begins a subscription with no more."""
+
+    most = 1_048_576
+
+    def on_get_ranges(self, moment, value):
+        replies = super().on_get_ranges(moment, value)
+        if len(replies[0][2]["data"]) > self.most:
+            raise row_samples.Refused(12)
+        return replies
+
+    def on_subscribe_channels(self, moment, value):
+        """One channel at a time, as the tests of long channels ask."""
+        for key, item in value["channels"].items():
+            start = item["startIndex"]["item"]
+            if start[0] == 1 and not item["requestLatestIndexCount"][0] and len(self.store.from_index(item["channelId"], start[1])) > self.most:
+                return [(0, 1000, {"error": (0, None), "errors": {key: row_samples.info(12)}})]
+        return super().on_subscribe_channels(moment, value)
+
+
+class LimitedServer(transactions.Server):
+    make_session = LimitedSession
+
+
 class OutsideServer:
     """The tables and the sessions; each connection is a tag."""
 
     def __init__(self, channels, lag=65_536, journal=4_194_304, types=None):
-        self.machine = transactions.Server(channels, lag, journal, types)
+        self.machine = LimitedServer(channels, lag, journal, types)
         self.writers, self.next_tag, self.heard = {}, 0, []
         self.lock = threading.Lock()
         self.thread = LoopThread(self.serve)

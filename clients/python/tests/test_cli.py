@@ -117,11 +117,13 @@ class Plotting(CommandCase):
 class Conformance(unittest.TestCase):
     """Each sample against a fresh server; and a server that answers otherwise is found out."""
 
-    def samples(self):
-        found = [ROOT / "docs" / "samples"]
-        if not found[0].is_dir():
-            found = [ROOT / "crates" / "etptool" / "data"]
-        return found[0]
+    def test_all_samples_by_a_built_server(self):
+        etpd, samples = support.program("etpd"), ROOT / "docs" / "samples"
+        if etpd is None or not samples.is_dir():
+            self.skipTest("no built etpd, or no docs/samples")
+        lines = run("conformance", "--etpd", etpd, samples).splitlines()
+        self.assertGreater(len(lines), 10)
+        self.assertTrue(all(line.endswith(": as recorded") for line in lines), lines)
 
     def test_the_shipped_session(self):
         from colmjurr import conformance

@@ -372,6 +372,13 @@ class Loading(Case):
         self.assertEqual((load.skipped, load.taken), (12, 8))
         self.assertEqual(list(channel.range()), points)
 
+    def test_texts_that_are_more_than_a_message(self):
+        channel = self.connect().channel(channel_uri(2))
+        points = [(index, chr(97 + index % 26) * 30_000) for index in range(300)]
+        with unittest.mock.patch("colmjurr.loading.BATCH_BYTES", 400_000):
+            self.assertEqual(channel.load([index for index, _ in points], [value for _, value in points]), 300)
+        self.assertEqual(list(channel.range()), points)
+
     @unittest.skipIf(numpy is None, "numpy is not there")
     def test_tables(self):
         import pandas

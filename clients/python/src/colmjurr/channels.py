@@ -1,7 +1,6 @@
 """Channels over asyncio: ranges, corrections, and what is known of a channel. Loading and watching stand in modules of their own."""
 from __future__ import annotations
 
-import functools
 from typing import TYPE_CHECKING, Any, Callable, Optional
 
 from . import codec, schema
@@ -70,12 +69,11 @@ class Channel:
         stop = GREATEST if end is None else index_of(end)
         if begin > stop:
             return self.points([])
-        done = 0
+        seen = _Sum(progress) if progress else None
         pieces: list[Columns] = []
         left, is_clipped = [(begin, stop)], False
         while left:
             low, high = left.pop()
-            seen = progress and functools.partial(_told, progress, done)
             try:
                 reply = await self._range(low, high, seen)
             except LimitExceeded:
@@ -87,7 +85,6 @@ class Channel:
                     middle = (low + high) // 2
                     left += [(middle + 1, high), (low, middle)]
                 continue
-            done += reply.size
             pieces += self._own(reply.body()["data"])
         return self.points(pieces)
 
@@ -167,8 +164,17 @@ def _interval(low: int, high: int) -> dict:
     return codec.filled("IndexInterval", startIndex={"item": (1, low)}, endIndex={"item": (1, high)})
 
 
-def _told(progress: Progress, before: int, size: int) -> None:
-    progress(before + size, None)
+class _Sum:
+    """Tells of the bytes of several replies, one after the other."""
+
+    def __init__(self, progress: Progress):
+        self.progress, self.before, self.last = progress, 0, 0
+
+    def __call__(self, size: int) -> None:
+        if self.before + size < self.last:
+            self.before = self.last
+        self.last = self.before + size
+        self.progress(self.last, None)
 
 
 def columns_of_frame(table: Any) -> tuple[Any, Any]:

@@ -1,13 +1,15 @@
 """Plays recorded sessions against a running server and compares what it answers with the recorded answers.
 
-A sample is a capture NAME.cap of what clients send, beside NAME.answers.cap with what a server has to answer, and NAME.toml where the
-server needs a configuration of its own. A capture begins with `ETPCAP01`; each frame has its kind, the tag of its session, a moment,
+A sample is a capture NAME.cap of what clients send, beside NAME.answers.cap with what a server has to answer. Its server's configuration
+is NAME.toml, or else the one that a table of a document in the folder or above it gives it, in a row `| [NAME.cap](..) | FILE.toml |`, or
+else server.toml. A capture begins with `ETPCAP01`; each frame has its kind, the tag of its session, a moment,
 a length and a message. Each tag is a connection of its own. Answers may differ in message ids, in sessions' and transactions'
 identifiers, and in moments; notices may come earlier or later among the replies, as a live server tells them when it can.
 """
 from __future__ import annotations
 
 import asyncio
+import re
 import struct
 from pathlib import Path
 from typing import Any, Iterator, NamedTuple, Optional
@@ -172,12 +174,21 @@ def _bare(value: Any, name: str = "") -> Any:
 def samples_in(folder: Path) -> list[tuple[Path, Path, Optional[Path]]]:
     """The samples of a folder: capture, answers, and configuration where there is one."""
     found = []
+    told = settings_told(folder)
     for path in sorted(folder.glob("*.cap")):
         answers = path.with_name(path.name[:-4] + ".answers.cap")
         if not path.name.endswith(".answers.cap") and answers.exists():
-            settings = path.with_suffix(".toml")
-            found.append((path, answers, settings if settings.exists() else None))
+            choices = (path.with_suffix(".toml"), folder / told.get(path.name, path.name), folder / "server.toml")
+            settings = next((each for each in choices if each.suffix == ".toml" and each.exists()), None)
+            found.append((path, answers, settings))
     return found
+
+
+def settings_told(folder: Path) -> dict[str, str]:
+    """The configurations of samples, as tables of documents in the folder and above it name them."""
+    row = re.compile(r"\[(\w+\.cap)\]\([^)]*\) *\| *(\w+\.toml)")
+    texts = [path.read_text(encoding="utf-8") for place in (folder, folder.parent) for path in sorted(place.glob("*.md"))]
+    return {match[1]: match[2] for text in texts for match in row.finditer(text)}
 
 
 def play_file(url: str, path: Path, answers: Path, **how: Any) -> list[Difference]:
