@@ -74,6 +74,8 @@ class Channel:
         left, is_clipped = [(begin, stop)], False
         while left:
             low, high = left.pop()
+            if seen:
+                seen.begin()
             try:
                 reply = await self._range(low, high, seen)
             except LimitExceeded:
@@ -170,10 +172,11 @@ class _Sum:
     def __init__(self, progress: Progress):
         self.progress, self.before, self.last = progress, 0, 0
 
+    def begin(self) -> None:
+        self.before = self.last
+
     def __call__(self, size: int) -> None:
-        if self.before + size < self.last:
-            self.before = self.last
-        self.last = self.before + size
+        self.last = max(self.last, self.before + size)
         self.progress(self.last, None)
 
 

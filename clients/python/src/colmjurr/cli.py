@@ -16,8 +16,9 @@ import sys
 from pathlib import Path
 from typing import Any, Callable, Iterable, Iterator, NoReturn, Optional, TextIO
 
-from . import conformance
+from . import aio, conformance
 from .configuration import catalog, read_configuration
+from .copying import Difference, copy, read_objects
 from .errors import (
     ConfigError, DialError, EtpError, HandshakeError, LinkError, Refused, SomeRefused, Stopped, TimeLimit, ValueRefused, WireError,
 )
@@ -274,6 +275,18 @@ def exporter(words: argparse.Namespace) -> None:
     asyncio.run(exporter.serve(host.strip("[]") or "127.0.0.1", int(port), ready))
 
 
+def copy_(words: argparse.Namespace) -> None:
+    objects = read_objects(Path(words.objects).read_text(encoding="utf-8")) if words.objects else []
+    channels = [*uris_of(words.catalog), *words.channel]
+
+    async def run() -> None:
+        how = {**how_to_connect(words), "ask_timeout": words.ask_timeout}
+        async with aio.connect(words.source, **how) as source, aio.connect(words.target, **how) as target:
+            await copy(source, target, channels, objects, lambda line: print(line, flush=True))
+
+    asyncio.run(run())
+
+
 def conformance_(words: argparse.Namespace) -> None:
     words.url = next((each for each in words.places if each.startswith(("ws://", "wss://"))), None)
     folder = next((Path(each) for each in words.places if each != words.url), Path())
@@ -334,7 +347,7 @@ def parser() -> argparse.ArgumentParser:
     def command(name: str, run: Callable[[argparse.Namespace], None], text: str, *, has_url: bool = True) -> argparse.ArgumentParser:
         made = commands.add_parser(name, help=text, description=text, parents=[link] if has_url else [])
         made.set_defaults(run=run)
-        if has_url and name != "conformance":
+        if has_url and name not in ("conformance", "copy"):
             made.add_argument("url", help="ws://HOST:PORT/PATH or wss://HOST:PORT/PATH")
         return made
 
@@ -414,6 +427,12 @@ def add_other_commands(command: Callable[..., argparse.ArgumentParser]) -> None:
     made.add_argument("--channel", action="append", default=[], metavar="URI")
     made.add_argument("--listen", default="127.0.0.1:9777")
     made.add_argument("--every", type=float, default=5.0, help="seconds between pings (5)")
+    made = command("copy", copy_, "copies dataspaces, objects, arrays and channels into another store, and reads them back")
+    made.add_argument("source", metavar="FROM")
+    made.add_argument("target", metavar="TO")
+    made.add_argument("--catalog", help="a catalog, or a server's configuration: its channels are copied")
+    made.add_argument("--channel", action="append", default=[], metavar="URI")
+    made.add_argument("--objects", help="a file with a URI on each line and, behind tabs, the paths of its arrays")
     made = command("conformance", conformance_, "plays recorded sessions and lists the answers that differ")
     made.add_argument("places", nargs="+", metavar="URL|SAMPLES", help=(
         "the address of a server without any history, and a capture NAME.cap beside NAME.answers.cap or a folder of them"))
@@ -424,7 +443,7 @@ def add_other_commands(command: Callable[..., argparse.ArgumentParser]) -> None:
 
 def status_of(error: Exception) -> int:
     kinds = (
-        ((Stopped,), STOPPED), ((Refused, SomeRefused), REFUSED), ((ConfigError,), CONFIG), ((DialError, HandshakeError, TimeLimit), LINK),
+        ((Difference,), DIFFERS), ((Stopped,), STOPPED), ((Refused, SomeRefused), REFUSED), ((ConfigError,), CONFIG), ((DialError, HandshakeError, TimeLimit), LINK),
         ((WireError, LinkError), PEER), ((InputError, ValueRefused), INPUT), ((OSError,), FILE),
     )
     return next((status for classes, status in kinds if isinstance(error, classes)), PEER)

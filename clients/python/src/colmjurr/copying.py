@@ -1,0 +1,139 @@
+"""Copies what is current in one store into another: dataspaces, objects, arrays and the points of channels.
+
+Nothing on the wire lists objects and channels, so they are named. A copy that was broken off is begun again by the same call: what is
+there already is compared and left, and channels go on behind the target's last point. In the end everything is read back.
+"""
+from __future__ import annotations
+
+from typing import Any, Callable, Iterable, NamedTuple, Optional
+
+from .arrays_of_numbers import numpy
+from .errors import EtpError, NotFound
+from .points import Points
+from .store import Store
+
+Told = Callable[[str], None]
+
+
+class Difference(EtpError):
+    """Something in the target is not as in the source."""
+
+
+class Named(NamedTuple):
+    """An object that is to be copied, and the paths of its arrays."""
+
+    uri: str
+    arrays: list[str]
+
+
+def read_objects(text: str) -> list[Named]:
+    """The objects of lines with a URI and, behind tabs, the paths of its arrays."""
+    rows = [line.split("\t") for line in text.splitlines() if line and not line.startswith("#")]
+    return [Named(row[0], row[1:]) for row in rows]
+
+
+async def copy(source: Store, target: Store, channels: Iterable[str] = (), objects: Iterable[Named] = (), told: Optional[Told] = None) -> None:
+    """Copies all dataspaces, these objects with their arrays, and these channels. Raises `Difference` where the target has other
+    points than the source before its last one, or where what is read back differs."""
+    say = told or (lambda line: None)
+    for space in await source.spaces():
+        if space.path:
+            await target.put_space(space.path, space.custom)
+            say(f"dataspace {space.uri}")
+    for each in objects:
+        await _copy_object(source, target, each.uri, say)
+        for path in each.arrays:
+            await _copy_array(source, target, each.uri, path, say)
+    for uri in channels:
+        await _copy_channel(source, target, uri, say)
+
+
+async def _copy_object(source: Store, target: Store, uri: str, say: Told) -> None:
+    held = await _object(source, uri)
+    if held is None:
+        raise NotFound(11, "", uri)
+    kept = lambda found: found and (found.data, found.name, found.format, found.alternate_uris, found.custom, found.changed)
+    if kept(await _object(target, uri)) == kept(held):
+        say(f"object {uri}: there already")
+        return
+    await target.put(
+        uri, held.data, name=held.name, format=held.format, alternate_uris=held.alternate_uris, custom=held.custom, changed=held.changed)
+    if kept(await _object(target, uri)) != kept(held):
+        raise Difference(f"{uri} reads back otherwise")
+    say(f"object {uri}: {len(held.data)} bytes")
+
+
+async def _object(store: Store, uri: str) -> Any:
+    """The object of a URI in whichever format it has, or None."""
+    for format in ("xml", "json"):
+        try:
+            return await store.get(uri, format)
+        except NotFound:
+            return None
+        except EtpError as error:
+            if getattr(error, "code", 0) != 21:
+                raise
+    return None
+
+
+async def _copy_array(source: Store, target: Store, uri: str, path: str, say: Told) -> None:
+    one, other = source.array(uri, path), target.array(uri, path)
+    info, values = await one.info(), await one.read()
+    if not await _is_same(other, info, values):
+        preferred = None if info.preferred in ((), info.shape) else info.preferred
+        await other.write(values, custom=info.custom, preferred=preferred)
+        if not await _is_same(other, info, values):
+            raise Difference(f"the array {path!r} of {uri} reads back otherwise")
+    say(f"array {path!r} of {uri}: {'x'.join(map(str, info.shape))}")
+
+
+async def _is_same(array: Any, info: Any, values: Any) -> bool:
+    try:
+        found = await array.info()
+    except NotFound:
+        return False
+    if (found.shape, found.branch, found.custom) != (info.shape, info.branch, info.custom):
+        return False
+    held = await array.read()
+    if numpy is None:
+        return bool(held == values)
+    is_number = values.dtype.kind == "f"
+    return bool(numpy.array_equal(held, values, equal_nan=is_number))
+
+
+async def _copy_channel(source: Store, target: Store, uri: str, say: Told) -> None:
+    """Loads what stands behind the target's last point, and compares all points."""
+    one, other = await source.channel(uri), await target.channel(uri)
+    if one.kind != other.kind:
+        raise Difference(f"{uri} is {one.kind} in one store and {other.kind} in the other")
+    whole = await one.range()
+    known = other.last
+    front = Points([], one.name, one.uom, one.kind) if known is None else await other.range()
+    if not _are_same(front, _first(whole, len(front))):
+        raise Difference(f"the target's channel {uri} has other points than the source's first {len(front)}")
+    async with other.loader(None, skip_known=True) as loader:
+        await loader.load_many(whole.indexes, whole.values if whole.nulls is None else whole.plain_values())
+    if not _are_same(await other.range(), whole):
+        raise Difference(f"the channel {uri} reads back otherwise")
+    say(f"channel {uri}: {loader.taken} points, {loader.skipped} there already")
+
+
+def _first(points: Points, count: int) -> Points:
+    made = Points([], points.name, points.uom, points.kind)
+    made.indexes, made.values = points.indexes[:count], points.values[:count]
+    made.nulls = None if points.nulls is None else points.nulls[:count]
+    return made
+
+
+def _are_same(one: Points, other: Points) -> bool:
+    if len(one) != len(other):
+        return False
+    if numpy is None or not hasattr(one.values, "dtype"):
+        return [*map(repr, one)] == [*map(repr, other)]
+    # values are compared by their bits: a NaN is the same where its bits are
+    same_values = one.values.tobytes() == other.values.tobytes() and numpy.array_equal(one.indexes, other.indexes)
+    return bool(same_values and numpy.array_equal(_nulls(one), _nulls(other)))
+
+
+def _nulls(points: Points) -> Any:
+    return numpy.zeros(len(points), dtype=bool) if points.nulls is None else points.nulls

@@ -1,0 +1,69 @@
+"""Copies of a store: whole, broken off and begun again, and into a store that has something else."""
+import tempfile
+import unittest
+from pathlib import Path
+
+import support
+from support import CHANNELS, channel_uri, well_uri
+import colmjurr
+from test_cli import run
+
+try:
+    import numpy
+except ImportError:
+    numpy = None
+
+
+class Copies(unittest.TestCase):
+    def setUp(self):
+        self.servers = [support.start_server() for _ in range(2)]
+        for server in self.servers:
+            self.addCleanup(server.close)
+        self.source, self.target = (colmjurr.connect(server.url, ask_timeout=30 * support.PATIENCE) for server in self.servers)
+        self.addCleanup(self.source.close)
+        self.addCleanup(self.target.close)
+        folder = tempfile.TemporaryDirectory()
+        self.addCleanup(folder.cleanup)
+        self.folder = Path(folder.name)
+        (self.folder / "server.toml").write_text(support.configuration())
+        (self.folder / "objects").write_text(f"# what is copied\n{well_uri(1, 'w')}\ta\tb\n{well_uri(2)}\n")
+
+    def copy(self, status=0):
+        return run(
+            "copy", self.servers[0].url, self.servers[1].url, "--catalog", self.folder / "server.toml", "--objects", self.folder / "objects",
+            "--ask-timeout", 30 * support.PATIENCE, status=status)
+
+    @unittest.skipIf(numpy is None, "numpy is not there")
+    def test_copies(self):
+        source, target = self.source, self.target
+        source.put_space("w", {"k": 1})
+        source.put(well_uri(1, "w"), b"<Well/>", name="n", custom={"c": "x"}, changed=5)
+        source.put(well_uri(2), b"{}", format="json")
+        source.array(well_uri(1, "w"), "a").write(numpy.array([[1.5, numpy.nan]]), custom={"u": "m"})
+        source.array(well_uri(1, "w"), "b").make((3, 2), "int16", preferred=(1, 2))
+        points = {"double": [1.5, None, float("nan")], "string": ["a", None, "b"], "boolean": [True, False, None]}
+        for each in CHANNELS:
+            if each["kind"] in points:
+                source.channel(each["uri"]).load([10, 20, 30], points[each["kind"]])
+        lines = self.copy()
+        self.assertIn(f"channel {channel_uri(0)}: 3 points, 0 there already", lines)
+        self.assertEqual(target.get(well_uri(1, "w"))[:6], source.get(well_uri(1, "w"))[:6])
+        self.assertEqual(target.get(well_uri(2), "json").data, b"{}")
+        self.assertEqual({each.path: each.custom for each in target.spaces()}, {"": {}, "w": {"k": 1}})
+        numpy.testing.assert_array_equal(target.array(well_uri(1, "w"), "a")[:], [[1.5, numpy.nan]])
+        self.assertEqual(target.array(well_uri(1, "w"), "b").info[:3], ((3, 2), (1, 2), "int16"))
+        for number in (0, 2, 3):
+            self.assertEqual(repr(list(target.channel(channel_uri(number)).range())), repr(list(source.channel(channel_uri(number)).range())))
+        source.channel(channel_uri(0)).load([40], [4.0])
+        lines = self.copy()
+        self.assertIn(f"channel {channel_uri(0)}: 1 points, 3 there already", lines)
+        self.assertIn(f"object {well_uri(2)}: there already", lines)
+        source.channel(channel_uri(0)).replace(10, 10, [10], [9.0])
+        self.assertIn("has other points", self.copy(status=17))
+
+    def test_what_is_not_there(self):
+        self.assertIn("refused 11", self.copy(status=9))
+
+
+if __name__ == "__main__":
+    unittest.main()
