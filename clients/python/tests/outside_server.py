@@ -102,6 +102,9 @@ class LoopThread:
         self.url = f"ws://127.0.0.1:{self.port}/"
 
     def close(self):
+        if self.loop.is_closed():
+            return
+
         async def end():
             self.server.close()
             for task in list(self.tasks):

@@ -65,6 +65,8 @@ class RealServer:
         self.url = f"ws://127.0.0.1:{self.port}/"
 
     def close(self):
+        if self.process.returncode is not None:
+            return
         self.process.kill()
         self.process.wait()
         self.process.stderr.close()

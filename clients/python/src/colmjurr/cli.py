@@ -267,12 +267,33 @@ def uris_of(path: Optional[str]) -> list[str]:
     return [each.uri for each in read_configuration(data).channels]
 
 
+def say(line: str) -> None:
+    """Tells a line on standard error."""
+    sys.stderr.write(line + "\n")
+    sys.stderr.flush()
+
+
 def exporter(words: argparse.Namespace) -> None:
     host, _, port = words.listen.rpartition(":")
     how = how_to_connect(words)
     exporter = Exporter(words.url, [*uris_of(words.catalog), *words.channel], words.every, **how)
-    ready = lambda port: sys.stderr.write(f"listening at port {port}\n") and sys.stderr.flush()
-    asyncio.run(exporter.serve(host.strip("[]") or "127.0.0.1", int(port), ready))
+    asyncio.run(exporter.serve(host.strip("[]") or "127.0.0.1", int(port), lambda port: say(f"listening at port {port}")))
+
+
+def bridge(words: argparse.Namespace) -> None:
+    from .bridge import Bridge
+
+    bridges = []
+    for each in words.store:
+        url, found, path = each.partition("=")
+        if not found:
+            raise ValueRefused(f"{each!r} is not of the form URL=CATALOG")
+        bridges.append(Bridge(url, uris_of(path), words.redis, words.prefix, say, **how_to_connect(words)))
+
+    async def run() -> None:
+        await asyncio.gather(*(each.run() for each in bridges))
+
+    asyncio.run(run())
 
 
 def copy_(words: argparse.Namespace) -> None:
@@ -347,7 +368,7 @@ def parser() -> argparse.ArgumentParser:
     def command(name: str, run: Callable[[argparse.Namespace], None], text: str, *, has_url: bool = True) -> argparse.ArgumentParser:
         made = commands.add_parser(name, help=text, description=text, parents=[link] if has_url else [])
         made.set_defaults(run=run)
-        if has_url and name not in ("conformance", "copy"):
+        if has_url and name not in ("conformance", "copy", "bridge"):
             made.add_argument("url", help="ws://HOST:PORT/PATH or wss://HOST:PORT/PATH")
         return made
 
@@ -427,6 +448,10 @@ def add_other_commands(command: Callable[..., argparse.ArgumentParser]) -> None:
     made.add_argument("--channel", action="append", default=[], metavar="URI")
     made.add_argument("--listen", default="127.0.0.1:9777")
     made.add_argument("--every", type=float, default=5.0, help="seconds between pings (5)")
+    made = command("bridge", bridge, "writes every change of channels into streams of Redis")
+    made.add_argument("--store", action="append", required=True, metavar="URL=CATALOG", help="a server, and its catalog or configuration")
+    made.add_argument("--redis", default="redis://127.0.0.1:6379/0")
+    made.add_argument("--prefix", default="etp", help="in front of the streams' names (etp)")
     made = command("copy", copy_, "copies dataspaces, objects, arrays and channels into another store, and reads them back")
     made.add_argument("source", metavar="FROM")
     made.add_argument("target", metavar="TO")

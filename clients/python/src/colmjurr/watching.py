@@ -155,6 +155,13 @@ class Watch:
             self._wake.clear()
             await self._wake.wait()
 
+    def take_queued(self) -> list[Change]:
+        """The changes that are there already, as right after `begin` those with which the watch begins."""
+        taken = list(self._queue)
+        self._queue.clear()
+        self._waiting = 0
+        return taken
+
     async def close(self) -> None:
         """Ends the subscriptions. What was told but not taken yet can still be iterated."""
         if self._is_closed:
@@ -334,13 +341,21 @@ class Copy:
         if isinstance(change, Restarted):
             self.indexes, self.values = [], []
         if isinstance(change, Truncate):
-            self._cut(bisect.bisect_right(self.indexes, change.end), len(self.indexes), [])
+            self.truncate(change.end)
         elif isinstance(change, Replace):
-            low, high = bisect.bisect_left(self.indexes, change.start), bisect.bisect_right(self.indexes, change.end)
-            self._cut(low, high, list(change.points))
+            self.replace(change.start, change.end, list(change.points))
         elif isinstance(change, (Append, Restarted)):
-            self._cut(len(self.indexes), len(self.indexes), list(change.points))
+            self.cut(len(self.indexes), len(self.indexes), list(change.points))
 
-    def _cut(self, low: int, high: int, pairs: list) -> None:
+    def truncate(self, end: int) -> None:
+        """Removes the points after an index."""
+        self.cut(bisect.bisect_right(self.indexes, end), len(self.indexes), [])
+
+    def replace(self, start: int, end: int, pairs: list) -> None:
+        """Puts pairs of an index and a value in place of the points of an interval."""
+        self.cut(bisect.bisect_left(self.indexes, start), bisect.bisect_right(self.indexes, end), pairs)
+
+    def cut(self, low: int, high: int, pairs: list) -> None:
+        """Puts pairs of an index and a value in place of the points from one place to another."""
         self.indexes[low:high] = [index for index, _ in pairs]
         self.values[low:high] = [value for _, value in pairs]

@@ -1,0 +1,211 @@
+"""The bridge into Redis: each of the three is stopped and started under load, and the streams come to have the channels' points."""
+import asyncio
+import random
+import shutil
+import signal
+import socket
+import subprocess
+import tempfile
+import threading
+import time
+import unittest
+from pathlib import Path
+
+import outside_server
+import support
+from support import channel_uri
+from test_cli import begin
+from test_links import Proxy
+import colmjurr
+from colmjurr import bridge
+
+WAIT = 60 * max(1, support.PATIENCE)
+CHANNELS = [dict(uri=channel_uri(number), name=f"c{number}", kind=kind, uom="") for number, kind in enumerate(("double", "long", "string"))]
+
+
+def free_port():
+    with socket.socket() as found:
+        found.bind(("127.0.0.1", 0))
+        return found.getsockname()[1]
+
+
+class Engine:
+    """A Redis of the test's own, which keeps what it took when it is killed."""
+
+    def __init__(self, folder):
+        self.folder, self.port = folder, free_port()
+        self.start()
+
+    def start(self):
+        self.process = subprocess.Popen(
+            ["redis-server", "--port", str(self.port), "--bind", "127.0.0.1", "--dir", self.folder, "--appendonly", "yes", "--appendfsync", "always",
+             "--save", ""], stdout=subprocess.DEVNULL)
+        import redis
+
+        end = time.monotonic() + 20
+        while True:
+            try:
+                self.client = redis.Redis(port=self.port)
+                self.client.ping()
+                return
+            except redis.exceptions.RedisError:
+                if time.monotonic() > end:
+                    raise
+                time.sleep(0.05)
+
+    def kill(self):
+        self.process.kill()
+        self.process.wait()
+
+    def entries(self, uri, kind):
+        return [bridge.read_entry(fields, kind) for _, fields in self.client.xrange(f"etp:{uri}")]
+
+    def points(self, uri, kind):
+        copy = bridge.fold(self.entries(uri, kind))
+        return list(zip(copy.indexes, copy.values))
+
+
+class Differences(unittest.TestCase):
+    def test_the_entries_make_one_list_the_other(self):
+        draw = random.Random(9)
+        for _ in range(3000):
+            known, wanted = ([(at, draw.choice([1, 1, 1, 2, None])) for at in sorted(draw.sample(range(30), draw.randrange(12)))] for _ in range(2))
+            if draw.random() < 0.5:
+                wanted = [each for each in known if draw.random() < 0.9] + [(at, 5) for at in range(31, 31 + draw.randrange(3))]
+            entries = list(bridge.differences(known, wanted))
+            copy = bridge.fold(entries, bridge.fold([bridge.Entry("append", 0, 0, known)] if known else []))
+            self.assertEqual(list(zip(copy.indexes, copy.values)), wanted, (known, entries))
+            self.assertEqual(entries == [], known == wanted)
+
+    def test_a_point_twice_is_found_out(self):
+        with self.assertRaises(ValueError):
+            bridge.fold([bridge.Entry("append", 0, 0, [(1, 1)]), bridge.Entry("append", 0, 0, [(1, 1)])])
+
+    def test_values_come_back(self):
+        for kind, values in (("double", [1.5, None, float("inf"), -0.0]), ("bytes", [b"\0\xff", None]), ("string", ["é", None]), ("long", [1 << 60, None]), ("boolean", [True, None])):
+            entry = bridge.Entry("append", 0, 0, list(enumerate(values)))
+            fields = {name.encode(): str(value).encode() for name, value in entry.fields().items()}
+            self.assertEqual(bridge.read_entry(fields, kind), entry)
+
+
+class Kills(unittest.TestCase):
+    def setUp(self):
+        if not shutil.which("redis-server"):
+            self.skipTest("redis-server is not there")
+        try:
+            import redis  # noqa: F401
+        except ImportError:
+            self.skipTest("python3-redis is not there")
+        folder = tempfile.TemporaryDirectory()
+        self.addCleanup(folder.cleanup)
+        self.engine = Engine(folder.name)
+        self.addCleanup(lambda: self.engine.kill())
+        self.server = support.start_server(channels=CHANNELS)
+        self.addCleanup(self.server.close)
+        self.proxy = Proxy(self.server.port)
+        self.addCleanup(self.proxy.close)
+        self.catalog = Path(folder.name, "server.toml")
+        self.catalog.write_text(support.configuration(channels=CHANNELS))
+        self.bridges = []
+        self.addCleanup(self.stop)
+
+    def start(self):
+        process = begin("bridge", "--store", f"{self.proxy.url}={self.catalog}", "--redis", f"redis://127.0.0.1:{self.engine.port}/0")
+        self.bridges.append(process)
+        self.said = []
+        threading.Thread(target=lambda: self.said.extend(process.stderr), daemon=True).start()
+        return process
+
+    def stop(self):
+        for process in self.bridges:
+            process.kill()
+            process.wait()
+            process.stdin.close()
+            process.stdout.close()
+
+    def until_same(self, store):
+        end = time.monotonic() + WAIT
+        while True:
+            held = {each["uri"]: list(store.channel(each["uri"]).range()) for each in CHANNELS}
+            try:
+                found = {each["uri"]: self.engine.points(each["uri"], each["kind"]) for each in CHANNELS}
+            except OSError:
+                found = None
+            if held == found:
+                return held
+            self.assertLess(time.monotonic(), end, self.said[-5:])
+            time.sleep(0.1)
+
+    def test_each_of_the_three_is_stopped_under_load(self):
+        process = self.start()
+        done = threading.Event()
+        loaded = []
+        rig = threading.Thread(target=self.load, args=(done, loaded), daemon=True)
+        rig.start()
+        for _ in range(2):
+            time.sleep(0.7)
+            self.engine.kill()
+            time.sleep(0.4)
+            self.engine.start()
+            time.sleep(0.7)
+            process.send_signal(signal.SIGKILL)
+            process.wait()
+            time.sleep(0.3)
+            process = self.start()
+            time.sleep(0.7)
+            self.proxy.cut_all()
+        done.set()
+        rig.join(WAIT)
+        with colmjurr.connect(self.server.url) as store:
+            held = self.until_same(store)
+        self.assertGreater(len(held[channel_uri(0)]), 20)
+        self.assertEqual(loaded[-1], held[channel_uri(0)][-1][0])
+        self.assertIsNone(process.poll())
+
+    def load(self, done, loaded):
+        """Loads three channels, and corrects them now and then."""
+        with colmjurr.connect(self.server.url) as store:
+            rop, count, remark = store.channels([each["uri"] for each in CHANNELS])
+            place = 0
+            while not done.is_set():
+                begin, place = 10 * place, place + 10
+                at = range(10 * begin, 10 * begin + 100, 10)
+                rop.load(list(at), [index / 8 for index in at])
+                count.load(list(at), list(at))
+                remark.load([at[0]], [f"step {place}"])
+                if place % 50 == 0:
+                    rop.replace(at[2], at[4], [at[3]], [-1.0])
+                    count.truncate(at[7])
+                loaded.append(at[-1])
+                time.sleep(0.01)
+
+    def test_a_server_that_comes_back_empty(self):
+        self.start()
+        with colmjurr.connect(self.server.url) as store:
+            store.channel(channel_uri(1)).load([1, 2, 3], [1, 2, 3])
+            self.until_same(store)
+        self.server.close()
+        again = support.start_server(channels=CHANNELS)
+        self.addCleanup(again.close)
+        self.proxy.target = again.port
+        self.proxy.cut_all()
+        with colmjurr.connect(again.url) as store:
+            store.channel(channel_uri(1)).load([2, 5], [2, 5])
+            self.until_same(store)
+        changes = [entry.change for entry in self.engine.entries(channel_uri(1), "long")]
+        self.assertLessEqual(len(changes), 4, changes)
+
+    def test_two_bridges_of_one_channel(self):
+        self.start()
+        with colmjurr.connect(self.server.url) as store:
+            store.channel(channel_uri(1)).load([1], [1])
+            self.until_same(store)
+            self.start()
+            time.sleep(0.5)
+            for index in range(2, 30):
+                store.channel(channel_uri(1)).load([index], [index])
+            self.until_same(store)
+
+
+if __name__ == "__main__":
+    unittest.main()
