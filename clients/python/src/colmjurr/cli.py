@@ -30,8 +30,8 @@ from .version import VERSION
 from .watching import Append, Change, Gap, Replace, Truncate
 
 USAGE, CONFIG, FILE, REFUSED, LINK, PEER, INPUT, STOPPED, DIFFERS = 1, 2, 4, 9, 10, 11, 12, 16, 17
-# How many lines of a file are loaded at once.
-LINES = 10_000
+# How many lines of a file are loaded at once, and how many lines of an input are few enough to wait for more.
+LINES, FEW = 10_000, 100
 
 
 class InputError(Exception):
@@ -163,12 +163,32 @@ def load(words: argparse.Namespace) -> None:
         points = csv_points(stream, channel.kind) if words.csv else line_points(stream, channel.kind)
         with Bar("load", "points") as bar, channel.loader(
                 every=words.every, most=words.most, skip_known=words.skip_known, progress=bar) as loader:
-            for lot in ([each] for each in points) if is_live else lots(points):
-                if is_live:
-                    loader(*lot[0])
-                else:
+            for lot in live_lots(channel.kind) if is_live and not words.csv else lots(points):
+                if len(lot) > FEW:
                     loader.load_many([index for index, _ in lot], [value for _, value in lot])
+                else:
+                    for index, value in lot:
+                        loader(index, value)
     print(f"loaded {loader.taken}" + (f" skipped {loader.skipped}" if words.skip_known else ""))
+
+
+def live_lots(kind: str) -> Iterator[list[tuple[int, Any]]]:
+    """The points of the input's lines, as many at once as have come."""
+    rest, number = b"", 0
+    while data := os.read(sys.stdin.fileno(), 1 << 16):
+        *lines, rest = (rest + data).split(b"\n")
+        yield [line_point(number + place, kind, line) for place, line in enumerate(lines, 1)]
+        number += len(lines)
+    if rest:
+        yield [line_point(number + 1, kind, rest)]
+
+
+def line_point(number: int, kind: str, line: bytes) -> tuple[int, Any]:
+    try:
+        index, space, text = line.decode().rstrip("\r").partition(" ")
+    except UnicodeDecodeError:
+        raise InputError(f"input line {number}: no UTF-8") from None
+    return point(number, kind, index, text if space else None)
 
 
 def lots(points: Iterable[tuple[int, Any]]) -> Iterator[list[tuple[int, Any]]]:

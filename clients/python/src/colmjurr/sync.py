@@ -342,7 +342,13 @@ class Watch:
     def next(self, timeout: Optional[float] = None) -> Optional[Change]:
         """The next change; None where the watch was closed. Raises `TimeLimit` where none comes within `timeout` seconds; the watch goes
         on."""
-        return self._runner.run(self._next(), timeout)
+        return self._runner.run(self._next_within(timeout))
+
+    async def _next_within(self, timeout: Optional[float]) -> Optional[Change]:
+        try:
+            return await asyncio.wait_for(self._next(), timeout)
+        except asyncio.TimeoutError:
+            raise TimeLimit(f"no change came within {timeout:g} s") from None
 
     def close(self) -> None:
         """Ends the subscriptions."""
