@@ -451,6 +451,41 @@ class Tunnel(unittest.IsolatedAsyncioTestCase):
         self.assertEqual((told.returncode, told.stdout.splitlines()[0]), (0, "latest 2 d:4000000000000000"))
 
 
+class Runner(unittest.TestCase):
+    """etpd-run with small programs in etpd's place."""
+
+    def start(self, script):
+        folder = self.enterContext(tempfile.TemporaryDirectory())
+        program = Path(folder, "program")
+        program.write_text(f"#!/bin/sh\n{script}\n")
+        program.chmod(0o755)
+        process = subprocess.Popen([DEPLOY / "etpd-run", program, "CONFIG", "127.0.0.1:0"], stdout=subprocess.PIPE, text=True)
+        self.addCleanup(process.kill)
+        return process
+
+    def stopped(self, script, number=signal.SIGTERM):
+        """What a program that said a line has written and its status, after a signal."""
+        process = self.start(f"echo ready $*; {script}")
+        self.assertEqual(process.stdout.readline(), "ready CONFIG 127.0.0.1:0\n")
+        process.send_signal(number)
+        out, _ = process.communicate(timeout=90)
+        return out, process.returncode
+
+    def test_closes_the_input_on_either_signal(self):
+        for number in (signal.SIGTERM, signal.SIGINT):
+            self.assertEqual(self.stopped("cat; echo entries 1", number), ("entries 1\n", 0))
+
+    def test_has_the_status_of_the_program(self):
+        for script, status in (("exit 0", 0), ("exit 7", 7), ("kill -SEGV $$", 128 + signal.SIGSEGV)):
+            self.assertEqual(self.start(script).wait(60), status, script)
+        self.assertEqual(self.stopped("cat; exit 5"), ("", 5))
+
+    def test_kills_what_does_not_end(self):
+        begun = time.monotonic()
+        self.assertEqual(self.stopped("exec sleep 300"), ("", 128 + signal.SIGKILL))
+        self.assertGreater(time.monotonic() - begun, 39)
+
+
 @wants("etpd")
 class Stop(unittest.TestCase):
     """etpd-run on SIGTERM, as the unit uses it."""
