@@ -155,7 +155,8 @@ class Package(unittest.TestCase):
         self.has_command_line()
         with tempfile.TemporaryDirectory() as folder:
             path = Path(folder, "wrong.toml")
-            path.write_text('instance = "00000000-0000-0000-0000-000000000001"\nname = "w"\n[[channel]]\nuri = "eml:///witsml21.Well"\n')
+            path.write_text('instance = "00000000-0000-0000-0000-000000000001"\nname = "w"\n[[channel]]\nuri = "eml:///witsml21.Well"\n'
+                            'name = "c"\nkind = "double"\n')
             told = self.colmjurr("check-config", path)
             self.assertNotEqual(told.returncode, 0)
             self.assertRegex(told.stdout, r"uri")

@@ -13,12 +13,13 @@ from stub import VERSION, double_items, interval, item, long_index, number_bytes
 
 SUBPROTOCOL = "etp12.energistics.org"
 PATIENCE = 60
-BATCH = 10_000
+BATCH = 1_000
 
 
 def config(channels, name):
     tables = "".join(
-        f"[[channel]]\nuri = {quoted(uri)}\nname = {quoted(channel)}\nkind = \"{kind}\"\nuom = {quoted(uom)}\n" for uri, channel, kind, uom in channels)
+        f'[[channel]]\nuri = {quoted(uri)}\nname = {quoted(channel)}\nkind = "{kind}"\nuom = {quoted(uom)}\n'
+        for uri, channel, kind, uom in channels)
     return f'instance = "{uuid.UUID(int=1)}"\nname = {quoted(name)}\n{tables}'
 
 

@@ -101,7 +101,8 @@ class Session:
                 return data
 
     def write(self, data, opcode=web_socket.BINARY):
-        size = bytes([len(data)]) if len(data) < 126 else b"\x7e" + len(data).to_bytes(2, "big") if len(data) < 65536 else b"\x7f" + len(data).to_bytes(8, "big")
+        short, wide = len(data) < 126, len(data) > 65535
+        size = bytes([len(data)]) if short else b"\x7f" + len(data).to_bytes(8, "big") if wide else b"\x7e" + len(data).to_bytes(2, "big")
         self.writer.write(bytes([0x80 | opcode]) + size + data)
 
     def say(self, protocol, kind, correlation, value, final=True):
