@@ -3,14 +3,17 @@
 
     python3 stop_server.py ETPD
 
-ETPD is the built program. It is run by `deploy/etpd-run`, with no client, with one, with 64 of which one reads nothing, and beside
-connections that never become clients. Each time it has to end with status 0 within 35 seconds, write its report, and tell each client that it
-goes away (a Close frame with 1001). A server whose standard input has ended before it began has to serve. It needs the standard library alone.
+ETPD is the built program. It is run by `deploy/etpd-run`, with no client, with one, with ten that ask without a pause, with 64 after
+connections that were reset before they were answered, with 64 of which one reads nothing, and beside connections that never become
+clients. Each time it has to end with status 0 within 35 seconds, write its report, and tell each client that it goes away (a Close frame
+with 1001). A server whose standard input has ended before it began has to serve. It needs the standard library alone.
 """
 import asyncio
 import os
 import re
 import signal
+import socket
+import struct
 import subprocess
 import sys
 import tempfile
@@ -21,14 +24,21 @@ import attack_door
 sys.path.insert(0, str(Path(__file__).resolve().parent.parent / "outside"))
 
 import web_socket
+import wire
 
 RUN = Path(__file__).parent.parent / "deploy" / "etpd-run"
 CONFIG = 'instance = "00000000-0000-0000-0000-000000000001"\nname = "wd"\n'
 GOING_AWAY = 1001
 # How long the end and anything else may take, in seconds.
 END, PATIENCE = 35, 30
+ASK = (
+    b"GET / HTTP/1.1\r\nHost: a\r\nUpgrade: websocket\r\nConnection: Upgrade\r\nSec-WebSocket-Key: dGhlIHNhbXBsZSBub25jZQ==\r\n"
+    b"Sec-WebSocket-Version: 13\r\n\r\n"
+)
 # How many answers a client asks for that reads none.
 UNREAD = 20_000
+# How many questions a busy client sends together, and for how many seconds it does.
+BATCH, BUSY = 50, 2
 
 
 async def opened(port):
@@ -45,16 +55,38 @@ async def close_code(client):
     return client.close_code
 
 
-async def visit(port, clients, lazy, stop):
+async def ask_always(link):
+    """Sends Pings of the Core protocol in batches, and reads none of the answers."""
+    number = 2
+    try:
+        while True:
+            for _ in range(BATCH):
+                number += 2
+                header = dict(protocol=0, messageType=8, correlationId=0, messageId=number, messageFlags=2)
+                link.writer.write(web_socket.frame(web_socket.BINARY, wire.write_message(header, wire.BODIES[0, 8, "C"], dict(currentDateTime=0))))
+            await link.writer.drain()
+            await asyncio.sleep(0)
+    except ConnectionError:
+        pass
+
+
+async def visit(port, clients, busy, lazy, stop):
     """Opens sessions, has the server stop, and gives the codes of the Close frames."""
-    links = [await opened(port) for _ in range(clients)]
+    links = [await opened(port) for _ in range(clients + busy)]
+    codes = [asyncio.create_task(close_code(link)) for link in links]
+    work = [asyncio.create_task(ask_always(link)) for link in links[clients:]]
+    if busy:
+        await asyncio.sleep(BUSY)
     sleeper = await opened(port) if lazy else None
     if sleeper:
         # It asks for more than its socket holds, and reads nothing.
         sleeper.transport.pause_reading()
         sleeper.writer.write(web_socket.frame(web_socket.PING, b"a" * 125) * UNREAD)
     stop()
-    return await asyncio.gather(*(close_code(link) for link in links))
+    codes = await asyncio.gather(*codes)
+    for task in work:
+        task.cancel()
+    return codes
 
 
 def start(config, prefix, **streams):
@@ -62,8 +94,17 @@ def start(config, prefix, **streams):
     return server, int(re.search(rb"listening at port (\d+)", server.stderr.readline())[1])
 
 
-def check(config, name, clients, lazy=False, strangers=0):
+def leave(port):
+    """Asks for a WebSocket, and resets the connection before the answer."""
+    with socket.create_connection(("127.0.0.1", port), timeout=PATIENCE) as link:
+        link.setsockopt(socket.SOL_SOCKET, socket.SO_LINGER, struct.pack("ii", 1, 0))
+        link.sendall(ASK)
+
+
+def check(config, name, clients, busy=0, lazy=False, strangers=0, leavers=0):
     server, port = start(config, [str(RUN)], stdin=subprocess.DEVNULL)
+    for _ in range(leavers):
+        leave(port)
     siege = attack_door.Siege(("127.0.0.1", port), ["silent", "drips"], strangers)
     siege.start()
     begun = None
@@ -74,7 +115,7 @@ def check(config, name, clients, lazy=False, strangers=0):
         server.send_signal(signal.SIGTERM)
 
     try:
-        codes = asyncio.run(visit(port, clients, lazy, stop))
+        codes = asyncio.run(visit(port, clients, busy, lazy, stop))
         report, _ = server.communicate(timeout=END + 10)
     finally:
         server.kill()
@@ -108,7 +149,8 @@ def main():
         check_ended_input(str(config))
         check(str(config), "no client", 0)
         check(str(config), "one client", 1)
-        check(str(config), "64 clients", 64)
+        check(str(config), "ten clients that ask without a pause", 0, busy=10)
+        check(str(config), "64 clients after 200 that left before they were answered", 64, leavers=200)
         check(str(config), "63 clients, and one that reads nothing", 63, lazy=True)
         check(str(config), "8 clients beside 100 strangers", 8, strangers=100)
 
