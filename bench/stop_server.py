@@ -56,10 +56,10 @@ async def close_code(client):
 
 
 async def ask_always(link):
-    """Sends Pings of the Core protocol in batches, and reads none of the answers."""
-    number = 2
+    """Sends Pings of the Core protocol in batches until the server's Close frame has come."""
+    number, open_code = 2, link.close_code
     try:
-        while True:
+        while link.close_code == open_code:
             for _ in range(BATCH):
                 number += 2
                 header = dict(protocol=0, messageType=8, correlationId=0, messageId=number, messageFlags=2)
