@@ -3,7 +3,7 @@
 
     python3 stop_server.py ETPD
 
-ETPD is the built program. It is run by `deploy/etpd-run`, with no client, with one, with ten that ask without a pause, with 64 after
+ETPD is the built program. It is run by `deploy/etpd-run`, with no client, with one, with ten that keep asking, with 64 after
 connections that were reset before they were answered, with 64 of which one reads nothing, and beside connections that never become
 clients. Each time it has to end with status 0 within 35 seconds, write its report, and tell each client that it goes away (a Close frame
 with 1001). A server whose standard input has ended before it began has to serve. It needs the standard library alone.
@@ -37,8 +37,8 @@ ASK = (
 )
 # How many answers a client asks for that reads none.
 UNREAD = 20_000
-# How many questions a busy client sends together, and for how many seconds it does.
-BATCH, BUSY = 50, 2
+# How many questions a busy client sends together, how long it then pauses, and for how long it does so before the stop, in seconds.
+BATCH, PAUSE, BUSY = 10, 0.05, 2
 
 
 async def opened(port):
@@ -56,7 +56,7 @@ async def close_code(client):
 
 
 async def ask_always(link):
-    """Sends Pings of the Core protocol in batches until the server's Close frame has come."""
+    """Sends Pings of the Core protocol in batches, with pauses, until the server's Close frame has come."""
     number, open_code = 2, link.close_code
     try:
         while link.close_code == open_code:
@@ -65,7 +65,7 @@ async def ask_always(link):
                 header = dict(protocol=0, messageType=8, correlationId=0, messageId=number, messageFlags=2)
                 link.writer.write(web_socket.frame(web_socket.BINARY, wire.write_message(header, wire.BODIES[0, 8, "C"], dict(currentDateTime=0))))
             await link.writer.drain()
-            await asyncio.sleep(0)
+            await asyncio.sleep(PAUSE)
     except ConnectionError:
         pass
 
@@ -149,7 +149,7 @@ def main():
         check_ended_input(str(config))
         check(str(config), "no client", 0)
         check(str(config), "one client", 1)
-        check(str(config), "ten clients that ask without a pause", 0, busy=10)
+        check(str(config), "ten clients that keep asking", 0, busy=10)
         check(str(config), "64 clients after 200 that left before they were answered", 64, leavers=200)
         check(str(config), "63 clients, and one that reads nothing", 63, lazy=True)
         check(str(config), "8 clients beside 100 strangers", 8, strangers=100)
