@@ -215,7 +215,7 @@ def protocol_bytes(protocol):
     measure = "".join(f"{enum}::{each.name}(message) => message.measure(),\n" for each in protocol.messages)
     body = f"({snake}_body self.now)"
     return f"""impl {enum} {{
-    /// The message of this number whose body stands at the front of what is left, where the protocol has one.
+    /// The message of this number whose body is at the front of the rest, if the protocol has one.
     pub fn read(from: &mut Reader<'_>, kind: i32) -> Result<Option<{enum}>, Fault>
         ensures {{ Reads (kind_at (kind_in {snake}_kinds kind) from.old.left from.old.rest.now) result from.new }}
     {{
@@ -224,7 +224,7 @@ def protocol_bytes(protocol):
         }}
     }}
 
-    /// Appends the written spelling of the body. After `NoMemory` what was there still stands in front.
+    /// Appends the written spelling of the body. After `NoMemory` what was there is still at the front.
     {HOLDS}
     pub fn write(&self, into: &mut Vec<u8>) -> Result<(), NoMemory>
         ensures written {{ Writes (plain {body}.value) into.old.items into.new.items result }}
@@ -235,7 +235,7 @@ def protocol_bytes(protocol):
 {write}        }}
     }}
 
-    /// How much of a message the body takes. It takes no memory.
+    /// How much of a message the body takes. It does not allocate.
     pub fn measure(&self) -> Measure
         ensures {{ result ≡ measured {body}.value }}
     {{

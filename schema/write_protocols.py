@@ -35,7 +35,7 @@ def message_impl(protocols):
 {by("kind()")}        }}
     }}
 
-    /// The number of the protocol in whose enum the message stands.
+    /// The number of the protocol whose enum has the message.
     pub fn protocol(&self) -> i32
         ensures {{ result ≡ pos (protocol_of self.now) }}
     {{
@@ -51,7 +51,7 @@ def message_impl(protocols):
 {arms(protocols, is_of)}        }}
     }}
 
-    /// The message of this protocol and number whose body stands at the front of what is left, where the protocol has one.
+    /// The message of this protocol and number whose body is at the front of the rest, if the protocol has one.
     pub(crate) fn read(from: &mut Reader<'_>, protocol: i32, kind: i32) -> Result<Option<Message>, Fault>
         ensures {{ Reads (kind_at (typed_kind protocol kind) from.old.left from.old.rest.now) result from.new }}
     {{
@@ -60,7 +60,7 @@ def message_impl(protocols):
         }}
     }}
 
-    /// Appends the written spelling of the message's body. After `NoMemory` what was there still stands in front.
+    /// Appends the written spelling of the message's body. After `NoMemory` what was there is still at the front.
     pub(crate) fn write(&self, into: &mut Vec<u8>) -> Result<(), NoMemory>
         ensures written {{ Writes (plain (message_body self.now).value) into.old.items into.new.items result }}
         ensures typed {{ OnOk result (HasSchema (message_body self.now).schema (message_body self.now).value) }}

@@ -1,4 +1,4 @@
--- A refusal of an array that isn't want of memory has its code.
+-- A refusal of an array that isn't running out of memory has its code.
 use Rattle.std.proofs.Common.{◌≡◌, ◌∙◌, Option, Some, None, Ok, sym, ap}
 use Rattle.std.specs.Option.{option_map, unwrap_or}
 use Rattle.tx_stage.proofs.RefusedLemmas.{refusal-code}

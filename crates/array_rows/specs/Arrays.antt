@@ -46,7 +46,7 @@ ArrayOutcome = Outcome StoreCall ArrayPending DataArrayMessage
 abbrev pub ArraysAnswered : Type 0
 ArraysAnswered = Answered DataArrayMessage
 
--- a reply that leaves the transaction
+-- a reply that leaves the transaction unchanged
 abbrev pub says : Option Transaction → List (Sending DataArrayMessage) → ArraysAnswered
 says stage sendings = record { stage = stage; sendings = sendings }
 
@@ -57,7 +57,7 @@ abbrev pub looks_called : {K : Type 0} → (List (List ℕ × Decision K) → Ar
 looks_called keep (Replies sendings) = Replies sendings
 looks_called keep (Calls wants kept) = Calls (call.Look (values_of wants)) (keep kept)
 
--- so do several looks under each key
+-- several looks under each key also make one call
 abbrev pub joined_called : {K : Type 0} → (List (List ℕ × Decision K) → ArrayPending) → Outcome (List (List ℕ × List Want)) (List (List ℕ × Decision K)) DataArrayMessage → ArrayOutcome
 joined_called keep (Replies sendings) = Replies sendings
 joined_called keep (Calls wants kept) = Calls (call.Look (flat_map (λ x. x.1) wants)) (keep kept)
@@ -94,7 +94,7 @@ metadata_outcome stage ids = if is_some stage then staged_metadata_outcome stage
 
 -- ---- changing
 
--- why a change of arrays is refused as a whole: the transaction only reads, or its keys don't pass the limits
+-- why a change of arrays is refused as a whole: the transaction only reads, or its keys exceed the limits
 abbrev pub change_refusal : {A : Type 0} → Option Transaction → List (List ℕ × A) → Option ErrorCode
 change_refusal stage items = if is_read_only stage then Some RequestDenied else keys_refusal items
 
@@ -108,7 +108,7 @@ staged_put_outcome stage at arrays = joined_called (pending.StagedPut change.Put
 abbrev pub put_outcome : Option Transaction → ℤ → List (List ℕ × PutDataArraysType) → ArrayOutcome
 put_outcome stage at arrays = if is_some stage then staged_put_outcome stage at arrays else unstaged_put_outcome stage at arrays
 
--- the same of arrays to be made
+-- the same for arrays to be created
 abbrev pub unstaged_make_outcome : Option Transaction → ℤ → List (List ℕ × PutUninitializedDataArrayType) → ArrayOutcome
 unstaged_make_outcome stage at arrays = ops_called change.Make (request_outcome (λ x. nothing) (set_array at) (change_response change.Make) (checked (checked_made stage) 0 arrays))
 
@@ -118,7 +118,7 @@ staged_make_outcome stage at arrays = joined_called (pending.StagedPut change.Ma
 abbrev pub make_outcome : Option Transaction → ℤ → List (List ℕ × PutUninitializedDataArrayType) → ArrayOutcome
 make_outcome stage at arrays = if is_some stage then staged_make_outcome stage at arrays else unstaged_make_outcome stage at arrays
 
--- the same of patches
+-- the same for patches
 abbrev pub unstaged_patch_outcome : Option Transaction → ℤ → List (List ℕ × PutDataSubarraysType) → ArrayOutcome
 unstaged_patch_outcome stage at arrays = ops_called change.Patch (plain_outcome (λ x. op_of (patch_array at) (checked_patch stage x)) (change_response change.Patch) arrays)
 
@@ -130,7 +130,7 @@ patch_outcome stage at arrays = if is_some stage then staged_patch_outcome stage
 
 -- ---- what comes of a message
 
--- what a request on arrays comes to, before it is answered: with the staged transaction, if one is open, and the time
+-- what a request on arrays comes to before it is answered, within the staged transaction, if one is open, and the time
 abbrev pub array_outcome : Option Transaction → ℤ → DataArrayMessage → ArrayOutcome
 array_outcome stage at (message.GetDataArrays m) = unless_refused (keys_refusal m.data_arrays) (get_outcome stage m.data_arrays)
 array_outcome stage at (message.GetDataSubarrays m) = unless_refused (keys_refusal m.data_subarrays) (slice_outcome stage m.data_subarrays)
@@ -145,7 +145,7 @@ array_outcome stage at (message.PutDataArraysResponse m) = Replies (refusal_alon
 array_outcome stage at (message.PutDataSubarraysResponse m) = Replies (refusal_alone InvalidMessageType)
 array_outcome stage at (message.PutUninitializedDataArraysResponse m) = Replies (refusal_alone InvalidMessageType)
 
--- ---- what comes of the store's answer to its call; an answer that is none to the call has no reply
+-- ---- what comes of the store's answer to its call; an answer that does not belong to the call has no reply
 
 -- the answer has verdicts
 abbrev pub verdicts_reply : Option Transaction → ArrayPending → List (List ℕ × Verdict) → ArraysAnswered
@@ -163,7 +163,7 @@ looks_reply limit stage (pending.StagedPut what at items) looks = scoped_reply (
 looks_reply limit stage (pending.StagedPatch at items) looks = scoped_reply (staged_patch at) 1 (change_response change.Patch) stage items looks
 looks_reply limit stage (pending.Change what items) looks = says stage []
 
--- the reply to a request of which this is kept, at the store's answer, in parts of at most so many bytes, and what it leaves of the
+-- the reply to a request of which this is kept, once the store has answered, in parts of at most this many bytes, and what it leaves of the
 -- open transaction
 abbrev pub array_reply : ℕ → Option Transaction → ArrayPending → Reply → ArraysAnswered
 array_reply limit stage kept (answer.Verdicts verdicts) = verdicts_reply stage kept verdicts

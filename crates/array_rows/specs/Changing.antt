@@ -1,4 +1,4 @@
--- PutDataArrays, PutDataSubarrays and PutUninitializedDataArrays: what is tested of their keys, and what comes of them.
+-- PutDataArrays, PutDataSubarrays and PutUninitializedDataArrays: what is tested about their keys, and what comes of them.
 use Rattle.std.specs.Prelude.{ℕ, ℤ, pos, ◌+◌, ◌*◌, ◌==◌, Bool, true, false, not, ◌||◌, List, [], ◌∷◌, Option, Some, None, Result, Ok, Err, length, nat_le, if◌then◌else◌, replicate, slice_get}
 use Rattle.std.specs.Option.{option_map}
 use Rattle.array_store.specs.Arrays.{size_of}
@@ -47,7 +47,7 @@ use Rattle.array_rows.specs.declared.changing.ArrayPut.{ArrayPut}
 
 -- ---- PutDataArrays
 
--- what the elements of each kind mean, where nothing else is said
+-- what the elements of each kind mean if nothing else is said
 abbrev pub plain_meaning : AnyArray → ℕ
 plain_meaning (any.ArrayOfBoolean l) = 0
 plain_meaning (any.ArrayOfInt l) = 4
@@ -57,7 +57,7 @@ plain_meaning (any.ArrayOfDouble l) = 10
 plain_meaning (any.ArrayOfString l) = 19
 plain_meaning (any.Bytes b) = 2
 
--- what is stored of an array: when it was put is for the store
+-- what is stored of an array: the store sets when it was put
 abbrev pub put_record : DataArray → List (List ℕ × DataValue) → ArrayRecord
 put_record a custom = record {
   dims = a.dimensions;
@@ -69,7 +69,7 @@ put_record a custom = record {
   created = pos 0;
 }
 
--- an array that is one, with custom data that are not too long
+-- a valid array, with custom data that are not too large
 abbrev pub put_unless : Option ArrayError → ArrayKey → ArrayRecord → Decision ArrayPut
 put_unless (Some e) k r = Refused (code_of e)
 put_unless None k r = if is_custom_large r.custom then Refused SizeExceeded else Granted (record { key = k; array = r })
@@ -84,7 +84,7 @@ checked_put stage x = put_at x (named_array stage x.uid)
 
 -- ---- PutUninitializedDataArrays
 
--- so many elements of a kind: false, 0, the empty text or the byte 0. Floating zeros are those without a sign
+-- this many elements of a kind: false, 0, the empty text or the byte 0. Floating-point zeros are positive
 abbrev pub zeros : AnyArrayType → ℕ → AnyArray
 zeros kinds.ArrayOfBoolean n = any.ArrayOfBoolean (replicate n false)
 zeros kinds.ArrayOfInt n = any.ArrayOfInt (replicate n (pos 0))
@@ -94,7 +94,7 @@ zeros kinds.ArrayOfDouble n = any.ArrayOfDouble (replicate n (record { 0 = 0 }))
 zeros kinds.ArrayOfString n = any.ArrayOfString (replicate n [])
 zeros kinds.Bytes n = any.Bytes (replicate n 0)
 
--- what an element of a kind counts
+-- the size of an element of a kind
 abbrev pub zero_size : AnyArrayType → ℕ
 zero_size kinds.ArrayOfBoolean = 1
 zero_size kinds.ArrayOfInt = 4
@@ -119,7 +119,7 @@ made_record m n = record {
 abbrev pub is_preferred : DataArrayMetadata → Bool
 is_preferred m = length m.preferred_subarray_dimensions == 0 || length m.preferred_subarray_dimensions == length m.dimensions
 
--- an array of so many elements, where those of the granted keys count so much: with it the request makes at most 67,108,864
+-- an array of this many elements, if those of the granted keys have this size: with it the request creates at most 67,108,864
 abbrev pub made_within : ℕ → ArrayKey → DataArrayMetadata → ℕ → ℕ × Decision ArrayPut
 made_within sum k m n =
     if not (nat_le (sum + zero_size m.transport_array_type * n) 67108864) then (sum, Refused SizeExceeded)
@@ -134,8 +134,8 @@ abbrev pub made_at : ℕ → DataArrayMetadata → Decision ArrayKey → ℕ × 
 made_at sum m (Refused code) = (sum, Refused code)
 made_at sum m (Granted k) = made_of sum k m (dims_of m.dimensions None)
 
--- an array to be made: its name, its dimensions, the preferred ones, the elements of the request and its custom data are tested in
--- this order
+-- an array to be created: its name, its dimensions, the preferred ones, the elements of the request and its custom data are tested in this
+-- order
 abbrev pub checked_made : Option Transaction → ℕ → PutUninitializedDataArrayType → ℕ × Decision ArrayPut
 checked_made stage sum x = made_at sum x.metadata (named_array stage x.uid)
 
@@ -171,12 +171,12 @@ change_response change.Put success = message.PutDataArraysResponse (record { suc
 change_response change.Patch success = message.PutDataSubarraysResponse (record { success = success })
 change_response change.Make success = message.PutUninitializedDataArraysResponse (record { success = success })
 
--- what the store decided of a key: the empty text, or a refusal
+-- what the store decided about a key: the empty text, or a refusal
 abbrev pub decided : Verdict → Decision (List ℕ)
 decided verdict.Accepted = Granted []
 decided (verdict.Refused code) = Refused code
 
--- the same beside its key
+-- the same with its key
 abbrev pub decided_found : List ℕ × Verdict → Decision (List ℕ)
 decided_found found = decided found.1
 
@@ -195,7 +195,7 @@ abbrev pub patch_unless : ℤ → Scope → ArrayPatch → AnyArray → Option E
 patch_unless at s x whole (Some code) = (s, Refused code)
 patch_unless at s x whole None = patch_counted at (paying s (size_of whole)) x (pays s (size_of whole))
 
--- why values don't go into a region of an array
+-- why values don't fit into a region of an array
 abbrev pub write_fault : ArrayRecord → List ℤ → List ℤ → AnyArray → Option ErrorCode
 write_fault r starts counts values = option_map code_of (write_refusal r starts counts values)
 

@@ -30,14 +30,14 @@ use Rattle.tx_stage.specs.declared.look.Want.TheVariants as want
 use Rattle.array_rows.specs.Sizes.{fitting}
 use Rattle.array_rows.specs.declared.naming.Region.{Region}
 
--- ---- what is looked at: the elements of a region are cut out by the store, but for a transaction
+-- ---- what is looked at: the elements of a region are cut out by the store, except in a transaction
 
 abbrev pub slice_want : Region → Want
 slice_want r = want.Slice r.key r.starts r.counts
 
 -- ---- an array that was looked at
 
--- an array that is there
+-- an array that exists
 abbrev pub array_there : Option ArrayRecord → Decision ArrayRecord
 array_there None = Refused NotFound
 array_there (Some r) = Granted r
@@ -79,7 +79,7 @@ get_one limit s key k found = got limit s key (array_seen s.stage k (slice_get f
 abbrev pub slices_response : List (List ℕ × DataArray) → DataArrayMessage
 slices_response arrays = message.GetDataSubarraysResponse (record { data_subarrays = arrays })
 
--- the elements of a region of so many counts, as the store saw them
+-- the elements of a region of these counts, as the store saw them
 abbrev pub slice_seen : ℕ → List ℕ → List ℤ → Option Looked → Decision DataArray
 slice_seen limit key counts (Some (look.Slice values)) = fitting data_array_form limit key (data_array counts values)
 slice_seen limit key counts (Some look.Missing) = Refused NotFound
@@ -89,11 +89,11 @@ slice_seen limit key counts _ = Refused RequestDenied
 abbrev pub slice_one : ℕ → Scope → List ℕ → List ℤ → List Looked → Scope × Decision DataArray
 slice_one limit s key counts found = (s, slice_seen limit key counts (slice_get found 0))
 
--- the elements of a region of an array, whose whole was looked at
+-- the elements of a region of an array that was looked at as a whole
 abbrev pub cut_out : Region → ArrayRecord → Decision AnyArray
 cut_out g r = granted_unless (option_map code_of (slice_refusal r g.starts g.counts)) (slice_of (sizes r.dims) (sizes g.starts) (sizes g.counts) r.values)
 
--- the array counts as a whole, but for a region that it doesn't have
+-- the array is counted as a whole, except for a region that it doesn't have
 abbrev pub cut_counted : ℕ → Scope → List ℕ → List ℤ → AnyArray → Decision AnyArray → Scope × Decision DataArray
 cut_counted limit s key counts whole (Refused code) = (s, Refused code)
 cut_counted limit s key counts whole (Granted values) = (paying s (size_of whole), if_counted (pays s (size_of whole)) (fitting data_array_form limit key (data_array counts values)))
@@ -110,7 +110,7 @@ staged_slice limit s key g found = cut_seen limit s key g (array_seen s.stage g.
 abbrev pub metadata_response : List (List ℕ × DataArrayMetadata) → DataArrayMessage
 metadata_response metadata = message.GetDataArrayMetadataResponse (record { array_metadata = metadata })
 
--- what is known of an array beside its elements
+-- what is known about an array apart from its elements
 abbrev pub metadata_of : ArrayRecord → DataArrayMetadata
 metadata_of r = record {
   dimensions = r.dims;

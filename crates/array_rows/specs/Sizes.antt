@@ -9,12 +9,12 @@ use Rattle.etp_values.specs.declared.data.DataValue.{DataValue}
 use Rattle.keyed_requests.specs.declared.keys.Decision.{Decision}
 use Rattle.keyed_requests.specs.declared.keys.Decision.TheVariants.{Granted, Refused}
 
--- An item under its key has room in a message of at most so many bytes, of which 4,096 are kept for all but the items; and the
+-- An item under its key fits into a message of at most this many bytes, of which 4,096 are reserved for everything but the items; and the
 -- items have at most 8,388,544 nodes, keys none.
 abbrev pub fits : {A : Type 0} → Form A → ℕ → List ℕ → A → Bool
 fits form limit key x = nat_le (length (plain_blob key) + length (plain (form.as_value x))) (limit - 4096) && nat_le (nodes (form.as_value x)) 8388544
 
--- an item, where it has room
+-- an item, if it fits
 unfoldable pub fitting : {A : Type 0} → Form A → ℕ → List ℕ → A → Decision A
 fitting form limit key x = if fits form limit key x then Granted x else Refused SizeExceeded
 

@@ -63,7 +63,7 @@ pub enum ArrayPending {
 /// What comes of a request of the DataArray protocol.
 pub type ArrayOutcome = Outcome<StoreCall, ArrayPending, DataArrayMessage>;
 
-/// Why a change of arrays is refused as a whole: the transaction only reads, or its keys don't pass the limits.
+/// Why a change of arrays is refused as a whole: the transaction only reads, or its keys exceed the limits.
 fn change_refusal<T>(stage: &Option<Stage>, items: &Named<T>) -> Option<ErrorCode>
     ensures { result ≡ change_refusal stage.now items.now }
 {
@@ -131,7 +131,7 @@ pub fn array_outcome(
     }
 }
 
-/// A reply that leaves the transaction.
+/// A reply that leaves the transaction unchanged.
 fn says(
     stage: Option<Stage>,
     sendings: List<Sending<DataArrayMessage>>,
@@ -189,8 +189,8 @@ fn looks_reply(
     }
 }
 
-/// The reply at the store's answer to the call of a request of the DataArray protocol, in a session whose parts have at most `limit`
-/// bytes, and what it leaves of the open transaction. An answer that is none to the call has no reply.
+/// The reply to a request of the DataArray protocol, once the store has answered its call, in a session whose parts have at most `limit`
+/// bytes, and what it leaves of the open transaction. An answer that does not belong to the call has no reply.
 pub fn array_reply(
     alloc: Global,
     limit: u64,
@@ -211,7 +211,7 @@ pub fn array_reply(
     }
 }
 
-/// Nothing is said to a request that asked for no verdicts.
+/// A request that asked for no verdicts gets no reply.
 fn unanswered(
     alloc: Global,
     stage: Option<Stage>,
@@ -223,7 +223,7 @@ fn unanswered(
     says(stage, List::new(alloc))
 }
 
-/// Nothing is said of an answer that is none to the call.
+/// An answer that does not belong to the call has no reply.
 fn no_reply(alloc: Global, stage: Option<Stage>, reply: Reply) -> Answered<DataArrayMessage>
     ensures { result ≡ says stage [] }
 {

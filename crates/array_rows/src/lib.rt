@@ -1,8 +1,8 @@
 //! What the requests of the DataArray protocol are answered.
 //!
-//! [`array_outcome`] and [`array_reply`] are the two halves of a request: the first answers a call of the store with what the
-//! store's answer is to be joined with, or the reply where no key is granted. Outside a transaction arrays are read, put and
-//! patched at once; in one each request makes a single look, and its changes are staged when that is answered.
+//! [`array_outcome`] and [`array_reply`] are the two halves of a request: the first returns a call of the store with what the store's
+//! answer is to be joined with, or the reply if no key is granted. Outside a transaction arrays are read, put and patched at once; in one
+//! each request makes a single look, and its changes are staged when that is answered.
 #![tactic(auto)]
 
 mod arrays;

@@ -22,10 +22,10 @@ use std::alloc::Global;
 use store_machine::Want;
 use tx_stage::{Op, Stage};
 
-/// How many bytes the elements that one request makes count at most.
+/// The greatest total size of the elements that one request creates, in bytes.
 pub const MAX_MADE_BYTES: u64 = 67_108_864;
 
-/// A value so many times.
+/// A value, repeated `count` times.
 #[tactic(auto, using(std::proofs::lemmas::List::replicate_more))]
 fn repeated<T: Copy + Drop>(alloc: Global, value: T, count: u64) -> Result<Vec<T>, NoMemory>
     ensures { IfOk result (λ v. v.items ≡ replicate count value) }
@@ -37,7 +37,7 @@ fn repeated<T: Copy + Drop>(alloc: Global, value: T, count: u64) -> Result<Vec<T
     Ok(values)
 }
 
-/// The empty text so many times.
+/// The empty text, repeated `count` times.
 #[tactic(auto, using(std::proofs::lemmas::List::replicate_more))]
 fn empty_texts(alloc: Global, count: u64) -> Result<List<Text>, NoMemory>
     ensures { IfOk result (λ l. l ≡ replicate count []) }
@@ -49,7 +49,7 @@ fn empty_texts(alloc: Global, count: u64) -> Result<List<Text>, NoMemory>
     Ok(List::from_vec(texts))
 }
 
-/// So many elements of a kind: false, 0, the empty text or the byte 0.
+/// `count` elements of a kind: false, 0, the empty text or the byte 0.
 fn zeros(alloc: Global, kind: AnyArrayType, count: u64) -> Result<AnyArray, NoMemory>
     ensures { IfOk result (λ a. a ≡ zeros kind count) }
 {
@@ -78,7 +78,7 @@ fn zeros(alloc: Global, kind: AnyArrayType, count: u64) -> Result<AnyArray, NoMe
     }
 }
 
-/// What an element of a kind counts.
+/// The size of an element of a kind.
 fn zero_size(kind: AnyArrayType) -> u64
     ensures is { result ≡ zero_size kind }
     ensures small { result ≤ 8 }
@@ -94,7 +94,7 @@ fn zero_size(kind: AnyArrayType) -> u64
     }
 }
 
-/// The place of a meaning among the logical types.
+/// The index of a meaning among the logical types.
 fn meaning_place(meaning: AnyLogicalArrayType) -> u32
     ensures { result ≡ logical_type_place meaning }
 {
@@ -123,7 +123,7 @@ fn meaning_place(meaning: AnyLogicalArrayType) -> u32
     }
 }
 
-/// What is stored of an array of so many elements.
+/// What is stored of an array with this many elements.
 fn made_record(
     alloc: Global,
     metadata: DataArrayMetadata,
@@ -158,7 +158,7 @@ fn is_preferred(metadata: &DataArrayMetadata) -> bool
     preferred == 0 || preferred == metadata.dimensions.len()
 }
 
-/// An array of so many elements, where those of the granted keys count `sum`.
+/// An array of this many elements, if those of the granted keys have the size `sum`.
 fn made_within(
     alloc: Global,
     sum: &mut u64,
@@ -182,7 +182,7 @@ fn made_within(
     Ok(Decision::Granted(ArrayPut { key, array }))
 }
 
-/// An array of these dimensions, if they are an array's.
+/// An array of these dimensions, if an array can have them.
 fn made_of(
     alloc: Global,
     sum: &mut u64,
@@ -204,8 +204,8 @@ fn made_of(
     }
 }
 
-/// An array to be made: its name, its dimensions, the preferred ones, the elements of the request and its custom data are tested in
-/// this order.
+/// An array to be created: its name, its dimensions, the preferred ones, the elements of the request and its custom data are tested in this
+/// order.
 fn checked_made(
     alloc: Global,
     stage: &Option<Stage>,
@@ -225,7 +225,7 @@ fn checked_made(
     }
 }
 
-/// The first half without a transaction: each array is put. What is passed on is what the elements of the granted keys count.
+/// The first half without a transaction: each array is put. The size of the elements of the granted keys is passed on.
 #[derive(Drop)]
 struct MakeArrays<'a> {
     stage: &'a Option<Stage>,

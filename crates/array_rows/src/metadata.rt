@@ -120,7 +120,7 @@ fn metadata_response(array_metadata: Named<DataArrayMetadata>) -> DataArrayMessa
     DataArrayMessage::GetDataArrayMetadataResponse(GetDataArrayMetadataResponse { array_metadata })
 }
 
-/// The symbol at a place, or `past` where there are fewer.
+/// The symbol at an index, or `past` if there are fewer.
 fn symbol_at<T: Copy>(symbols: &[T], place: u32, past: T) -> T
     ensures { result ≡ get_or symbols.now place past }
 {
@@ -130,7 +130,7 @@ fn symbol_at<T: Copy>(symbols: &[T], place: u32, past: T) -> T
     }
 }
 
-/// The kind at a place.
+/// The kind at an index.
 fn kind_at(place: u32) -> AnyArrayType
     ensures { result ≡ get_or array_types place kinds.Bytes }
 {
@@ -149,7 +149,7 @@ fn kind_at(place: u32) -> AnyArrayType
     )
 }
 
-/// The meaning at a place.
+/// The meaning at an index.
 fn meaning_at(place: u32) -> AnyLogicalArrayType
     ensures { result ≡ get_or logical_types place meanings.ArrayOfCustom }
 {
@@ -182,7 +182,7 @@ fn meaning_at(place: u32) -> AnyLogicalArrayType
     )
 }
 
-/// What is known of an array, as the store saw it.
+/// What is known about an array, as the store saw it.
 fn shape_seen(limit: u64, key: &Text, seen: Option<Looked>) -> Decision<DataArrayMetadata>
     ensures { result ≡ shape_seen limit key.now seen }
 {
@@ -215,7 +215,7 @@ fn shape_seen(limit: u64, key: &Text, seen: Option<Looked>) -> Decision<DataArra
     }
 }
 
-/// What is known of an array beside its elements.
+/// What is known about an array apart from its elements.
 fn metadata_of(array: ArrayRecord) -> DataArrayMetadata
     ensures { result ≡ metadata_of array }
 {
@@ -240,7 +240,7 @@ fn metadata_of(array: ArrayRecord) -> DataArrayMetadata
     }
 }
 
-/// What is known of an array that stands, where its elements are counted.
+/// What is known about an existing array, if its elements are counted.
 fn described(
     limit: u64,
     scope: &mut Scope,
@@ -261,7 +261,7 @@ fn described(
     }
 }
 
-/// The second half in a transaction: of the arrays with the staged operations over them.
+/// The second half in a transaction: for the arrays with the staged operations applied.
 #[derive(Drop)]
 struct StagedShapesReply {
     limit: u64,
@@ -351,7 +351,7 @@ fn unstaged_metadata_outcome(
 ) -> Result<ArrayOutcome, NoMemory>
     ensures { IfOk result (λ o. o ≡ unstaged_metadata_outcome stage.now ids) }
 {
-    // The first half makes no part, so any limit serves.
+    // The first half makes no part, so any limit works.
     let reply = ShapesReply { limit: 0 };
     let outcome = request_outcome(alloc, &Shapes { stage }, &reply, &mut (), ids)?;
     metadata_called(alloc, outcome)
@@ -364,13 +364,13 @@ fn staged_metadata_outcome(
 ) -> Result<ArrayOutcome, NoMemory>
     ensures { IfOk result (λ o. o ≡ staged_metadata_outcome stage.now ids) }
 {
-    // The first half makes no part, so any limit serves.
+    // The first half makes no part, so any limit works.
     let reply = StagedShapesReply { limit: 0 };
     let outcome = request_outcome(alloc, &WholeArrays { stage }, &reply, &mut (), ids)?;
     staged_metadata_called(alloc, outcome)
 }
 
-/// What comes of a GetDataArrayMetadata whose keys pass the limits.
+/// What comes of a GetDataArrayMetadata whose keys are within the limits.
 pub(crate) fn metadata_outcome(
     alloc: Global,
     stage: &Option<Stage>,

@@ -10,10 +10,10 @@ use request_scope::may_use;
 use std::alloc::Global;
 use tx_stage::Stage;
 
-/// The greatest number of bytes of an array's path.
+/// The maximum length of an array's path, in bytes.
 pub const MAX_ARRAY_PATH_LEN: usize = 1_024;
 
-/// A region of an array: the place of its first element and how many elements it has, in each dimension.
+/// A region of an array: the index of its first element and how many elements it has, in each dimension.
 #[derive(Drop)]
 pub struct Region {
     pub key: ArrayKey,
@@ -44,7 +44,7 @@ fn array_at(stage: &Option<Stage>, path: Text, named: Decision<StoreUri>) -> Dec
     }
 }
 
-/// The array that is named: its URI, its path and its dataspace are tested in this order.
+/// The named array: its URI, its path and its dataspace are tested in this order.
 pub(crate) fn named_array(
     alloc: Global,
     stage: &Option<Stage>,

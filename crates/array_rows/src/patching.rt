@@ -161,7 +161,7 @@ impl KeyedReply for StagedPatchReply {
     }
 }
 
-/// Why values don't go into a region of an array, if they don't. Those that do are written into it.
+/// Why values don't fit into a region of an array, if they don't. Those that do are written into it.
 fn write_fault(
     alloc: Global,
     array: &mut ArrayRecord,
@@ -192,7 +192,7 @@ fn patch_fault(
     write_fault(alloc, array, &patch.starts, &patch.counts, values)
 }
 
-/// A patch that fits is staged, where its array is counted.
+/// A patch that fits is staged, if its array is counted.
 fn patch_counted(
     alloc: Global,
     moment: i64,
@@ -210,7 +210,7 @@ fn patch_counted(
     Ok(granted_unless(alloc, cause))
 }
 
-/// A patch by why it doesn't fit its array, which counts so many bytes.
+/// A patch by why it doesn't fit its array, which has this size in bytes.
 fn patch_unless(
     alloc: Global,
     moment: i64,
@@ -233,7 +233,7 @@ fn patch_unless(
     }
 }
 
-/// A patch of an array that stands: it is judged on the array that was looked at, and then counted and staged.
+/// A patch of an existing array: it is judged on the array that was looked at, and then counted and staged.
 fn patch_standing(
     alloc: Global,
     moment: i64,
@@ -251,7 +251,7 @@ fn patch_standing(
     patch_unless(alloc, moment, scope, patch, size, fault)
 }
 
-/// The same, where an array stands.
+/// The same, if the array exists.
 fn patch_seen(
     alloc: Global,
     moment: i64,

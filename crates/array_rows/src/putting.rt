@@ -19,8 +19,8 @@ use std::alloc::Global;
 use store_machine::Want;
 use tx_stage::{Op, Stage};
 
-/// What the elements of each kind mean, where nothing else is said, by its place among the logical types: `arrayOfBoolean`, those
-/// of signed integers and of floating values with the lowest byte first, `arrayOfString`, and `arrayOfUInt8` for bytes.
+/// What the elements of each kind mean if nothing else is said, by its index among the logical types: `arrayOfBoolean`, those of signed
+/// integers and of floating-point values with the lowest byte first, `arrayOfString`, and `arrayOfUInt8` for bytes.
 fn plain_meaning(values: &AnyArray) -> u32
     ensures { result ≡ plain_meaning values.now }
 {
@@ -60,7 +60,7 @@ fn put_record(
     })
 }
 
-/// A named array that is one, with custom data that are not too long.
+/// A named array that is valid, with custom data that are not too large.
 fn put_unless(key: ArrayKey, array: ArrayRecord) -> Decision<ArrayPut>
     ensures { result ≡ put_unless (record_refusal array) key array }
 {

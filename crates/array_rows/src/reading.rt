@@ -1,4 +1,4 @@
-//! GetDataArrays, and what all that read arrays have in common.
+//! GetDataArrays, and what all requests that read arrays have in common.
 ghost use Rattle.std.specs.Prelude.{◌≡◌, IfOk, OnOk};
 ghost use Rattle.array_rows.specs.Arrays.{get_outcome, looks_called};
 ghost use Rattle.array_rows.specs.Naming.{named_array};
@@ -22,7 +22,7 @@ use std::alloc::Global;
 use store_machine::{Looked, StoreCall, Want};
 use tx_stage::Stage;
 
-/// The first half where whole arrays are looked at.
+/// The first half if whole arrays are looked at.
 #[derive(Drop)]
 pub(crate) struct WholeArrays<'a> {
     pub(crate) stage: &'a Option<Stage>,
@@ -111,7 +111,7 @@ impl KeyedReply for GetArraysReply {
     }
 }
 
-/// An array that stands as it is sent, where its elements are counted.
+/// An existing array as it is sent, if its elements are counted.
 fn got(
     limit: u64,
     scope: &mut Scope,
@@ -180,7 +180,7 @@ fn get_called(
     }
 }
 
-/// What comes of a GetDataArrays whose keys pass the limits.
+/// What comes of a GetDataArrays whose keys are within the limits.
 pub(crate) fn get_outcome(
     alloc: Global,
     stage: &Option<Stage>,
@@ -188,7 +188,7 @@ pub(crate) fn get_outcome(
 ) -> Result<ArrayOutcome, NoMemory>
     ensures { IfOk result (λ o. o ≡ get_outcome stage.now ids) }
 {
-    // The first half makes no part, so any limit serves.
+    // The first half makes no part, so any limit works.
     let reply = GetArraysReply { limit: 0 };
     let outcome = request_outcome(alloc, &WholeArrays { stage }, &reply, &mut (), ids)?;
     get_called(alloc, outcome)

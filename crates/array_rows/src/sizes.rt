@@ -6,16 +6,16 @@ use etp_schema::{Measure, OnWire, measure_of};
 use etp_values::{DataValue, ErrorCode, Named, Text};
 use keyed_requests::Decision;
 
-/// The greatest number of bytes that an array's custom data has on the wire.
+/// The maximum size of an array's custom data on the wire, in bytes.
 pub const MAX_CUSTOM_SIZE: u64 = 16_384;
 
-/// How many bytes of a message are kept for all but its items.
+/// The bytes of a message that are reserved for everything but its items.
 const FRAME_ROOM: u64 = 4_096;
 
-/// The most nodes that the items of one message have.
+/// The greatest number of nodes that the items of one message have.
 const MAX_ITEM_NODES: u64 = 8_388_544;
 
-/// Whether an item under its key has room in a message of at most `limit` bytes.
+/// Whether an item under its key fits into a message of at most `limit` bytes.
 fn fits<T: OnWire>(limit: u64, key: &Text, item: &T) -> bool
     ensures { result ≡ fits T.form limit key.now item.now }
 {
@@ -25,7 +25,7 @@ fn fits<T: OnWire>(limit: u64, key: &Text, item: &T) -> bool
         && size.nodes <= MAX_ITEM_NODES
 }
 
-/// An item, where it has room.
+/// An item, if it fits.
 #[tactic(auto, unfolding(crate::specs::Sizes::fitting))]
 pub(crate) fn fitting<T: OnWire + Drop>(limit: u64, key: &Text, item: T) -> Decision<T>
     ensures { result ≡ fitting T.form limit key.now item }
@@ -36,7 +36,7 @@ pub(crate) fn fitting<T: OnWire + Drop>(limit: u64, key: &Text, item: T) -> Deci
     Decision::Refused(ErrorCode::SizeExceeded)
 }
 
-/// Whether custom data are longer than an array's may be.
+/// Whether custom data are larger than an array's may be.
 pub(crate) fn is_custom_large(custom: &Named<DataValue>) -> bool
     ensures { result ≡ is_custom_large custom.now }
 {

@@ -126,7 +126,7 @@ fn slices_response(data_subarrays: Named<DataArray>) -> DataArrayMessage
     DataArrayMessage::GetDataSubarraysResponse(GetDataSubarraysResponse { data_subarrays })
 }
 
-/// The elements of a region of so many counts, as the store saw them.
+/// The elements of a region of these counts, as the store saw them.
 fn slice_seen(
     limit: u64,
     key: &Text,
@@ -187,7 +187,7 @@ impl<'a> KeyedRequest for StagedSlices<'a> {
     }
 }
 
-/// The second half in a transaction: the regions are cut out of the arrays with the staged operations over them.
+/// The second half in a transaction: the regions are cut out of the arrays with the staged operations applied.
 #[derive(Drop)]
 struct StagedSlicesReply {
     limit: u64,
@@ -236,7 +236,7 @@ impl KeyedReply for StagedSlicesReply {
     }
 }
 
-/// The elements of a region of an array, whose whole was looked at.
+/// The elements of a region of an array that was looked at as a whole.
 fn cut_out(
     alloc: Global,
     region: &Region,
@@ -253,7 +253,7 @@ fn cut_out(
     }
 }
 
-/// The same, where the array counts as a whole, but for a region that it doesn't have.
+/// The same, if the array is counted as a whole, except for a region that it doesn't have.
 fn cut_counted(
     limit: u64,
     scope: &mut Scope,
@@ -280,7 +280,7 @@ fn cut_counted(
     }
 }
 
-/// The elements of a region of an array that stands.
+/// The elements of a region of an existing array.
 fn cut_seen(
     alloc: Global,
     limit: u64,
@@ -343,7 +343,7 @@ fn unstaged_slice_outcome(
 ) -> Result<ArrayOutcome, NoMemory>
     ensures { IfOk result (λ o. o ≡ unstaged_slice_outcome stage.now asked) }
 {
-    // The first half makes no part, so any limit serves.
+    // The first half makes no part, so any limit works.
     let reply = SlicesReply { limit: 0 };
     let outcome = request_outcome(alloc, &Slices { stage }, &reply, &mut (), asked)?;
     slice_called(alloc, outcome)
@@ -356,13 +356,13 @@ fn staged_slice_outcome(
 ) -> Result<ArrayOutcome, NoMemory>
     ensures { IfOk result (λ o. o ≡ staged_slice_outcome stage.now asked) }
 {
-    // The first half makes no part, so any limit serves.
+    // The first half makes no part, so any limit works.
     let reply = StagedSlicesReply { limit: 0 };
     let outcome = request_outcome(alloc, &StagedSlices { stage }, &reply, &mut (), asked)?;
     staged_slice_called(alloc, outcome)
 }
 
-/// What comes of a GetDataSubarrays whose keys pass the limits.
+/// What comes of a GetDataSubarrays whose keys are within the limits.
 pub(crate) fn slice_outcome(
     alloc: Global,
     stage: &Option<Stage>,

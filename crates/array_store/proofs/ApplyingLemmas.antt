@@ -16,7 +16,7 @@ put_at : (old : Arrays) (key q : ArrayKey) (r : ArrayRecord) (b : Bool) → same
 put_at old key q r true h = ap (λ k. Some (put_array (array_in old k) r)) (sym (same_key-is q key h))
 put_at old key q r false h = refl
 
--- where nothing was refused, a key has the record as it was put; where it was, nothing changed
+-- if nothing was refused, a key has the record as it was put; if it was, nothing changed
 pub put_done : {X : Type 0} (result : Result X ArrayError) (refusal : Option ArrayError) (old new : Arrays) (key : ArrayKey) (r : ArrayRecord)
     → Refuses result refusal → OnOk result (Sets old new key (put_array (array_in old key) r)) → OnErr result (new.arrays ≡ old.arrays) → (refusal ≡ None → IsOk result)
     → (q : ArrayKey) → array_in new q ≡ cond (same_key q key) (put_unless refusal (array_in old q) r) (array_in old q)

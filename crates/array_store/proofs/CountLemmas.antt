@@ -1,4 +1,4 @@
--- What a filter keeps and what it leaves out make up the list.
+-- What a filter keeps and what it drops make up the list.
 use Rattle.std.proofs.Common.{ℕ, ◌+◌, Bool, true, false, cond, not, List, [], ◌∷◌, filter, length, ◌≡◌, arith}
 
 one_more : {X : Type 0} (b : Bool) (x : X) (kept left : List X) (n : ℕ) → length kept + length left ≡ n

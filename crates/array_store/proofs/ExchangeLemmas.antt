@@ -1,4 +1,4 @@
--- What a region's elements count, and what a list weighs after they were exchanged for others.
+-- The size of a region's elements, and of a list after they were exchanged for others.
 use Rattle.std.proofs.Common.{ℕ, zero, suc, ◌+◌, ◌*◌, ◌-◌, ◌^◌, ◌≤◌, ◌<◌, nat_lt, true, false, Option, Some, None, List, [], ◌∷◌, ◌++◌, length, take, drop, ◌≡◌, sym, ap, ◌∙◌, arith, length-take, length-drop}
 use Rattle.std.proofs.Math.Nat.{mul-le-mul_right}
 use Rattle.std.proofs.lemmas.Bool.Decides.{nat_tests}
@@ -19,7 +19,7 @@ weigh-append f (x ∷ xs) ys = let rest = weigh-append f xs ys in omega (arith, 
 weigh-split : {X : Type 0} (f : X → ℕ) (n : ℕ) (xs : List X) → weigh f xs ≡ weigh f (take n xs) + weigh f (drop n xs)
 weigh-split f n xs = sym (ap (weigh f) (take-append-drop n xs)) ∙ weigh-append f (take n xs) (drop n xs)
 
--- what was taken out weighed so much less than the whole as what stands in its place weighs less than what there is now
+-- what was taken out is as much smaller than the whole as what took its place is smaller than the new whole
 pub record Exchanged {X : Type 0} (f : X → ℕ) (old taken put new : List X) : Type 0 where
   pub rest : ℕ
   pub before : weigh f old ≡ weigh f taken + rest
@@ -106,9 +106,9 @@ region_exchanged {X} weight (d ∷ ds) (s ∷ ss) (c ∷ cs) xs ys h e a =
       after = omega (arith, written, rows.after);
     }
 
--- ---- numbers, whose count tells what they weigh
+-- ---- numbers, whose count determines their size
 
--- what each element counts, where all count the same
+-- the size of each element, if all have the same
 abbrev pub size_by : AnyArray → Option ℕ
 size_by (ArrayOfBoolean l) = Some 1
 size_by (ArrayOfInt l) = Some 4

@@ -17,7 +17,7 @@ use Rattle.array_store.specs.Operations.{array_after, put_unless}
 use Rattle.array_store.specs.Going.{Going, goes, Turns, Gathering}
 use Rattle.array_store.proofs.KeyLemmas.{same_key-is}
 
--- ---- one removal more
+-- ---- one more removal
 
 pub took-too : (too out rest : Bool) → (cond too true out || rest) ≡ (too || (out || rest))
 took-too true out rest = refl
@@ -29,7 +29,7 @@ of-done (Err e) is h = absurd (false≢true is)
 
 -- ---- one operation
 
--- a set whose array goes later changes nothing
+-- a set whose array is removed later changes nothing
 set_gone : (here out : Bool) (refusal : Option ArrayError) (r : ArrayRecord) (was : Option ArrayRecord) → (here ≡ true → out ≡ true)
     → cond out None was ≡ cond out None (cond here (put_unless refusal was r) was)
 set_gone true true refusal r was gone = refl
@@ -37,7 +37,7 @@ set_gone true false refusal r was gone = absurd (false≢true (gone refl))
 set_gone false true refusal r was gone = refl
 set_gone false false refusal r was gone = refl
 
--- one whose array stays can be done once all that goes is gone
+-- one whose array stays can be done once everything removed is gone
 set_left : (here out : Bool) (refusal : Option ArrayError) (r : ArrayRecord) (was : Option ArrayRecord) → (here ≡ true → out ≡ false)
     → cond here (put_unless refusal (cond out None was) r) (cond out None was) ≡ cond out None (cond here (put_unless refusal was r) was)
 set_left true true refusal r was stays = absurd (true≢false (stays refl))
@@ -62,7 +62,7 @@ set-left g key r items after stays pushed = record {
   turns = λ q was. set_left (same_key q key) (goes g q) (record_refusal r) r was (goes_alike g q key false stays);
 }
 
--- the same of a patch
+-- the same for a patch
 patch_gone : (here out : Bool) (patch : ArrayRecord → ArrayRecord) (was : Option ArrayRecord) → (here ≡ true → out ≡ true)
     → cond out None was ≡ cond out None (cond here (option_map patch was) was)
 patch_gone true true patch was gone = refl
@@ -90,7 +90,7 @@ patch-left g key at ss cs values items after pushed = record {
   turns = λ q was. patch_left (same_key q key) (goes g q) (patched_in_place at ss cs values) was;
 }
 
--- ---- one operation more
+-- ---- one more operation
 
 pub turned : (old new : Going) (o : ArrayOp) (items rest after : List ArrayOp) (n : ℕ) (ops : List ArrayOp) → 0 < n → items ≡ rest ++ o ∷ []
     → Turns old new o rest after → Gathering old items n ops → Gathering new after (n - 1) ops

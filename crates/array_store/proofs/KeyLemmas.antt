@@ -34,7 +34,7 @@ same_key-is a b h =
 pub found_is : (es : List (ArrayKey × ArrayRecord)) (key : ArrayKey) (r : ArrayRecord) → lookup (ghosts.eq key) es ≡ Some r → lookup (same_key key) es ≡ Some r
 found_is es key r h = h
 
--- what was written stands at its key
+-- what was written is at its key
 pub written_is : (es new : List (ArrayKey × ArrayRecord)) (key q : ArrayKey) (w : ArrayRecord) → lookup (ghosts.eq q) new ≡ cond (ghosts.eq key q) (Some w) (lookup (ghosts.eq q) es)
     → lookup (same_key q) new ≡ cond (same_key q key) (Some w) (lookup (same_key q) es)
 written_is es new key q w h = found_set same_key same_key-equiv w key q (lookup (same_key q) es) (lookup (same_key q) new) h
@@ -53,12 +53,12 @@ some_patched f false before now array w is made found = is
 at_key : (es : List (ArrayKey × ArrayRecord)) (key q : ArrayKey) (found : Option ArrayRecord) → lookup (ghosts.eq key) es ≡ found → same_key q key ≡ true → lookup (same_key q) es ≡ found
 at_key es key q found h same = ap (λ k. lookup (same_key k) es) (same_key-is q key same) ∙ h
 
--- where it has no array
+-- if it has no array
 pub none_written : (es new : List (ArrayKey × ArrayRecord)) (key : ArrayKey) (at : ℤ) (ss cs : List ℤ) (values : AnyArray) → new ≡ es → lookup (ghosts.eq key) es ≡ None → PatchesAmong es new key at ss cs values
 none_written es new key at ss cs values same none = λ q.
     ap (lookup (same_key q)) same ∙ none_patched (patched_in_place at ss cs values) (same_key q key) (lookup (same_key q) es) (at_key es key q None none)
 
--- where what was written is what a patch leaves of it
+-- if what was written is what a patch leaves of it
 pub patch_written : (es new : List (ArrayKey × ArrayRecord)) (key : ArrayKey) (array w : ArrayRecord) (at : ℤ) (ss cs : List ℤ) (values : AnyArray) → lookup (ghosts.eq key) es ≡ Some array
     → w ≡ patched_in_place at ss cs values array → ((q : ArrayKey) → lookup (same_key q) new ≡ cond (same_key q key) (Some w) (lookup (same_key q) es)) → PatchesAmong es new key at ss cs values
 patch_written es new key array w at ss cs values found made each = λ q.

@@ -33,9 +33,9 @@ length-written_at ds xs [] ys = refl
 length-written_at ds xs (j ∷ js) [] = refl
 length-written_at ds xs (j ∷ js) (y ∷ ys) = length-written_at ds (set xs (place ds j) y) js ys ∙ length-set xs (place ds j) y
 
--- ---- a region lies within an array
+-- ---- a region is within an array
 
--- in each dimension the start and the count together pass no end
+-- in each dimension the start plus the count does not exceed the end
 abbrev pub Within : List ℕ → List ℕ → List ℕ → Type 0
 Within [] [] [] = Unit {0}
 Within (d ∷ ds) (s ∷ ss) (c ∷ cs) = (s + c ≤ d) × Within ds ss cs
@@ -179,7 +179,7 @@ pub patched-rows : {X : Type 0} (d s c : ℕ) (ds ss cs : List ℕ) (xs ys : Lis
 unfolding patched
 patched-rows d s c ds ss cs xs ys h room = written_by_rows d ds ss cs h c s xs ys room
 
--- one value more than the region has is not written
+-- values beyond those that the region has are not written
 pub patched-more : {X : Type 0} (ds ss cs : List ℕ) (xs ys zs : List X) → Within ds ss cs → length ys ≡ volume cs → patched ds ss cs xs (ys ++ zs) ≡ patched ds ss cs xs ys
 unfolding patched
 patched-more ds ss cs xs ys zs h e = written_at-more ds xs (indexes ss cs) ys zs (length-indexes ds ss cs h ∙ sym e)
@@ -202,7 +202,7 @@ length-sliced ds ss cs xs h e = length-elements_at ds xs (volume ds) (indexes ss
 
 -- ---- a region without elements
 
--- a number that has 64 bits is the one that it is told as
+-- a number that fits in 64 bits is returned as it is
 pub told-number : (n m : ℕ) → cond (nat_lt n (2 ^ 64)) (Some n) None ≡ Some m → n ≡ m
 told-number n m h = by (nat_lt n (2 ^ 64)) h
   where

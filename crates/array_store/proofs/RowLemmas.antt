@@ -2,12 +2,12 @@
 use Rattle.std.proofs.Common.{ℕ, zero, suc, ◌+◌, ◌*◌, ◌-◌, ◌≤◌, List, [], ◌∷◌, ◌++◌, length, take, drop, ◌≡◌, refl, ◌∙◌, arith, length-take, length-drop}
 use Rattle.std.proofs.lemmas.List.{take_at, drop_at, take-append-drop}
 
--- what `f` gives of each of n rows
+-- what `f` gives for each of n rows
 abbrev pub rows_read : {X : Type 0} → (List X → List X) → ℕ → ℕ → List X → List X
 rows_read f w zero xs = []
 rows_read f w (suc n) xs = f (take w xs) ++ rows_read f w n (drop w xs)
 
--- the first n rows as `g` leaves each, where it takes p values
+-- the first n rows as `g` leaves each, if it takes p values
 abbrev pub rows_written : {X : Type 0} → (List X → List X → List X) → ℕ → ℕ → ℕ → List X → List X → List X
 rows_written g w p zero xs ys = xs
 rows_written g w p (suc n) xs ys = g (take w xs) ys ++ rows_written g w p n (drop w xs) (drop p ys)
@@ -18,7 +18,7 @@ row_fits n w len h = let more : suc n * w ≡ w + n * w = omega arith in (omega 
 module _ {X : Type 0} (f : List X → List X) (g : List X → List X → List X) (w p : ℕ)
     (kept : (r ys : List X) → length r ≡ w → length (g r ys) ≡ w)
     (short : (r : List X) → length r ≡ w → length (f r) ≡ p) where
-  -- where writing what was read of a row gives the row back, so it is with rows
+  -- if writing what was read of a row gives the row back, the same holds for rows
   module _ (back : (r ys zs : List X) → length r ≡ w → g (g r ys) (f r ++ zs) ≡ r) where
     pub rows_back : (n : ℕ) (xs ys : List X) → n * w ≤ length xs → rows_written g w p n (rows_written g w p n xs ys) (rows_read f w n xs) ≡ xs
     rows_back zero xs ys h = refl

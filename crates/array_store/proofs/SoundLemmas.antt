@@ -59,7 +59,7 @@ elements-patch_of ds ss cs (ArrayOfString l) b = refl
 elements-patch_of ds ss cs (Bytes l) (Bytes m) = length-patched ds ss cs l m
 elements-patch_of ds ss cs (Bytes l) b = refl
 
--- numbers and booleans count the same after a patch
+-- the size of numbers and booleans is the same after a patch
 size-patch_of : (ds ss cs : List ℕ) (a b : AnyArray) → has_numbers a ≡ true → size_of (patch_of ds ss cs a b) ≡ size_of a
 size-patch_of ds ss cs (ArrayOfBoolean l) (ArrayOfBoolean m) h = length-patched ds ss cs l m
 size-patch_of ds ss cs (ArrayOfBoolean l) b h = refl
@@ -78,7 +78,7 @@ no_refusal : (a b : Option ArrayError) → first_refusal a b ≡ None → (a ≡
 no_refusal None b h = (refl, h)
 no_refusal (Some e) b h = absurd cc
 
--- where only the weight could be refused, and is not
+-- if only the size could be refused, and is not
 light : (a b : AnyArray) (r : Result ℕ ArrayError) → elements_refusal a r ≡ None → weight_refusal b ≡ None → elements_refusal b r ≡ None
 light a b (Ok n) h w = w
 light a b (Err e) h w = absurd cc
@@ -91,7 +91,7 @@ refusal-patch_array r ss cs values sound h =
     let count : elements new ≡ elements r.values = elements-patch_of (sizes r.dims) (sizes ss) (sizes cs) r.values values in
     ap (λ n. elements_refusal new (dims_of r.dims (Some n))) count ∙ light r.values new (dims_of r.dims (Some (elements r.values))) sound later.1
 
--- an array that is none for its elements' weight alone is light
+-- an array that is invalid for its elements' size alone is otherwise sound
 weight-none : (a : AnyArray) (r : Result ℕ ArrayError) → elements_refusal a r ≡ None → weight_refusal a ≡ None
 weight-none a (Ok n) h = h
 weight-none a (Err e) h = absurd cc
@@ -103,7 +103,7 @@ light_number n h = by (nat_lt 33554432 n) refl h
     by true e k = absurd cc
     by false e k = grind (arith, nat_tests)
 
--- what an array's elements count
+-- the size of an array's elements
 pub light_sound : (r : ArrayRecord) → record_refusal r ≡ None → size_of r.values ≤ 33554432
 light_sound r h = light_number (size_of r.values) (weight-none r.values (dims_of r.dims (Some (elements r.values))) h)
 
@@ -116,7 +116,7 @@ where-none : (a b c : Option ArrayError) → (a ≡ None → b ≡ c) → first_
 where-none (Some e) b c same = refl
 where-none None b c same = same refl
 
--- a patch of numbers is refused for the record, the region and the values alone
+-- a patch of numbers is refused only for the record, the region and the values
 pub refusal-numbers : (r : ArrayRecord) (ss cs : List ℤ) (values : AnyArray) → has_numbers r.values ≡ true
     → write_refusal r ss cs values ≡ first_refusal (record_refusal r) (first_refusal (region_refusal r.dims ss cs) (values_refusal r.values cs values))
 refusal-numbers r ss cs values numbers =

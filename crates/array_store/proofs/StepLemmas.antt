@@ -54,7 +54,7 @@ module _ {ds ss cs : List ℕ} {d s c : ℕ} {di si ci : List ℕ} (outer : IsOu
   pub volume-counts : volume cs ≡ c * volume ci
   volume-counts = ap volume outer.counts
 
-  -- the run lies within the elements
+  -- the run is within the elements
   pub run-fits : (n : ℕ) → length di ≡ 0 → n ≡ volume ds → s + c ≤ n
   run-fits n last e =
       let one : volume di ≡ 1 = ap volume (nil_from_length di last) in
@@ -78,7 +78,7 @@ module _ {ds ss cs : List ℕ} {d s c : ℕ} {di si ci : List ℕ} (outer : IsOu
   pub row-part : (n : ℕ) → n ≡ volume cs → 0 < c → n / c ≡ volume ci
   row-part n e some = ap (λ v. v / c) (e ∙ volume-counts) ∙ mul-div_cancel_left (volume ci) some
 
-  -- each row lies within the elements
+  -- each row is within the elements
   pub row-fits : (n w k : ℕ) → n ≡ volume ds → w ≡ volume di → k < c → (s + k) * w + w ≤ n
   row-fits n w k e wide below =
       let bound : (s + k + 1) * w ≤ d * w = mul-le-mul_right w (let h : s + k + 1 ≤ d = omega (arith, outer.within) in h) in

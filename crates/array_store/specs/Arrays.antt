@@ -15,7 +15,7 @@ elements (ArrayOfDouble l) = length l
 elements (ArrayOfString l) = length l
 elements (Bytes b) = length b
 
--- what they count: 1 for a boolean or byte, 4 for an int or float, 8 for a long or double, 8 and its length for a text
+-- their size: 1 for a boolean or byte, 4 for an int or float, 8 for a long or double, 8 plus its length for a text
 abbrev pub size_of : AnyArray → ℕ
 size_of (ArrayOfBoolean l) = length l
 size_of (ArrayOfInt l) = 4 * length l
@@ -25,7 +25,7 @@ size_of (ArrayOfDouble l) = 8 * length l
 size_of (ArrayOfString l) = weigh bytes_weight l
 size_of (Bytes b) = length b
 
--- the place of the kind among the kinds
+-- the index of the kind among the kinds
 abbrev pub kind : AnyArray → ℕ
 kind (ArrayOfBoolean l) = 0
 kind (ArrayOfInt l) = 1
@@ -43,7 +43,7 @@ is_same_kind a b = kind a == kind b
 abbrev pub is_bytes : AnyArray → Bool
 is_bytes a = kind a == 6
 
--- an array has numbers or booleans, which count the same whatever their values are
+-- an array has numbers or booleans, whose size does not depend on their values
 abbrev pub has_numbers : AnyArray → Bool
 has_numbers a = nat_lt (kind a) 5
 

@@ -1,4 +1,4 @@
--- The codes by which requests for arrays are refused.
+-- The codes with which requests for arrays are refused.
 use Rattle.etp_values.specs.declared.code.ErrorCode.{ErrorCode}
 use Rattle.etp_values.specs.declared.code.ErrorCode.TheVariants.{InvalidArgument, SizeExceeded}
 use Rattle.array_store.specs.declared.error.ArrayError.{ArrayError}

@@ -9,7 +9,7 @@ use Rattle.array_store.specs.declared.record.ArrayRecord.{ArrayRecord}
 use Rattle.array_store.specs.Refusals.{record_refusal}
 use Rattle.array_store.specs.Table.{Arrays, array_in, same_key, put_array, patched_in_place, is_of_object, is_in_space}
 
--- the array that a put leaves of a record, where that is refused for this or for nothing
+-- the array that a put leaves of a record, by the reason why it is refused, if any
 abbrev pub put_unless : Option ArrayError → Option ArrayRecord → ArrayRecord → Option ArrayRecord
 put_unless None before r = Some (put_array before r)
 put_unless (Some e) before r = before
@@ -25,6 +25,6 @@ array_after key before (DropArraysIn path) = if is_in_space path key then None e
 pub record Applies (ops : List ArrayOp) (old new : Arrays) : Type 0 where
   pub arrays : (key : ArrayKey) → array_in new key ≡ fold (array_after key) (array_in old key) ops
 
--- what is left to do leads from here where the whole leads from the start
+-- what is left to do leads from here to where the whole leads from the start
 pub record Continues (rest all : List ArrayOp) (now start : Arrays) : Type 0 where
   pub arrays : (key : ArrayKey) → fold (array_after key) (array_in now key) rest ≡ fold (array_after key) (array_in start key) all

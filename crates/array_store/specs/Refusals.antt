@@ -1,4 +1,4 @@
--- Why an array, a region or values are refused, in the order in which it is tested.
+-- Why an array, a region or values are refused, in the order of the tests.
 use Rattle.std.specs.Prelude.{ℕ, ◌≡◌, ◌==◌, ℤ, Bool, true, not, ◌&&◌, nat_lt, nat_le, if◌then◌else◌, List, length, Option, Some, None, Result, Ok, Err, MatchResult}
 use Rattle.std.specs.List.{list_any}
 use Rattle.std.specs.Option.{unwrap_or}
@@ -20,7 +20,7 @@ is_rank n = nat_le 1 n && nat_le n 8
 abbrev pub bounded : ℕ → Result ℕ ArrayError
 bounded n = if nat_lt 4194304 n then Err TooLarge else Ok n
 
--- the volume, which is to be the number of the elements where that is given
+-- the volume, which must be the number of elements if that is given
 abbrev pub counted : Option ℕ → ℕ → Result ℕ ArrayError
 counted None n = bounded n
 counted (Some count) n = if count == n then bounded n else Err Count
@@ -31,30 +31,30 @@ dims_of zs count = if not (is_rank (length zs)) then Err Rank
     else if list_any is_negative zs then Err Outside
     else counted count (volume (sizes zs))
 
--- elements count at most 33,554,432
+-- the size of elements is at most 33,554,432
 abbrev pub weight_refusal : AnyArray → Option ArrayError
 weight_refusal values = if nat_lt 33554432 (size_of values) then Some TooLarge else None
 
--- the same of texts
+-- the same for texts
 abbrev pub texts_refusal : List (List ℕ) → Option ArrayError
 texts_refusal texts = weight_refusal (ArrayOfString texts)
 
--- why elements are refused whose dimensions were tested so
+-- why elements are refused after this test of their dimensions
 abbrev pub elements_refusal : AnyArray → Result ℕ ArrayError → Option ArrayError
 elements_refusal values (Ok n) = weight_refusal values
 elements_refusal values (Err e) = Some e
 
--- why a record is no array
+-- why a record is not an array
 abbrev pub record_refusal : ArrayRecord → Option ArrayError
 record_refusal r = elements_refusal r.values (dims_of r.dims (Some (elements r.values)))
 
--- why starts and counts are no region of an array of these dimensions
+-- why starts and counts are not a region of an array of these dimensions
 abbrev pub region_refusal : List ℤ → List ℤ → List ℤ → Option ArrayError
 region_refusal ds ss cs = if not (length ss == length ds && length cs == length ds) then Some Rank
     else if not (is_region ds ss cs) then Some Outside
     else None
 
--- why values are none for a region of an array with these elements
+-- why values don't fit a region of an array with these elements
 abbrev pub values_refusal : AnyArray → List ℤ → AnyArray → Option ArrayError
 values_refusal held cs values = if not (is_same_kind held values) then Some Kind
     else if not (elements values == volume (sizes cs)) then Some Count
@@ -65,33 +65,33 @@ abbrev pub first_refusal : Option ArrayError → Option ArrayError → Option Ar
 first_refusal None later = later
 first_refusal (Some e) later = Some e
 
--- why a patch is refused: the region, then the values, then what the array would count
+-- why a patch is refused: the region, then the values, then the size that the array would have
 abbrev pub patch_refusal : ArrayRecord → List ℤ → List ℤ → AnyArray → Option ArrayError
 patch_refusal r ss cs values = first_refusal (region_refusal r.dims ss cs) (first_refusal (values_refusal r.values cs values) (weight_refusal (patch_of (sizes r.dims) (sizes ss) (sizes cs) r.values values)))
 
--- why a slice of a record is refused: the record itself, or else the region
+-- why a slice of a record is refused: the record itself, otherwise the region
 abbrev pub slice_refusal : ArrayRecord → List ℤ → List ℤ → Option ArrayError
 slice_refusal r ss cs = first_refusal (record_refusal r) (region_refusal r.dims ss cs)
 
--- why a patch of a record is refused: the record itself, or else the patch
+-- why a patch of a record is refused: the record itself, otherwise the patch
 abbrev pub write_refusal : ArrayRecord → List ℤ → List ℤ → AnyArray → Option ArrayError
 write_refusal r ss cs values = first_refusal (record_refusal r) (patch_refusal r ss cs values)
 
--- a call is done where it is not refused, and else answers the refusal; where it is not refused it can only want memory
+-- a call is done if it is not refused, and otherwise answers the refusal; if it is not refused it can only run out of memory
 abbrev pub Refuses : {X : Type 0} → Result X ArrayError → Option ArrayError → Type 0
 Refuses result refusal = MatchResult result (λ _. refusal ≡ None) (λ e. e ≡ unwrap_or refusal NoMemory)
 
--- what elements count, where looking at them is not refused, and else why it is
+-- the size of elements, if looking at them is not refused, and otherwise why it is
 abbrev pub Counts : Result ℕ ArrayError → Option ArrayError → AnyArray → Type 0
 Counts (Ok n) refusal values = (refusal ≡ None) × (n ≡ capped (size_of values))
 Counts (Err e) refusal values = refusal ≡ Some e
 
--- an array as it is after a patch with what it counts, or as it was, with the reason
+-- an array as it is after a patch with its size, or as it was, with the reason
 abbrev pub Patches : Result (AnyArray × ℕ) (AnyArray × ArrayError) → AnyArray → AnyArray → Type 0
 Patches (Ok p) held wanted = (p.0 ≡ wanted) × (weight_refusal wanted ≡ None) × (p.1 ≡ capped (size_of wanted))
 Patches (Err p) held wanted = (p.0 ≡ held) × (p.1 ≡ unwrap_or (weight_refusal wanted) NoMemory) × (p.1 ≡ NoMemory → is_bytes held ≡ true)
 
--- texts as they are after a patch with what they count, or as they were, where they would count too much
+-- texts as they are after a patch with their size, or as they were, if they would be too large
 abbrev pub PatchesTexts : Result (List (List ℕ) × ℕ) (List (List ℕ)) → List (List ℕ) → List (List ℕ) → Type 0
 PatchesTexts (Ok p) held wanted = (p.0 ≡ wanted) × (texts_refusal wanted ≡ None) × (p.1 ≡ capped (weigh bytes_weight wanted))
 PatchesTexts (Err l) held wanted = (l ≡ held) × (texts_refusal wanted ≡ Some TooLarge)

@@ -1,9 +1,9 @@
--- Regions of arrays: in each dimension some places from a start on.
+-- Regions of arrays: a range of indexes in each dimension.
 use Rattle.std.specs.Prelude.{ℕ, ◌+◌, ◌≡◌, ◌≤◌, ℤ, pos, Bool, true, false, ◌&&◌, nat_le, List, [], ◌∷◌, map, slice_get, slice_set}
 use Rattle.std.specs.List.{filter_map, flat_map, range_with_len}
 use Rattle.array_store.specs.Shape.{place}
 
--- a start and a count that are not negative and together pass no dimension
+-- a start and a count that are not negative and whose sum does not exceed the dimension
 abbrev pub is_span : ℤ → ℤ → ℤ → Bool
 is_span (pos d) (pos s) (pos c) = nat_le (s + c) d
 is_span d s c = false

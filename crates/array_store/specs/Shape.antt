@@ -1,12 +1,12 @@
--- The shapes of arrays: their dimensions, and where their elements stand.
+-- The shapes of arrays: their dimensions, and where their elements are.
 use Rattle.std.specs.Prelude.{ℕ, ◌+◌, ◌*◌, ℤ, pos, negsuc, Bool, true, false, List, [], ◌∷◌, map}
 
--- a number that is not negative
+-- a non-negative number
 abbrev pub size : ℤ → ℕ
 size (pos n) = n
 size (negsuc n) = 0
 
--- numbers that are not negative
+-- non-negative numbers
 abbrev pub sizes : List ℤ → List ℕ
 sizes zs = map size zs
 
@@ -20,7 +20,7 @@ abbrev pub volume : List ℕ → ℕ
 volume [] = 1
 volume (d ∷ ds) = d * volume ds
 
--- where the element at an index stands: the indexes are compared from the first dimension on
+-- where the element at an index is: the indexes are compared from the first dimension on
 abbrev pub place : List ℕ → List ℕ → ℕ
 place [] is = 0
 place (d ∷ ds) [] = 0

@@ -13,7 +13,7 @@ use Rattle.array_store.specs.Shape.{sizes}
 use Rattle.array_store.specs.Arrays.{is_bytes, patch_of}
 use Rattle.array_store.specs.Refusals.{record_refusal, write_refusal}
 
--- the arrays by their keys, and how many more fit without memory
+-- the arrays by their keys, and how many more fit without allocating
 pub record Arrays : Type 0 where
   pub arrays : List (ArrayKey × ArrayRecord)
   pub spare : ℕ
@@ -30,7 +30,7 @@ array_among arrays key = lookup (same_key key) arrays
 abbrev pub array_in : Arrays → ArrayKey → Option ArrayRecord
 array_in t key = array_among t.arrays key
 
--- the array that a put leaves: it was made when the one before was, or now where there was none
+-- the array that a put leaves: it was created when the previous one was, or now if there was none
 abbrev pub put_array : Option ArrayRecord → ArrayRecord → ArrayRecord
 put_array None r = record r { created = r.written }
 put_array (Some before) r = record r { created = before.created }
@@ -39,20 +39,20 @@ put_array (Some before) r = record r { created = before.created }
 abbrev pub patch_array : ArrayRecord → List ℤ → List ℤ → AnyArray → ArrayRecord
 patch_array r ss cs values = record r { values = patch_of (sizes r.dims) (sizes ss) (sizes cs) r.values values }
 
--- the same array, last written at this moment
+-- the same array, last written at this time
 abbrev pub rewritten : ArrayRecord → ℤ → ArrayRecord
 rewritten r at = record r { written = at }
 
--- the second record, or the first where that is refused
+-- the second record, or the first if that is refused
 abbrev pub unless_refused : Option ArrayError → ArrayRecord → ArrayRecord → ArrayRecord
 unless_refused None old new = new
 unless_refused (Some e) old new = old
 
--- an array with values in a region, written at this moment; where they do not fit, as it was
+-- an array with values in a region, written at this time; if they do not fit, as it was
 abbrev pub patched_at : ℤ → List ℤ → List ℤ → AnyArray → ArrayRecord → ArrayRecord
 patched_at at ss cs vs r = unless_refused (write_refusal r ss cs vs) r (rewritten (patch_array r ss cs vs) at)
 
--- the same without memory: an array of bytes stays as it was
+-- the same without allocating: an array of bytes stays as it was
 abbrev pub patched_in_place : ℤ → List ℤ → List ℤ → AnyArray → ArrayRecord → ArrayRecord
 patched_in_place at ss cs vs r = if is_bytes r.values then r else patched_at at ss cs vs r
 
@@ -60,11 +60,11 @@ patched_in_place at ss cs vs r = if is_bytes r.values then r else patched_at at 
 abbrev pub SetsAmong : List (ArrayKey × ArrayRecord) → List (ArrayKey × ArrayRecord) → ArrayKey → ArrayRecord → Type 0
 SetsAmong old new key r = (q : ArrayKey) → array_among new q ≡ (if same_key q key then Some r else array_among old q)
 
--- the same of a store
+-- the same for a store
 abbrev pub Sets : Arrays → Arrays → ArrayKey → ArrayRecord → Type 0
 Sets old new key r = SetsAmong old.arrays new.arrays key r
 
--- one key's array, where there is one, is patched in place, and the others are what they were
+-- one key's array, if there is one, is patched in place, and the others are what they were
 abbrev pub PatchesAmong : List (ArrayKey × ArrayRecord) → List (ArrayKey × ArrayRecord) → ArrayKey → ℤ → List ℤ → List ℤ → AnyArray → Type 0
 PatchesAmong old new key at ss cs vs = (q : ArrayKey)
     → array_among new q ≡ (if same_key q key then option_map (patched_in_place at ss cs vs) (array_among old q) else array_among old q)
@@ -77,11 +77,11 @@ is_of_object uri key = same_uri uri key.uri
 abbrev pub is_in_space : List ℕ → ArrayKey → Bool
 is_in_space path key = bytes_eq path key.uri.space
 
--- the keys that go have no array, and the others have what they had
+-- the keys that are removed have no array, and the others have what they had
 abbrev pub DropsAmong : List (ArrayKey × ArrayRecord) → List (ArrayKey × ArrayRecord) → (ArrayKey → Bool) → Type 0
 DropsAmong old new goes = (q : ArrayKey) → array_among new q ≡ (if goes q then None else array_among old q)
 
--- the same of a store
+-- the same for a store
 abbrev pub Drops : Arrays → Arrays → (ArrayKey → Bool) → Type 0
 Drops old new goes = DropsAmong old.arrays new.arrays goes
 

@@ -1,4 +1,4 @@
-//! How many elements an array has, and what they count.
+//! How many elements an array has, and their size.
 ghost use Rattle.std.specs.Prelude.{◌≡◌};
 ghost use Rattle.etp_values.specs.Weight.{capped, weigh, bytes_weight};
 ghost use Rattle.array_store.specs.Arrays.{elements, size_of, kind, is_bytes, is_same_kind, has_numbers};
@@ -7,7 +7,7 @@ ghost use Rattle.array_store.specs.Refusals.{weight_refusal};
 use crate::error::ArrayError;
 use etp_values::{AnyArray, Text};
 
-/// What the elements of an array can count at most.
+/// The greatest size that the elements of an array may have, in bytes.
 pub const MAX_BYTES: u64 = 33_554_432;
 
 /// How many elements there are.
@@ -25,8 +25,8 @@ pub fn element_count(values: &AnyArray) -> usize
     }
 }
 
-/// What the elements count: 1 for each boolean or byte, 4 for each int or float, 8 for each long or double, and 8 and its
-/// length for each text. A sum above `u64::MAX` is `u64::MAX`.
+/// The size of the elements: 1 for each boolean or byte, 4 for each int or float, 8 for each long or double, and 8 plus its length for each
+/// text. A sum above `u64::MAX` is `u64::MAX`.
 pub fn array_bytes(values: &AnyArray) -> u64
     ensures { result ≡ capped (size_of values.now) }
 {
@@ -41,7 +41,7 @@ pub fn array_bytes(values: &AnyArray) -> u64
     }
 }
 
-/// What texts count.
+/// The size of texts.
 pub(crate) fn text_bytes(texts: &[Text]) -> u64
     ensures { result ≡ capped (weigh bytes_weight texts.now) }
 {
@@ -52,7 +52,7 @@ pub(crate) fn text_bytes(texts: &[Text]) -> u64
     sum
 }
 
-/// Why elements count too much.
+/// Why elements are too large together.
 pub(crate) fn weight_refusal(values: &AnyArray) -> Option<ArrayError>
     ensures { result ≡ weight_refusal values.now }
 {
@@ -76,14 +76,14 @@ pub fn has_bytes(values: &AnyArray) -> bool
     array_kind(values) == 6
 }
 
-/// Whether an array has numbers or booleans, so neither texts nor bytes. What such an array counts is changed by no patch.
+/// Whether an array has numbers or booleans, that is, neither texts nor bytes. No patch changes the size of such an array.
 pub fn has_numbers(values: &AnyArray) -> bool
     ensures { result ≡ has_numbers values.now }
 {
     array_kind(values) < 5
 }
 
-/// The place of an array's kind among the kinds: 0 for booleans, then ints, longs, floats, doubles, texts, and 6 for bytes.
+/// The index of an array's kind among the kinds: 0 for booleans, then ints, longs, floats, doubles, texts, and 6 for bytes.
 pub fn array_kind(values: &AnyArray) -> u32
     ensures { result ≡ kind values.now }
 {

@@ -5,13 +5,13 @@ ghost use Rattle.array_store.specs.Codes.{code_of};
 use etp_values::{ErrorCode, NoMemory};
 use thiserror::Error;
 
-/// Why an array, a region or values are refused. The variants stand in the order in which they are tested.
+/// Why an array, a region or values are refused. The variants are in the order in which they are tested.
 #[derive(Clone, Copy, Debug, PartialEq, Eq, Error)]
 pub enum ArrayError {
     /// There are not 1 to 8 dimensions, or not as many starts or counts as dimensions.
     #[error("there are not 1 to 8 dimensions, or not as many starts and counts")]
     Rank,
-    /// A dimension, a start or a count is negative, or a start and its count pass the dimension.
+    /// A dimension, a start or a count is negative, or a start plus its count exceeds the dimension.
     #[error("a dimension, a start or a count is negative, or a region passes a dimension")]
     Outside,
     /// The values are of another kind than the array.
@@ -20,17 +20,17 @@ pub enum ArrayError {
     /// There are not as many elements as the dimensions or counts make.
     #[error("there are not as many elements as the dimensions or counts make")]
     Count,
-    /// An array would have more than 4,194,304 elements, or they would count more than 33,554,432 bytes.
+    /// An array would have more than 4,194,304 elements, or their size would be more than 33,554,432 bytes.
     #[error("the array would have more than 4194304 elements or 33554432 bytes")]
     TooLarge,
-    /// Memory was refused.
+    /// Out of memory.
     #[error("out of memory")]
     NoMemory,
 }
 
 impl ArrayError {
-    /// The code by which a request for such an array, region or patch is refused. Want of memory is no refusal, and has a
-    /// code only so that each error has one.
+    /// The code with which a request for such an array, region or patch is refused. Running out of memory is not a refusal, and has a code
+    /// only so that each error has one.
     pub fn code(self) -> ErrorCode
         ensures { result ≡ code_of self }
     {

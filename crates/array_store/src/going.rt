@@ -16,7 +16,7 @@ use std::alloc::Global;
 use std::collections::VecDeque;
 use std::marker::Model;
 
-/// The objects and the dataspaces whose arrays go, to be found by hash.
+/// The objects and the dataspaces whose arrays are removed, to be found by hash.
 #[derive(Drop)]
 pub(crate) struct GoingArrays {
     objects: IndexSet<StoreUri>,
@@ -34,7 +34,7 @@ impl Model for GoingArrays {
 }
 
 impl GoingArrays {
-    /// Nothing goes.
+    /// Nothing is dropped.
     pub(crate) fn new(alloc: Global) -> GoingArrays {
         GoingArrays {
             objects: IndexSet::new(alloc),
@@ -52,7 +52,7 @@ impl GoingArrays {
         Ok(())
     }
 
-    /// Nothing goes any more.
+    /// Nothing is dropped any more.
     pub(crate) fn clear(&mut self)
         ensures none { (key : AKey) → goes self.new key ≡ false }
         ensures room { self.old.room ≤ self.new.room }
@@ -61,21 +61,21 @@ impl GoingArrays {
         self.spaces.clear();
     }
 
-    /// Whether nothing goes.
+    /// Whether nothing is dropped.
     pub(crate) fn is_empty(&self) -> bool
         ensures { IsTrue result → (key : AKey) → goes self.now key ≡ false }
     {
         self.objects.is_empty() && self.spaces.is_empty()
     }
 
-    /// Whether the array of a key goes.
+    /// Whether the array of a key is removed.
     pub(crate) fn has(&self, key: &ArrayKey) -> bool
         ensures { result ≡ goes self.now key.now }
     {
         self.objects.contains(&key.uri) || self.spaces.contains(&key.uri.space)
     }
 
-    /// The arrays of an object go too.
+    /// The arrays of an object are removed too.
     fn add_object(&mut self, uri: StoreUri)
         requires { 0 < self.old.room }
         ensures each { TakesToo self.old self.new (is_of_object uri) }
@@ -84,7 +84,7 @@ impl GoingArrays {
         let _ = self.objects.insert(uri);
     }
 
-    /// The arrays of a dataspace go too.
+    /// The arrays of a dataspace are removed too.
     fn add_space(&mut self, path: Text)
         requires { 0 < self.old.room }
         ensures each { TakesToo self.old self.new (is_in_space path) }
@@ -93,7 +93,7 @@ impl GoingArrays {
         let _ = self.spaces.insert(path);
     }
 
-    /// Puts a set before what is left to do, where its array doesn't go.
+    /// Puts a set before what is left to do, unless its array is removed.
     fn turn_set(&self, queue: &mut VecDeque<ArrayOp>, key: ArrayKey, array: WeighedArray)
         requires { deque_len queue.old < deque_capacity queue.old }
         ensures each { Turns self.now self.now (op.SetArray key array) queue.old.items queue.new.items }
@@ -106,7 +106,7 @@ impl GoingArrays {
         queue.push_front_reserved(ArrayOp::SetArray(key, array));
     }
 
-    /// Puts a patch before what is left to do, where its array doesn't go.
+    /// Puts a patch before what is left to do, unless its array is removed.
     fn turn_patch(
         &self,
         queue: &mut VecDeque<ArrayOp>,
@@ -172,8 +172,8 @@ impl GoingArrays {
         self.turn_op(queue, op);
     }
 
-    /// Gathers all that operations remove, and answers what is left to do once that is gone: from the end to the start, what is
-    /// set or patched before its object or its dataspace is removed is left out. It takes no memory.
+    /// Gathers everything that operations remove, and returns what is left to do once that is gone: from the end to the start, what is set
+    /// or patched before its object or its dataspace is removed is left out. It does not allocate.
     pub(crate) fn gather(&mut self, ops: List<ArrayOp>) -> List<ArrayOp>
         requires { length ops ≤ self.old.room }
         ensures each { Gathers self.new result ops }

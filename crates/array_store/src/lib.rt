@@ -1,13 +1,13 @@
 //! Arrays of data objects, of one to eight dimensions.
 //!
-//! An [`ArrayStore`] holds an [`ArrayRecord`] for each [`ArrayKey`]: the elements of one kind in row-major order, with the
-//! dimensions that tell where each stands. A region of an array is read by [`ArrayStore::slice`] and written in place by
-//! [`ArrayStore::patch`]. [`dims`] tells how many elements given dimensions have, and whether an array may have them. Each
-//! record is held as a [`WeighedArray`], which knows what the elements count: texts are weighed once, when they come in.
+//! An [`ArrayStore`] holds an [`ArrayRecord`] for each [`ArrayKey`]: the elements of one kind in row-major order, with the dimensions that
+//! say where each element is. A region of an array is read by [`ArrayStore::slice`] and written in place by [`ArrayStore::patch`]. [`dims`]
+//! returns how many elements given dimensions have, and whether an array may have them. Each record is held as a [`WeighedArray`], which
+//! knows the size of the elements: texts are measured once, when they come in.
 //!
-//! [`ArrayStore::reserve`] takes the memory for further keys, and [`ArrayStore::apply`] then does a list of [`ArrayOp`]s and
-//! can't fail. So whoever changes several tables at once can take all memory first. A record that stands in no store is read
-//! by [`read_slice`], written by [`write_patch`], and judged by [`record_refusal`].
+//! [`ArrayStore::reserve`] allocates for further keys, and [`ArrayStore::apply`] then performs a list of [`ArrayOp`]s and can't fail. So
+//! whoever changes several tables at once can allocate for all of them first. A record that is in no store is read by [`read_slice`],
+//! written by [`write_patch`], and checked by [`record_refusal`].
 #![tactic(auto)]
 
 mod element;

@@ -6,12 +6,11 @@ use etp_values::{AnyArray, List, StoreUri, Text};
 /// One operation on the store.
 #[derive(Debug, Drop)]
 pub enum ArrayOp {
-    /// Puts an array, in place of the one of its key. A record that is no array changes nothing. The moment is the
-    /// record's `written`; what its `created` says is not looked at.
+    /// Puts an array, replacing the one with its key. A record that is not an array changes nothing. The time is the record's `written`;
+    /// its `created` is ignored.
     SetArray(ArrayKey, WeighedArray),
-    /// Moves values into a region of the array of a key, in place, and notes the moment. It takes no memory: an array of
-    /// bytes, whose patch would, stays as it is. So does one that the patch doesn't fit, and where there is no array,
-    /// there is none after it.
+    /// Moves values into a region of the array with a key, in place, and notes the time. It does not allocate: an array of bytes, whose
+    /// patch would, stays as it is. So does one that the patch doesn't fit, and if there is no array, there is none after it.
     PatchArray {
         key: ArrayKey,
         at: i64,

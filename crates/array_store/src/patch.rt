@@ -32,8 +32,7 @@ pub fn read_slice(
     slice_record(alloc, array, starts.as_slice(), counts.as_slice())
 }
 
-/// Moves values into a region of any record. Only a patch of bytes takes memory, since others may read the bytes of a
-/// [`Blob`].
+/// Moves values into a region of any record. Only a patch of bytes allocates, since others may read the bytes of a [`Blob`].
 pub fn write_patch(
     alloc: Global,
     array: &mut ArrayRecord,
@@ -86,7 +85,7 @@ pub(crate) fn slice_record(
     }
 }
 
-/// What the elements of a region count, told without copying them.
+/// The size of the elements of a region, computed without copying them.
 pub(crate) fn slice_bytes(
     array: &ArrayRecord,
     starts: &[i64],
@@ -103,7 +102,7 @@ pub(crate) fn slice_bytes(
     Ok(region_bytes(&array.values, dims, starts, counts))
 }
 
-/// Moves values into a region of an array whose elements count `bytes`, and answers what they count then.
+/// Moves values into a region of an array whose elements have the size `bytes`, and returns their size afterwards.
 #[tactic(auto, using(crate::proofs::SoundLemmas::light_sound))]
 pub(crate) fn patch_record(
     alloc: Global,

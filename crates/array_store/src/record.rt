@@ -2,15 +2,14 @@
 use etp_values::{AnyArray, Copied, DataValue, List, Named, NoMemory};
 use std::alloc::Global;
 
-/// An array. Its elements stand in the order of their indexes, which are compared from the first dimension on.
+/// An array. Its elements are in the order of their indexes, which are compared from the first dimension on.
 #[derive(Debug, Drop, PartialEq, Eq)]
 pub struct ArrayRecord {
     pub dims: List<i64>,
-    /// The dimensions in which readers had best ask for regions; none, or as many as `dims`. The store keeps them as they
-    /// are.
+    /// The dimensions in which readers should ask for regions; none, or as many as `dims`. The store keeps them as they are.
     pub preferred: List<i64>,
     pub values: AnyArray,
-    /// What the elements mean to those who wrote them, by its place among the profile's logical types.
+    /// What the elements mean to those who wrote them, by its index among the profile's logical types.
     pub logical: u32,
     pub custom: Named<DataValue>,
     pub written: i64,

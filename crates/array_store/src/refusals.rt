@@ -11,7 +11,7 @@ use crate::region::is_region;
 use crate::shape::{dims, volume};
 use etp_values::{AnyArray, List};
 
-/// Why a record is no array, and a store refuses to put it.
+/// Why a record is not an array, and a store refuses to put it.
 pub fn record_refusal(array: &ArrayRecord) -> Option<ArrayError>
     ensures { result ≡ record_refusal array.now }
 {
@@ -21,7 +21,7 @@ pub fn record_refusal(array: &ArrayRecord) -> Option<ArrayError>
     }
 }
 
-/// The same of a record whose elements are known to count so much.
+/// The same for a record whose elements are known to have this size.
 pub(crate) fn weighed_refusal(array: &ArrayRecord, bytes: u64) -> Option<ArrayError>
     requires { bytes ≡ capped (size_of array.now.values) }
     ensures { result ≡ record_refusal array.now }
@@ -35,7 +35,7 @@ pub(crate) fn weighed_refusal(array: &ArrayRecord, bytes: u64) -> Option<ArrayEr
     None
 }
 
-/// Why starts and counts are no region of an array of these dimensions.
+/// Why starts and counts are not a region of an array of these dimensions.
 pub(crate) fn region_refusal(dims: &[i64], starts: &[i64], counts: &[i64]) -> Option<ArrayError>
     ensures { result ≡ region_refusal dims.now starts.now counts.now }
 {
@@ -48,7 +48,7 @@ pub(crate) fn region_refusal(dims: &[i64], starts: &[i64], counts: &[i64]) -> Op
     None
 }
 
-/// Why values are none for a region of an array with these elements.
+/// Why values don't fit a region of an array with these elements.
 pub(crate) fn values_refusal(
     held: &AnyArray,
     counts: &[i64],
@@ -65,7 +65,7 @@ pub(crate) fn values_refusal(
     None
 }
 
-/// Why a patch of numbers or booleans is refused, told without doing it.
+/// Why a patch of numbers or booleans is refused, determined without applying it.
 pub fn numbers_refusal(
     array: &ArrayRecord,
     starts: &List<i64>,

@@ -1,6 +1,6 @@
 //! Regions of an array's elements: reading one, weighing its texts, and exchanging it with other values.
 //!
-//! All go down the dimensions and take a whole run of the last dimension at once.
+//! All descend the dimensions and take a whole run of the last dimension at once.
 ghost use Rattle.std.specs.Prelude.{◌≡◌, ◌+◌, ◌++◌, ◌<◌, true, OnOk, length};
 ghost use Rattle.etp_values.specs.Weight.{bytes_weight, capped, weigh};
 ghost use Rattle.array_store.specs.Shape.{sizes, volume};
@@ -12,7 +12,7 @@ use crate::shape::size;
 use etp_values::{NoMemory, Text};
 use std::alloc::Global;
 
-/// Whether these starts and counts lie within these dimensions.
+/// Whether these starts and counts are within these dimensions.
 pub(crate) fn is_region(dims: &[i64], starts: &[i64], counts: &[i64]) -> bool
     ensures { result ≡ is_region dims.now starts.now counts.now }
 {
@@ -28,7 +28,7 @@ pub(crate) fn is_region(dims: &[i64], starts: &[i64], counts: &[i64]) -> bool
     is_span(*dim, *start, *count) && is_region(dims, starts, counts)
 }
 
-/// Whether a start and a count lie within a dimension.
+/// Whether a start and a count are within a dimension.
 fn is_span(dim: i64, start: i64, count: i64) -> bool
     ensures { result ≡ is_span dim start count }
 {
@@ -115,7 +115,7 @@ pub(crate) fn read_region<T: Element>(
     Ok(())
 }
 
-/// What the texts of a region count.
+/// The size of the texts of a region.
 pub(crate) fn weigh_region(texts: &[Text], dims: &[i64], starts: &[i64], counts: &[i64]) -> u64
     requires region { is_region dims.now starts.now counts.now ≡ true }
     requires some { 0 < length dims.now }

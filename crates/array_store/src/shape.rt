@@ -13,7 +13,7 @@ pub const MAX_RANK: usize = 8;
 /// The greatest number of elements of an array.
 pub const MAX_ELEMENTS: u64 = 4_194_304;
 
-/// How many elements an array of these dimensions has. Where the number of its elements is given, it must be that one.
+/// How many elements an array of these dimensions has. If the number of its elements is given, it must match.
 pub fn dims(list: &List<i64>, elements: Option<u64>) -> Result<u64, ArrayError>
     ensures { result ≡ dims_of list.now elements }
 {
@@ -36,7 +36,7 @@ pub fn dims(list: &List<i64>, elements: Option<u64>) -> Result<u64, ArrayError>
     }
 }
 
-/// Whether an array can have so many dimensions.
+/// Whether an array can have this many dimensions.
 fn has_rank(len: usize) -> bool
     ensures { result ≡ is_rank len }
 {
@@ -52,7 +52,7 @@ fn has_negative(list: &[i64]) -> bool
     }
 }
 
-/// The volume, where it has 64 bits. A dimension of 0 makes it 0, whatever the others are.
+/// The volume, if it fits in 64 bits. A dimension of 0 makes it 0, whatever the others are.
 pub(crate) fn volume(list: &[i64]) -> Option<u64>
     ensures { result
         ≡ (if nat_lt (volume (sizes list.now)) (2 ^ 64) then Some (volume (sizes list.now)) else None) }
@@ -70,7 +70,7 @@ pub(crate) fn volume(list: &[i64]) -> Option<u64>
     }
 }
 
-/// A number that is not negative, or 0.
+/// A non-negative number, or 0.
 pub(crate) fn size(number: i64) -> usize
     ensures { result ≡ size number }
 {

@@ -17,15 +17,15 @@ use indexmap::IndexMap;
 use std::alloc::Global;
 use std::marker::Model;
 
-/// Arrays by their keys. A contract sees them in the order of the table, and as `spare` how many more fit, and how many operations
-/// can be done, without memory.
+/// Arrays by their keys. A contract sees them in the order of the table, and as `spare` how many more fit, and how many operations can be
+/// done, without allocating.
 pub struct ArrayStore {
     arrays: IndexMap<ArrayKey, WeighedArray>,
-    /// What a list of operations removes, while it is done.
+    /// What a list of operations removes, while it is applied.
     going: GoingArrays,
 }
 
-/// Written out, so that whoever holds one drops it by one call.
+/// Written out, so that whatever holds one drops it by a single call.
 impl Drop for ArrayStore {
     fn drop(self) {
         let ArrayStore { arrays, going } = self;
@@ -73,15 +73,15 @@ impl ArrayStore {
         }
     }
 
-    /// The array of a key, with what its elements count.
+    /// The array of a key, with the size of its elements.
     pub fn weighed(&self, key: &ArrayKey) -> Option<&WeighedArray>
         ensures { option_copied result ≡ array_in self.now key.now }
     {
         self.arrays.get(key)
     }
 
-    /// Puts an array in place of the one of its key. It keeps the moment at which that one was made, and counts as made
-    /// when it was written where there was none.
+    /// Puts an array in place of the one with its key. It keeps the time at which that one was created; if there was none, it counts as
+    /// created when it was written.
     pub fn put(&mut self, key: ArrayKey, value: ArrayRecord) -> Result<(), ArrayError>
         ensures done { Refuses result (record_refusal value) }
         ensures ok { OnOk result
@@ -93,7 +93,7 @@ impl ArrayStore {
         self.put_weighed(key, WeighedArray::weigh(value))
     }
 
-    /// Puts an array whose elements were weighed.
+    /// Puts an array whose elements were measured.
     fn put_weighed(&mut self, key: ArrayKey, value: WeighedArray) -> Result<(), ArrayError>
         ensures done { Refuses result (record_refusal value) }
         ensures ok { OnOk result
@@ -134,7 +134,7 @@ impl ArrayStore {
         )
     }
 
-    /// Moves values into a region. Only a patch of bytes takes memory, since others may read the bytes of a [`Blob`].
+    /// Moves values into a region. Only a patch of bytes allocates, since others may read the bytes of a [`Blob`].
     ///
     /// [`Blob`]: etp_values::Blob
     pub fn patch(
@@ -204,7 +204,7 @@ impl ArrayStore {
         drop_space(&mut self.arrays, path)
     }
 
-    /// Moves values into a region of the array of a key, where there is one.
+    /// Moves values into a region of the array of a key, if there is one.
     fn patch_held(
         &mut self,
         key: ArrayKey,
@@ -219,7 +219,7 @@ impl ArrayStore {
         patch_at(&mut self.arrays, &key, at, &starts, &counts, values);
     }
 
-    /// Does one operation.
+    /// Applies one operation.
     fn apply_one(&mut self, op: ArrayOp)
         requires { 0 < self.old.spare }
         ensures each { Applies (op ∷ []) self.old self.new }
@@ -245,7 +245,7 @@ impl ArrayStore {
         }
     }
 
-    /// Does these operations one after the other.
+    /// Applies these operations one after the other.
     fn apply_each(&mut self, ops: List<ArrayOp>)
         requires { length ops ≤ self.old.spare }
         ensures each { Applies ops self.old self.new }
@@ -256,7 +256,7 @@ impl ArrayStore {
         }
     }
 
-    /// Takes out all that these operations remove, in one pass, and answers what is left to do.
+    /// Takes out everything that these operations remove, in one pass, and returns what is left to do.
     fn take_out(&mut self, ops: List<ArrayOp>) -> List<ArrayOp>
         requires { length ops ≤ self.old.spare }
         ensures each { Continues result ops self.new self.old }
@@ -269,7 +269,7 @@ impl ArrayStore {
         left
     }
 
-    /// Does these operations in order: however many remove something, the table is gone through once. It takes no memory.
+    /// Applies these operations in order: however many remove something, the table is traversed once. It does not allocate.
     pub fn apply(&mut self, ops: List<ArrayOp>)
         requires { length ops ≤ self.old.spare }
         ensures each { Applies ops self.old self.new }

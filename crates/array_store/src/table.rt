@@ -1,4 +1,4 @@
-//! The table's own steps.
+//! Single steps on the table.
 ghost use Rattle.std.specs.Prelude.{◌≡◌, ◌<◌, ◌+◌, ◌≤◌, Err, None, IsOk, IsSome, IfSome, OnOk, OnErr, true, not, filter, length};
 ghost use Rattle.std.specs.Option.{option_copied};
 ghost use Rattle.indexmap.specs.IndexMap.{spare};
@@ -16,7 +16,7 @@ use etp_values::{AnyArray, List, StoreUri, Text};
 use indexmap::IndexMap;
 use std::alloc::Global;
 
-/// Puts an array in place of the one of its key.
+/// Puts an array in place of the one with its key.
 pub(crate) fn put_array(
     arrays: &mut IndexMap<ArrayKey, WeighedArray>,
     key: ArrayKey,
@@ -66,7 +66,7 @@ pub(crate) fn patch_array(
     array.patch_array(alloc, starts, counts, values)
 }
 
-/// Moves values into a region of the array of a key, where there is one. It takes no memory.
+/// Moves values into a region of the array of a key, if there is one. It does not allocate.
 pub(crate) fn patch_at(
     arrays: &mut IndexMap<ArrayKey, WeighedArray>,
     key: &ArrayKey,
@@ -132,7 +132,7 @@ pub(crate) fn drop_space(arrays: &mut IndexMap<ArrayKey, WeighedArray>, path: &T
     (held - arrays.len()) as u64
 }
 
-/// Keeps the arrays that don't go.
+/// Keeps the arrays that are not removed.
 fn retain_staying(arrays: &mut IndexMap<ArrayKey, WeighedArray>, going: &GoingArrays)
     ensures each { DropsAmong arrays.old.entries arrays.new.entries (goes going.now) }
     ensures room { spare arrays.old ≤ spare arrays.new }
@@ -145,7 +145,7 @@ fn retain_staying(arrays: &mut IndexMap<ArrayKey, WeighedArray>, going: &GoingAr
     );
 }
 
-/// Takes out the arrays that go, in one pass, and in none where nothing goes.
+/// Takes out the arrays that are removed, in one pass, and in none if nothing is removed.
 pub(crate) fn drop_going(arrays: &mut IndexMap<ArrayKey, WeighedArray>, going: &GoingArrays)
     ensures each { DropsAmong arrays.old.entries arrays.new.entries (goes going.now) }
     ensures room { spare arrays.old ≤ spare arrays.new }

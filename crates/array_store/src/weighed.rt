@@ -1,4 +1,4 @@
-//! A record that is kept with what its elements count.
+//! A record that is kept with the size of its elements.
 ghost use Rattle.std.specs.Prelude.{◌≡◌, Err, None, IfOk, OnOk, OnErr, true};
 ghost use Rattle.std.specs.Option.{option_copied};
 ghost use Rattle.etp_values.specs.Weight.{capped};
@@ -17,15 +17,14 @@ use etp_values::{AnyArray, Copied, List, NoMemory};
 use std::alloc::Global;
 use std::marker::Model;
 
-/// A record with what its elements count, so that no look at it and no patch goes through them all again. A contract sees
-/// the record.
+/// A record with the size of its elements, so that no look at it and no patch goes through them all again. A contract sees the record.
 #[derive(Debug)]
 pub struct WeighedArray {
     array: ArrayRecord,
     bytes: u64,
 }
 
-/// Written out, so that whoever holds one drops it by one call.
+/// Written out, so that whatever holds one drops it by a single call.
 impl Drop for WeighedArray {
     fn drop(self) {
         let WeighedArray { array, bytes: _ } = self;
@@ -47,7 +46,7 @@ impl Model for WeighedArray {
 }
 
 impl WeighedArray {
-    /// The record, once its elements are weighed.
+    /// The record, with its elements measured.
     pub fn weigh(array: ArrayRecord) -> WeighedArray
         ensures { result ≡ array }
     {
@@ -55,7 +54,7 @@ impl WeighedArray {
         WeighedArray { array, bytes }
     }
 
-    /// The record, to be read.
+    /// Borrows the record.
     pub fn as_record(&self) -> &ArrayRecord
         ensures { result.now ≡ self.now }
     {
@@ -70,21 +69,21 @@ impl WeighedArray {
         array
     }
 
-    /// What the elements count. A sum above `u64::MAX` is `u64::MAX`.
+    /// The size of the elements. A sum above `u64::MAX` is `u64::MAX`.
     pub fn bytes(&self) -> u64
         ensures { result ≡ capped (size_of self.now.values) }
     {
         self.bytes
     }
 
-    /// Why the record is no array, and a store refuses to put it.
+    /// Why the record is not an array, and a store refuses to put it.
     pub fn refusal(&self) -> Option<ArrayError>
         ensures { result ≡ record_refusal self.now }
     {
         weighed_refusal(&self.array, self.bytes)
     }
 
-    /// The record as it is put in place of the one before.
+    /// The record as it is put in place of the previous one.
     pub(crate) fn made(self, before: Option<&WeighedArray>) -> WeighedArray
         ensures { result ≡ table.put_array (option_copied before.entry) self }
     {
@@ -104,7 +103,7 @@ impl WeighedArray {
         self.array.written = at;
     }
 
-    /// What the elements of a region count, told without copying them.
+    /// The size of the elements of a region, computed without copying them.
     pub fn slice_bytes(&self, starts: &List<i64>, counts: &List<i64>) -> Result<u64, ArrayError>
         ensures { Counts result (slice_refusal self.now starts.now counts.now)
             (slice_of (sizes self.now.dims) (sizes starts.now) (sizes counts.now) self.now.values) }
@@ -132,8 +131,7 @@ impl WeighedArray {
         slice_record(alloc, &self.array, starts.as_slice(), counts.as_slice())
     }
 
-    /// Moves values into a region of an array. Only a patch of bytes takes memory, since others may read the bytes of a
-    /// [`Blob`].
+    /// Moves values into a region of an array. Only a patch of bytes allocates, since others may read the bytes of a [`Blob`].
     ///
     /// [`Blob`]: etp_values::Blob
     pub(crate) fn patch_array(
@@ -181,8 +179,7 @@ impl WeighedArray {
         self.patch_array(alloc, starts.as_slice(), counts.as_slice(), values)
     }
 
-    /// Moves values into a region of a record that has no bytes, and notes the moment. Where they don't fit, it stays as it
-    /// was.
+    /// Moves values into a region of a record that has no bytes, and notes the time. If they don't fit, it stays as it was.
     pub(crate) fn patch_in_place(
         &mut self,
         alloc: Global,

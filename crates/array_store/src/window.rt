@@ -87,7 +87,7 @@ fn slice_blob(
     Blob::from_vec(out)
 }
 
-/// What the elements of a region count: of numbers the counts tell it, and of texts those of the region alone are weighed.
+/// The size of the elements of a region: for numbers the counts determine it, and of texts only those of the region are measured.
 pub(crate) fn region_bytes(values: &AnyArray, dims: &[i64], starts: &[i64], counts: &[i64]) -> u64
     requires region { is_region dims.now starts.now counts.now ≡ true }
     requires some { 0 < length dims.now }
@@ -108,7 +108,7 @@ pub(crate) fn region_bytes(values: &AnyArray, dims: &[i64], starts: &[i64], coun
     }
 }
 
-/// What so many elements count of which each counts `size`.
+/// The size of this many elements of `size` each.
 fn counted_bytes(counts: &[i64], size: u64) -> u64
     requires { 0 < size }
     ensures { result ≡ capped (size * volume (sizes counts.now)) }
@@ -119,7 +119,7 @@ fn counted_bytes(counts: &[i64], size: u64) -> u64
     }
 }
 
-/// What the texts of a region count. Without texts it looks at no dimension, as `slice_items`.
+/// The size of the texts of a region. Without texts it looks at no dimension, like `slice_items`.
 fn region_text_bytes(texts: &[Text], dims: &[i64], starts: &[i64], counts: &[i64]) -> u64
     requires region { is_region dims.now starts.now counts.now ≡ true }
     requires some { 0 < length dims.now }
@@ -133,8 +133,8 @@ fn region_text_bytes(texts: &[Text], dims: &[i64], starts: &[i64], counts: &[i64
     weigh_region(texts, dims, starts, counts)
 }
 
-/// A new list of the elements of a region. Without elements it looks at no dimension, since an array without elements can
-/// have as many empty rows as a dimension may count.
+/// A new list of the elements of a region. Without elements it looks at no dimension, since an array without elements can have as many
+/// empty rows as a dimension can express.
 fn slice_items<T: Element>(
     alloc: Global,
     items: &[T],
@@ -158,9 +158,9 @@ fn slice_items<T: Element>(
     Ok(out)
 }
 
-/// The array with these values in a region and what it counts then, or as it was with the reason. They are of its kind, as
-/// many as the region has, and are moved in. The elements that stay are not weighed again. Memory is taken for bytes alone,
-/// since others may read a [`Blob`]'s bytes.
+/// The array with these values in a region and its size then, or as it was with the reason. The values are of its kind, as many as the
+/// region has, and are moved in. The elements that stay are not measured again. Only bytes are allocated, since others may read a
+/// [`Blob`]'s bytes.
 pub(crate) fn patch_values(
     alloc: Global,
     held: AnyArray,
@@ -237,8 +237,8 @@ fn patch_list<T: Drop>(
     List::from_vec(items)
 }
 
-/// As `patch_list`, with what the texts count then, or the texts as they were, where they would count too much. What the patch
-/// took out is put back then.
+/// Like `patch_list`, with the size of the texts afterwards; or the texts as they were, if they would be too large. What the patch took out
+/// is then put back.
 fn patch_texts(
     held: List<Text>,
     bytes: u64,
@@ -270,14 +270,14 @@ fn patch_texts(
     Ok((patched, weight))
 }
 
-/// Whether elements that count so much are too many for an array.
+/// Whether elements of this size are too large for an array.
 fn are_too_heavy(bytes: u64) -> bool
     ensures { result ≡ nat_lt 33554432 bytes }
 {
     bytes > MAX_BYTES
 }
 
-/// What elements count once some of them were taken out for others.
+/// The size of elements after some of them were exchanged for others.
 fn exchanged_bytes(bytes: u64, taken: u64, added: u64) -> u64
     ensures { (out rest put : ℕ) → out + rest ≤ 33554432 → bytes ≡ capped (out + rest)
         → taken ≡ capped out → added ≡ capped put → result ≡ capped (put + rest) }
@@ -285,7 +285,7 @@ fn exchanged_bytes(bytes: u64, taken: u64, added: u64) -> u64
     added.saturating_add(bytes.saturating_sub(taken))
 }
 
-/// As `patch_list`, in a copy of the bytes, or the bytes as they were, where memory was refused.
+/// Like `patch_list`, in a copy of the bytes; or the bytes as they were, if allocation fails.
 fn patch_blob(
     alloc: Global,
     held: Blob,
@@ -339,8 +339,8 @@ fn patched_blob(
     Blob::from_vec(items)
 }
 
-/// Exchanges the elements of a region with these values. Without values it looks at no dimension, since an array without
-/// elements can have as many empty rows as a dimension may count.
+/// Exchanges the elements of a region with these values. Without values it looks at no dimension, since an array without elements can have
+/// as many empty rows as a dimension can express.
 fn swap_items<T>(
     items: &mut Vec<T>,
     values: &mut Vec<T>,

@@ -1,4 +1,4 @@
--- What is spelled so is read, whatever follows it; for the crates above too.
+-- What is spelled reads back, whatever follows it; for the crates above too.
 use Rattle.std.proofs.Common.{◌≡◌, ℕ, zero, suc, ◌+◌, ◌<◌, Bool, true, false, List, [], ◌∷◌, ◌++◌, Ok, eqb, cond, length, refl, sym, ap, ◌∙◌, arith, subst, inl, inr, ℤ, pos, negsuc, append_assoc}
 use Rattle.std.proofs.lemmas.Bool.{le-ltb, lt-ltb}
 use Rattle.std.proofs.lemmas.Bool.Decides.{nat_tests}
@@ -55,7 +55,7 @@ boolean_again false text rest e = ap (λ (t : List ℕ). boolean_at (t ++ rest))
 abbrev pub ReadsValue : (ℕ → List ℕ → Read Got) → (Value → List ℕ → Type 0) → Type 0
 ReadsValue value P = (v : Value) (n left : ℕ) (text rest : List ℕ) → n ≡ nodes v + left → P v text → value n (text ++ rest) ≡ Ok ((v, left), rest)
 
--- what is spelled so is read on, where the step fits
+-- what is spelled is read on, if the step fits
 abbrev pub ReadsOn : {S A : Type 0} → (S → List ℕ → Read S) → (A → List ℕ → Type 0) → (S → A → S → Type 0) → Type 0
 ReadsOn {S} {A} item P Step = (x : A) (s t : S) (text rest : List ℕ) → Step s x t → P x text → item s (text ++ rest) ≡ Ok (t, rest)
 
@@ -77,7 +77,7 @@ module _ {S A : Type 0} (item : S → List ℕ → Read S) (P : A → List ℕ �
       ap (items_at item (suc (length xs)) s) (regroup text h.front h.back rest h.parts)
       ∙ rw (reads x s st.0 h.front (h.back ++ rest) st.1 h.first) (items_again xs st.0 t h.back rest st.2 h.second)
 
-  -- a block: its count, and what stands behind it
+  -- a block: its count, and what follows it
   pub record Counted (us : List A) (text : List ℕ) : Type 0 where
     pub z : ℤ
     pub count : List ℕ

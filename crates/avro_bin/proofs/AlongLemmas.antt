@@ -19,12 +19,12 @@ pub along_twice : {A B C : Type 0} (g : B → C) (f : A → B) (r : Read A) → 
 along_twice g f (Ok x) = refl
 along_twice g f (Err e) = refl
 
--- behind what is seen
+-- after what is seen
 pub along_then : {A B C D : Type 0} (f : A → B) (g : C → D) (r : Read A) (h : A × List ℕ → Read C) (k : B × List ℕ → Read D) → ((x : A × List ℕ) → k (f x.0, x.1) ≡ along g (h x)) → (along f r >>= k) ≡ along g (r >>= h)
 along_then f g (Ok x) h k same = same x
 along_then f g (Err e) h k same = refl
 
--- behind what both read
+-- after what both read
 pub then_along : {A C D : Type 0} (g : C → D) (r : Read A) (h : A × List ℕ → Read C) (k : A × List ℕ → Read D) → ((x : A × List ℕ) → k x ≡ along g (h x)) → (r >>= k) ≡ along g (r >>= h)
 then_along g (Ok x) h k same = same x
 then_along g (Err e) h k same = refl
@@ -80,7 +80,7 @@ pub in_branch_is : (b : ℕ) (r : Read Got) → in_branch b r ≡ along (λ x. (
 in_branch_is b (Ok x) = refl
 in_branch_is b (Err e) = refl
 
--- values seen by f, item by item
+-- values seen through f, item by item
 pub push_along : {A : Type 0} (f : Value → A) (value : ℕ → List ℕ → Read Got) (other : ℕ → List ℕ → Read (A × ℕ)) → ((n : ℕ) (bytes : List ℕ) → other n bytes ≡ along (seen f) (value n bytes))
     → (s : Row) (bytes : List ℕ) → push_at other (seen (map f) s) bytes ≡ along (seen (map f)) (element_at value s bytes)
 unfolding push_at element_at
@@ -113,7 +113,7 @@ under_along : {A : Type 0} (f : Value → A) (k : List ℕ) (es : List (List ℕ
 under_along {A} f k es (Ok x) = ap (λ (fs : List (List ℕ × A)). Ok ((fs, x.0.1), x.1)) (sym (insert_along f k x.0.0 es))
 under_along f k es (Err e) = refl
 
--- entries seen by f, one by one
+-- entries seen through f, one by one
 pub put_along : {A : Type 0} (f : Value → A) (value : ℕ → List ℕ → Read Got) (other : ℕ → List ℕ → Read (A × ℕ)) → ((n : ℕ) (bytes : List ℕ) → other n bytes ≡ along (seen f) (value n bytes))
     → (s : Names) (bytes : List ℕ) → put_at other (seen (map (on_value f)) s) bytes ≡ along (seen (map (on_value f))) (entry_at value s bytes)
 unfolding put_at entry_at
@@ -197,7 +197,7 @@ front_more cs front us (Ok x) =
     ∙ sym (along_twice (λ t. (us ++ t.0, t.1)) (λ t. (one ++ t.0, t.1)) q)
     ∙ ap (along (λ t. (us ++ t.0, t.1))) (sym (front one x.0.1 x.1))
 
--- fields behind others
+-- fields after others
 pub fields_front : (ss : Schemas) → Front ss
 unfolding value_at element_at
 fields_front none us n bytes = ap (λ (vs : List Value). Ok ((vs, n), bytes)) (sym (append-nil us))

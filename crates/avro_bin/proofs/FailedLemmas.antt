@@ -1,4 +1,4 @@
--- What is refused fails so.
+-- What is refused fails in the same way.
 use Rattle.std.proofs.Common.{◌≡◌, ℕ, zero, suc, ◌+◌, ◌<◌, Bool, true, false, List, [], ◌∷◌, ◌++◌, Result, Ok, Err, ltb, eqb, cond, length, take, drop, refl, sym, ap, subst, ◌∙◌, arith, ◌⊎◌, inl, inr, ℤ, pos, negsuc, append_assoc}
 use Rattle.std.proofs.lemmas.Bool.{ltb-true, ltb-false}
 use Rattle.avro_bin.specs.declared.fault.Why.{Why}
@@ -84,7 +84,7 @@ boolean_failed (zero ∷ bytes) w left h = absurd cc
 boolean_failed (suc zero ∷ bytes) w left h = absurd cc
 boolean_failed (suc (suc b) ∷ bytes) w left h = (omega arith, err_pair {A = Bool} why.Bool w (suc (length bytes)) left h)
 
--- a test that fails, where the rest is read
+-- a test that fails, if the rest is read
 tested : {A : Type 0} (b : Bool) (d : Why × ℕ) (y : A × List ℕ) (e : Why × ℕ) → cond b (Err d) (Ok y) ≡ Err e → (b ≡ true) × (bad {A = A} d ≡ bad e)
 tested true d y e h = (refl, h)
 tested {A} false d y e h = absurd (let no : done y ≡ bad {A = A} e = h in cc)

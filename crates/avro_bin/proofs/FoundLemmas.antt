@@ -1,4 +1,4 @@
--- What is read is spelled so; for the crates above too.
+-- What is read is spelled; for the crates above too.
 use Rattle.std.proofs.Common.{◌≡◌, ℕ, zero, suc, ◌+◌, ◌<◌, ◌≤◌, Bool, true, false, List, [], ◌∷◌, ◌++◌, Ok, Err, ltb, eqb, cond, length, take, drop, refl, sym, ap, subst, ◌∙◌, arith, ◌⊎◌, inl, inr, ℤ, pos, negsuc, append_assoc}
 use Rattle.std.proofs.lemmas.Bool.{ltb-true, ltb-false, eqb-true}
 use Rattle.std.proofs.lemmas.List.{length-append, take-append-drop, length-take}
@@ -22,7 +22,7 @@ use Rattle.std.specs.Cmp.Lexicographic.{slice_cmp}
 use Rattle.std.specs.BTreeMap.{insert_entry}
 use Rattle.std.proofs.lemmas.List.{append-nil}
 
--- the front of the bytes has P
+-- a prefix of the bytes has P
 pub record Starts {A : Type 0} (P : A → List ℕ → Type 0) (bytes : List ℕ) (x : A) (rest : List ℕ) : Type 0 where
   pub text : List ℕ
   pub parts : bytes ≡ text ++ rest
@@ -255,7 +255,7 @@ entry_found P value one s bytes t rest fits e =
           }
     ]
 
--- what stands behind a count
+-- what follows a count
 abbrev pub Body : {A : Type 0} → (A → List ℕ → Type 0) → ℤ → List A → List ℕ → Type 0
 Body P (pos k) us t = Items P us t × (length us ≡ k)
 Body P (negsuc k) us t = Sized (Items P us) t × (length us ≡ suc k)
@@ -293,7 +293,7 @@ block_found item P Step one (negsuc k) s bytes t mid fits e =
       step = g.step;
     }
 
--- a count that isn't 0, and its items, are a block
+-- a nonzero count and its items are a block
 pub body_block : {A : Type 0} (P : A → List ℕ → Type 0) (z : ℤ) (us : List A) (c t : List ℕ) → (z ≡ pos 0 → ⊥) → Number z c → Body P z us t → Block P us (c ++ t)
 body_block P (pos zero) us c t some n b = absurd (some refl)
 body_block P (pos (suc k)) [] c t some n b = absurd (omega (arith, b.1))

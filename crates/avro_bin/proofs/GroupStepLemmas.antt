@@ -9,7 +9,7 @@ use Rattle.avro_bin.specs.Reading.{groups_at, more_groups, GivesWhy}
 use Rattle.avro_bin.specs.Groups.{raised}
 use Rattle.avro_bin.proofs.GroupLemmas.{Groups}
 
--- a group and what stands for the groups before it are small enough
+-- a group and what the groups before it denote are small enough
 pub record Fits (low weight group : ℕ) : Type 0 where
   pub product : weight * group < 2 ^ 63
   pub sum : low + weight * group < weight * 128

@@ -22,7 +22,7 @@ fails_more k b bytes why.Short le h = record { high = (le, h.high); few = omega 
 fails_more k b bytes why.Number le h = record { text = b ∷ h.text; byte = h.byte; rest = h.rest; parts = ap (λ (t : List ℕ). b ∷ t) h.parts; high = (le, h.high); count = ap suc h.count; big = h.big }
 fails_more k b bytes _ le h = absurd h
 
--- what is refused fails so
+-- what is refused fails in the same way
 pub groups_fail : (k : ℕ) (bytes : List ℕ) (w : Why) → groups_at (suc k) bytes ≡ Err w → NumberFails (suc k) bytes w
 groups_fail k [] w e = subst (NumberFails (suc k) []) (err_is why.Short w e) (record { high = tt; few = omega arith })
 groups_fail zero (b ∷ bytes) w e =
@@ -38,7 +38,7 @@ groups_fail (suc k) (b ∷ bytes) w e =
       | inr h ↦ fails_more (suc k) b bytes w (ltb-false _ _ h.0) (groups_fail k bytes w (more_err b (groups_at (suc k) bytes) w h.1))
     ]
 
--- what fails so is refused
+-- what fails this way is refused
 pub short_refused : (k : ℕ) (bytes : List ℕ) → AreHigh bytes → length bytes < suc k → groups_at (suc k) bytes ≡ Err why.Short
 short_refused k [] high few = refl
 short_refused zero (b ∷ bytes) high few = absurd (omega arith)

@@ -47,7 +47,7 @@ signed_unsigned (negsuc n) =
     let half : (2 * n + 1) / 2 ≡ n = omega arith in
     rw (odd, half) refl
 
--- what is written of a number of 64 bits spells it
+-- what is written for a number of 64 bits spells it
 pub number_plain : (x : ℤ) → unsigned x < 2 ^ 64 → Number x (plain_number x)
 unfolding plain_number
 number_plain x small =

@@ -27,7 +27,7 @@ again fault.Memory f g r h = tt
 again (fault.At w left) f g (Ok x) h = absurd cc
 again (fault.At w left) f g (Err e) h = cc
 
--- what fails where nothing is kept fails too where the value is marked
+-- what fails when nothing is kept also fails when the value is marked
 pub Fails-again : (value : ℕ → List ℕ → Read Got) (n : ℕ) (bytes : List ℕ) (e : Fault) → Fails e (pass_at value n bytes) → Fails e (mark_at value n bytes)
 unfolding pass_at mark_at
 Fails-again value n bytes e h = again e (λ x. x.1) _ (value n bytes) h

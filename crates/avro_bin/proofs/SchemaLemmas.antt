@@ -35,7 +35,7 @@ some_same : (f g : ℕ → Schema) (P : ℕ → Type 0) (o : Option Node) → ((
 some_same f g P None h all = refl
 some_same f g P (Some node) h all = node_schema_same f g P node h (all node refl)
 
--- how deep one looks makes no difference, past the place
+-- how deep one looks makes no difference beyond the place
 pub schema_to_any : (nodes : List Node) → IsTable nodes → (d e id : ℕ) → id < d → id < e → schema_to d nodes id ≡ schema_to e nodes id
 unfolding schema_to
 schema_to_any nodes t zero e id lt lt' = absurd (omega arith)

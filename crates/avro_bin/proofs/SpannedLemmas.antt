@@ -1,4 +1,4 @@
--- What reading without a value says of reading.
+-- What reading without a value says about reading.
 use Rattle.std.proofs.Common.{◌≡◌, ℕ, ◌-◌, List, Ok, Err, length, ap}
 use Rattle.avro_bin.specs.declared.fault.Why.{Why}
 use Rattle.avro_bin.specs.Value.{Value}

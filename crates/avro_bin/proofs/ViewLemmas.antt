@@ -1,4 +1,4 @@
--- What each kind of tree stands for; for the crates above too.
+-- What each kind of tree denotes; for the crates above too.
 use Rattle.std.proofs.Common.{◌≡◌, ℕ, Bool, ℤ, List, map, sym, ap, ◌∙◌}
 use Rattle.std.specs.Global.{Box}
 use Rattle.etp_values.specs.declared.bits.Bits32.{Bits32}

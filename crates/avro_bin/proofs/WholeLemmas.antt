@@ -1,4 +1,4 @@
--- Whole inputs: what reading says of them, and what is refused of them; for the crates above too.
+-- Whole inputs: what reading says about them, and what is refused; for the crates above too.
 use Rattle.std.proofs.Common.{◌≡◌, ℕ, ◌+◌, ◌-◌, ◌≤◌, List, ◌++◌, Result, Ok, Err, length, take, drop, refl, sym, ap, subst, ◌∙◌, arith, ◌⊎◌, inl, inr}
 use Rattle.std.proofs.lemmas.List.{length-append, length-drop, take_at, take-append-drop}
 use Rattle.avro_bin.specs.declared.fault.Why.{Why}

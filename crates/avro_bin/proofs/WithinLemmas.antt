@@ -1,4 +1,4 @@
--- A fault lies in the bytes.
+-- A fault is within the bytes.
 use Rattle.std.proofs.Common.{◌≡◌, ℕ, zero, suc, ◌≤◌, List, [], ◌∷◌, ◌++◌, length, ap, arith, inl, inr, ℤ, pos, negsuc}
 use Rattle.std.proofs.lemmas.List.{length-append}
 use Rattle.avro_bin.specs.declared.fault.Why.{Why}

@@ -1,4 +1,4 @@
--- What is written of a value spells it; for the crates above too.
+-- What is written for a value spells it; for the crates above too.
 use Rattle.std.proofs.Common.{◌≡◌, ℕ, zero, suc, ◌<◌, ◌^◌, true, List, [], ◌∷◌, ◌++◌, length, refl, sym, arith, inl, ℤ, pos, negsuc, FitsSigned, take}
 use Rattle.std.proofs.lemmas.Bool.{lt-ltb}
 use Rattle.std.proofs.lemmas.List.{append-nil, length-append, take_at}

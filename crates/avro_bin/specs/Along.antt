@@ -1,4 +1,4 @@
--- Reading whose result is seen by a function: without the value, or as a value of another type.
+-- Reading whose result is seen through a function: without the value, or as a value of another type.
 use Rattle.std.specs.Prelude.{◌++◌, ℕ, List, [], ◌∷◌, length, if◌then◌else◌, Ok, Err}
 use Rattle.std.specs.Ordering.{nat_cmp}
 use Rattle.std.specs.Cmp.Lexicographic.{slice_cmp}
@@ -7,12 +7,12 @@ use Rattle.avro_bin.specs.declared.fault.Why.TheVariants as why
 use Rattle.avro_bin.specs.Schema.{Schemas, none, more}
 use Rattle.avro_bin.specs.Reading.{Read, ◌>>=◌, Got, text_at, has, value_at}
 
--- what was read, seen by f
+-- what was read, seen through f
 abbrev pub along : {A B : Type 0} → (A → B) → Read A → Read B
 along f (Ok x) = Ok (f x.0, x.1)
 along f (Err e) = Err e
 
--- a value seen by f, and the nodes that are still allowed
+-- a value seen through f, and the nodes that are still allowed
 abbrev pub seen : {A B : Type 0} → (A → B) → A × ℕ → B × ℕ
 seen f x = (f x.0, x.1)
 
@@ -20,7 +20,7 @@ seen f x = (f x.0, x.1)
 unfoldable pub push_at : {A : Type 0} → (ℕ → List ℕ → Read (A × ℕ)) → List A × ℕ → List ℕ → Read (List A × ℕ)
 push_at value s bytes = along (λ x. (s.0 ++ x.0 ∷ [], x.1)) (value s.1 bytes)
 
--- a name that isn't there yet, and its value
+-- a name that has not occurred yet, and its value
 unfoldable pub put_at : {A : Type 0} → (ℕ → List ℕ → Read (A × ℕ)) → List (List ℕ × A) × ℕ → List ℕ → Read (List (List ℕ × A) × ℕ)
 put_at value s bytes = do
   k ← text_at bytes
@@ -30,7 +30,7 @@ put_at value s bytes = do
 unfoldable pub pass_at : (ℕ → List ℕ → Read Got) → ℕ → List ℕ → Read ℕ
 pass_at value n bytes = along (λ x. x.1) (value n bytes)
 
--- a value of which nothing is kept, and the nodes that are still allowed
+-- a value that is not kept, and the nodes that are still allowed
 unfoldable pub mark_at : (ℕ → List ℕ → Read Got) → ℕ → List ℕ → Read (Unit {0} × ℕ)
 mark_at value n bytes = along (seen (λ v. tt)) (value n bytes)
 

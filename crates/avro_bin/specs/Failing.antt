@@ -10,7 +10,7 @@ use Rattle.avro_bin.specs.Reading.{Names, has}
 use Rattle.avro_bin.specs.Grammar.{BytesSpelled, TextSpelled, PlaceSpelled, Items, Block, EntrySpelled, Spells}
 use Rattle.avro_bin.specs.Steps.{Push, Put, Steps}
 
--- a front of the bytes has P, and what stands behind it has Q
+-- a prefix of the bytes has P, and what follows it has Q
 pub record Then {A : Type 0} (P Q : A → List ℕ → Type 0) (bytes : List ℕ) : Type 0 where
   pub value : A
   pub text : List ℕ
@@ -23,7 +23,7 @@ pub record Then {A : Type 0} (P Q : A → List ℕ → Type 0) (bytes : List ℕ
 abbrev pub Refused : Why → Why → List ℕ → ℕ → Type 0
 Refused v w bytes left = (w ≡ v) × (left ≡ length bytes)
 
--- no number stands at the front
+-- there is no number at the front
 abbrev pub BadNumber : List ℕ → Why → ℕ → Type 0
 BadNumber bytes w left = NumberFails 10 bytes w × (left ≡ length bytes)
 
@@ -32,16 +32,16 @@ abbrev pub BadLength : ℤ → List ℕ → Why → Type 0
 BadLength (pos size) rest w = (length rest < size) × (w ≡ why.Short)
 BadLength (negsuc n) rest w = w ≡ why.Length
 
--- no length with so many bytes
+-- no length with that many bytes
 abbrev pub BadBlob : List ℕ → Why → ℕ → Type 0
 BadBlob bytes w left = BadNumber bytes w left ⊎ (Then Number (λ x rest. BadLength x rest w) bytes × (left ≡ length bytes))
 
--- a number that is no place of so many
+-- a number that is not a place below the count
 abbrev pub NoPlace : ℕ → ℤ → Type 0
 NoPlace k (pos p) = k ≤ p
 NoPlace k (negsuc n) = Unit {0}
 
--- no place of so many
+-- no place below the count
 abbrev pub BadPlace : ℕ → List ℕ → Why → ℕ → Type 0
 BadPlace k bytes w left = BadNumber bytes w left ⊎ (Then Number (λ x rest. NoPlace (places k) x) bytes × Refused why.Branch w bytes left)
 
@@ -50,15 +50,15 @@ abbrev pub BadBoolean : List ℕ → Why → ℕ → Type 0
 BadBoolean [] w left = Refused why.Short w [] left
 BadBoolean (b ∷ rest) w left = (1 < b) × Refused why.Bool w (b ∷ rest) left
 
--- fewer bytes than so many
+-- fewer bytes than the width
 abbrev pub TooShort : ℕ → List ℕ → Why → ℕ → Type 0
 TooShort size bytes w left = (length bytes < size) × Refused why.Short w bytes left
 
--- no length with so many bytes of UTF-8
+-- no length with that many bytes of UTF-8
 abbrev pub BadText : List ℕ → Why → ℕ → Type 0
 BadText bytes w left = BadBlob bytes w left ⊎ (Then BytesSpelled (λ b rest. is_utf8 b ≡ false) bytes × Refused why.Utf8 w bytes left)
 
--- a front is spelled and fits as a step, and what stands behind it has Q from then on
+-- a prefix is spelled and fits as a step, and what follows it has Q from then on
 pub record Later {S A : Type 0} (P : A → List ℕ → Type 0) (Step : S → A → S → Type 0) (Q : S → List ℕ → Type 0) (s : S) (bytes : List ℕ) : Type 0 where
   pub item : A
   pub next : S
@@ -75,34 +75,34 @@ module _ {S A : Type 0} (F : S → List ℕ → Why → ℕ → Type 0) (P : A �
   ItemsFail zero s bytes w left = ⊥
   ItemsFail (suc k) s bytes w left = F s bytes w left ⊎ Later P Step (λ t rest. ItemsFail k t rest w left) s bytes
 
-  -- behind a block's size: an item fails, or the items are spelled and don't fill it; outer: the bytes from the size on
+  -- after a block's size: an item fails, or the items are spelled and don't fill it; outer: the bytes from the size on
   abbrev pub SizedFails : ℕ → S → List ℕ → ℤ → List ℕ → Why → ℕ → Type 0
   SizedFails k s outer (negsuc n) bytes w left = Refused why.Length w outer left
   SizedFails k s outer (pos size) bytes w left =
       ItemsFail k s bytes w left
       ⊎ (Later (λ xs b. Items P xs b × (length xs ≡ k)) (Steps Step) (λ t rest. length rest + size ≡ length bytes → ⊥) s bytes × Refused why.BlockSize w outer left)
 
-  -- behind a count: items, or the block's size and items
+  -- after a count: items, or the block's size and items
   abbrev pub BlockFails : S → ℤ → List ℕ → Why → ℕ → Type 0
   BlockFails s (pos k) bytes w left = ItemsFail k s bytes w left
   BlockFails s (negsuc k) bytes w left = BadNumber bytes w left ⊎ Then Number (λ size rest. SizedFails (suc k) s bytes size rest w left) bytes
 
-  -- so many blocks are spelled, and the count of the next fails, or what stands behind it
+  -- this number of blocks are spelled, and the count of the next fails, or what follows it
   abbrev pub BlocksFail : ℕ → S → List ℕ → Why → ℕ → Type 0
   BlocksFail zero s bytes w left = BadNumber bytes w left ⊎ Then Number (λ z rest. (z ≡ pos 0 → ⊥) × BlockFails s z rest w left) bytes
   BlocksFail (suc k) s bytes w left = Later (Block P) (Steps Step) (λ t rest. BlocksFail k t rest w left) s bytes
 
-  -- so it is behind any number of blocks
+  -- this holds after any number of blocks
   abbrev pub SomeFails : S → List ℕ → Why → ℕ → Type 0
   SomeFails s bytes w left = (k : ℕ) × BlocksFail k s bytes w left
 
--- a name fails, or was there, or its value fails
+-- a name fails, or occurred before, or its value fails
 abbrev pub EntryFails : (ℕ → List ℕ → Why → ℕ → Type 0) → Names → List ℕ → Why → ℕ → Type 0
 EntryFails F s bytes w left =
     BadText bytes w left
     ⊎ Then TextSpelled (λ k rest. ((has k s.0 ≡ true) × Refused why.DoubleKey w bytes left) ⊎ ((has k s.0 ≡ false) × F s.1 rest w left)) bytes
 
--- no value of the schema, of at most n nodes, stands at the front: some of its parts are spelled, and the next is refused
+-- no value of the schema, of at most n nodes, is at the front: some of its parts are spelled, and the next is refused
 abbrev mutual
   pub Fails : Schema → ℕ → List ℕ → Why → ℕ → Type 0
   Fails s zero bytes w left = Refused why.Limit w bytes left

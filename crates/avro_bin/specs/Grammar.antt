@@ -19,7 +19,7 @@ pub record Two (P Q : List ℕ → Type 0) (bytes : List ℕ) : Type 0 where
   pub first : P front
   pub second : Q back
 
--- a length, and so many bytes
+-- a length, and that many bytes
 abbrev pub BytesSpelled : List ℕ → List ℕ → Type 0
 BytesSpelled b = Two (Number (pos (length b))) (λ rest. rest ≡ b)
 
@@ -28,7 +28,7 @@ abbrev pub Items : {A : Type 0} → (A → List ℕ → Type 0) → List A → L
 Items item [] bytes = bytes ≡ []
 Items item (v ∷ vs) bytes = Two (item v) (Items item vs) bytes
 
--- a size, and so many bytes
+-- a size, and that many bytes
 pub record Sized (P : List ℕ → Type 0) (bytes : List ℕ) : Type 0 where
   pub size : List ℕ
   pub back : List ℕ
@@ -36,14 +36,14 @@ pub record Sized (P : List ℕ → Type 0) (bytes : List ℕ) : Type 0 where
   pub number : Number (pos (length back)) size
   pub inside : P back
 
--- so many items; or their count below 0, the number of their bytes, and the items
+-- a count and that many items; or the negated count, the number of their bytes, and the items
 abbrev pub Block : {A : Type 0} → (A → List ℕ → Type 0) → List A → List ℕ → Type 0
 Block item [] bytes = ⊥
 Block item (v ∷ vs) bytes =
     Two (Number (pos (suc (length vs)))) (Items item (v ∷ vs)) bytes
     ⊎ Two (Number (negsuc (length vs))) (Sized (Items item (v ∷ vs))) bytes
 
--- so many blocks, and then a count of 0
+-- this number of blocks, and then a count of 0
 abbrev pub Blocks : {A : Type 0} → (A → List ℕ → Type 0) → ℕ → List A → List ℕ → Type 0
 Blocks item zero vs bytes = (vs ≡ []) × Number (pos 0) bytes
 Blocks {A} item (suc k) vs bytes = (us : List A) × (ws : List A) × (vs ≡ us ++ ws) × Two (Block item us) (Blocks item k ws) bytes
@@ -52,11 +52,11 @@ Blocks {A} item (suc k) vs bytes = (us : List A) × (ws : List A) × (vs ≡ us 
 abbrev pub SomeBlocks : {A : Type 0} → (A → List ℕ → Type 0) → List A → List ℕ → Type 0
 SomeBlocks P vs bytes = (k : ℕ) × Blocks P k vs bytes
 
--- a length, and so many bytes of UTF-8
+-- a length, and that many bytes of UTF-8
 abbrev pub TextSpelled : List ℕ → List ℕ → Type 0
 TextSpelled b bytes = BytesSpelled b bytes × (is_utf8 b ≡ true)
 
--- the place, from 0, of one of so many symbols or branches
+-- the place, from 0, of one of this number of symbols or branches
 abbrev pub PlaceSpelled : ℕ → ℕ → List ℕ → Type 0
 PlaceSpelled count p bytes = Number (pos p) bytes × (p < places count)
 

@@ -13,7 +13,7 @@ use Rattle.avro_bin.specs.declared.refusal.Refusal.{Refusal}
 use Rattle.avro_bin.specs.declared.refusal.Refusal.TheVariants as r
 use Rattle.avro_bin.specs.declared.sizing.TooLong.{TooLong}
 
--- the bytes begin with a spelling of the value, so long, and the value has few enough nodes
+-- the bytes begin with a spelling of the value, of this length, and the value has few enough nodes
 pub record IsRead (s : Schema) (limit : ℕ) (bytes : List ℕ) (v : Value) (len : ℕ) : Type 0 where
   pub within : len ≤ length bytes
   pub spelled : Spells s v (take len bytes)
@@ -24,7 +24,7 @@ abbrev pub counted : ℕ → Read Got → Result (Value × ℕ) Refusal
 counted len (Ok x) = Ok (x.0.0, len - length x.1)
 counted len (Err e) = Err (refusal e.0 (len - e.1))
 
--- reading a value: which value, and how many bytes it takes, or why and where the bytes spell none
+-- reading a value: which value, and how many bytes it takes, or why and where the bytes don't spell one
 unfoldable pub read_value : Schema → ℕ → List ℕ → Result (Value × ℕ) Refusal
 read_value s limit bytes = counted (length bytes) (value_at s limit bytes)
 
@@ -33,17 +33,17 @@ abbrev pub Decodes : Result (Value × ℕ) Refusal → Result (Tree × ℕ) Refu
 Decodes read (Ok x) = read ≡ Ok (value_of x.0, x.1)
 Decodes read (Err e) = (e ≡ r.NoMemory) ⊎ (read ≡ Err e)
 
--- it was read so, unless memory ran out
+-- it was read this way, unless memory ran out
 abbrev pub ReadsAs : Value → ℕ → Result (Tree × ℕ) Refusal → Type 0
 ReadsAs v len (Ok x) = (value_of x.0 ≡ v) × (x.1 ≡ len)
 ReadsAs v len (Err e) = e ≡ r.NoMemory
 
--- it was refused so, unless memory ran out
+-- it was refused this way, unless memory ran out
 abbrev pub RefusesAs : Refusal → Result (Tree × ℕ) Refusal → Type 0
 RefusesAs e (Ok x) = ⊥
 RefusesAs e (Err d) = (d ≡ e) ⊎ (d ≡ r.NoMemory)
 
--- how many nodes a value may have that is decoded
+-- how many nodes a decoded value may have
 abbrev pub node_limit : ℕ
 node_limit = 8388608
 
@@ -52,7 +52,7 @@ abbrev pub IsSize : ℕ → Result ℕ TooLong → Type 0
 IsSize len (Ok n) = (n ≡ len) × (len ≤ 2 ^ 40)
 IsSize len (Err e) = 2 ^ 40 < len
 
--- bytes begin with at most one spelling, of one value: no spelling begins another
+-- bytes begin with at most one spelling, of one value: no spelling is a prefix of another
 abbrev pub OneSpelling : Type 0
 OneSpelling = (s : Schema) (a b x y : List ℕ) (v w : Value) → Spells s v a → Spells s w b → a ++ x ≡ b ++ y → (a ≡ b) × (v ≡ w)
 
@@ -68,15 +68,15 @@ SomeOutcome = (s : Schema) (limit : ℕ) (bytes : List ℕ) → IsBytes bytes �
 abbrev pub NotBoth : Type 0
 NotBoth = (s : Schema) (limit : ℕ) (bytes : List ℕ) (v : Value) (len : ℕ) (e : Refusal) → IsRead s limit bytes v len → IsRefused s limit bytes e → ⊥
 
--- bytes are refused in one way at most
+-- bytes are refused in at most one way
 abbrev pub OneRefusal : Type 0
 OneRefusal = (s : Schema) (limit : ℕ) (bytes : List ℕ) (d e : Refusal) → IsRefused s limit bytes d → IsRefused s limit bytes e → d ≡ e
 
--- a value is what reading answers exactly where the bytes begin with it
+-- a value is what reading answers exactly if the bytes begin with it
 abbrev pub ReadsExactly : Type 0
 ReadsExactly = (s : Schema) (limit : ℕ) (bytes : List ℕ) (v : Value) (len : ℕ) → IsBytes bytes → (read_value s limit bytes ≡ Ok (v, len)) ↔ IsRead s limit bytes v len
 
--- a refusal is what reading answers exactly where the bytes are refused so
+-- a refusal is what reading answers exactly if the bytes are refused with it
 abbrev pub RefusesExactly : Type 0
 RefusesExactly = (s : Schema) (limit : ℕ) (bytes : List ℕ) (e : Refusal) → IsBytes bytes → (read_value s limit bytes ≡ Err e) ↔ IsRefused s limit bytes e
 
@@ -84,7 +84,7 @@ RefusesExactly = (s : Schema) (limit : ℕ) (bytes : List ℕ) (e : Refusal) →
 abbrev pub PlainSpells : Type 0
 PlainSpells = (s : Schema) (v : Value) → HasSchema s v → FitsTree v → Spells s v (plain v)
 
--- what is written is read again, whatever follows it
+-- what is written reads back, whatever follows it
 abbrev pub ReadsBack : Type 0
 ReadsBack = (s : Schema) (v : Value) (limit : ℕ) (rest : List ℕ) → HasSchema s v → FitsTree v → nodes v ≤ limit → IsRead s limit (plain v ++ rest) v (length (plain v))
 

@@ -14,11 +14,11 @@ abbrev pub group_sum : List ℕ → ℕ
 group_sum [] = 0
 group_sum (b ∷ bs) = b % 128 + 128 * group_sum bs
 
--- 0, 1, 2, 3 stand for 0, -1, 1, -2
+-- 0, 1, 2, 3 denote 0, -1, 1, -2
 abbrev pub signed : ℕ → ℤ
 signed z = if z % 2 == 0 then pos (z / 2) else negsuc (z / 2)
 
--- back
+-- the inverse
 abbrev pub unsigned : ℤ → ℕ
 unsigned (pos n) = 2 * n
 unsigned (negsuc n) = 2 * n + 1
@@ -65,7 +65,7 @@ pub record RunsOn (k : ℕ) (bytes : List ℕ) : Type 0 where
   pub count : suc (length text) ≡ k
   pub big : 1 < byte
 
--- why no number of at most k bytes stands at the front
+-- why there is no number of at most k bytes at the front
 abbrev pub NumberFails : ℕ → List ℕ → Why → Type 0
 NumberFails k bytes why.Short = EndsInside k bytes
 NumberFails k bytes why.Number = RunsOn k bytes

@@ -1,5 +1,5 @@
--- The spelling that a writer chooses: no number longer than it must be, the items of a list or map in one block with a
--- positive count (where there are none, no block), names in the order of their bytes.
+-- The spelling that a writer chooses: no number longer than it must be, the items of a list or map in one block with a positive count (no
+-- block if there are none), names in byte order.
 use Rattle.std.specs.Prelude.{◌≡◌, ℕ, zero, suc, pos, Result, Ok, Err, List, [], ◌∷◌, ◌++◌, length, if◌then◌else◌}
 use Rattle.std.specs.Io.{StartsWith}
 use Rattle.std.specs.Int.{to_le_bytes, w32, w64}
@@ -33,17 +33,17 @@ abbrev mutual
   plain (VUnion p v) = plain_number (pos p) ++ plain v
   plain (VFields vs) = plain_all vs
 
-  -- the spellings of these values, one behind another
+  -- the spellings of these values, one after another
   pub plain_all : Values → List ℕ
   plain_all none = []
   plain_all (more v vs) = plain v ++ plain_all vs
 
-  -- each name and its value, one behind another
+  -- each name and its value, one after another
   pub plain_named : Entries → List ℕ
   plain_named none_named = []
   plain_named (more_named n v es) = plain_blob n ++ plain v ++ plain_named es
 
--- the text stands behind what was there; or, where memory ran out, what was there still stands in front
+-- the text follows what was there; or, if memory ran out, what was there is still at the front
 abbrev pub Writes : {E : Type 0} → List ℕ → List ℕ → List ℕ → Result Unit E → Type 0
 Writes text old new (Ok x) = new ≡ old ++ text
 Writes text old new (Err e) = StartsWith new old

@@ -12,7 +12,7 @@ fits_32 (negsuc n) = nat_lt n (2 ^ 31)
 abbrev pub is_utf8 : List ℕ → Bool
 is_utf8 b = utf8_valid_len b == length b
 
--- how many of so many symbols or branches an int can name
+-- how many of this number of symbols or branches an int can name
 abbrev pub places : ℕ → ℕ
 places count = min count (2 ^ 31)
 

@@ -1,4 +1,4 @@
--- Reading from left to right, with the first fault that is met.
+-- Reading from left to right, up to the first fault.
 use Rattle.std.specs.Prelude.{◌≡◌, ◌++◌, Bool, true, false, take, drop, ℕ, zero, suc, ◌+◌, ◌*◌, ◌%◌, ℤ, pos, negsuc, List, [], ◌∷◌, length, nat_lt, ◌==◌, if◌then◌else◌, Result, Ok, Err, is_some}
 use Rattle.avro_bin.specs.declared.fault.Why.{Why}
 use Rattle.avro_bin.specs.declared.fault.Why.TheVariants as why
@@ -23,17 +23,17 @@ abbrev pub ◌>>=◌ : {A B : Type 0} → Read A → ((A × List ℕ) → Read B
 (Ok x) >>= f = f x
 (Err e) >>= f = Err e
 
--- what a function fails with is what reading gives, with its place; where memory ran out nothing is said
+-- what a function fails with is what reading gives, with its place; if memory ran out nothing is claimed
 abbrev pub Fails : {A : Type 0} → Fault → Read A → Type 0
 Fails fault.Memory read = Unit {0}
 Fails (fault.At w left) read = read ≡ Err (w, left)
 
--- What a function returned, seen by view, is what reading gives, unless memory ran out.
+-- What a function returned, seen through view, is what reading gives, unless memory ran out.
 abbrev pub Gives : {X A : Type 0} → (X → A × List ℕ) → Result X Fault → Read A → Type 0
 Gives view (Ok x) read = read ≡ Ok (view x)
 Gives view (Err e) read = Fails e read
 
--- the same, where the fault has no place yet
+-- the same, if the fault has no place yet
 abbrev pub GivesWhy : {X A : Type 0} → (X → A × List ℕ) → Result X Why → Result (A × List ℕ) Why → Type 0
 GivesWhy view (Ok x) read = read ≡ Ok (view x)
 GivesWhy view (Err w) read = read ≡ Err w
@@ -72,7 +72,7 @@ int_at bytes = do
   x ← number_at bytes
   if fits_32 x.0 then Ok x else Err (why.Range, length bytes)
 
--- so many bytes of an item that begins where left bytes are left
+-- the next bytes, this many of them, of an item that begins where left bytes are left
 unfoldable pub bytes_at : ℕ → ℕ → List ℕ → Read (List ℕ)
 bytes_at left size bytes = if nat_lt (length bytes) size then Err (why.Short, left) else Ok (take size bytes, drop size bytes)
 
@@ -85,24 +85,24 @@ of_length left (negsuc n) bytes = Err (why.Length, left)
 unfoldable pub fixed_number_at : Width → List ℕ → Read ℕ
 fixed_number_at w bytes = if nat_lt (length bytes) (byte_len w) then Err (why.Short, length bytes) else Ok (from_le_bytes w (take (byte_len w) bytes), drop (byte_len w) bytes)
 
--- a length, and so many bytes
+-- a length, and that many bytes
 unfoldable pub blob_at : List ℕ → Read (List ℕ)
 blob_at bytes = do
   size ← number_at bytes
   of_length (length bytes) size.0 size.1
 
--- a number as one of so many places
+-- a number as a place below a count
 abbrev pub below : ℕ → ℕ → ℤ → List ℕ → Read ℕ
 below left count (pos n) bytes = if nat_lt n count then Ok (n, bytes) else Err (why.Branch, left)
 below left count (negsuc n) bytes = Err (why.Branch, left)
 
--- a length, and so many bytes of UTF-8
+-- a length, and that many bytes of UTF-8
 unfoldable pub text_at : List ℕ → Read (List ℕ)
 text_at bytes = do
   b ← blob_at bytes
   if is_utf8 b.0 then Ok b else Err (why.Utf8, length bytes)
 
--- the place, from 0, of one of so many symbols or branches
+-- the place, from 0, of one of this number of symbols or branches
 unfoldable pub place_at : ℕ → List ℕ → Read ℕ
 place_at count bytes = do
   x ← number_at bytes
@@ -121,11 +121,11 @@ with n v (Err e) = Err e
 abbrev pub Row : Type 0
 Row = List Value × ℕ
 
--- the same of a map: its entries in the order of their names
+-- the same for a map: its entries in the order of their names
 abbrev pub Names : Type 0
 Names = List (List ℕ × Value) × ℕ
 
--- so many items, each read on from what there is
+-- this many items, each read on from what there is
 unfoldable pub items_at : {S : Type 0} → (S → List ℕ → Read S) → ℕ → S → List ℕ → Read S
 items_at item zero s bytes = Ok (s, bytes)
 items_at item (suc k) s bytes = do
@@ -145,26 +145,26 @@ block_at item s (negsuc k) bytes = do
   size ← number_at bytes
   sized (length bytes) size.0 (length size.1) (items_at item (suc k) s size.1)
 
--- what stands behind a count
+-- what follows a count
 abbrev pub after_count : {S : Type 0} → (S → List ℕ → Read S) → (S → List ℕ → Read S) → S → ℤ → List ℕ → Read S
 after_count item more_blocks s (pos zero) bytes = Ok (s, bytes)
 after_count item more_blocks s count bytes = do
   block ← block_at item s count bytes
   more_blocks block.0 block.1
 
--- blocks up to a count of 0, fewer than a bound that no list of blocks comes to
+-- blocks up to a count of 0, fewer than a bound that no list of blocks reaches
 unfoldable pub blocks_at : {S : Type 0} → (S → List ℕ → Read S) → ℕ → S → List ℕ → Read S
 blocks_at item zero s bytes = Err (why.Limit, length bytes)
 blocks_at item (suc bound) s bytes = do
   count ← number_at bytes
   after_count item (blocks_at item bound) s count.0 count.1
 
--- what was read, at the end of what there is
+-- what was read, after what there is
 abbrev pub pushed : List Value → Read Got → Read Row
 pushed vs (Ok x) = Ok ((vs ++ x.0.0 ∷ [], x.0.1), x.1)
 pushed vs (Err e) = Err e
 
--- one item more
+-- one more item
 unfoldable pub element_at : (ℕ → List ℕ → Read Got) → Row → List ℕ → Read Row
 element_at value s bytes = pushed s.0 (value s.1 bytes)
 
@@ -172,12 +172,12 @@ element_at value s bytes = pushed s.0 (value s.1 bytes)
 abbrev pub has : {X : Type 0} → List ℕ → List (List ℕ × X) → Bool
 has k es = is_some (lookup (is_at (slice_cmp nat_cmp k)) es)
 
--- one entry more, in its place
+-- one more entry, in its place
 abbrev pub under : List ℕ → List (List ℕ × Value) → Read Got → Read Names
 under k es (Ok x) = Ok ((insert_entry (slice_cmp nat_cmp) es k x.0.0, x.0.1), x.1)
 under k es (Err e) = Err e
 
--- a name that isn't there yet, and its value
+-- a name that has not occurred yet, and its value
 unfoldable pub entry_at : (ℕ → List ℕ → Read Got) → Names → List ℕ → Read Names
 entry_at value s bytes = do
   k ← text_at bytes
@@ -198,7 +198,7 @@ abbrev pub in_branch : ℕ → Read Got → Read Got
 in_branch b (Ok x) = Ok ((VUnion b x.0.0, x.0.1), x.1)
 in_branch b (Err e) = Err e
 
--- the value of a schema at the front of the bytes, of at most so many nodes
+-- the value of a schema at the front of the bytes, of at most this many nodes
 unfoldable mutual
   pub value_at : Schema → ℕ → List ℕ → Read Got
   value_at s zero bytes = Err (why.Limit, length bytes)

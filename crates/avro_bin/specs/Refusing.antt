@@ -20,7 +20,7 @@ refusal why.BlockSize offset = r.BlockSize offset
 refusal why.DoubleKey offset = r.DoubleKey offset
 refusal why.Limit offset = r.Limit offset
 
--- no value of the schema, of at most so many nodes, stands at the front of the bytes, and the refusal says why and where
+-- no value of the schema, of at most this many nodes, is at the front of the bytes, and the refusal says why and where
 pub record IsRefused (s : Schema) (limit : ℕ) (bytes : List ℕ) (e : Refusal) : Type 0 where
   pub why : Why
   pub offset : ℕ

@@ -1,4 +1,4 @@
--- Schemas: a table of nodes, and the tree that it unfolds to at a place.
+-- Schemas: a table of nodes, and the tree that it unfolds to from a place.
 use Rattle.std.specs.Prelude.{◌≡◌, Bool, true, false, ℕ, zero, suc, ◌<◌, List, [], ◌∷◌, map, Option, Some, None, slice_get, nat_lt, if◌then◌else◌}
 use Rattle.std.specs.List.{AllByRecursion}
 use Rattle.avro_bin.specs.declared.schema.Node.{Node}
@@ -49,12 +49,12 @@ node_schema at (n.Map child) = SMap (at child)
 node_schema at (n.Union children) = SUnion (schemas (map at children.now))
 node_schema at (n.Fields children) = SFields (schemas (map at children.now))
 
--- the schema of a node that is there
+-- the schema of a node that exists
 abbrev pub some_schema : (ℕ → Schema) → Option Node → Schema
 some_schema at None = SNull
 some_schema at (Some node) = node_schema at node
 
--- the schema at a place, looked up at most so deep
+-- the schema at a place, looked up to this depth at most
 unfoldable pub schema_to : ℕ → List Node → ℕ → Schema
 schema_to zero nodes id = SNull
 schema_to (suc depth) nodes id = some_schema (schema_to depth nodes) (slice_get nodes id)
@@ -71,7 +71,7 @@ children (n.Union places) = places.now
 children (n.Fields places) = places.now
 children _ = []
 
--- each node stands behind its children
+-- each node comes after its children
 abbrev pub IsTable : List Node → Type 0
 IsTable nodes = (id : ℕ) (node : Node) → slice_get nodes id ≡ Some node → AllByRecursion (λ child. child < id) (children node)
 
@@ -83,12 +83,12 @@ is_leaf (n.Union places) = false
 is_leaf (n.Fields places) = false
 is_leaf _ = true
 
--- whether each child stands before a place
+-- whether each child comes before a place
 abbrev pub all_below : ℕ → List ℕ → Bool
 all_below id [] = true
 all_below id (child ∷ rest) = if nat_lt child id then all_below id rest else false
 
--- the test of a table's nodes from a place on: it computes, where `IsTable` asks for a proof
+-- the test of a table's nodes from a place on: it computes, whereas `IsTable` asks for a proof
 abbrev pub is_table : ℕ → List Node → Bool
 is_table id [] = true
 is_table id (node ∷ rest) = if all_below id (children node) then is_table (suc id) rest else false

@@ -47,8 +47,8 @@ abbrev mutual
 abbrev pub IsText : List ℕ → Type 0
 IsText b = (is_utf8 b ≡ true) × (length b < 2 ^ 63)
 
--- the numbers, lengths and names of the value are such as a tree holds: ints of 32 bits, longs of 64, lengths and counts
--- below 2^63, texts of UTF-8, names in byte order
+-- a tree can hold the numbers, lengths and names of the value: ints of 32 bits, longs of 64, lengths and counts below 2^63, texts of UTF-8,
+-- names in byte order
 abbrev mutual
   pub FitsTree : Value → Type 0
   FitsTree (VInt x) = FitsSigned w32 x
@@ -63,12 +63,12 @@ abbrev mutual
   FitsTree (VFields vs) = AllFit vs
   FitsTree _ = Unit {0}
 
-  -- each of these values is such
+  -- a tree can hold each of these values
   pub AllFit : Values → Type 0
   AllFit w.none = Unit {0}
   AllFit (w.more x vs) = FitsTree x × AllFit vs
 
-  -- each name is such a text, and each value is such
+  -- a tree can hold each name and each value
   pub AllNamedFit : Entries → Type 0
   AllNamedFit w.none_named = Unit {0}
   AllNamedFit (w.more_named n x es) = IsText n × FitsTree x × AllNamedFit es

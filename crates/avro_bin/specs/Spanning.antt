@@ -4,7 +4,7 @@ use Rattle.avro_bin.specs.Value.{Value}
 use Rattle.avro_bin.specs.declared.refusal.Refusal.{Refusal}
 use Rattle.avro_bin.specs.declared.refusal.Refusal.TheVariants as r
 
--- so many bytes were read, or they were refused so, unless memory ran out
+-- this many bytes were read, or they were refused this way, unless memory ran out
 abbrev pub Spans : Result (Value × ℕ) Refusal → Result ℕ Refusal → Type 0
 Spans read (Ok len) = (v : Value) × (read ≡ Ok (v, len))
 Spans read (Err e) = (e ≡ r.NoMemory) ⊎ (read ≡ Err e)

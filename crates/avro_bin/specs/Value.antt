@@ -1,4 +1,4 @@
--- Values: what trees stand for, without where they lie in memory.
+-- Values: what trees denote, apart from where they are in memory.
 use Rattle.std.specs.Prelude.{ℕ, suc, ◌+◌, Bool, ℤ, List, [], ◌∷◌}
 
 -- a value of each kind of node
@@ -48,7 +48,7 @@ abbrev pub pairs : Entries → List (List ℕ × Value)
 pairs none_named = []
 pairs (more_named n v es) = (n, v) ∷ pairs es
 
--- a value counts 1, and besides the values in it; names count nothing
+-- a value counts 1 plus the values in it; names count nothing
 abbrev mutual
   pub nodes : Value → ℕ
   nodes (VArray vs) = suc (nodes_in vs)

@@ -1,4 +1,4 @@
--- What a tree stands for.
+-- What a tree denotes.
 use Rattle.std.specs.Prelude.{List, ℕ}
 use Rattle.etp_values.specs.Entries.{on_value}
 use Rattle.avro_bin.specs.Value.{Value, VNull, VBoolean, VInt, VLong, VFloat, VDouble, VBytes, VText, VFixed, VEnum, VArray, VMap, VUnion, VFields, row, entries}
@@ -6,7 +6,7 @@ use Rattle.avro_bin.specs.declared.tree.Tree.{Tree}
 use Rattle.avro_bin.specs.declared.tree.Tree.TheOpen.{Tree-F, Null, Boolean, Int, Long, Float, Double, Bytes, Text, Fixed, Enum, Array, Map, Union, Fields}
 use Rattle.avro_bin.specs.declared.tree.Tree.TheFolds.{fold-Tree}
 
--- one level of a tree, with what each child stands for in its place
+-- one level of a tree, with what each child denotes in its place
 abbrev pub level : Tree-F Value → Value
 level Null = VNull
 level (Boolean b) = VBoolean b
@@ -23,10 +23,10 @@ level (Map m) = VMap (entries m)
 level (Union n v) = VUnion n v.value
 level (Fields l) = VFields (row l)
 
--- the value that a tree stands for
+-- the value that a tree denotes
 abbrev pub value_of : Tree → Value
 value_of = fold-Tree Value level
 
--- the entry that a name and a tree stand for
+-- the entry that a name and a tree denote
 abbrev pub entry_of : List ℕ × Tree → List ℕ × Value
 entry_of = on_value value_of

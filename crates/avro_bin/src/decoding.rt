@@ -1,7 +1,7 @@
-//! Reading values: a node at a time, from left to right, with the first fault that is met.
+//! Reading values: a node at a time, from left to right, up to the first fault.
 //!
-//! Each function hands on what is left of the bytes and of the nodes that are still allowed. Recursion goes to a child's
-//! place, which is smaller, so the table bounds its depth and the bytes do not.
+//! Each function returns the rest of the bytes and the number of nodes that are still allowed. Recursion goes to a child's place, which is
+//! smaller, so the table bounds its depth and the bytes do not.
 ghost use Rattle.std.specs.Prelude.{◌≡◌, ◌==◌, ◌+◌, ◌⊎◌, ◌<◌, ℕ, suc, length, map, true, MatchResult, IfOk, IfErr, ◌-◌};
 ghost use Rattle.std.specs.List.{AllByRecursion};
 ghost use Rattle.avro_bin.specs.Reading.{Gives, value_at, items_at, block_at, element_at, entry_at};
@@ -26,7 +26,7 @@ use etp_values::{Bits32, Bits64, Blob, List, Named, Text};
 use std::alloc::Global;
 use std::collections::BTreeMap;
 
-/// How many nodes a value may have: a value counts 1, and besides the values in it. Names count nothing.
+/// How many nodes a value may have: a value counts 1 plus the values in it. Names count nothing.
 pub const NODE_LIMIT: u32 = 8_388_608;
 
 /// The value of a node without children.
@@ -130,7 +130,7 @@ fn record<'a>(
     Ok((Tree::Fields(List::from_vec(list)), left, rest))
 }
 
-/// A union: a branch's place, and its value.
+/// A union: the place of a branch, and a value of it.
 #[cycle(decode)]
 fn union<'a>(
     alloc: Global,
@@ -176,11 +176,11 @@ fn array<'a>(
         left = after_left;
         rest = after;
     }
-    // Not reached: each block takes a byte.
+    // Unreachable: each block takes a byte.
     Err(Fault::At(Why::Limit, rest.len()))
 }
 
-/// The items of a block whose count is read, behind those that are there.
+/// The items of a block whose count is read, after those already read.
 #[cycle(decode)]
 fn block<'a>(
     alloc: Global,
@@ -217,7 +217,7 @@ fn block<'a>(
     Ok((list, left, after))
 }
 
-/// So many items, behind those that are there.
+/// `count` items, after those already read.
 #[cycle(decode)]
 fn items<'a>(
     alloc: Global,
@@ -270,11 +270,11 @@ fn dictionary<'a>(
         left = after_left;
         rest = after;
     }
-    // Not reached: each block takes a byte.
+    // Unreachable: each block takes a byte.
     Err(Fault::At(Why::Limit, rest.len()))
 }
 
-/// The entries of a block whose count is read, among those that are there.
+/// The entries of a block whose count is read, added to those already read.
 #[cycle(decode)]
 fn map_block<'a>(
     alloc: Global,
@@ -311,7 +311,7 @@ fn map_block<'a>(
     Ok((held, left, after))
 }
 
-/// So many entries, among those that are there.
+/// `count` entries, added to those already read.
 #[cycle(decode)]
 fn map_items<'a>(
     alloc: Global,
@@ -338,7 +338,7 @@ fn map_items<'a>(
     Ok((all, left, rest))
 }
 
-/// One entry: a name that is not there yet, and its value.
+/// One entry: a name that has not occurred yet, and its value.
 #[cycle(decode)]
 fn entry<'a>(
     alloc: Global,
@@ -374,12 +374,12 @@ fn named(alloc: Global, held: BTreeMap<Text, Tree>) -> Result<Named<Tree>, Fault
     Ok(Named::from_sorted(items))
 }
 
-/// The value of the node `id` at the front of the bytes, and how many of them spell it. What stands behind is not looked
-/// at. Numbers of up to ten bytes, blocks of any number and both signs, and a map's entries in any order are read.
+/// The value of the node `id` at the front of the bytes, and the length of its spelling. What follows is not looked at. Numbers of up to
+/// ten bytes, blocks in any number and of either sign, and a map's entries in any order are accepted.
 ///
-/// A block's items are read without regard to the size that it states, which is tested after the last. Of an entry the
-/// name is tested first, then whether the map has it, and then its value is read. That a value would be one node more
-/// than `NODE_LIMIT` is tested before anything else of it.
+/// A block's items are read without regard to the size that it states, which is tested after the last one. For an entry, first the name is
+/// tested, then whether the map has it already, and then its value is read. Whether a value would be one node more than `NODE_LIMIT` is
+/// tested before anything else about it.
 pub fn decode(alloc: Global, table: &Table, id: u32, bytes: &[u8]) -> Result<(Tree, usize), Refusal>
     requires table { IsTable table.now.nodes.now }
     requires there { id < length table.now.nodes.now }

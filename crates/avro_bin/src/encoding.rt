@@ -1,4 +1,4 @@
-//! Writing values: the one spelling that is written of each.
+//! Writing values: each in its one written spelling.
 ghost use Rattle.std.specs.Prelude.{◌≡◌, ◌++◌, ◌<◌, length, map, OnOk, OnErr};
 ghost use Rattle.avro_bin.specs.Plain.{plain, plain_all, plain_named, plain_block, plain_blob, Writes};
 ghost use Rattle.avro_bin.specs.Value.{VArray, VMap, row, entries};
@@ -143,9 +143,9 @@ fn put_named(out: &mut Vec<u8>, named: &Named<Tree>) -> Result<(), NoMemory>
     Ok(())
 }
 
-/// Appends the one spelling of the tree that is written: shortest numbers, one block with a positive count or none, and
-/// names in byte order. The tree says by its variants how each value is written; `table` and `id` name the schema by which it
-/// is read again, where the tree is one of it.
+/// Appends the one spelling of the tree that is written: shortest numbers, one block with a positive count or none, and names in byte
+/// order. The tree says by its variants how each value is written; `table` and `id` name the schema by which it reads back, if the tree is
+/// a value of it.
 pub fn encode(table: &Table, id: u32, tree: &Tree, into: &mut Vec<u8>) -> Result<(), NoMemory>
     ensures written { OnOk result (into.new.items ≡ into.old.items ++ plain (value_of tree.now)) }
     ensures spelled { OnOk result (HasSchema (schema table.now.nodes.now id) (value_of tree.now)

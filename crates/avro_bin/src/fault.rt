@@ -1,5 +1,5 @@
-//! Faults while reading: what is wrong, and how many bytes were left where the refused item begins. So the parts of a
-//! value need not know where in the message they stand; `decode` counts the offset from the front.
+//! Faults while reading: what is wrong, and how many bytes were left where the refused item begins. So the parts of a value need not know
+//! where in the message they are; `decode` counts the offset from the front.
 ghost use Rattle.std.specs.Prelude.{◌≡◌};
 ghost use Rattle.avro_bin.specs.declared.fault.Fault.TheVariants.{Memory};
 
@@ -7,7 +7,7 @@ use etp_values::NoMemory;
 use std::alloc::{AllocError, AllocFailed};
 use thiserror::Error;
 
-/// What is wrong with the bytes, as the variant of `Refusal` of the same name says.
+/// What is wrong with the bytes, as described by the variant of `Refusal` with the same name.
 #[derive(Clone, Copy, Debug, PartialEq, Eq, Error)]
 pub enum Why {
     #[error("the input ends inside the item")]
@@ -32,10 +32,10 @@ pub enum Why {
     Limit,
 }
 
-/// Want of memory, or what is wrong and how many bytes are left where the refused item begins.
+/// Out of memory, or what is wrong and how many bytes are left where the refused item begins.
 #[derive(Clone, Copy, Debug, PartialEq, Eq, Error)]
 pub enum Fault {
-    #[error("memory was refused")]
+    #[error("out of memory")]
     Memory,
     #[error("{0}, with {1} bytes left")]
     At(Why, usize),

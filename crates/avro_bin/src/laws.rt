@@ -1,7 +1,7 @@
 //! Laws of the encoding. Each function does nothing: its contract is the law.
 ghost use Rattle.avro_bin.specs.Laws.{OneSpelling, SomeOutcome, NotBoth, OneRefusal, ReadsExactly, RefusesExactly, PlainSpells, ReadsBack, SpelledHasSchema};
 
-/// Bytes begin with at most one spelling of a schema, and it spells one value: no spelling begins another.
+/// Bytes begin with at most one spelling of a schema, and it denotes one value: no spelling is a prefix of another.
 pub fn one_spelling()
     ensures { OneSpelling }
 {}
@@ -13,19 +13,19 @@ pub fn one_outcome()
     ensures one_refusal { OneRefusal }
 {}
 
-/// Reading is a function of the bytes, `read_value` of `specs/Laws`, which answers exactly what the grammar has.
+/// Reading is a function of the bytes, `read_value` of `specs/Laws`, which answers exactly what the grammar says.
 pub fn reading_is_exact()
     ensures read { ReadsExactly }
     ensures refused { RefusesExactly }
 {}
 
-/// What is written of a value spells it, so that it is read again whatever follows it.
+/// What is written for a value is a spelling of it, so it reads back whatever follows it.
 pub fn reads_back()
     ensures spelled { PlainSpells }
     ensures read { ReadsBack }
 {}
 
-/// What is spelled as a value of a schema is one of it.
+/// What is spelled as a value of a schema is a value of it.
 pub fn spelled_has_schema()
     ensures { SpelledHasSchema }
 {}

@@ -1,4 +1,4 @@
-//! Values that hold no others: what stands at the front of the bytes, and what stands behind it.
+//! Values that hold no others: the value at the front of the bytes, and what follows it.
 ghost use Rattle.std.specs.Prelude.{◌<◌};
 ghost use Rattle.avro_bin.specs.Reading.{Gives, boolean_at, int_at, bytes_at, blob_at, text_at, place_at, fixed_number_at};
 ghost use Rattle.std.specs.Int.{w32, w64};
@@ -32,7 +32,7 @@ pub fn int(bytes: &[u8]) -> Result<(i32, &[u8]), Fault>
     }
 }
 
-/// So many bytes of an item that begins where `left` bytes are left.
+/// The next `count` bytes, of an item that begins where `left` bytes are left.
 #[tactic(auto, unfolding(crate::specs::Reading::bytes_at))]
 pub fn bytes_of(left: usize, size: u64, bytes: &[u8]) -> Result<(&[u8], &[u8]), Fault>
     ensures { Gives (λ x. (x.0.now, x.1.now)) result (bytes_at left size bytes.now) }
@@ -43,7 +43,7 @@ pub fn bytes_of(left: usize, size: u64, bytes: &[u8]) -> Result<(&[u8], &[u8]), 
     Ok(bytes.split_at(size as usize))
 }
 
-/// A length, and so many bytes.
+/// A length, and that many bytes.
 #[tactic(auto, unfolding(crate::specs::Reading::blob_at))]
 pub fn blob(bytes: &[u8]) -> Result<(&[u8], &[u8]), Fault>
     ensures { Gives (λ x. (x.0.now, x.1.now)) result (blob_at bytes.now) }
@@ -95,7 +95,7 @@ pub fn double(bytes: &[u8]) -> Result<(u64, &[u8]), Fault>
     ))
 }
 
-/// A length, and so many bytes of UTF-8.
+/// A length, and that many bytes of UTF-8.
 #[tactic(auto, unfolding(crate::specs::Reading::text_at), using(crate::proofs::TextLemmas::valid_is))]
 pub fn text(bytes: &[u8]) -> Result<(&str, &[u8]), Fault>
     ensures { Gives (λ x. (x.0.now, x.1.now)) result (text_at bytes.now) }

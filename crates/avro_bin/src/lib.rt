@@ -1,19 +1,17 @@
 //! Values in Avro's binary encoding, read and written by a schema.
 //!
-//! A [`Table`] is a schema as a static list of [`Node`]s, in which children stand before the nodes that hold them. A
-//! [`Tree`] is a value. [`decode`] reads the value of a node from the front of some bytes: it accepts each spelling that
-//! the encoding allows, in any blocks and with numbers of up to ten bytes, and refuses everything else with one
-//! [`Refusal`] at its offset. [`encode`] appends the one spelling that is written: shortest numbers, one block, and a
-//! map's names in byte order. [`size`] is that spelling's length. [`span`] reads without a value: it answers how many bytes
-//! spell it.
+//! A [`Table`] is a schema as a static list of [`Node`]s, in which children come before the nodes that hold them. A [`Tree`] is a value.
+//! [`decode`] reads the value of a node from the front of some bytes: it accepts every spelling that the encoding allows, in any blocks and
+//! with numbers of up to ten bytes, and refuses everything else with one [`Refusal`] at its offset. [`encode`] appends the one spelling
+//! that is written: shortest numbers, one block, and a map's names in byte order. [`size`] is that spelling's length. [`span`] reads
+//! without building a value: it returns the length of the spelling.
 //!
-//! [`leaves`], [`numbers`] and [`blocks`] are the parts of reading, for types that are read without a tree. Each answers what
-//! stands at the front of the bytes and what stands behind it, or a [`Fault`], which counts the bytes that are left where the
-//! refused item begins.
+//! [`leaves`], [`numbers`] and [`blocks`] are the parts of reading, for types that are read without a tree. Each returns the item at the
+//! front of the bytes and what follows it, or a [`Fault`], which counts the bytes that are left where the refused item begins.
 //!
-//! The grammar is the relation `Spells` of `specs/Grammar`, by recursion on the schema. [`one_spelling`],
-//! [`one_outcome`], [`reading_is_exact`] and [`reads_back`] carry its laws: bytes begin with at most one value, they are
-//! either read or refused in one way, and what was written is read again whatever follows it.
+//! The grammar is the relation `Spells` of `specs/Grammar`, by recursion on the schema. [`one_spelling`], [`one_outcome`],
+//! [`reading_is_exact`] and [`reads_back`] carry its laws: bytes begin with at most one value, they are either read or refused in one way,
+//! and what was written reads back whatever follows it.
 #![tactic(auto)]
 
 pub mod blocks;

@@ -1,4 +1,4 @@
-//! Numbers: zigzag, in groups of seven bits, the lowest group first. A set high bit says that a further group follows.
+//! Numbers: zigzag, in groups of seven bits, the lowest group first. A set high bit says that another group follows.
 ghost use Rattle.std.specs.Prelude.{◌≡◌, ◌<◌, ◌≤◌, ◌^◌, length, take};
 ghost use Rattle.avro_bin.specs.Number.{plain_number, unsigned, signed};
 ghost use Rattle.avro_bin.specs.Plain.{Writes};
@@ -21,7 +21,7 @@ fn tenth_group(low: u64, bytes: &[u8]) -> Result<(u64, &[u8]), Why>
     }
 }
 
-/// What the groups at the front make.
+/// The number that the groups at the front make.
 fn groups(bytes: &[u8]) -> Result<(u64, &[u8]), Why>
     ensures { GivesWhy (λ x. (x.0, x.1.now)) result (groups_at 10 bytes.now) }
 {
@@ -41,7 +41,7 @@ fn groups(bytes: &[u8]) -> Result<(u64, &[u8]), Why>
     tenth_group(low, &bytes[9..])
 }
 
-/// 0, 1, 2, 3 stand for 0, -1, 1, -2.
+/// 0, 1, 2, 3 denote 0, -1, 1, -2.
 fn signed_of(z: u64) -> i64
     ensures { result ≡ signed z }
 {
@@ -52,7 +52,7 @@ fn signed_of(z: u64) -> i64
     }
 }
 
-/// The number at the front, and what stands behind it. Spellings that are longer than the shortest are read too.
+/// The number at the front, and what follows it. Spellings longer than the shortest are accepted too.
 #[tactic(auto, unfolding(crate::specs::Reading::number_at))]
 pub fn number(bytes: &[u8]) -> Result<(i64, &[u8]), Fault>
     ensures { Gives (λ x. (x.0, x.1.now)) result (number_at bytes.now) }
@@ -77,7 +77,7 @@ pub fn unsigned_of(x: i64) -> u64
     }
 }
 
-/// The shortest groups of a number stand in front, and there are so many.
+/// The shortest groups of a number, at the front of the array, and how many there are.
 fn groups_of(x: i64) -> ([u8; 10], usize)
     ensures groups { take result.1 result.0 ≡ plain_number x }
     ensures few { result.1 ≤ length result.0 }
@@ -109,7 +109,7 @@ pub fn put_number(out: &mut Vec<u8>, x: i64) -> Result<(), NoMemory>
     put_groups(out, x)
 }
 
-/// The same by several groups at once.
+/// The same for several groups at once.
 fn put_groups(out: &mut Vec<u8>, x: i64) -> Result<(), NoMemory>
     ensures { Writes (plain_number x) out.old.items out.new.items result }
 {

@@ -5,8 +5,8 @@ ghost use Rattle.avro_bin.specs.Refusing.{refusal};
 use crate::fault::Why;
 use thiserror::Error;
 
-/// Why bytes were refused, and where: the offset at which the refused item begins. In a text, bytes, a name and a block
-/// that is the offset of the length, count or size before it. Of several faults the one that a reader meets first counts.
+/// Why bytes were refused, and where: the offset at which the refused item begins. For a text, bytes, a name and a block that is the offset
+/// of the length, count or size before it. Of several faults the one that a reader meets first counts.
 #[derive(Clone, Copy, Debug, PartialEq, Eq, Drop, Error)]
 pub enum Refusal {
     /// The input ends inside the item.
@@ -15,13 +15,13 @@ pub enum Refusal {
     /// Ten bytes do not end a number, or the tenth is above 1.
     #[error("ten bytes do not end the number at byte {0}")]
     Number(usize),
-    /// An int passes 32 bits.
+    /// An int exceeds 32 bits.
     #[error("the int at byte {0} passes 32 bits")]
     Range(usize),
     /// A boolean is neither 0 nor 1.
     #[error("the boolean at byte {0} is neither 0 nor 1")]
     Bool(usize),
-    /// A union has no branch of that place, or an enum no symbol, or the place passes 32 bits.
+    /// A union has no branch at that place, or an enum no symbol, or the place exceeds 32 bits.
     #[error("the union or enum at byte {0} has no such branch or symbol")]
     Branch(usize),
     /// A text or a name is not UTF-8.
@@ -39,8 +39,8 @@ pub enum Refusal {
     /// The value would be one node more than `NODE_LIMIT` allows.
     #[error("the value at byte {0} is one node too many")]
     Limit(usize),
-    /// Memory was refused.
-    #[error("memory was refused")]
+    /// Out of memory.
+    #[error("out of memory")]
     NoMemory,
 }
 

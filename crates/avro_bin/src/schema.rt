@@ -15,13 +15,13 @@ pub enum Node {
     Float,
     /// The eight bytes of an IEEE 754 double, the lowest first.
     Double,
-    /// A length and so many bytes.
+    /// A length and that many bytes.
     Bytes,
-    /// A length and so many bytes of UTF-8.
+    /// A length and that many bytes of UTF-8.
     Text,
-    /// So many bytes.
+    /// A fixed number of bytes.
     Fixed(u32),
-    /// The place, from 0, of one of so many symbols.
+    /// The place, from 0, of one of this number of symbols.
     Enum(u32),
     /// Blocks of items of the child's schema.
     Array(u32),
@@ -33,8 +33,8 @@ pub enum Node {
     Fields(&'static [u32]),
 }
 
-/// The nodes of a schema. The children of a node have smaller places than the node, which bounds the depth of each
-/// value: calls require it.
+/// The nodes of a schema. The children of a node have smaller places than the node, which bounds the depth of each value: calls require
+/// this.
 #[derive(Clone, Copy, Debug)]
 pub struct Table {
     pub nodes: &'static [Node],

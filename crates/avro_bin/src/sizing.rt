@@ -1,4 +1,4 @@
-//! How long the spelling is that is written of a value. Sums stop at the greatest `u64`, so none overflows.
+//! The length of the spelling that is written for a value. Sums stop at `u64::MAX`, so none overflows.
 ghost use Rattle.std.specs.Prelude.{◌≡◌, ◌+◌, ◌-◌, ◌≤◌, ◌<◌, ◌^◌, length, min};
 ghost use Rattle.std.specs.Prelude.{map};
 ghost use Rattle.avro_bin.specs.Plain.{plain, plain_all, plain_named, plain_block, plain_blob};
@@ -13,7 +13,7 @@ use crate::tree::Tree;
 use etp_values::Named;
 use thiserror::Error;
 
-/// How many groups a number has, of which there are at most `most + 1`.
+/// How many groups a number has; it has at most `most + 1`.
 #[tactic(auto, using(crate::proofs::GroupLemmas::shortest_more))]
 fn groups_size(z: u64, most: u8) -> u64
     ensures size { result ≡ length (shortest most z) }
@@ -25,7 +25,7 @@ fn groups_size(z: u64, most: u8) -> u64
     1 + groups_size(z / 128, most - 1)
 }
 
-/// How many bytes a number has.
+/// How many bytes a number takes.
 #[tactic(auto, unfolding(crate::specs::Number::plain_number))]
 pub fn number_size(x: i64) -> u64
     ensures size { result ≡ length (plain_number x) }
@@ -34,7 +34,7 @@ pub fn number_size(x: i64) -> u64
     groups_size(unsigned_of(x), 9)
 }
 
-/// The sum, or the greatest number that there is.
+/// The sum, or `u64::MAX`.
 fn capped(a: u64, b: u64, c: u64) -> u64
     ensures { result ≡ min (a + b + c) (2 ^ 64 - 1) }
 {
@@ -48,7 +48,7 @@ pub fn blob_size(bytes: &[u8]) -> u64
     capped(number_size(bytes.len() as i64), bytes.len() as u64, 0)
 }
 
-/// How many bytes a value has, or the greatest number that there is.
+/// How many bytes a value takes, or `u64::MAX`.
 #[cycle(sizing)]
 #[tactic(auto, using(crate::proofs::ViewLemmas::values, crate::proofs::PlainLemmas::plain_array, crate::proofs::PlainLemmas::plain_map))]
 fn size_of(tree: &Tree) -> u64
@@ -122,15 +122,15 @@ fn named_size(named: &Named<Tree>) -> u64
     sum
 }
 
-/// The greatest length that is answered, in bytes.
+/// The greatest length that is returned, in bytes.
 pub const SIZE_LIMIT: u64 = 1 << 40;
 
-/// The spelling that is written is longer than 2^40 bytes.
+/// The written spelling is longer than 2^40 bytes.
 #[derive(Clone, Copy, Debug, PartialEq, Eq, Drop, Error)]
 #[error("the value takes more than {SIZE_LIMIT} bytes")]
 pub struct TooLong;
 
-/// The length of the spelling that `encode` writes of the tree. It takes no memory.
+/// The length of the spelling that `encode` writes for the tree. It does not allocate.
 pub fn size(_table: &Table, _id: u32, tree: &Tree) -> Result<u64, TooLong>
     ensures { IsSize (length (plain (value_of tree.now))) result }
 {

@@ -1,7 +1,7 @@
-//! Reading without a value: where the value at the front of the bytes ends. It refuses what reading with a value refuses, and
-//! takes memory for the names of maps alone.
+//! Reading without building a value: where the value at the front of the bytes ends. It refuses what reading with a value refuses, and
+//! allocates only for the names of maps.
 //!
-//! The functions are those of `decoding`, with nothing kept of a value.
+//! The functions are those of `decoding`, keeping nothing of a value.
 ghost use Rattle.std.specs.Prelude.{◌≡◌, ◌<◌, ℕ, suc, length, map, true};
 ghost use Rattle.std.specs.List.{AllByRecursion};
 ghost use Rattle.avro_bin.specs.Reading.{Gives, value_at, items_at, block_at};
@@ -21,7 +21,7 @@ use etp_values::Text;
 use std::alloc::Global;
 use std::collections::BTreeMap;
 
-/// Passes a node without children.
+/// Skips a node without children.
 #[tactic(auto, unfolding(crate::specs::Reading::value_at, crate::specs::Along::pass_at))]
 fn leaf(node: Node, allowed: u32, bytes: &[u8]) -> Result<(u32, &[u8]), Fault>
     requires { is_leaf node ≡ true }
@@ -69,7 +69,7 @@ fn leaf(node: Node, allowed: u32, bytes: &[u8]) -> Result<(u32, &[u8]), Fault>
     }
 }
 
-/// Passes the node at a place.
+/// Skips the node at a place.
 #[cycle(span)]
 fn value<'a>(
     alloc: Global,
@@ -95,7 +95,7 @@ fn value<'a>(
     }
 }
 
-/// Passes a record: its fields, in order.
+/// Skips a record: its fields, in order.
 #[cycle(span)]
 fn record<'a>(
     alloc: Global,
@@ -120,7 +120,7 @@ fn record<'a>(
     Ok((left, rest))
 }
 
-/// Passes a union: a branch's place, and its value.
+/// Skips a union: the place of a branch, and a value of it.
 #[cycle(span)]
 fn union<'a>(
     alloc: Global,
@@ -139,7 +139,7 @@ fn union<'a>(
     value(alloc, nodes, places[branch as usize], allowed, rest)
 }
 
-/// Passes an array: blocks of items, up to a count of 0.
+/// Skips an array: blocks of items, up to a count of 0.
 #[cycle(span)]
 fn array<'a>(
     alloc: Global,
@@ -163,11 +163,11 @@ fn array<'a>(
         left = after_left;
         rest = after;
     }
-    // Not reached: each block takes a byte.
+    // Unreachable: each block takes a byte.
     Err(Fault::At(Why::Limit, rest.len()))
 }
 
-/// Passes the items of a block whose count is read.
+/// Skips the items of a block whose count is read.
 #[cycle(span)]
 fn block<'a>(
     alloc: Global,
@@ -202,7 +202,7 @@ fn block<'a>(
     Ok((left, end))
 }
 
-/// Passes so many items.
+/// Skips `count` items.
 #[cycle(span)]
 fn items<'a>(
     alloc: Global,
@@ -226,7 +226,7 @@ fn items<'a>(
     Ok((left, rest))
 }
 
-/// Passes a map: blocks of entries, up to a count of 0.
+/// Skips a map: blocks of entries, up to a count of 0.
 #[cycle(span)]
 fn dictionary<'a>(
     alloc: Global,
@@ -252,11 +252,11 @@ fn dictionary<'a>(
         left = after_left;
         rest = after;
     }
-    // Not reached: each block takes a byte.
+    // Unreachable: each block takes a byte.
     Err(Fault::At(Why::Limit, rest.len()))
 }
 
-/// Passes the entries of a block whose count is read, and puts their names among those that are there.
+/// Skips the entries of a block whose count is read, and adds their names to those already read.
 #[cycle(span)]
 fn map_block<'a>(
     alloc: Global,
@@ -293,7 +293,7 @@ fn map_block<'a>(
     Ok((names, left, after))
 }
 
-/// Passes so many entries, and puts their names among those that are there.
+/// Skips `count` entries, and adds their names to those already read.
 #[cycle(span)]
 fn map_items<'a>(
     alloc: Global,
@@ -320,7 +320,7 @@ fn map_items<'a>(
     Ok((all, left, rest))
 }
 
-/// Passes one entry: a name that is not there yet, and its value.
+/// Skips one entry: a name that has not occurred yet, and its value.
 #[cycle(span)]
 fn entry<'a>(
     alloc: Global,
@@ -345,8 +345,7 @@ fn entry<'a>(
     Ok((all, left, rest))
 }
 
-/// How many bytes spell the value of the node `id` at the front. What [`decode`](crate::decode) refuses is refused by the
-/// same cause.
+/// How many bytes the value of the node `id` at the front takes. What [`decode`](crate::decode) refuses is refused for the same reason.
 pub fn span(alloc: Global, table: &Table, id: u32, bytes: &[u8]) -> Result<usize, Refusal>
     requires table { IsTable table.now.nodes.now }
     requires there { id < length table.now.nodes.now }

@@ -1,8 +1,8 @@
 //! Values.
 use etp_values::{Bits32, Bits64, Blob, List, Named, Text};
 
-/// A value of a node, with a variant for each kind of node. Contracts compare trees by the value that they stand for,
-/// `value_of` of `specs/View`.
+/// A value of a node, with a variant for each kind of node. Contracts compare trees by the value that they denote, `value_of` of
+/// `specs/View`.
 #[derive(Drop, Debug)]
 pub enum Tree {
     Null,

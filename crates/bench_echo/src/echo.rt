@@ -1,4 +1,4 @@
-//! Links that are sent back what comes over them.
+//! Links over which everything is sent back.
 use etp_outside::{Link, Listener, Next, Recv, Sent};
 use outside_net::{ServerLink, TcpDoor};
 use std::alloc::Global;
@@ -8,8 +8,8 @@ use std::thread;
 use std::thread::Threads;
 use std::time::Clock;
 
-/// Takes so many links from a door, or fewer where it fails, and sends back what comes over them, each link in a thread of its
-/// own. It waits until all have ended. A link for which no thread can be started is dropped.
+/// Takes this many links from a door, or fewer if it fails, and sends back what comes over them, each link in a thread of its own. It waits
+/// until all have ended. A link for which no thread can be started is dropped.
 pub fn echo_links<'a, N, R>(rt: &R, alloc: Global, door: &mut TcpDoor<'a, N>, links: u64)
 where
     N: Net<Listener = TcpListener, Stream = TcpStream> + Clock,

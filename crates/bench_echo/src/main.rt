@@ -1,7 +1,7 @@
-//! Sends back what comes over WebSockets: the plain echo beside which the server is measured.
+//! Sends back what comes over WebSockets: the plain echo against which the server is measured.
 //!
-//! `bench_echo ADDRESS LINKS` listens at ADDRESS by the server's own door, says at which port on standard error, and takes that
-//! many links, of which each is sent every message back. Once all have ended it ends.
+//! `bench_echo ADDRESS LINKS` listens at ADDRESS with the server's own door, writes its port to standard error, takes that many links, and
+//! sends every message of each back. It ends once all have ended.
 #![tactic(auto)]
 
 mod echo;
@@ -12,10 +12,10 @@ use outside_net::TcpDoor;
 use std::env;
 use std::process::ExitCode;
 
-/// The status where the words are in no form.
+/// The status if the command line is malformed.
 const USAGE: u8 = 1;
 
-/// The status where the door can't listen.
+/// The status if the door can't listen.
 const LISTEN_FAULT: u8 = 7;
 
 /// The address and the number of links that the words name.

@@ -70,7 +70,7 @@ fn tell_times(rt: &HostRuntime, bytes: usize, times: Times) -> io::Result<()> {
     )
 }
 
-/// Writes and reads a value as a tree, and prints how many bytes it has, and how fast that was where `timed`.
+/// Writes and reads a value as a tree, and prints how many bytes it has, and how fast that was if `timed`.
 #[tactic(auto, using(avro_bin::proofs::TableTestLemmas::table_is))]
 fn measure_tree<T: InTree>(rt: &HostRuntime, kind: &str, value: &T, timed: bool) -> io::Result<()> {
     let alloc = rt.alloc();
@@ -133,7 +133,7 @@ fn measure<T: OnWire + InTree>(
     measure_typed(rt, kind, &value, timed)
 }
 
-/// Measures so many values of a kind, and prints how many bytes they have, and how fast they were written and read where `timed`.
+/// Measures this many values of a kind, and prints how many bytes they have, and how fast they were written and read if `timed`.
 pub(crate) fn measure_kind(
     rt: &HostRuntime,
     kind: &str,

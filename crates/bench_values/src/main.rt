@@ -1,7 +1,7 @@
 //! Measures the codec and the store of channels.
 //!
-//! With no word it writes and reads a few values of each kind, and prints how many bytes they have. Then it takes one channel through
-//! a thousand changes of a fixed sequence, beside a plain list of its points, and prints how many changes of each kind there were, what
+//! Without words it writes and reads a few values of each kind, and prints how many bytes they have. Then it takes one channel through
+//! a thousand changes of a fixed sequence, next to a plain list of its points, and prints how many changes of each kind there were, what
 //! is left, whether both were the same after each change, and how many points a range gives that were appended at once.
 //!
 //! ```text
@@ -18,7 +18,7 @@ use channel::trial::run_trial;
 use codec::measure_kind;
 use std::{env, io};
 
-/// What is run where nothing is measured.
+/// What is run if nothing is measured.
 fn run_unmeasured(rt: &HostRuntime) -> io::Result<()> {
     measure_kind(rt, "longs", 5, false)?;
     measure_kind(rt, "doubles", 5, false)?;
@@ -26,7 +26,7 @@ fn run_unmeasured(rt: &HostRuntime) -> io::Result<()> {
     run_trial(rt)
 }
 
-/// The number that a word spells; `otherwise` where there is no word, or none.
+/// The number that a word denotes; `otherwise` if there is no word, or none.
 fn number_in(word: Option<String>, otherwise: u32) -> u32 {
     match word {
         Some(word) => word.as_str().parse::<u32>().unwrap_or(otherwise),

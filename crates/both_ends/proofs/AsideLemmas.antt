@@ -1,4 +1,4 @@
--- Messages that tell no change and answer no ask for a subscription: they leave a client's subscriptions as they are, but for a stop.
+-- Messages that send no change and answer no ask for a subscription: they leave a client's subscriptions as they are, except for a stop.
 use Rattle.std.proofs.Common.{◌≡◌, ℕ, ℤ, pos, Bool, true, false, cond, not, ◌&&◌, ◌||◌, ◌⊎◌, inl, inr, List, [], ◌∷◌, ◌++◌, Option, Some, None, Result, Ok, Err, filter, is_some, nat_lt, option_map, if◌then◌else◌, refl, sym, ap, subst, ◌∙◌, append-nil}
 use Rattle.std.specs.List.{AllByRecursion, list_any}
 use Rattle.std.specs.Ordering.{int_eq}
@@ -125,7 +125,7 @@ grown_under h m n empty under = (under.0, under.1, under.2, by under.3)
     by (inl apart) = inl apart
     by (inr e) = inr (empty e)
 
--- ---- they tell no change, and grant no subscription
+-- ---- they send no change, and grant no subscription
 
 subscribe_untold : (x : ChannelSubscribeMessage) → subscribe_aside x ≡ true → subscribe_changes x ≡ None
 subscribe_untold (subscribe.ChannelData x) aside = absurd (false≢true aside)
@@ -166,11 +166,11 @@ all_filter P f (x ∷ xs) all = by (f x) (all_filter P f xs all.1)
     by true rest = (all.0, rest)
     by false rest = rest
 
--- the subscriptions and what was handed on of them are as they were
+-- the subscriptions and what was returned of them are as they were
 abbrev pub Still : Heard → Taken → Type 0
 Still s t = (t.state.channels ≡ s.channels) × ((c : ℤ) (before : Option (List What)) → handed c s.asks before t.result ≡ before)
 
--- what is asked stays of a kind, and the subscriptions are still, but for a stop
+-- what is asked stays of a kind, and the subscriptions are still, except for a stop
 abbrev pub Minds : (P : Asked → Type 0) → Bool → Heard → Taken → Type 0
 Minds P stop s t = (t.state.last ≡ s.last) × AsideKept t.state.kept × (AllByRecursion P s.asks → AllByRecursion P t.state.asks) × (stop ≡ false → Still s t)
 
@@ -189,7 +189,7 @@ module _ (P : Asked → Type 0) (stop : Bool) where
   changes_go : (h : Header) (m : Message) (s : Heard) → is_aside m ≡ true → Goes P stop s (by_changes h.correlation (notice h m) s)
   changes_go h m s aside = subst (λ o. Goes P stop s (by_changes h.correlation o s)) (sym (no_notice h m aside)) (fails_goes (error.Unasked h.correlation) s s)
 
-  -- an ask that waits for another thing is done
+  -- an ask that waits for something else is done
   done_still : (c : ℤ) (id : ℤ) (asks : List Asked) (d : Due) (before : Option (List What)) → due_at id asks ≡ Some d → is_subscription c (Some d) ≡ false → handed c asks before (Ok (got.Done id ∷ [])) ≡ before
   done_still c id asks d before at other = ap (λ b. if b || false then Some [] else option_map (λ ws. ws ++ []) before) (ap (is_subscription c) at ∙ other) ∙ no_more before
 
@@ -370,7 +370,7 @@ module _ (P : Asked → Type 0) where
       by true fresh lives = (fresh, message_goes h m (record s { last = h.id }) under aside kept lives)
       by false stale lives = absurd (false≢true (sym lives))
 
--- a message that gives nothing is passed by
+-- a message that gives nothing is ignored
 pub silent_taken : (h : Header) (m : Message) (s : Heard) → is_silent m ≡ true → is_ended (on_read h m s).state.phase ≡ false → on_read h m s ≡ gives [] (record s { last = h.id })
 silent_taken h m s silent = by (is_fresh s.last h.id)
   where

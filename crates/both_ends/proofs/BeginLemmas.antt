@@ -1,4 +1,4 @@
--- The reply by which a subscription is accepted, as a client takes it.
+-- The reply with which a subscription is accepted, as a client takes it.
 use Rattle.std.proofs.Common.{◌≡◌, ℕ, ℤ, true, false, List, [], ◌∷◌, None, Ok, map, refl, sym, ap, subst, ◌∙◌}
 use Rattle.client_core.specs.Answers.{done, subscribed, without}
 use Rattle.client_core.specs.Joining.{grown, is_broken}
@@ -18,7 +18,7 @@ use Rattle.both_ends.specs.Beginnings.{IsAccepted, RepliesAccept}
 abbrev pub reply_of : SubscribeChannelsResponse → Message
 reply_of x = message.ChannelSubscribe (subscribe.SubscribeChannelsResponse x)
 
--- the client with a subscription more, and what it hands on
+-- the client with one more subscription, and what it returns
 abbrev pub begun_with : ℤ → Header → Heard → Taken
 begun_with channel h s = record { state = record s { last = h.id; asks = without h.correlation s.asks; channels = subscribed channel s.channels }; result = Ok (got.Done h.correlation ∷ []) }
 

@@ -1,4 +1,4 @@
--- The notices that a session sends, and the replies that grant a subscription, beside a client.
+-- The notices that a session sends, and the replies that grant a subscription, as seen by a client.
 use Rattle.std.proofs.Common.{◌≡◌, ◌+◌, ◌⊎◌, inl, inr, ℕ, ℤ, pos, Bool, true, false, cond, not, ◌&&◌, ◌||◌, List, [], ◌∷◌, ◌++◌, Option, Some, None, Ok, codes, filter, fold, map, option_map, if◌then◌else◌, refl, sym, ap, subst, ◌∙◌, append-nil}
 use Rattle.std.specs.List.{AllByRecursion, find, list_any}
 use Rattle.std.specs.Ordering.{int_eq}
@@ -66,7 +66,7 @@ use Rattle.both_ends.proofs.PutLemmas.{Agrees, all_at, IsKnown, Rising, channel_
 
 -- ---- a message that comes
 
--- it is none that a client passes by, that closes or opens a session, or that is an exception
+-- a client does not ignore it, it does not close or open a session, and it is not an exception
 abbrev pub IsPlain : Message → Type 0
 IsPlain m = (is_silent m ≡ false) × (is_closing m ≡ false) × (is_opening m ≡ false) × (is_exception m ≡ false)
 
@@ -163,7 +163,7 @@ flow_told c channel what false live before k other f = (f.0, λ i. f.1 i ++ (if 
 module _ (all : List Put) (rising : Rising 2 all) (law : NoticesAreChanges) (r : Request) (limit number : ℕ) (subs : ℤ → Bool) where
   -- ---- a block of parts
 
-  -- a client that has the channel's subscription takes the parts so
+  -- a client that has the channel's subscription takes the parts this way
   abbrev Block : (ℤ → Told) → ChangeMsg → Sent → List Sent → Type 0
   Block told z x xs = (s : Heard) (before : Handed) → Follows all subs told s before → is_fresh s.last x.0.id ≡ true → s.phase ≡ phase.Open → s.kept ≡ None
       → (left : Heard) × Awaits left z s (x ∷ xs) × Follows all subs (λ c. fold (hear_sent c) (told c) (x ∷ xs)) left (λ c. told_more c z (before c))
@@ -321,7 +321,7 @@ answers h x t (Some due.Metadata) at lives = unasked_ends h x t (Answers h x t) 
 answers h x t (Some due.Load) at lives = unasked_ends h x t (Answers h x t) lives
 answers h x t (Some due.Pong) at lives = unasked_ends h x t (Answers h x t) lives
 
--- ---- a subscription more
+-- ---- one more subscription
 
 abbrev stands_at : ℤ → Channel → Bool
 stands_at c f = int_eq f.id c && f.live
@@ -392,7 +392,7 @@ flow_granted c channel id asks cs subs before k at none f = by (int_eq channel c
 abbrev begins_at : Header → Heard → Heard
 begins_at h s = record s { last = h.id; kept = None }
 
--- as a client reads the reply, behind what it keeps
+-- as a client reads the reply, after what it keeps
 record Reads (h : Header) (s : Heard) : Type 0 where
   reply : SubscribeChannelsResponse
   grants : is_granted reply.success ≡ true
@@ -517,7 +517,7 @@ quiet_sent r id (p ∷ ps) reach are =
     subst (λ l. AreAside (all_sent l)) (sym (numbered_one r id p ps reach))
     (((q.0, under r.protocol (outgoing r id (replies_in ps) p).header p.message q.0 refl refl), q.1), quiet_sent r (id + 2) ps (reach_rest id p ps reach) are.1)
 
--- what none of these messages does, none of the parts does of which they are made
+-- what none of these messages does, none of their parts does
 pub parts_quiet : (r : Request) (id : ℕ) (ps : List Part) → is_spent id ps ≡ false → AllByRecursion (λ (o : Outgoing). speaks o.message ≡ false) (numbered r id ps) → AllByRecursion (λ (p : Part). speaks p.message ≡ false) ps
 parts_quiet r id [] reach are = tt
 parts_quiet r id (p ∷ ps) reach are =

@@ -1,4 +1,4 @@
--- What was handed on is the stream, and its copy the points.
+-- What was returned is the stream, and its copy the points.
 use Rattle.std.proofs.Common.{◌≡◌, ◌≤◌, ℕ, ℤ, zero, suc, true, List, [], ◌∷◌, ◌++◌, Some, fold, length, max, take, option_map, refl, sym, ap, ◌∙◌, arith, inl, inr, append-nil}
 use Rattle.std.proofs.lemmas.Bool.{cases_lt}
 use Rattle.std.proofs.lemmas.List.{drop_all, take_all}
@@ -22,7 +22,7 @@ use Rattle.store_machine.specs.News.{stream}
 use Rattle.store_machine.specs.declared.journal.Entry.{Entry}
 use Rattle.both_ends.specs.Copies.{HandedHasPoints, IdleHasPoints, IsHanded}
 
--- ---- beginnings of a history
+-- ---- prefixes of a history
 
 from_front : (config : Config) (earlier : List Entry) (k : ℕ) (es : List Entry) → LegalFrom config earlier es → LegalFrom config earlier (take k es)
 from_front config earlier zero es legal = tt
@@ -33,7 +33,7 @@ legal_front : (config : Config) (k : ℕ) (h : List Entry) → Legal config h �
 legal_front config k [] legal = absurd legal
 legal_front config k (e ∷ es) legal = (legal.0, from_front config (e ∷ []) k es legal.1)
 
--- from the end of a history on no change is to be told
+-- from the end of a history on no change is left to send
 at_end : (id start : ℤ) (m : ℕ) (h : List Entry) → length h ≤ m → stream id start true m h ≡ told_by start true (channel_points id h) []
 at_end id start m h short = λ i. told_by start true (channel_points id (take_all m h short i)) (whats_of (changes_from m id (drop_all m h short i)))
 

@@ -113,7 +113,7 @@ Heeds (Polls front) ps = Unit {0}
 Heeds (Receives bytes moment) [] = ⊥
 Heeds (Receives bytes moment) (p ∷ ps) = read_of Client bytes ≡ Ok (put_header p, p.message)
 
--- the message that a session reads is one that the client put out
+-- the message that a session reads is one that the client sent
 record IsOf (all : List Put) (h : Header) (m : ChannelSubscribeMessage) : Type 0 where
   front : List Put
   put : Put
@@ -314,7 +314,7 @@ module _ (law : NoticesAreChanges) (all : List Put) (rising : Rising 2 all) (mod
       (subst (λ d. OnlyGranted v w (keyed (subscription_of channel start)) (d ∷ [])) is only) tells are.1.1 are.1.2.1 of keys
   begins_carries told v w h asked channel start keys of (d ∷ e ∷ ds) changes sent y are only tells = absurd are.2
 
-  -- ---- whatever is said
+  -- ---- whatever is sent
 
   matter_carries : (told : ℤ → Told) (front ps : List Put) (e : Event) (v w : Subbed) (sent : List Outgoing) → all ≡ front ++ ps → Heeds e ps
       → (w.subs ≡ [] → (c : ℤ) → ((fold (hear_sent c) (told c) (all_sent sent)).part ≡ []) × ((fold (hear_sent c) (told c) (all_sent sent)).told ≡ []))

@@ -1,4 +1,4 @@
--- A client beside the messages that a session sends: what it hands on since a subscription was accepted is what the session has told.
+-- A client next to the messages that a session sends: what it returns since a subscription was accepted is what the session has sent.
 use Rattle.std.proofs.Common.{◌≡◌, ℕ, ℤ, Bool, true, false, not, ◌||◌, ◌⊎◌, inl, inr, List, [], ◌∷◌, ◌++◌, Option, Some, Ok, fold, option_map, if◌then◌else◌, refl, sym, ap, subst, ◌∙◌, append-nil, append_assoc}
 use Rattle.std.specs.List.{AllByRecursion, flat_map}
 use Rattle.std.proofs.lemmas.Bool.{false≢true}
@@ -69,7 +69,7 @@ Delivers (Asks a moment ∷ es) xs = Delivers es xs
 Delivers (Takes bytes ∷ es) [] = ⊥
 Delivers (Takes bytes ∷ es) (x ∷ xs) = (read_of Server bytes ≡ Ok x) × Delivers es xs
 
--- the events of a beginning, and those of the rest
+-- the events of a prefix, and those of the rest
 record SplitAt (es : List Event) (xs ys : List Sent) : Type 0 where
   front : List Event
   back : List Event
@@ -101,17 +101,16 @@ since_more c s before (e ∷ es) fs = since_more c (stepped s e) (since_event c 
 
 -- ---- both ends
 
--- what each channel's subscription hands on
+-- what each channel's subscription returns
 abbrev pub Handed : Type 0
 Handed = ℤ → Option (List What)
 
--- A channel that the session has subscribed stands with the client, which was handed what was told; of one that isn't subscribed
--- nothing was told.
+-- A channel that the session has subscribed to is active with the client, which was handed what was sent; of any other nothing was sent.
 abbrev pub Flows : Bool → Bool → Option (List What) → Told → Type 0
 Flows true live before k = (k.part ≡ []) × (live ≡ true) × (before ≡ Some k.told)
 Flows false live before k = (k.part ≡ []) × (k.told ≡ [])
 
--- a client keeps no part of what bears on subscriptions, and its asks are of messages that it put out
+-- a client keeps no part of what concerns subscriptions, and its asks are of messages that it sent
 pub record Ready (all : List Put) (s : Heard) : Type 0 where
   pub kept : AsideKept s.kept
   pub asks : AllByRecursion (IsKnown all) s.asks
@@ -126,7 +125,7 @@ abbrev pub Carries : List Put → (ℤ → Told) → List Sent → (ℤ → Bool
 Carries all told xs subs left = (s : State) (before : Handed) (es : List Event) → Follows all subs told s.heard before → Delivers es xs → IsPut all s es → is_ended (fold stepped s es).heard.phase ≡ false
     → Follows all left (λ c. fold (hear_sent c) (told c) xs) (fold stepped s es).heard (λ c. since c s (before c) es)
 
--- ---- messages, apart from what is put out
+-- ---- messages, apart from what is sent
 
 -- a message aside under its own header
 abbrev pub IsAsideSent : Sent → Type 0
@@ -143,7 +142,7 @@ unheard_aside : (c : ℤ) (last : Bool) (m : Message) (k : Told) → is_aside m 
 unheard_aside c last (message.ChannelSubscribe m) k aside still = subscribe_unheard c last m k aside still
 unheard_aside c last m k aside still = refl
 
--- messages that bear on no subscription
+-- messages that concern no subscription
 abbrev pub AreAside : List Sent → Type 0
 AreAside xs = AllByRecursion (λ (x : Sent). IsAsideSent x × (is_stop x.1 ≡ false)) xs
 
@@ -151,11 +150,11 @@ silent_unheard : (c : ℤ) (last : Bool) (m : Message) (k : Told) → is_silent 
 silent_unheard c last (message.ChannelSubscribe m) k silent = absurd (false≢true silent)
 silent_unheard c last m k silent = refl
 
--- a message that a client passes by, or one aside
+-- a message that a client ignores, or one aside
 abbrev pub IsMinor : Sent → Type 0
 IsMinor x = (is_silent x.1 ≡ true) ⊎ IsAsideSent x
 
--- with asks more, these parts leave a client so and hand on this change with the last
+-- with more asks, these parts leave a client this way and return this change with the last
 abbrev pub Awaits : Heard → ChangeMsg → Heard → List Sent → Type 0
 Awaits left z s xs = (more : List Asked) → (left_by (more_asks more s) xs ≡ more_asks more left) × (given_by (more_asks more s) xs ≡ at_last (Ok (got.Change z ∷ [])) xs)
 
@@ -195,7 +194,7 @@ rest_given (g ∷ gs) = gs
 no_asks : (s : Heard) → more_asks [] s ≡ s
 no_asks s = ap (λ l. record s { asks = l }) (append-nil s.asks)
 
--- what is handed on with a change
+-- what is returned with a change
 abbrev pub told_more : ℤ → ChangeMsg → Option (List What) → Option (List What)
 told_more c z before = option_map (λ ws. ws ++ flat_map (told_of c) (got.Change z ∷ [])) before
 
@@ -235,7 +234,7 @@ module _ (all : List Put) (rising : Rising 2 all) where
       (put_later all s (Asks a moment) es put) lives
   carries_none subs told s before (Takes bytes ∷ es) f d put lives = absurd d
 
-  -- ---- messages behind others
+  -- ---- messages after others
 
   pub carries_more : (told : ℤ → Told) (xs ys : List Sent) (subs between left : ℤ → Bool) → Carries all told xs subs between → Carries all (λ c. fold (hear_sent c) (told c) xs) ys between left
       → Carries all told (xs ++ ys) subs left
@@ -332,7 +331,7 @@ module _ (all : List Put) (rising : Rising 2 all) where
       let on : is_ended (on_read x.0 x.1 s.heard).state.phase ≡ false = subst (λ (r : Taken). is_ended r.state.phase ≡ false) is (lives_before t es lives) in
       stops_ready xs are.1 t es (subst (λ (r : Taken). Ready all r.state) (sym is) (minor_ready x are.0 s.heard ready on)) d.1 (put_later all s (Takes bytes) es put) lives
 
-  -- where nothing is told of any channel then
+  -- if nothing is sent of any channel then
   pub stops_carry : (told : ℤ → Told) (xs : List Sent) (subs : ℤ → Bool) → AllByRecursion IsMinor xs
       → ((c : ℤ) → ((fold (hear_sent c) (told c) xs).part ≡ []) × ((fold (hear_sent c) (told c) xs).told ≡ [])) → Carries all told xs subs (λ c. false)
   stops_carry told xs subs are empty s before es f d put lives = record { ready = stops_ready xs are s es f.ready d put lives; flows = empty }

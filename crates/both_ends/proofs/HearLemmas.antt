@@ -100,7 +100,7 @@ its_points channel c false is (p ∷ ps) = (λ i. (if is i then p ∷ [] else []
 same_turned : (a b : ℤ) → int_eq a b ≡ int_eq b a
 same_turned a b = grind (arith, ints)
 
--- what is heard of a change behind what was heard
+-- what is heard of a change after what was heard
 abbrev pub with_told : ℤ → ℤ → What → Heard → Heard
 with_told channel c what k = record k { told = k.told ++ change_of channel (change_msg c what) }
 

@@ -76,7 +76,7 @@ fresh_next id odd = let below : int_lt (pos id) (pos (id + 2)) ≡ true = grind 
 fresh_odd : (last : ℤ) (id : ℕ) → is_fresh last (pos id) ≡ true → Odd id
 fresh_odd last id h = (and_parts (int_lt last (pos id)) (int_eq (int_rem (pos id) (pos 2)) (pos 1)) h).1
 
--- the id behind those of a part and further ones, and the last of these
+-- the id after those of a part and further ones, and the last of these
 abbrev pub id_after : ℕ → List Message → ℕ
 id_after id [] = id + 2
 id_after id (m ∷ ms) = id_after (id + 2) ms
@@ -85,7 +85,7 @@ abbrev pub last_id : ℕ → List Message → ℕ
 last_id id [] = id
 last_id id (m ∷ ms) = last_id (id + 2) ms
 
--- ids that reach for a part and those behind it
+-- enough ids for a part and those after it
 reach_first : (id : ℕ) (p : Part) (ps : List Part) → is_spent id (p ∷ ps) ≡ false → nat_le id max_id ≡ true
 reach_first id p ps reach = by (nat_le id max_id) refl reach
   where
@@ -99,7 +99,7 @@ reach_rest id p ps reach = ap (λ b. if b then is_spent (id + 2) ps else true) (
 pub numbered_one : (r : Request) (id : ℕ) (p : Part) (ps : List Part) → is_spent id (p ∷ ps) ≡ false → numbered r id (p ∷ ps) ≡ outgoing r id (replies_in ps) p ∷ numbered r (id + 2) ps
 numbered_one r id p ps reach = ap (λ b. if b then outgoing r id (replies_in ps) p ∷ numbered r (id + 2) ps else []) (reach_first id p ps reach)
 
--- ---- the parts of one notice, and what is sent behind them
+-- ---- the parts of one notice, and what is sent after them
 
 abbrev pub header_at : ℤ → ℤ → ℕ → ℤ → Header
 header_at protocol kind id flags = record { protocol = protocol; kind = kind; correlation = pos 0; id = pos id; flags = flags }
@@ -189,7 +189,7 @@ notice_some limit number blobs at channel (Replace from to ps) =
 notice_some limit number blobs at channel (Truncate end) =
     some_group (λ g. message.ChannelSubscribe (subscribe.ChannelsTruncated (record { change_time = at; channels = g }))) (item_amount truncate_info_form) limit [] (record { channel_id = channel; new_end_index = index.Long end } ∷ [])
 
--- ---- subscriptions stand on
+-- ---- subscriptions stay active
 
 abbrev live_at : ℤ → Channel → Bool
 live_at q f = int_eq f.id q && f.live

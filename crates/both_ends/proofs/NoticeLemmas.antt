@@ -1,4 +1,4 @@
--- The change that a client reads in a notice is the one of which it was made.
+-- The change that a client reads in a notice is the one from which it was made.
 use Rattle.std.proofs.Common.{◌≡◌, ℕ, ℤ, pos, true, false, ◌&&◌, ◌||◌, List, [], ◌∷◌, ◌++◌, Option, Some, None, fold, map, option_map, if◌then◌else◌, filter, refl, sym, ap, subst, ◌∙◌, append-nil, append_assoc}
 use Rattle.std.specs.List.{list_all}
 use Rattle.std.specs.Ordering.{int_eq}
@@ -40,7 +40,7 @@ points_back : (c : ℤ) (ps : List Point) → map point_of (items_of c ps) ≡ m
 points_back c [] = refl
 points_back c (p ∷ ps) = ap (λ l. on_channel c p ∷ l) (points_back c ps)
 
--- more points of the channel of a run go into it
+-- more points of the channel of a run join it
 run_more : (c : ℤ) (held ps : List Point) → fold with_point (record { channel = c; points = held } ∷ []) (map (on_channel c) ps) ≡ record { channel = c; points = held ++ ps } ∷ []
 run_more c held [] = ap (λ l. record { channel = c; points = l } ∷ []) (sym (append-nil held))
 run_more c held (p ∷ ps) =
@@ -76,7 +76,7 @@ read_back at c (Replace from to ps) news =
     ∙ ap (λ l. Some (replaced_by (interval_of from to) l c ∷ [])) (all_its_own c ps)
 read_back at c (Truncate end) news = refl
 
--- ---- a notice is no answer
+-- ---- a notice is not an answer
 
 -- whatever the ask at its correlation waits for
 no_answer : (h : Header) (at c : ℤ) (what : What) (t : Heard) (d : Option Due) → by_due h (message.ChannelSubscribe (notice_of at c what)) d t
@@ -124,7 +124,7 @@ nothing_rises at c (Append ps) = tt
 nothing_rises at c (Replace from to ps) = tt
 nothing_rises at c (Truncate end) = tt
 
--- a client whose subscription of the channel stands takes the change in
+-- a client whose subscription of the channel is active takes the change in
 taken_in : (h : Header) (at c : ℤ) (what : What) (t : Heard) → HasNews what → h.correlation ≡ pos 0 → is_live c t.channels ≡ true
     → on_whole h (message.ChannelSubscribe (notice_of at c what)) t ≡ gives (got.Change (change_msg c what) ∷ []) (record t { channels = follows t.channels (change_msg c what) })
 taken_in h at c what t news unasked stands =

@@ -1,4 +1,4 @@
--- What a client puts out: the ids of its messages rise, and each ask that is open is of a message that it put out.
+-- What a client sends: the ids of its messages rise, and each open ask is of a message that it sent.
 use Rattle.std.proofs.Common.{◌≡◌, ◌+◌, ◌*◌, ◌<◌, ◌≤◌, ℕ, ℤ, pos, Bool, true, false, not, ◌||◌, List, [], ◌∷◌, ◌++◌, Option, Some, None, fold, length, map, refl, sym, ap, subst, ◌∙◌, arith, append-nil, append_assoc}
 use Rattle.std.specs.List.{AllByRecursion}
 use Rattle.std.specs.Prelude.{◌==◌}
@@ -68,7 +68,7 @@ rising_at : (low : ℕ) (front : List Put) (p : Put) (back : List Put) → Risin
 rising_at low [] p back r = r.0
 rising_at low (q ∷ front) p back r = let f = r.0 in let g = rising_at (q.id + 1) front p back r.1 in omega (arith, f, g)
 
--- ---- what is put out is what a client has to send
+-- ---- what is sent is what a client has to send
 
 abbrev pub put_bytes : Put → List ℕ
 put_bytes p = message_bytes (put_header p) p.message
@@ -121,7 +121,7 @@ abbrev subscribe_channel : ChannelSubscribeMessage → Option ℤ
 subscribe_channel (subscribe.SubscribeChannels x) = first_channel x.channels
 subscribe_channel _ = None
 
--- the channel that a message asks to subscribe
+-- the channel that a message asks to subscribe to
 abbrev pub channel_named : Message → Option ℤ
 channel_named (message.ChannelSubscribe x) = subscribe_channel x
 channel_named _ = None
@@ -172,11 +172,11 @@ known_at a low (q ∷ front) p back is agrees r =
 abbrev pub more_asks : List Asked → Heard → Heard
 more_asks more s = record s { asks = s.asks ++ more }
 
--- what is put out from here on, among all
+-- what is sent from here on, among all
 abbrev pub IsPut : List Put → State → List Event → Type 0
 IsPut all s es = (front : List Put) × (back : List Put) × (all ≡ front ++ (puts_from s es ++ back))
 
--- an ask leaves what was heard, with asks more
+-- an ask leaves what was heard, with more asks
 abbrev pub AsksMore : List Put → State → State → Type 0
 AsksMore all s t = (more : List Asked) × AllByRecursion (IsKnown all) more × (t.heard ≡ more_asks more s.heard)
 
@@ -213,7 +213,7 @@ ask_more all rising s a moment es put = by (not (is_open s.heard.phase) || is_sp
     by true put lives = ([], tt, ap (λ l. record s.heard { asks = l }) (sym (append-nil s.heard.asks)))
     by false put lives = ask_sends all rising s a moment (puts_from (closed_if (is_close a) (sends_message (due_of a) (message_of moment a) s)) es) put.0 put.1 put.2 lives
 
--- behind a first event, and behind several
+-- after a first event, and after several
 pub put_later : (all : List Put) (s : State) (e : Event) (es : List Event) → IsPut all s (e ∷ es) → IsPut all (stepped s e) es
 put_later all s e es put = (
   put.0 ++ event_puts s e,

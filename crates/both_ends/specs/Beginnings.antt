@@ -1,4 +1,4 @@
--- The reply by which a subscription is accepted, and what a client makes of it.
+-- The reply with which a subscription is accepted, and what a client makes of it.
 use Rattle.std.specs.Prelude.{◌≡◌, ℕ, ℤ, true, List, [], ◌∷◌, Some, None, Ok, map}
 use Rattle.client_core.specs.Answers.{due_at, is_granted, subscribed, without}
 use Rattle.client_core.specs.State.{Heard}
@@ -23,8 +23,7 @@ pub record IsAccepted (limit number blobs : ℕ) (x : SubscribeChannelsResponse)
   pub begun : s.phase ≡ phase.Open
   pub free : s.kept ≡ None
 
--- then the last part tells that the ask is done; it is over, and the subscription of the channel stands from there on, with an empty
--- copy
+-- then the last part says that the ask is done; it is over, and the subscription of the channel is active from there on, with an empty copy
 abbrev pub RepliesAccept : Type 0
 RepliesAccept = (limit number blobs : ℕ) (x : SubscribeChannelsResponse) (channel : ℤ) (h : Header) (sent : List Sent) (s : Heard) → IsAccepted limit number blobs x channel h sent s
     → (left_by s sent ≡ record s { last = h.id; asks = without h.correlation s.asks; channels = subscribed channel s.channels }) × (given_by s sent ≡ at_last (Ok (got.Done h.correlation ∷ [])) sent)

@@ -1,4 +1,4 @@
--- A client that was handed what a session told of a channel, and the channel's points.
+-- A client that received what a session sent of a channel, and the channel's points.
 use Rattle.std.specs.Prelude.{◌≡◌, ℕ, ℤ, true, false, List, ◌∷◌, ◌++◌, Some, None, fold, length, max, take}
 use Rattle.server_config.specs.declared.config.Config.{Config}
 use Rattle.channel_store.specs.Points.{past}
@@ -18,9 +18,9 @@ use Rattle.store_machine.specs.Legal.{Legal}
 use Rattle.store_machine.specs.declared.journal.Entry.{Entry}
 use Rattle.subscribe_core.specs.Views.{sub_of}
 
--- A session, of which this is the course, has the subscription of the channel with all changes; and since a client, to which these
--- events happened from its beginning on, had its subscription of the channel last accepted, it was handed what the session has
--- told of the channel since its last stop.
+-- A session, of which this is the course, has the subscription of the channel with all changes; and since a client, to which these events
+-- happened from its beginning on, had its subscription of the channel last accepted, it received what the session has sent of the channel
+-- since its last stop.
 pub record IsHanded (r : Course) (moment : ℤ) (events : List ClientEvent) (channel : ℤ) (s : Sub) : Type 0 where
   pub stands : sub_of channel r.state.subs.subs ≡ Some s
   pub all : s.all ≡ true
@@ -34,7 +34,7 @@ HandedHasPoints = (config : Config) (n : ℕ) (h : List Entry) (places : List �
     is_spent_course r ≡ false → IsHanded r moment events channel s
     → copy_of channel (fold stepped (begun moment) events) ≡ Some (past s.start (channel_points channel (take (max s.from r.state.subs.cursor) h)))
 
--- where a poll then asks nothing, at the front that it tells of
+-- if a poll then asks nothing, at the front that it reports
 abbrev pub IdleHasPoints : Type 0
 IdleHasPoints = (config : Config) (n : ℕ) (h : List Entry) (places : List ℕ) (before later : List Event) (front : ℕ) (moment : ℤ) (events : List ClientEvent) (channel : ℤ) (s : Sub)
     → Legal config h → HasIds config → Rises 0 places (length h) → Heeds config n h places (before ++ Polls front ∷ later)

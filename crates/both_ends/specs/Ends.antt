@@ -50,7 +50,7 @@ bytes_sent os = map (λ o. message_bytes o.header o.message) os
 abbrev pub IsPassed : Side → Header → Message → Type 0
 IsPassed side h m = read_of side (message_bytes h m) ≡ Ok (h, m)
 
--- ---- messages that a client puts out
+-- ---- messages that a client sends
 
 -- a message of an ask: the ask's first id, its own, and whether it is the ask's last
 pub record Put : Type 0 where
@@ -80,14 +80,14 @@ abbrev pub puts_from : ClientState → List ClientEvent → List Put
 puts_from s [] = []
 puts_from s (e ∷ es) = event_puts s e ++ puts_from (stepped s e) es
 
--- what a client puts out that begins at a moment, to which these events happen
+-- what a client sends that begins at a moment, to which these events happen
 abbrev pub puts : ℤ → List ClientEvent → List Put
 puts moment events = puts_of 2 2 (pieces first_state (request_message moment)) ++ puts_from (begun moment) events
 
 -- ---- both ends
 
--- The client took all that the session sent, and no more; the session was given a beginning of what the client put out; each message
--- was read as it was written; and the client has not ended.
+-- The client took all that the session sent, and no more; the session was given a prefix of what the client sent; each message was read as
+-- it was written; and the client has not ended.
 pub record IsDelivered (sent : List Outgoing) (es : List Event) (moment : ℤ) (events : List ClientEvent) : Type 0 where
   pub taken : flat_map bytes_taken events ≡ bytes_sent sent
   pub given : IsPrefix (flat_map bytes_given es) (fold stepped (begun moment) events).out
@@ -95,7 +95,7 @@ pub record IsDelivered (sent : List Outgoing) (es : List Event) (moment : ℤ) (
   pub put_passes : AllByRecursion (λ (p : Put). IsPassed Client (put_header p) p.message) (puts moment events)
   pub lives : is_ended (fold stepped (begun moment) events).heard.phase ≡ false
 
--- then it was handed, of each channel that the session has subscribed, what the session has told since its last stop
+-- then it received, of each channel that the session has subscribed to, what the session has sent since its last stop
 abbrev pub ClientIsHanded : Type 0
 ClientIsHanded = (config : Config) (n : ℕ) (h : List Entry) (places : List ℕ) (es : List Event) (moment : ℤ) (events : List ClientEvent) (channel : ℤ) (s : Sub)
     → HasIds config → Rises 0 places (length h)
@@ -111,7 +111,7 @@ ClientHasPoints = (config : Config) (n : ℕ) (h : List Entry) (places : List �
     is_spent_course r ≡ false → IsDelivered r.sent es moment events → sub_of channel r.state.subs.subs ≡ Some s → s.all ≡ true
     → copy_of channel (fold stepped (begun moment) events) ≡ Some (past s.start (channel_points channel (take (max s.from r.state.subs.cursor) h)))
 
--- where a poll then asks nothing, at the front that it tells of
+-- if a poll then asks nothing, at the front that it reports
 abbrev pub IdleClientHasPoints : Type 0
 IdleClientHasPoints = (config : Config) (n : ℕ) (h : List Entry) (places : List ℕ) (before later : List Event) (front : ℕ) (moment : ℤ) (events : List ClientEvent) (channel : ℤ) (s : Sub)
     → Legal config h → HasIds config → Rises 0 places (length h) → Heeds config n h places (before ++ Polls front ∷ later)

@@ -1,4 +1,4 @@
--- What is heard of a channel in the notices that a session sends, and what its client hands on.
+-- What is heard of a channel in the notices that a session sends, and what its client returns.
 use Rattle.std.specs.Prelude.{◌≡◌, ℕ, ℤ, false, List, [], ◌++◌, fold, map}
 use Rattle.std.specs.List.{AllByRecursion, flat_map}
 use Rattle.channel_store.specs.declared.change.ChannelChange.{ChannelChange}
@@ -10,7 +10,7 @@ use Rattle.session_core.specs.Streams.{Heard, hear}
 use Rattle.session_core.specs.declared.state.Request.{Request}
 use Rattle.both_ends.specs.News.{msg_of, news_parts}
 
--- of notices that a session has the ids to send it is heard, of each channel, what a client hands on that hands on these changes
+-- what is heard of each channel in notices, if a session has the ids to send them, is what a client returns that returns these changes
 abbrev pub NewsAreHeard : Type 0
 NewsAreHeard = (r : Request) (limit number blobs id : ℕ) (changes : List ChannelChange)
     → is_spent id (news_parts limit number blobs changes) ≡ false → AllByRecursion (λ (c : ChannelChange). HasNews c.what) changes

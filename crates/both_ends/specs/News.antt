@@ -1,4 +1,4 @@
--- What a session tells of changes, and what its client hands on.
+-- What a session sends of changes, and what its client returns.
 use Rattle.std.specs.Prelude.{◌≡◌, ℕ, pos, true, false, List, [], ◌∷◌, ◌++◌, None, Result, Ok, Err, map}
 use Rattle.std.specs.List.{AllByRecursion}
 use Rattle.channel_rows.specs.Notices.{notice}
@@ -29,7 +29,7 @@ news_parts limit number blobs changes = parts_of limit number blobs (sayings_of 
 abbrev pub news_sent : Request → ℕ → ℕ → ℕ → ℕ → List ChannelChange → List Sent
 news_sent r limit number blobs id changes = map (λ (o : Outgoing). (o.header, o.message)) (numbered r id (news_parts limit number blobs changes))
 
--- behind what was handed on before
+-- after what was returned before
 abbrev pub behind : List Got → Result (List Got) ClientError → Result (List Got) ClientError
 behind gots (Ok more) = Ok (gots ++ more)
 behind gots (Err e) = Err e
@@ -38,7 +38,7 @@ abbrev pub with_more : Given → Result (List Got) ClientError → Result (List 
 with_more (Ok gots) more = behind gots more
 with_more (Err e) more = Err e
 
--- all that messages hand on, or the first refusal
+-- all that messages return, or the first refusal
 abbrev pub all_given : List Given → Result (List Got) ClientError
 all_given [] = Ok []
 all_given (g ∷ gs) = with_more g (all_given gs)
@@ -46,8 +46,8 @@ all_given (g ∷ gs) = with_more g (all_given gs)
 abbrev pub msg_of : ChannelChange → ChangeMsg
 msg_of c = change_msg c.channel c.what
 
--- a session has ids for the notices of these changes, and a client's session is open, it keeps no part of a message, the next id is
--- a fresh one, and its subscription of each of the channels stands
+-- a session has ids for the notices of these changes, and a client's session is open, it keeps no part of a message, the next id is a fresh
+-- one, and its subscription of each of the channels is active
 pub record IsTold (limit number blobs id : ℕ) (changes : List ChannelChange) (s : Heard) : Type 0 where
   pub reach : is_spent id (news_parts limit number blobs changes) ≡ false
   pub fresh : is_fresh s.last (pos id) ≡ true
@@ -55,8 +55,7 @@ pub record IsTold (limit number blobs id : ℕ) (changes : List ChannelChange) (
   pub free : s.kept ≡ None
   pub stand : AllByRecursion (λ (c : ChannelChange). HasNews c.what × (is_live c.channel s.channels ≡ true)) changes
 
--- then it hands on exactly these changes in their order, and takes them into its copies; nothing else of it changes, but for the
--- last id
+-- then it returns exactly these changes in their order, and takes them into its copies; nothing else of it changes, except for the last id
 abbrev pub NewsAreHandedOn : Type 0
 NewsAreHandedOn = (r : Request) (limit number blobs id : ℕ) (changes : List ChannelChange) (s : Heard) → IsTold limit number blobs id changes s
     → let sent = news_sent r limit number blobs id changes in

@@ -1,4 +1,4 @@
--- The end of subscriptions that a session tells of, and what its client makes of it.
+-- The end of subscriptions that a session sends, and what its client makes of it.
 use Rattle.std.specs.Prelude.{◌≡◌, ℕ, ℤ, List, None, Err, map}
 use Rattle.std.specs.Map.{values_of}
 use Rattle.channel_rows.specs.Notices.{reason_of, stop_response}
@@ -21,8 +21,8 @@ pub record IsStop (limit number blobs : ℕ) (cause : StopCause) (ids : List (Li
   pub begun : s.phase ≡ phase.Open
   pub free : s.kept ≡ None
 
--- then the last part says why, and from there on the client's subscriptions of these channels don't stand, and no others change;
--- each copy stays as it is
+-- then the last part says why, and from there on the client's subscriptions of these channels are not active, and no others change; each
+-- copy is kept as it is
 abbrev pub StopsAreTold : Type 0
 StopsAreTold = (limit number blobs : ℕ) (cause : StopCause) (ids : List (List ℕ × ℤ)) (h : Header) (sent : List Sent) (s : Heard) → IsStop limit number blobs cause ids h sent s
     → (left_by s sent ≡ record s { last = h.id; channels = stopped (values_of ids) s.channels }) × (given_by s sent ≡ at_last (Err (error.Stopped (reason_of cause))) sent)

@@ -1,4 +1,4 @@
-//! Laws of a client beside the session of a server, for proofs alone.
+//! Laws of a client together with the session of a server, for proofs only.
 #![tactic(auto)]
 
 mod laws;

@@ -7,7 +7,7 @@ use Rattle.capture_text.specs.declared.checking.Checked.{Checked}
 use Rattle.capture_text.specs.declared.checking.Checked.TheVariants as checked
 use Rattle.capture_run.specs.Form.{Plan}
 
--- the lines of frames of which the first stands at an offset
+-- the lines of frames of which the first is at an offset
 abbrev pub lines : (ℕ → Frame → List ℕ) → ℕ → List Frame → List ℕ
 lines line at [] = []
 lines line at (f ∷ fs) = line at f ++ lines line (at + (17 + length f.bytes)) fs
@@ -54,11 +54,11 @@ abbrev pub one_if : Bool → ℕ
 one_if true = 1
 one_if false = 0
 
--- the counts with one more frame, which was found to be so
+-- the counts with one more frame, which was found to be this
 abbrev pub with_one : Counts → Checked → Counts
 with_one c found = record { frames = c.frames + 1; messages = c.messages + one_if (is_message found); refused = c.refused + one_if (is_refused found) }
 
--- counts of frames that stand before an offset
+-- counts of frames before an offset
 pub record IsSmall (c : Counts) (at : ℕ) : Type 0 where
   pub frames : c.frames + 8 ≤ at
   pub messages : c.messages ≤ c.frames

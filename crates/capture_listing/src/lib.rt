@@ -1,8 +1,8 @@
-//! The forms that list a capture: [`Show`] writes a line for each frame, [`Check`] one for each message that is refused, and at
-//! the end one with the counts.
+//! The forms that list a capture: [`Show`] writes a line for each frame, [`Check`] one for each message that is refused, and at the end one
+//! with the counts.
 //!
-//! What they write of whole lists of frames is `show_plan` and `check_plan` of `specs/Listing`; the lines are those of
-//! `capture_text`, and `run_form` of `capture_run` runs them.
+//! What they write for whole lists of frames is `show_plan` and `check_plan` of `specs/Listing`; the lines are those of `capture_text`, and
+//! `run_form` of `capture_run` runs them.
 #![tactic(auto)]
 
 mod listing;

@@ -1,4 +1,4 @@
--- One more frame in front, and more bytes behind.
+-- One more frame before, and more bytes after.
 use Rattle.std.proofs.Common.{◌≡◌, ℕ, ◌+◌, ◌<◌, ◌⊎◌, inl, inr, List, [], ◌∷◌, ◌++◌, length, take, refl, ap, ap₂, sym, ◌∙◌, subst, arith, append_assoc, length-append}
 use Rattle.std.specs.declared.option.Option.{Option}
 use Rattle.std.specs.Io.KnownBytes.{Appends}
@@ -41,7 +41,7 @@ whole_parts f g m n e = (cc, cc)
 
 -- ---- two readings of one input
 
--- the second list of frames goes on behind the first
+-- the second list of frames continues after the first
 abbrev pub Longer : ℕ → List Frame → List Frame → List ℕ → Type 0
 Longer at fs gs rest = (f : Frame) × (hs : List Frame) × (mid : List ℕ) × (gs ≡ fs ++ f ∷ hs) × (found (end_at at fs) rest ≡ Whole f mid)
 
@@ -60,7 +60,7 @@ one_more f g fs gs at rest other same (inl e) = inl (ap₂ (λ (x : Frame) (xs :
 one_more f g fs gs at rest other same (inr (inl l)) = inr (inl (longer_first f g fs gs at rest same l))
 one_more f g fs gs at rest other same (inr (inr l)) = inr (inr (longer_second f g fs gs at other same l))
 
--- frames that stand in front of one input are the same, or one list goes on behind the other
+-- frames at the front of one input are the same, or one list continues after the other
 pub compared : (fs gs : List Frame) (at : ℕ) (bytes rest other : List ℕ) → Front at bytes fs rest → Front at bytes gs other → Compared at fs gs rest other
 compared [] [] at bytes rest other a b = inl (refl, sym a ∙ b)
 compared [] (g ∷ gs) at bytes rest other a b = inr (inl (g, gs, b.0, refl, ap (found at) (sym a) ∙ b.1))

@@ -1,4 +1,4 @@
--- A run begins, goes on and stops.
+-- A run begins, continues and stops.
 use Rattle.std.proofs.Common.{◌≡◌, ℕ, ◌+◌, ◌≤◌, inl, inr, true, false, if◌then◌else◌, List, [], ◌∷◌, ◌++◌, length, take, refl, ap, sym, ◌∙◌, subst, arith, Option, None, Some, IfNone, IfSome, Ok, append_assoc, append-nil}
 use Rattle.std.specs.Io.KnownBytes.{Keeps, Appends}
 use Rattle.std.proofs.KnownBytes.{Appends-trans, Appends-kept}
@@ -21,7 +21,7 @@ use Rattle.capture_run.proofs.FrontLemmas.{end_at-more, read_more, moved, more_f
 
 -- ---- a run begins
 
--- the magic was read, and what is written before the first frame was written or stays to be
+-- the magic was read, and what is written before the first frame was written or is still to be
 pub going_first : (plan : Plan) (Stands : List Frame → Type 0) (at : ℕ) (nothing first gathered : List ℕ) (a b h k : Option (List ℕ)) → Stands [] → plan.accepts [] ≡ true → at ≡ 8 → nothing ≡ [] → first ≡ nothing ++ plan.written []
     → Told a b (λ xs ys. xs ≡ magic ++ ys) → WritesGathered None first gathered h k → Going plan Stands at gathered (between a b) (between h k)
 going_first plan Stands at nothing first gathered a b h k stands accepted place nil is read writes = record {
@@ -49,13 +49,13 @@ stops_first stop plan nothing first gathered a b h k accepted nil is read writes
       },
     )
 
--- ---- a run goes on
+-- ---- a run continues
 
--- what a reader finds behind the magic
+-- what a reader finds after the magic
 next_is : (at : ℕ) (xs : List ℕ) → 8 ≤ at → next_found at xs ≡ found at xs
 next_is at xs begun = grind (arith, nat_tests)
 
--- one more frame was taken, and what was gathered was written or stays to be
+-- one more frame was taken, and what was gathered was written or is still to be
 pub going_more : (plan : Plan) (Old New : List Frame → Type 0) (at offset : ℕ) (f : Frame) (gathered more rest : List ℕ) (a b c h k m : Option (List ℕ)) → 8 ≤ at → offset ≡ at → Told b c (Answers (Ok (Some f)) (next_found at))
     → ((fs : List Frame) → Old fs → end_at 8 fs ≡ offset → Takes false plan fs f New gathered more) → WritesGathered None more rest k m
     → Going plan Old at gathered (between a b) (between h k) → Going plan New (at + (17 + length f.bytes)) rest (between a c) (between h m)
@@ -74,7 +74,7 @@ going_more plan Old New at offset f gathered more rest a b c h k m begun here ne
 
 -- ---- a run stops
 
--- what is found behind the frames of a run
+-- what is found after the frames of a run
 behind : (plan : Plan) (Stands : List Frame → Type 0) (at : ℕ) (gathered xs : List ℕ) (i o : Stream) (going : Going plan Stands at gathered i o) → 8 ≤ at → next_found at xs ≡ found (end_at 8 going.frames) xs
 behind plan Stands at gathered xs i o going begun = next_is at xs begun ∙ ap (λ n. found n xs) (sym going.place)
 
@@ -129,7 +129,7 @@ halts_end plan Stands at refused gathered all a b c h k begun ends closes going 
       };
     }
 
--- memory was refused at the capture's end
+-- memory ran out at the capture's end
 pub halts_unclosed : (plan : Plan) (Stands : List Frame → Type 0) (at : ℕ) (gathered all : List ℕ) (a b c h k : Option (List ℕ)) → 8 ≤ at → Told b c (Answers (Ok None) (next_found at)) → all ≡ gathered
     → Going plan Stands at gathered (between a b) (between h k) → Halts NoMemory plan all (between a c) (between h k)
 halts_unclosed plan Stands at gathered all a b c h k begun ends same going =
@@ -147,7 +147,7 @@ halts_refused plan Old New at offset f gathered all a b c h k begun here next ta
     (stopped (Refused offset) plan Old at gathered a b c h k going refl
     (told_weaker b c _ _ (λ ys zs v. ap (stop_of plan going.frames) (sym (behind plan Old at gathered ys _ _ going begun) ∙ v) ∙ stop) next))
 
--- memory was refused at the frame that was read
+-- memory ran out at the frame that was read
 pub halts_untaken : (plan : Plan) (Stands : List Frame → Type 0) (at : ℕ) (f : Frame) (gathered all : List ℕ) (a b c h k : Option (List ℕ)) → 8 ≤ at → Told b c (Answers (Ok (Some f)) (next_found at)) → all ≡ gathered
     → Going plan Stands at gathered (between a b) (between h k) → Halts NoMemory plan all (between a c) (between h k)
 halts_untaken plan Stands at f gathered all a b c h k begun next same going =
@@ -173,7 +173,7 @@ halts_unsent stop plan Old New at offset f gathered more rest a b c h k m begun 
       },
     )
 
--- a run that is at a frame's place goes on behind the frame
+-- a run that is at a frame's offset continues after the frame
 pub goes_on : (x : Option Stop) (plan : Plan) (Old New : List Frame → Type 0) (r q : Reader) (offset : ℕ) (f : Frame) (gathered more rest : List ℕ) (b c k m : Option (List ℕ)) → 8 ≤ r.at → offset ≡ r.at
     → (y : Option Frame) → y ≡ Some f → q ≡ after r (Ok y) → Told b c (Answers (Ok (Some f)) (next_found r.at))
     → ((fs : List Frame) → Old fs → end_at 8 fs ≡ offset → Takes false plan fs f New gathered more) → WritesGathered x more rest k m
@@ -185,7 +185,7 @@ goes_on None plan Old New r q offset f gathered more rest b c k m begun here y i
     (going_more plan Old New r.at offset f gathered more rest left b c held k m begun here next takes writes going)
 goes_on (Some stop) plan Old New r q offset f gathered more rest b c k m begun here y is state next takes writes = tt
 
--- or stops there, where what was gathered could not be written
+-- or stops there, if what was gathered could not be written
 pub halts_on : (x : Option Stop) (plan : Plan) (Old New : List Frame → Type 0) (at offset : ℕ) (f : Frame) (gathered more rest : List ℕ) (b c k m : Option (List ℕ)) → 8 ≤ at → offset ≡ at → Told b c (Answers (Ok (Some f)) (next_found at))
     → ((fs : List Frame) → Old fs → end_at 8 fs ≡ offset → Takes false plan fs f New gathered more) → WritesGathered x more rest k m
     → IfSome x (λ stop. (left held : Option (List ℕ)) → Going plan Old at gathered (between left b) (between held k) → Halts stop plan rest (between left c) (between held m))
@@ -220,7 +220,7 @@ written_before stop plan input h k m kept s = record {
   written = (s.written.0, s.written.1, Appends-kept h k m (take s.written.0 (all_of stop plan s.frames)) s.written.2 kept);
 }
 
--- a run that has stopped is answered by its stop or, where a write fails at last, by WriteFault
+-- a run that has stopped is answered by its stop or, if a write fails in the end, by WriteFault
 pub finished : (stop answer : Stop) (plan : Plan) (gathered : List ℕ) (input : Stream) (h k m : Option (List ℕ)) → Halts stop plan gathered input (between h k) → Finishes stop answer gathered k m → Runs answer plan input (between h m)
 finished (End n) answer plan gathered input h k m halts (inl e) = subst (λ (s : Stop). Runs s plan input (between h m)) (sym e.0) (inl (written_all (End n) plan gathered input h k m halts e.1))
 finished (End n) answer plan gathered input h k m halts (inr e) = subst (λ (s : Stop). Runs s plan input (between h m)) (sym e.0) (End n, written_front (End n) plan gathered input h k m halts e.1)

@@ -13,7 +13,7 @@ use Rattle.capture_run.specs.declared.form.Stop.{Stop}
 use Rattle.capture_run.specs.declared.form.Stop.TheVariants.{Refused}
 use Rattle.capture_run.proofs.FrontLemmas.{Longer, Compared, compared}
 
--- where frames go on, nothing stops the run
+-- if frames follow, nothing stops the run
 no_stop : (plan : Plan) → IsForward plan → (fs gs : List Frame) (rest : List ℕ) (s : Stop) → Longer 8 fs gs rest → plan.accepts gs ≡ true → stop_of plan fs (found (end_at 8 fs) rest) ≡ Some s → ⊥
 no_stop plan forward fs gs rest s l accepted stops =
     let taken : plan.accepts (fs ++ l.0 ∷ []) ≡ true = forward fs l.0 l.1 (ap plan.accepts (sym l.3) ∙ accepted) in

@@ -9,6 +9,6 @@ use Rattle.capture_run.specs.declared.form.Stop.{Stop}
 abbrev pub IsForward : Plan → Type 0
 IsForward plan = (fs : List Frame) (f : Frame) (gs : List Frame) → plan.accepts (fs ++ f ∷ gs) ≡ true → plan.accepts (fs ++ f ∷ []) ≡ true
 
--- an input makes a run stop in one way at most, behind one list of frames
+-- an input makes a run stop in at most one way, after one list of frames
 abbrev pub StopsOnce : Plan → Type 0
 StopsOnce plan = (bytes : List ℕ) (a b : Stop) (fs gs : List Frame) → Gives plan a fs bytes → Gives plan b gs bytes → (fs ≡ gs) × (a ≡ b)

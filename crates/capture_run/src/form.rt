@@ -15,9 +15,9 @@ use std::alloc::Global;
 /// Why a run over a capture stopped.
 #[derive(Clone, Copy, Debug, PartialEq, Eq)]
 pub enum Stop {
-    /// The capture was read to its end, and so many of its messages were refused.
+    /// The capture was read to its end, and this many of its messages were refused.
     End(u32),
-    /// What stands at this offset of the input is neither a capture's beginning nor a frame.
+    /// What is at this offset of the input is neither a capture's beginning nor a frame.
     Fault(u64),
     /// The form refuses the frame at this offset.
     Refused(u64),
@@ -27,27 +27,27 @@ pub enum Stop {
     ReadFault,
     /// The output could not be written.
     WriteFault,
-    /// Memory was refused.
+    /// Out of memory.
     NoMemory,
 }
 
 /// A form of the tool, with the state that the frames so far have left.
 pub trait Form: Drop {
-    /// What the form promises of whole lists of frames.
+    /// What the form promises about whole lists of frames.
     ghost plan: { Self → Plan };
 
     /// That the state is the one that these frames leave, each of them taken.
     ghost stands: { Self → List Frame → Type 0 };
 
-    /// What holds of the state in front of an offset.
+    /// What holds for the state before an offset.
     ghost fits: { Self → ℕ → Type 0 };
 
     /// Appends what is written before the first frame.
     fn start(&self, into: &mut Vec<u8>) -> Result<(), NoMemory>
         ensures { OnOk result (into.new.items ≡ into.old.items ++ (plan self.now).written []) };
 
-    /// Takes the frame at an offset and appends what is written of it, or refuses it. Answers whether it was refused. After
-    /// `NoMemory` nothing is said of the state.
+    /// Takes the frame at an offset and appends what is written for it, or refuses it. Returns whether it was refused. After `NoMemory` the
+    /// state is unspecified.
     fn take(
         &mut self,
         alloc: Global,
@@ -62,7 +62,7 @@ pub trait Form: Drop {
         ensures taken { IfOk result (λ refused. (fs : List Frame) → stands self.old fs → end_at 8 fs ≡ offset → Takes refused (plan self.old) fs frame.now (stands self.new) into.old.items into.new.items) }
         ensures err { OnErr result (into.new.items ≡ into.old.items) };
 
-    /// Appends what follows at the capture's end, and answers how many of its messages were refused.
+    /// Appends what follows at the capture's end, and returns how many of its messages were refused.
     fn close(&self, alloc: Global, offset: u64, into: &mut Vec<u8>) -> Result<u32, NoMemory>
         requires fits { fits self.now offset }
         requires within { offset ≤ capture_limit }

@@ -1,9 +1,9 @@
-//! One run over the frames of a capture, for whatever is made of them.
+//! One run over the frames of a capture, for any form of the tool.
 //!
-//! A [`Form`] takes one frame at a time and appends what is to be written of it, or refuses it; its `plan` says in whole lists
-//! what that comes to. [`run_form`] reads a capture frame by frame, hands each to the form, gathers what is to be written and
-//! writes it in large pieces, until something makes it [`Stop`]. `Runs` of `specs/Running` says for each stop what of the input
-//! was read and what was written; [`run_form`] answers the stop's [`Status`](etp_outside::Status).
+//! A [`Form`] takes one frame at a time and appends what is to be written for it, or refuses it; its `plan` says what that results in for
+//! whole lists of frames. [`run_form`] reads a capture frame by frame, passes each to the form, gathers what is to be written and writes it
+//! in large pieces, until something makes it [`Stop`]. `Runs` of `specs/Running` says for each stop what of the input was read and what was
+//! written; [`run_form`] returns the stop's [`Status`](etp_outside::Status).
 //!
 //! It holds one frame at a time, and what it has gathered.
 #![tactic(auto)]

@@ -11,10 +11,10 @@ use etp_capture::CaptureReader;
 use etp_outside::{Sink, Source, Status, Written, write_all};
 use std::alloc::Global;
 
-/// So many bytes are gathered before they are written.
+/// The number of bytes that are gathered before they are written.
 const GATHERED: usize = 65_536;
 
-/// Runs a form over the input, and answers the status of its stop.
+/// Runs a form over the input, and returns the status of its stop.
 pub fn run_form<F: Form, R: Source, W: Sink>(
     alloc: Global,
     form: F,
@@ -68,7 +68,7 @@ fn run_frames<F: Form, R: Source, W: Sink>(
     }
 }
 
-/// Reads a frame and hands it to the form. None where the run goes on.
+/// Reads a frame and passes it to the form. `None` if the run continues.
 fn run_frame<F: Form, R: Source, W: Sink>(
     alloc: Global,
     form: &mut F,
@@ -110,7 +110,7 @@ fn run_frame<F: Form, R: Source, W: Sink>(
     }
 }
 
-/// Writes what was gathered, where that is enough for a write.
+/// Writes what was gathered, if there is enough for a write.
 fn write_gathered<W: Sink>(gathered: &mut Vec<u8>, out: &mut W) -> Option<Stop>
     ensures bytes { WritesGathered result gathered.old.items gathered.new.items (W.held out.old) (W.held out.new) }
     ensures kept { W.faults out.old ≤ W.faults out.new }
@@ -138,7 +138,7 @@ fn write_now<W: Sink>(gathered: &mut Vec<u8>, out: &mut W) -> Option<Stop>
     }
 }
 
-/// Writes what is still to be written before a stop is answered.
+/// Writes what is still to be written before a stop is returned.
 fn finish<W: Sink>(stop: Stop, rest: &[u8], out: &mut W) -> Stop
     ensures bytes { Finishes stop result rest.now (W.held out.old) (W.held out.new) }
     ensures kept { W.faults out.old ≤ W.faults out.new }

@@ -1,4 +1,4 @@
--- What stands at a place of a table that is seen as another list.
+-- What is at a place of a table that is seen as another list.
 use Rattle.std.proofs.Common.{◌≡◌, ◌∙◌, ◌<◌, ◌≤◌, ℕ, zero, suc, List, [], ◌∷◌, map, get_or, length, refl, ap, arith}
 
 found : {A B : Type 0} (f : A → B) (xs : List A) (k : ℕ) (x : A) (d : B) → k < length xs → x ≡ get_or xs k x → f x ≡ get_or (map f xs) k d

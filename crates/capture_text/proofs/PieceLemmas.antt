@@ -1,4 +1,4 @@
--- What is shown of numbers, bytes and texts can be read off again.
+-- What is shown of numbers, bytes and texts can be parsed again.
 use Rattle.std.specs.Prelude.{nat_le, nat_lt}
 use Rattle.std.proofs.Common.{◌≡◌, ◌∙◌, ◌<◌, ◌≤◌, ◌+◌, ◌/◌, ◌%◌, ◌^◌, ◌++◌, ℕ, pos, negsuc, suc, Bool, true, false, List, [], ◌∷◌, length, refl, sym, ap, subst, arith, append_assoc, if◌then◌else◌}
 use Rattle.std.specs.Fmt.{decimal}
@@ -17,7 +17,7 @@ AreDigits (c ∷ cs) = (is_digit c ≡ true) × AreDigits cs
 no_digit : (c d : ℕ) → c ≡ d → is_digit c ≡ false → is_digit d ≡ true → ⊥
 no_digit c d e p q = let no : true ≡ false = sym q ∙ subst (λ (n : ℕ). is_digit n ≡ false) e p in cc
 
--- digits end where no digit follows
+-- digits end if no digit follows
 pub cut : (a b x y : List ℕ) → AreDigits a → AreDigits b → Ends x → Ends y → a ++ x ≡ b ++ y → (a ≡ b) × (x ≡ y)
 cut [] [] x y p q ex ey e = (refl, e)
 cut [] (d ∷ b) [] y p q ex ey e = absurd (let no : [] ≡ d ∷ (b ++ y) = e in cc)
@@ -48,7 +48,7 @@ decimal_digits n h =
     decimal_by_steps (λ n ds. AreDigits ds) (λ n h. (decimal_digit_is n h, tt))
     (λ n ds h p. digits_append ds ((48 + n % 10) ∷ []) p (decimal_digit_is (n % 10) (omega arith), tt)) n h
 
--- digits that are there don't begin with what is none
+-- existing digits don't begin with anything else
 pub begins_with_digit : (a x r : List ℕ) (c : ℕ) → AreDigits a → 0 < length a → is_digit c ≡ false → a ++ x ≡ c ∷ r → ⊥
 begins_with_digit [] x r c p some none e = omega arith
 begins_with_digit (d ∷ a) x r c p some none e = let f : d ∷ (a ++ x) ≡ c ∷ r = e in let h : c ≡ d = cc in no_digit c d h none p.0

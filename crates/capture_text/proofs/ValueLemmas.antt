@@ -1,4 +1,4 @@
--- The text of a value can be read off again.
+-- The text of a value can be parsed again.
 use Rattle.std.proofs.Common.{◌≡◌, ◌∙◌, ◌<◌, ◌^◌, ◌++◌, ◌==◌, ℕ, pos, negsuc, zero, suc, true, false, List, [], ◌∷◌, map, drop, get_or, refl, sym, ap, subst, arith, append_assoc, codes, w32, w64}
 use Rattle.std.specs.Fmt.{decimal}
 use Rattle.std.specs.Int.{to_be_bytes, from_be_bytes, bytes_high_first, byte_at}
@@ -29,7 +29,7 @@ strip (n ∷ a) b c e = let f : n ∷ (a ++ b) ≡ n ∷ (a ++ c) = e in let g :
 regroup : (a b c d : List ℕ) → ((a ++ b) ++ c) ++ d ≡ a ++ (b ++ (c ++ d))
 regroup a b c d = append_assoc (a ++ b) c d ∙ append_assoc a b (c ++ d)
 
--- what stands between an opening and a closing mark
+-- what is between an opening and a closing mark
 between : (o c : ℕ) (a b x y : List ℕ) → ((o ∷ a) ++ (c ∷ [])) ++ x ≡ ((o ∷ b) ++ (c ∷ [])) ++ y → a ++ (c ∷ x) ≡ b ++ (c ∷ y)
 between o c a b x y e =
     let f : o ∷ ((a ++ (c ∷ [])) ++ x) ≡ o ∷ ((b ++ (c ∷ [])) ++ y) = e in
@@ -89,7 +89,7 @@ not_closing place (VMap es) t r h e = two_heads 40 93 _ _ e refl
 not_closing place (VUnion b w) t r h e = two_heads 35 93 _ _ e refl
 not_closing place (VFields vs) t r h e = two_heads 123 93 _ _ e refl
 
--- one value of the schema at most, by its text at the place
+-- at most one value of the schema, by its text at the place
 abbrev One : Schema → ℕ → Type 0
 One s place = (a b : Value) (x y : List ℕ) → HasSchema s a → HasSchema s b → IsInRange a → IsInRange b → Ends x → Ends y → value_text place a ++ x ≡ value_text place b ++ y → (a ≡ b) × (x ≡ y)
 
@@ -145,7 +145,7 @@ fields_end : (place i : ℕ) (vs : Values) (x : List ℕ) → Ends (fields_text 
 fields_end place i v.none x = refl
 fields_end place i (v.more w vs) x = refl
 
--- the first of the parts from the i-th on, and those behind it
+-- the first of the parts from the i-th on, and those after it
 down : (shape : ℕ → Schema) (cs : List ℕ) (i : ℕ) (s : Schema) (rest : List Schema) → map shape (drop i cs) ≡ s ∷ rest → (shape (get_or cs i 0) ≡ s) × (map shape (drop (suc i) cs) ≡ rest)
 down shape [] zero s rest e = absurd (let no : [] ≡ s ∷ rest = e in cc)
 down shape [] (suc i) s rest e = absurd (let no : [] ≡ s ∷ rest = e in cc)

@@ -1,4 +1,4 @@
--- How the cause is shown that refuses a message.
+-- How the cause that refuses a message is shown.
 use Rattle.std.specs.Prelude.{ℕ, List, [], ◌++◌, codes}
 use Rattle.std.specs.Fmt.{decimal, signed_decimal}
 use Rattle.avro_bin.specs.declared.refusal.Refusal.{Refusal}
@@ -6,7 +6,7 @@ use Rattle.avro_bin.specs.declared.refusal.Refusal.TheVariants as r
 use Rattle.etp_frame.specs.declared.error.FrameError.{FrameError}
 use Rattle.etp_frame.specs.declared.error.FrameError.TheVariants as f
 
--- why an item is refused, and its offset; want of memory is no such cause
+-- why an item is refused, and its offset; running out of memory is not such a cause
 abbrev pub refusal_text : Refusal → List ℕ
 refusal_text (r.Short offset) = codes "short " ++ decimal offset
 refusal_text (r.Number offset) = codes "number " ++ decimal offset

@@ -54,11 +54,11 @@ MessagesHaveTheirNames = (protocol kind : ℤ) (side : Side) (place : ℕ) → b
 abbrev pub NamesDiffer : Type 0
 NamesDiffer = (a b : ℕ) → message_at a ≡ message_at b → message_at a ≢ [] → a ≡ b
 
--- whether a character is a digit, or a letter that stands for one
+-- whether a character is a digit, or a letter that is used as one
 abbrev pub is_digit : ℕ → Bool
 is_digit c = (nat_le 48 c && nat_le c 57) || (nat_le 65 c && nat_le c 70)
 
--- nothing stands there, or what no digit begins
+-- the end, or anything that does not begin with a digit
 abbrev pub Ends : List ℕ → Type 0
 Ends [] = Unit {0}
 Ends (c ∷ cs) = is_digit c ≡ false
@@ -67,7 +67,7 @@ Ends (c ∷ cs) = is_digit c ≡ false
 abbrev pub AreBytes : List ℕ → Type 0
 AreBytes = AllByRecursion (λ b. b < 256)
 
--- a text begins with the numeral of one number at most
+-- a text begins with the numeral of at most one number
 abbrev pub OneNumber : Type 0
 OneNumber = (a b : ℤ) (x y : List ℕ) → FitsSigned w64 a → FitsSigned w64 b → Ends x → Ends y → signed_decimal a ++ x ≡ signed_decimal b ++ y → (a ≡ b) × (x ≡ y)
 
@@ -79,7 +79,7 @@ OneRunOfBytes = (a b : List ℕ) (x y : List ℕ) → AreBytes a → AreBytes b 
 abbrev pub OneQuotedText : Type 0
 OneQuotedText = (a b : List ℕ) (x y : List ℕ) → AreBytes a → AreBytes b → quoted a ++ x ≡ quoted b ++ y → (a ≡ b) × (x ≡ y)
 
--- such as a tree's value is: numbers of 64 bits, singles of 32, and bytes that are bytes
+-- what a tree's value is like: numbers of 64 bits, singles of 32, and bytes that are bytes
 abbrev mutual
   pub IsInRange : Value → Type 0
   IsInRange (VInt x) = FitsSigned w64 x
@@ -103,7 +103,7 @@ abbrev mutual
   EntriesAreInRange v.none_named = Unit {0}
   EntriesAreInRange (v.more_named n x es) = AreBytes n × IsInRange x × EntriesAreInRange es
 
--- a text begins with the text of one value of a schema at most, where no digit follows it: values that differ have different texts
+-- a text begins with the text of at most one value of a schema, if no digit follows it: values that differ have different texts
 abbrev pub OneText : Type 0
 OneText = (place : ℕ) (v w : Value) (x y : List ℕ) → HasSchema (shape_at place) v → HasSchema (shape_at place) w → IsInRange v → IsInRange w
     → Ends x → Ends y → value_text place v ++ x ≡ value_text place w ++ y → (v ≡ w) × (x ≡ y)

@@ -17,7 +17,7 @@ use Rattle.capture_text.specs.Pieces.{hex}
 use Rattle.capture_text.specs.Values.{value_text}
 use Rattle.capture_text.specs.Faults.{fault_text}
 
--- what a frame of a kind is called; a kind that no capture has is called by its number
+-- what a frame of a kind is called; an unknown kind is called by its number
 abbrev pub kind_name : ℕ → List ℕ
 kind_name kind =
     if kind == kind_in then codes "in"
@@ -27,7 +27,7 @@ kind_name kind =
     else if kind == kind_ended then codes "ended"
     else decimal kind
 
--- who sent the message of a frame of a kind, where such frames have one
+-- who sent the message of a frame of a kind, if such frames have one
 abbrev pub sender_of : ℕ → Option Side
 sender_of kind = if kind == kind_in then Some Client else if kind == kind_out then Some Server else None
 
@@ -35,7 +35,7 @@ sender_of kind = if kind == kind_in then Some Client else if kind == kind_out th
 abbrev pub Reading : Type 0
 Reading = Result (Header × (ℕ × Value)) FrameError
 
--- what is read of a frame's message, where it has one
+-- what is read of a frame's message, if it has one
 abbrev pub read_by : Option Side → List ℕ → Option Reading
 read_by None bytes = None
 read_by (Some side) bytes = Some (tree_of side bytes)
@@ -51,7 +51,7 @@ labelled word number = word ++ signed_decimal number
 abbrev pub start_text : ℕ → ℕ → List ℕ
 start_text offset kind = decimal offset ++ codes " " ++ kind_name kind
 
--- that, its session and its moment
+-- the same, its session and its moment
 abbrev pub front_text : ℕ → Frame → List ℕ
 front_text offset f = start_text offset f.kind ++ codes " " ++ decimal f.tag ++ labelled (codes " ") f.moment
 
@@ -72,7 +72,7 @@ abbrev pub reading_text : Reading → List ℕ
 reading_text (Ok x) = title_text x.1.0 x.0 ++ codes " " ++ value_text x.1.0 x.1.1
 reading_text (Err e) = codes " refused " ++ fault_text e
 
--- what stands behind a frame's moment: its message, or the bytes of a session's end, or nothing
+-- what follows a frame's moment: its message, or the bytes of a session's end, or nothing
 abbrev pub rest_text : Option Reading → Frame → List ℕ
 rest_text None f = if f.kind == kind_ended then codes " " ++ hex f.bytes else []
 rest_text (Some reading) f = reading_text reading
@@ -81,7 +81,7 @@ rest_text (Some reading) f = reading_text reading
 abbrev pub shown_line : ℕ → Frame → List ℕ
 shown_line offset f = front_text offset f ++ rest_text (reading_of f) f ++ codes "\n"
 
--- the line of a message that is refused; none of a message that is read, and of a frame without one
+-- the line of a message that is refused; none for a message that is read, and for a frame without one
 abbrev pub line_of : ℕ → Option Reading → List ℕ
 line_of offset None = []
 line_of offset (Some (Ok x)) = []
@@ -91,7 +91,7 @@ line_of offset (Some (Err e)) = decimal offset ++ codes " " ++ fault_text e ++ c
 abbrev pub checked_line : ℕ → Frame → List ℕ
 checked_line offset f = line_of offset (reading_of f)
 
--- what a frame is found to be
+-- what checking a frame found
 abbrev pub found_of : Option Reading → Checked
 found_of None = NoMessage
 found_of (Some (Ok x)) = Taken

@@ -368,7 +368,7 @@ table_children =
 unfoldable pub names_at : ℕ → Named
 names_at place = get_or table_names place nothing
 
--- the name of the message whose body stands at a place
+-- the name of the message whose body is at a place
 abbrev pub message_at : ℕ → List ℕ
 message_at place = (names_at place).message
 

@@ -11,12 +11,12 @@ use Rattle.capture_text.specs.Lines.{Reading}
 abbrev pub TreeRead : Type 0
 TreeRead = Result (Header × ℕ × Tree) FrameError
 
--- the value in place of its tree
+-- the value instead of its tree
 abbrev pub seen : TreeRead → Reading
 seen (Ok r) = Ok (r.0, (r.1, value_of r.2))
 seen (Err e) = Err e
 
--- whether memory was refused
+-- whether memory ran out
 abbrev pub is_no_memory : FrameError → Bool
 is_no_memory f.NoMemory = true
 is_no_memory _ = false
@@ -25,7 +25,7 @@ abbrev pub wants_memory : TreeRead → Bool
 wants_memory (Ok r) = false
 wants_memory (Err e) = is_no_memory e
 
--- that is the answer, and the text stands behind what was there; or, where memory ran out, what was there still stands in front
+-- that is the answer, and the text follows what was there; or, if memory ran out, what was there is still at the front
 abbrev pub WritesAs : {A E : Type 0} → A → List ℕ → List ℕ → List ℕ → Result A E → Type 0
 WritesAs answer text old new (Ok x) = (x ≡ answer) × (new ≡ old ++ text)
 WritesAs answer text old new (Err e) = StartsWith new old

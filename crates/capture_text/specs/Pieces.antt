@@ -14,7 +14,7 @@ abbrev pub hex : List ℕ → List ℕ
 hex [] = []
 hex (b ∷ bs) = hex_byte b ++ hex bs
 
--- whether a byte of a text stands for itself: a visible one or a space, but neither a quotation mark nor a backslash
+-- whether a byte of a text is shown as itself: a visible one or a space, but neither a quotation mark nor a backslash
 abbrev pub is_shown : ℕ → Bool
 is_shown b = nat_le 32 b && nat_le b 126 && not (b == 34) && not (b == 92)
 
@@ -31,7 +31,7 @@ escaped (b ∷ bs) = shown_byte b ++ escaped bs
 abbrev pub quoted : List ℕ → List ℕ
 quoted text = 34 ∷ (escaped text ++ 34 ∷ [])
 
--- what stands in front of an item: nothing in front of the first, a comma and a space in front of each other one
+-- what comes before an item: nothing before the first, a comma and a space before each other one
 abbrev pub separator : ℕ → List ℕ
 separator zero = []
 separator (suc i) = codes ", "

@@ -13,11 +13,11 @@ use Rattle.capture_text.specs.Values.{value_text}
 abbrev pub branch_text : Value → List ℕ
 branch_text v = value_text (child_at 38 (branch_in v)) (chosen_in v)
 
--- the union that stands in the record of a channel's value
+-- the union in the record of a channel's value
 abbrev pub union_of : DataValue → Value
 union_of x = first (fields_in (data_value_form.as_value x))
 
--- the text of a channel's value where it stands alone
+-- the text of a channel's value on its own
 unfoldable pub value_alone : DataValue → List ℕ
 value_alone x = branch_text (union_of x)
 

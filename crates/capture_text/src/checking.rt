@@ -14,7 +14,7 @@ use etp_frame::{FrameError, check_message};
 use etp_values::NoMemory;
 use std::alloc::Global;
 
-/// What a frame is found to be.
+/// What checking a frame found.
 #[derive(Clone, Copy, Debug, PartialEq, Eq)]
 pub enum Checked {
     /// The frame has no message.
@@ -36,7 +36,7 @@ fn put_line(into: &mut Vec<u8>, offset: u64, error: &FrameError) -> Result<(), N
     put(into, b"\n")
 }
 
-/// Appends the line of a message that is refused, unless memory was refused in place of an answer.
+/// Appends the line of a message that is refused, unless memory ran out instead.
 fn refuse(into: &mut Vec<u8>, offset: u64, error: &FrameError) -> Result<Checked, NoMemory>
     ensures line { WritesAs Checked.Refused (line_of offset (Some (Err error.now))) into.old.items into.new.items result }
     ensures cause { OnOk result (error.now ≢ FrameError.NoMemory) }
@@ -50,8 +50,8 @@ fn refuse(into: &mut Vec<u8>, offset: u64, error: &FrameError) -> Result<Checked
     }
 }
 
-/// Appends the line of a refused message, `OFFSET FAULT` with the offset at which its frame begins, and nothing for any other
-/// frame. Where memory is refused, a front of the line may have been appended.
+/// Appends the line of a refused message, `OFFSET FAULT` with the offset at which its frame begins, and nothing for any other frame. If
+/// memory runs out, a prefix of the line may have been appended.
 pub fn check_frame(
     alloc: Global,
     offset: u64,

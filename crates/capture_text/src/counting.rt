@@ -26,8 +26,7 @@ fn put_count(into: &mut Vec<u8>, words: &[u8], count: u64) -> Result<(), NoMemor
     put_number(into, count)
 }
 
-/// Appends the line of the counts, `frames F messages M refused K`. Where memory is refused, a front of the line may have
-/// been appended.
+/// Appends the line of the counts, `frames F messages M refused K`. If memory runs out, a prefix of the line may have been appended.
 #[tactic(auto, using(crate::proofs::WritingLemmas::writes_after))]
 pub fn write_counts(_alloc: Global, counts: &Counts, into: &mut Vec<u8>) -> Result<(), NoMemory>
     ensures { Writes (counts_line counts.now) into.old.items into.new.items result }

@@ -55,7 +55,7 @@ fn put_part(into: &mut Vec<u8>, part: &[u8], refusal: Refusal) -> Result<(), NoM
     put_refusal(into, refusal)
 }
 
-/// Appends why a message is refused. Want of memory is no such cause, and appends nothing.
+/// Appends why a message is refused. Running out of memory is not such a cause, and appends nothing.
 pub fn put_fault(into: &mut Vec<u8>, error: &FrameError) -> Result<(), NoMemory>
     ensures { Writes (fault_text error.now) into.old.items into.new.items result }
 {

@@ -1,12 +1,12 @@
 //! The lines in which a capture is shown and checked.
 //!
-//! [`show_frame`] appends one line for a frame: where it begins, what it is, its session and its moment, and behind that its
-//! message with every field by name, or the cause that refuses the message. [`check_frame`] appends a line for a message that
-//! is refused, and answers what the frame is; [`write_counts`] appends the last line of a check.
+//! [`show_frame`] appends one line for a frame: where it begins, what it is, its session and its moment, and then its message with every
+//! field by name, or the cause that refuses the message. [`check_frame`] appends a line for a message that is refused, and returns what the
+//! frame is; [`write_counts`] appends the last line of a check.
 //!
-//! A message's body is shown from its tree: `value_text` of `specs/Values` goes down the value and the schema's table at once,
-//! and takes the names of fields and messages from a table of its own, by the same places. [`names_fit`] says that the two
-//! tables go together, and [`one_text`] that different values of one schema have different texts.
+//! A message's body is shown from its tree: `value_text` of `specs/Values` descends the value and the schema's table together, and takes
+//! the names of fields and messages from a table of its own, by the same places. [`names_fit`] says that the two tables match, and
+//! [`one_text`] that different values of one schema have different texts.
 #![tactic(auto)]
 
 mod checking;

@@ -10,7 +10,7 @@ use etp_schema::TABLE;
 /// What is named at a place of the schema's table.
 #[derive(Clone, Copy, Debug)]
 pub(crate) enum Names {
-    /// Nothing: the node is no record.
+    /// Nothing: the node is not a record.
     Nothing,
     /// The fields of a record, in order.
     Record(&'static [&'static str]),
@@ -334,7 +334,7 @@ fn names_at(place: u32) -> Names
     }
 }
 
-/// The name of the message whose body has the schema at this place, or nothing where no message has.
+/// The name of the message whose body has the schema at this place; nothing if there is none.
 pub fn message_of(place: u32) -> &'static str
     ensures { result.now ≡ message_at place }
 {

@@ -23,7 +23,7 @@ pub fn put_number(into: &mut Vec<u8>, n: u64) -> Result<(), NoMemory>
     put(into, buffer.format(n).as_bytes())
 }
 
-/// Appends a number in decimal, with a sign where it is negative.
+/// Appends a number in decimal, with a sign if it is negative.
 pub fn put_signed(into: &mut Vec<u8>, x: i64) -> Result<(), NoMemory>
     ensures { Writes (signed_decimal x) into.old.items into.new.items result }
 {
@@ -106,7 +106,7 @@ pub fn put_quoted(into: &mut Vec<u8>, text: &[u8]) -> Result<(), NoMemory>
     Ok(())
 }
 
-/// Appends what stands in front of the item with this number.
+/// Appends what comes before the item with this number.
 pub fn put_separator(into: &mut Vec<u8>, i: usize) -> Result<(), NoMemory>
     ensures { Writes (separator i) into.old.items into.new.items result }
 {

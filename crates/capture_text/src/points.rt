@@ -41,7 +41,7 @@ fn put_line(
     put(into, b"\n")
 }
 
-/// Appends the line of a point, `INDEX VALUE`. Where memory is refused, a front of the line may have been appended.
+/// Appends the line of a point, `INDEX VALUE`. If memory runs out, a prefix of the line may have been appended.
 #[tactic(auto, unfolding(crate::specs::Points::point_line))]
 pub fn put_point(alloc: Global, point: &Point, into: &mut Vec<u8>) -> Result<(), NoMemory>
     ensures { Writes (point_line point.now) into.old.items into.new.items result }

@@ -21,7 +21,7 @@ use etp_schema::Side;
 use etp_values::NoMemory;
 use std::alloc::Global;
 
-/// Who sent the message of a frame of this kind, where such frames have one.
+/// Who sent the message of a frame of this kind, if such frames have one.
 pub(crate) fn sender_of(kind: u8) -> Option<Side>
     ensures { result ≡ sender_of kind }
 {
@@ -32,7 +32,7 @@ pub(crate) fn sender_of(kind: u8) -> Option<Side>
     }
 }
 
-/// Whether memory was refused in place of an answer.
+/// Whether memory ran out instead of an answer.
 fn wants_memory(read: &Result<(Header, u32, Tree), FrameError>) -> bool
     ensures { result ≡ wants_memory read.now }
 {
@@ -178,7 +178,7 @@ fn put_end(into: &mut Vec<u8>, frame: &Frame) -> Result<(), NoMemory>
     put_hex(into, frame.bytes.as_bytes())
 }
 
-/// Appends what stands behind a frame's moment.
+/// Appends what follows a frame's moment.
 fn put_rest(alloc: Global, frame: &Frame, into: &mut Vec<u8>) -> Result<(), NoMemory>
     ensures { Writes (rest_text (reading_of frame.now) frame.now) into.old.items into.new.items result }
 {
@@ -188,9 +188,8 @@ fn put_rest(alloc: Global, frame: &Frame, into: &mut Vec<u8>) -> Result<(), NoMe
     }
 }
 
-/// Appends the line that shows this frame, which begins at `offset` of its capture: `OFFSET KIND TAG MOMENT`, and behind
-/// it the message, or the bytes of a session's end. A message that is refused is shown by the cause. Where memory is
-/// refused, a front of the line may have been appended.
+/// Appends the line that shows this frame, which begins at `offset` of its capture: `OFFSET KIND TAG MOMENT`, followed by the message, or
+/// the bytes of a session's end. A refused message is shown by its cause. If memory runs out, a prefix of the line may have been appended.
 #[tactic(auto, using(crate::proofs::WritingLemmas::writing))]
 pub fn show_frame(
     alloc: Global,

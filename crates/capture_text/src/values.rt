@@ -131,7 +131,7 @@ fn put_entries(into: &mut Vec<u8>, place: u32, named: &Named<Tree>) -> Result<()
     Ok(())
 }
 
-/// Appends the name of the `i`-th entry of a map, and what parts it from the value.
+/// Appends the name of the `i`-th entry of a map, and what separates it from the value.
 #[tactic(auto, using(crate::proofs::WritingLemmas::writes_after))]
 fn put_key(into: &mut Vec<u8>, i: usize, name: &Text) -> Result<(), NoMemory>
     ensures { Writes (separator i ++ quoted name.now ++ codes ": ") into.old.items into.new.items result }
@@ -178,7 +178,7 @@ fn put_fields(into: &mut Vec<u8>, place: u32, trees: &[Tree]) -> Result<(), NoMe
     Ok(())
 }
 
-/// Appends the name of the `i`-th field of the record at a place, and what parts it from the value.
+/// Appends the name of the `i`-th field of the record at a place, and what separates it from the value.
 #[tactic(auto, using(crate::proofs::WritingLemmas::writes_after))]
 fn put_name(into: &mut Vec<u8>, place: u32, i: usize) -> Result<(), NoMemory>
     ensures { Writes (separator i ++ field_at place i ++ codes "=") into.old.items into.new.items result }

@@ -1,4 +1,4 @@
--- What a read of the bytes says of the configuration; for the crates above too.
+-- What reading the bytes says about the configuration; for the crates above too.
 use Rattle.std.proofs.Common.{◌≡◌, ◌≤◌, ◌<◌, ℕ, List, [], ◌∷◌, ◌++◌, length, codes, Bool, true, false, ◌||◌, cond, Option, Some, None, option_and_then, Result, Err, refl, sym, ap, subst, ◌∙◌, nat_lt, arith}
 use Rattle.std.proofs.lemmas.Bool.{false≢true}
 use Rattle.std.proofs.lemmas.Bool.Decides.{nat_tests}
@@ -22,7 +22,7 @@ none_of : {A : Type 0} (o : Option A) → ((u : A) × (o ≡ Some u) → false �
 none_of None h = refl
 none_of (Some x) h = absurd (false≢true (h (x, refl)))
 
--- a text that is no identifier
+-- a text that is not an identifier
 pub instance_refused : (t : Members) (s : List ℕ) → Some s ≡ text_at (codes "instance") t → ((u : List ℕ) × (parsed s ≡ Some u) → false ≡ true) → None ≡ instance_of t
 instance_refused t s found h = sym (ap (option_and_then parsed) (sym found) ∙ none_of (parsed s) h)
 

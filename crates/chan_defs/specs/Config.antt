@@ -1,4 +1,4 @@
--- The configuration that bytes spell, or the first refusal.
+-- The configuration that bytes denote, or the first refusal.
 use Rattle.std.specs.Prelude.{ℕ, ◌+◌, List, [], ◌∷◌, ◌++◌, length, codes, nat_lt, Bool, Option, Some, None, Result, Ok, Err, if◌then◌else◌}
 use Rattle.std.specs.List.{list_any}
 use Rattle.std.specs.Str.{is_utf8}
@@ -46,7 +46,7 @@ channel_of n t =
 abbrev pub put_channel : ℕ → List ChannelDef → ChannelDef → Result (List ChannelDef) DefsError
 put_channel n earlier c = if is_taken c.uri earlier then Err (DoubleUri n) else Ok (earlier ++ c ∷ [])
 
--- the channels in order, after so many that were read
+-- the channels in order, after this number of them were read
 abbrev pub channels_after : List ChannelDef → List Members → Result (List ChannelDef) DefsError
 channels_after earlier [] = Ok earlier
 channels_after earlier (t ∷ ts) =

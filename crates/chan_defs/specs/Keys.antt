@@ -1,4 +1,4 @@
--- What stands at a key of a TOML table, where it is in its form.
+-- The values at the keys of a TOML table, if they are well formed.
 use Rattle.std.specs.Prelude.{ℕ, ℤ, pos, negsuc, List, [], ◌∷◌, length, Bool, ◌&&◌, nat_le, codes, Option, Some, None, option_and_then, option_map, if◌then◌else◌}
 use Rattle.std.specs.Map.{lookup}
 use Rattle.std.specs.Str.{bytes_eq}
@@ -16,7 +16,7 @@ passing test o = option_and_then (λ x. if test x then Some x else None) o
 abbrev pub text_at : List ℕ → Members → Option (List ℕ)
 text_at key t = option_and_then as_str (get_member key t)
 
--- an identifier, in any form of its text
+-- an identifier, in any of its text forms
 abbrev pub instance_of : Members → Option (List ℕ)
 instance_of t = option_and_then parsed (text_at (codes "instance") t)
 
@@ -33,7 +33,7 @@ abbrev pub within : ℕ → ℕ → ℤ → Option ℕ
 within low high (pos n) = if nat_le low n && nat_le n high then Some n else None
 within low high (negsuc n) = None
 
--- a number, or the greatest one where there is nothing
+-- a number, or the greatest one if there is none
 abbrev pub number_or : ℕ → ℕ → Option Data → Option ℕ
 number_or low high None = Some high
 number_or low high (Some d) = option_and_then (within low high) (as_integer d)
@@ -42,12 +42,12 @@ number_or low high (Some d) = option_and_then (within low high) (as_integer d)
 abbrev pub number_at : List ℕ → ℕ → ℕ → Members → Option ℕ
 number_at key low high t = number_or low high (get_member key t)
 
--- the types of a list that holds nothing else
+-- the types in a list that holds nothing else
 abbrev pub filters_of : Items → Option (List (List ℕ))
 filters_of no_items = Some []
 filters_of (item d ds) = option_and_then (λ s. option_map (λ ss. s ∷ ss) (filters_of ds)) (passing is_type_filter (as_str d))
 
--- the types, and nothing where there is no list
+-- the types, and none if there is no list
 abbrev pub types_or : Option Data → Option (Option (List (List ℕ)))
 types_or None = Some None
 types_or (Some d) = option_map (λ ss. Some ss) (option_and_then filters_of (as_array d))
@@ -56,12 +56,12 @@ types_or (Some d) = option_map (λ ss. Some ss) (option_and_then filters_of (as_
 abbrev pub types_of : Members → Option (Option (List (List ℕ)))
 types_of t = types_or (get_member (codes "types") t)
 
--- the tables of a list that holds nothing else
+-- the tables in a list that holds nothing else
 abbrev pub tables_in : Items → Option (List Members)
 tables_in no_items = Some []
 tables_in (item d ds) = option_and_then (λ t. option_map (λ ts. t ∷ ts) (tables_in ds)) (as_table d)
 
--- the channels' tables, and no table where there is no list
+-- the channels' tables, and no table if there is no list
 abbrev pub tables_or : Option Data → Option (List Members)
 tables_or None = Some []
 tables_or (Some d) = option_and_then tables_in (as_array d)
@@ -83,7 +83,7 @@ kind_of s = lookup (bytes_eq s) kinds
 abbrev pub is_unit : List ℕ → Bool
 is_unit s = nat_le (length s) 64
 
--- the unit, and the empty one where there is nothing
+-- the unit, and the empty one if there is none
 abbrev pub unit_or : Option Data → Option (List ℕ)
 unit_or None = Some []
 unit_or (Some d) = passing is_unit (as_str d)

@@ -18,7 +18,7 @@ use toml::Table;
 /// The greatest number of channels.
 const MAX_CHANNELS: usize = 4_096;
 
-/// The URI of a channel, which has to be an object's.
+/// The URI of a channel, which has to be an object's URI.
 fn read_uri(alloc: Global, channel: u64, text: &str) -> Result<StoreUri, DefsError>
     ensures { Gives DefsError.NoMemory result
         (or_else (DefsError.Uri channel) (only_object (uri_of text.now))) }
@@ -36,7 +36,7 @@ fn read_uri(alloc: Global, channel: u64, text: &str) -> Result<StoreUri, DefsErr
     }
 }
 
-/// The channel of a table.
+/// The channel that a table describes.
 fn read_channel(alloc: Global, channel: u64, table: &Table) -> Result<ChannelDef, DefsError>
     ensures { Gives DefsError.NoMemory result (channel_of channel (table_view table.now)) }
 {
@@ -66,7 +66,7 @@ fn read_channel(alloc: Global, channel: u64, table: &Table) -> Result<ChannelDef
     })
 }
 
-/// Puts a channel last in a list that has room for it.
+/// Appends a channel to a list that has room for it.
 fn push_reserved(items: &mut Vec<ChannelDef>, channel: ChannelDef)
     requires { vec_len items.old < vec_capacity items.old }
     ensures { items.new.items ≡ items.old.items ++ channel ∷ [] }
@@ -74,7 +74,7 @@ fn push_reserved(items: &mut Vec<ChannelDef>, channel: ChannelDef)
     let _ = items.push(channel);
 }
 
-/// The channels that were read, and the set of their URIs, so that a URI is looked for without a pass over the channels.
+/// The channels that were read, and the set of their URIs, so that looking for a URI needs no pass over the channels.
 #[derive(Drop)]
 struct Channels {
     items: Vec<ChannelDef>,
@@ -112,7 +112,7 @@ impl Channels {
         self.items.len()
     }
 
-    /// Puts a channel last, if no other has its URI. The channels stay as they were where it is refused.
+    /// Appends a channel, if no other has its URI. The channels stay as they were if it is refused.
     fn put(&mut self, alloc: Global, number: u64, channel: ChannelDef) -> Result<(), DefsError>
         ensures { MatchResult result (λ _. put_channel number self.old channel ≡ Ok self.new)
             (λ e. e ≢ DefsError.NoMemory → put_channel number self.old channel ≡ Err e) }

@@ -1,4 +1,4 @@
-//! What stands at the keys of a TOML table, where it is in its form.
+//! The values at the keys of a TOML table, if they are well formed.
 ghost use Rattle.std.specs.Prelude.{◌≡◌, IfOk, option_map, map};
 ghost use Rattle.toml.specs.View.{table_view, view, items_view};
 ghost use Rattle.toml.specs.Data.{get_member};
@@ -10,10 +10,10 @@ use std::alloc::Global;
 use toml::{Table, Value};
 use uuid::Uuid;
 
-/// The greatest number of bytes of a name.
+/// The maximum length of a name, in bytes.
 const MAX_NAME_LEN: usize = 256;
 
-/// The greatest number of bytes of a unit of measure.
+/// The maximum length of a unit of measure, in bytes.
 const MAX_UNIT_LEN: usize = 64;
 
 /// The value at a key.
@@ -74,7 +74,7 @@ fn within(low: u64, high: u64, number: i64) -> Option<u64>
     }
 }
 
-/// A number from `low` to `high`, by default the greatest one.
+/// A number from `low` to `high`; `high` is the default.
 pub fn number(table: &Table, key: &str, low: u64, high: u64) -> Option<u64>
     ensures { result ≡ number_at key.now low high (table_view table.now) }
 {
@@ -103,7 +103,7 @@ fn filters(alloc: Global, array: &Vec<Value>) -> Result<Option<List<Text>>, NoMe
     Ok(Some(List::from_vec(found)))
 }
 
-/// The accepted types of objects: none where there is no list, and then all are accepted.
+/// The accepted types of objects: `None` if there is no list, and then all are accepted.
 pub fn types(alloc: Global, table: &Table) -> Result<Option<Option<Shared<List<Text>>>>, NoMemory>
     ensures { IfOk result (λ r. r ≡ types_of (table_view table.now)) }
 {
@@ -134,7 +134,7 @@ fn tables_of_array(alloc: Global, array: &Vec<Value>) -> Result<Option<Vec<&Tabl
     Ok(Some(found))
 }
 
-/// The tables of the channels: no table where there is no list.
+/// The tables of the channels: none if there is no list.
 pub fn tables(alloc: Global, table: &Table) -> Result<Option<Vec<&Table>>, NoMemory>
     ensures { IfOk result (λ r. option_map (λ v. map (λ t. table_view t.now) v.items) r
         ≡ tables_of (table_view table.now)) }
@@ -148,7 +148,7 @@ pub fn tables(alloc: Global, table: &Table) -> Result<Option<Vec<&Table>>, NoMem
     tables_of_array(alloc, array)
 }
 
-/// The kind of a name.
+/// The kind with this name.
 pub fn kind(name: &str) -> Option<ValueKind>
     ensures { result ≡ kind_of name.now }
 {

@@ -1,11 +1,11 @@
 //! The configuration of a server: its identifier and name, its limits, and the channels that it serves.
 //!
-//! [`read_defs`] reads a [`Config`] from the bytes of a TOML 1.1 document. Its keys have numbers, by which [`DefsError`] names
-//! the first one that is refused:
+//! [`read_defs`] reads a [`Config`] from the bytes of a TOML 1.1 document. Its keys have numbers, by which [`DefsError`] names the first
+//! one that is refused:
 //!
-//! | number | key | value | without it |
+//! | number | key | value | if missing |
 //! |---|---|---|---|
-//! | 1 | `instance` | the server's identifier, in any form of RFC 9562's texts | refused |
+//! | 1 | `instance` | the server's identifier, in any of RFC 9562's text forms | refused |
 //! | 2 | `name` | the server's name, 1 to 256 bytes | refused |
 //! | 3 | `lag` | how many entries a subscription may be behind, 1 to 65,536 | 65,536 |
 //! | 4 | `journal` | the greatest number of entries, 2 to 4,194,304 | 4,194,304 |
@@ -16,7 +16,7 @@
 //! | 9 | `kind` | `boolean`, `int`, `long`, `float`, `double`, `string` or `bytes` | refused |
 //! | 10 | `uom` | its unit of measure, at most 64 bytes | empty |
 //!
-//! Other keys are ignored. A channel's id is its place in the list.
+//! Other keys are ignored. A channel's id is its index in the list.
 #![tactic(auto)]
 
 mod channels;

@@ -11,7 +11,7 @@ use server_config::{Config, MAX_JOURNAL, MAX_LAG};
 use std::alloc::Global;
 use toml::Table;
 
-/// The greatest number of bytes of a configuration.
+/// The maximum length of a configuration, in bytes.
 pub const MAX_DEFS_LEN: usize = 1_048_576;
 
 fn read_config(alloc: Global, table: &Table) -> Result<Config, DefsError>
@@ -47,7 +47,7 @@ fn read_config(alloc: Global, table: &Table) -> Result<Config, DefsError>
     })
 }
 
-/// Reads the configuration of these bytes, or says the first reason why there is none.
+/// Reads the configuration in these bytes, or returns the first reason why there is none.
 pub fn read_defs(alloc: Global, bytes: &[u8]) -> Result<Config, DefsError>
     ensures { Gives DefsError.NoMemory result (defs bytes.now) }
 {

@@ -44,7 +44,7 @@ module _ {X : Type 0} where
   past-none (x ∷ xs) zero h = cc
   past-none (x ∷ xs) (suc k) h = let rest : length xs ≤ k = past-none xs k h in omega arith
 
-  -- one more item where there is room
+  -- one more item if there is room
   pub pushed-is : (full : List (List X)) (last new : List X) (item : X) (len cap count : ℕ) → len ≡ length last → 0 < room_of len cap count → IsRows full last count → new ≡ last ++ item ∷ [] → IsRows full new (count + 1)
   pushed-is full last new item len cap count size room rows e =
       let grown : length new ≡ length last + 1 = ap length e ∙ length-append last (item ∷ []) in

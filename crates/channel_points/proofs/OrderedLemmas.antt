@@ -5,7 +5,7 @@ use Rattle.std.specs.List.Sorted.{IsPartitionedBy, IsPartitionPoint}
 use Rattle.etp_values.proofs.EachLemmas.{all-append, all-push, all-weaker}
 use Rattle.channel_points.specs.Splits.{RisesBy, IsSplit}
 
--- ---- what holds of all items
+-- ---- what holds for all items
 
 pub all-at : {X : Type 0} (P : X → Type 0) (xs : List X) (k : ℕ) (d : X) → AllByRecursion P xs → k < length xs → P (get_or xs k d)
 all-at P [] k d all within = absurd (omega arith)
@@ -54,7 +54,7 @@ pub rises-filter : {X : Type 0} (R : X → X → Type 0) (p : X → Bool) (xs : 
 rises-filter R p [] rises = tt
 rises-filter R p (x ∷ xs) rises = rises-cond R (p x) x (filter p xs) (all-filter (R x) p xs rises.0) (rises-filter R p xs rises.1)
 
--- a test that whatever comes before a passing item passes too parts a list in order
+-- a test that is passed by whatever comes before a passing item splits a list in order
 pub partitioned : {X : Type 0} (R : X → X → Type 0) (p : X → Bool) → ((x y : X) → R x y → p y ≡ true → p x ≡ true) → (xs : List X) → RisesBy R xs → IsPartitionedBy p xs
 partitioned R p h [] rises i j d le within passes = absurd (omega arith)
 partitioned R p h (x ∷ xs) rises zero zero d le within passes = passes

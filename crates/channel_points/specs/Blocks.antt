@@ -1,4 +1,4 @@
--- How rows are kept: full blocks, and one behind them that fills up.
+-- How rows are kept: full blocks, followed by one that fills up.
 use Rattle.std.specs.Prelude.{ℕ, ◌≡◌, ◌≤◌, ◌-◌, ◌^◌, min, List, [], ◌∷◌, ◌++◌, length}
 use Rattle.std.specs.List.{AllByRecursion}
 
@@ -17,6 +17,6 @@ pub record IsRows {X : Type 0} (full : List (List X)) (last : List X) (count : �
   pub parts : AreBlocks full last
   pub counted : count ≡ length (joined full last)
 
--- how many more items there is room for, where the last block has `len` and can hold `cap`, and all have `count`
+-- how many more items there is room for, if the last block has `len` and can hold `cap`, and all have `count`
 abbrev pub room_of : ℕ → ℕ → ℕ → ℕ
 room_of len cap count = min (min cap 1024 - len) (2 ^ 64 - 1 - count)

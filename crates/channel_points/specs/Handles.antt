@@ -15,7 +15,7 @@ points_in (One p) = p ∷ []
 points_in (Own points) = points.items
 points_in (Run block start end) = slice_range block start end
 
--- a run lies in its block
+-- a run is within its block
 abbrev pub IsForm : Form → Type 0
 IsForm Empty = Unit {0}
 IsForm (One p) = Unit {0}
@@ -26,7 +26,7 @@ IsForm (Run block start end) = (start ≤ end) × (end ≤ length block)
 abbrev pub of_channel : ℤ → Point → ChannelPoint
 of_channel id p = record { channel = id; point = p }
 
--- the items that are kept so
+-- the items that are kept this way
 abbrev pub items_in : Kept → List ChannelPoint
 items_in (Single id points) = map (of_channel id) points
 items_in (Mixed items) = items

@@ -2,7 +2,7 @@
 use Rattle.std.specs.Prelude.{ℕ, List, refl}
 use Rattle.std.specs.Coded.{Coded, code_by, coded×, coded_list, coded_ℕ}
 
--- their items, and how many more they take without memory
+-- their items, and how many more they take without allocating
 pub record Seen (T : Type 0) : Type 0 where
   pub items : List T
   pub room : ℕ

@@ -1,4 +1,4 @@
-//! Points behind a pointer, for enums whose other variants are small.
+//! Boxed points, for enums whose other variants are small.
 ghost use Rattle.std.specs.Prelude.{◌≡◌, ◌++◌, ◌∷◌, [], IfOk, OnErr, OnOk};
 ghost use Rattle.std.specs.Cmp.Lexicographic.{lists_equiv, lists_per, pointwise};
 ghost use Rattle.etp_values.specs.contracts.point.PointEq.TheImpl.Laws.{laws-law as point_equiv};
@@ -10,7 +10,7 @@ use etp_values::{Copied, NoMemory, Point};
 use std::alloc::Global;
 use std::marker::Model;
 
-/// [`Points`] that take the room of one pointer where they stand. A contract sees the list of them.
+/// [`Points`] that take the room of one pointer in whatever holds them. A contract sees the list of them.
 #[derive(Debug, Drop)]
 pub struct BoxedPoints {
     inner: Box<Points>,
@@ -26,7 +26,7 @@ impl Model for BoxedPoints {
 }
 
 impl BoxedPoints {
-    /// Moves points to the heap. Where memory is refused, they are dropped.
+    /// Moves points to the heap. If allocation fails, they are dropped.
     pub fn new(alloc: Global, points: Points) -> Result<BoxedPoints, NoMemory>
         ensures { IfOk result (λ b. b ≡ points) }
     {
@@ -35,14 +35,14 @@ impl BoxedPoints {
         })
     }
 
-    /// The points, to be read.
+    /// Borrows the points.
     pub fn get(&self) -> &Points
         ensures { result.now ≡ self.now }
     {
         &self.inner
     }
 
-    /// The points, which are moved and not copied.
+    /// The points, moved and not copied.
     pub fn into_inner(self) -> Points
         ensures { result ≡ self }
     {
@@ -50,7 +50,7 @@ impl BoxedPoints {
         Box::into_inner(inner)
     }
 
-    /// As [`Points::push`].
+    /// Like [`Points::push`].
     pub fn push(&mut self, alloc: Global, point: Point) -> Result<(), NoMemory>
         ensures ok { OnOk result (self.new ≡ self.old ++ point ∷ []) }
         ensures err { OnErr result (self.new ≡ self.old) }
@@ -58,7 +58,7 @@ impl BoxedPoints {
         self.inner.push(alloc, point)
     }
 
-    /// As [`Points::sealed`].
+    /// Like [`Points::sealed`].
     pub fn sealed(self, alloc: Global) -> Result<BoxedPoints, NoMemory>
         ensures { IfOk result (λ b. b ≡ self) }
     {

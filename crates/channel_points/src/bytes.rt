@@ -5,7 +5,7 @@ ghost use Rattle.channel_points.specs.Bytes.{point_bytes, value_bytes};
 
 use etp_values::{DataValue, Point};
 
-/// A null counts nothing, and what no channel has counts nothing.
+/// A null counts nothing, and neither does a value that no channel has.
 fn value_bytes(value: &DataValue) -> u64
     ensures { result ≡ capped (value_bytes value.now) }
 {
@@ -21,15 +21,15 @@ fn value_bytes(value: &DataValue) -> u64
     }
 }
 
-/// 16 for the point, and besides 1 for a boolean, 4 for an int or a float, 8 for a long or a double, and its length for a text or
-/// a bytes value. A sum above `u64::MAX` is `u64::MAX`.
+/// 16 for the point, plus 1 for a boolean, 4 for an int or a float, 8 for a long or a double, and its length for a text or a bytes value. A
+/// sum above `u64::MAX` is `u64::MAX`.
 pub fn point_bytes(point: &Point) -> u64
     ensures { result ≡ capped (point_bytes point.now) }
 {
     16u64.saturating_add(value_bytes(&point.value))
 }
 
-/// As [`point_bytes`], of all points together.
+/// Like [`point_bytes`], for all points together.
 pub fn points_bytes(points: &[Point]) -> u64
     ensures { result ≡ capped (weigh point_bytes points.now) }
 {

@@ -18,7 +18,7 @@ pub struct ChannelPoints {
     kept: Kept,
 }
 
-/// Written out, so that whoever holds one drops it by one call.
+/// Written out, so that whatever holds one drops it by a single call.
 impl Drop for ChannelPoints {
     fn drop(self) {
         let ChannelPoints { kept } = self;
@@ -56,7 +56,7 @@ fn has_only(items: &[ChannelPoint], channel: i64) -> bool
     true
 }
 
-/// The channel that all items have, where there are items and they have one.
+/// The channel that all items have, if there are items and they have only one.
 pub fn only_channel(items: &[ChannelPoint]) -> Option<i64>
     ensures { IfSome result (λ id. AllByRecursion (λ i. i.channel ≡ id) items.now) }
 {
@@ -69,7 +69,7 @@ pub fn only_channel(items: &[ChannelPoint]) -> Option<i64>
     None
 }
 
-/// The points of items, which are moved and not copied.
+/// The points of items, moved and not copied.
 fn strip(alloc: Global, items: List<ChannelPoint>) -> Result<Vec<Point>, NoMemory>
     ensures { IfOk result (λ r. r.items ≡ points_alone items) }
 {
@@ -124,7 +124,7 @@ impl ChannelPoints {
         }
     }
 
-    /// These items, which are moved and not copied.
+    /// These items, moved and not copied.
     pub fn of(alloc: Global, items: List<ChannelPoint>) -> Result<ChannelPoints, NoMemory>
         ensures { IfOk result (λ r. r ≡ items) }
     {
@@ -154,7 +154,7 @@ impl ChannelPoints {
         self.len() == 0
     }
 
-    /// The channel of the point at a place.
+    /// The channel of the point at an index.
     pub fn channel_at(&self, place: usize) -> i64
         requires { place < length self.now }
         ensures { slice_get (map (λ i. i.channel) self.now) place ≡ Some result }
@@ -165,7 +165,7 @@ impl ChannelPoints {
         }
     }
 
-    /// The index of the point at a place.
+    /// The index of the point at a position.
     pub fn index_at(&self, place: usize) -> i64
         requires { place < length self.now }
         ensures { slice_get (map (λ i. i.point.index) self.now) place ≡ Some result }
@@ -176,7 +176,7 @@ impl ChannelPoints {
         }
     }
 
-    /// A copy of the point at a place, without its channel.
+    /// A copy of the point at a position, without its channel.
     pub fn copy_at(&self, alloc: Global, place: usize) -> Result<Point, NoMemory>
         requires { place < length self.now }
         ensures { IfOk result (λ p. slice_get (points_alone self.now) place ≡ Some p) }
@@ -187,7 +187,7 @@ impl ChannelPoints {
         }
     }
 
-    /// As [`point_bytes`], of all points together.
+    /// Like [`point_bytes`], for all points together.
     pub fn bytes(&self) -> u64
         ensures { result ≡ capped (weigh item_bytes self.now) }
     {

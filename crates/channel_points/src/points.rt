@@ -20,13 +20,13 @@ use std::slice;
 
 /// Points in order. A contract sees the list of them.
 ///
-/// A copy shares the memory of what it is made of once the points are [`sealed`](Points::sealed).
+/// A copy shares the memory of the original once the points are [`sealed`](Points::sealed).
 #[derive(Debug)]
 pub struct Points {
     form: Form,
 }
 
-/// Written out, so that whoever holds one drops it by one call.
+/// Written out, so that whatever holds one drops it by a single call.
 impl Drop for Points {
     fn drop(self) {
         let Points { form } = self;
@@ -34,7 +34,7 @@ impl Drop for Points {
     }
 }
 
-/// Where the points stand. A number has no memory of its own and needs no block; points that are still added to have no other owner.
+/// Where the points are. A number has no memory of its own and needs no block; points that are still being added have no other owner.
 #[derive(Debug, Drop)]
 enum Form {
     Empty,
@@ -60,7 +60,7 @@ impl Model for Points {
     ghost invariant = { λ p. IsForm p.form };
 }
 
-/// Whether a value stands in the point itself.
+/// Whether a value is stored in the point itself.
 fn is_plain(value: &DataValue) -> bool {
     matches!(
         value,
@@ -112,7 +112,7 @@ impl Points {
         Points { form: Form::Empty }
     }
 
-    /// These points, which are moved and not copied.
+    /// These points, moved and not copied.
     pub fn of(alloc: Global, points: Vec<Point>) -> Result<Points, NoMemory>
         ensures { IfOk result (λ r. r ≡ points.items) }
     {
@@ -150,7 +150,7 @@ impl Points {
         })
     }
 
-    /// The points, to be read.
+    /// Borrows the points.
     pub(crate) fn as_slice(&self) -> &[Point]
         ensures { result.now ≡ self.now }
     {
@@ -176,7 +176,7 @@ impl Points {
         self.as_slice().len() == 0
     }
 
-    /// The index of the point at a place.
+    /// The index of the point at a position.
     pub fn index_at(&self, place: usize) -> i64
         requires { place < length self.now }
         ensures { slice_get (map (λ x. x.index) self.now) place ≡ Some result }
@@ -184,7 +184,7 @@ impl Points {
         self.as_slice()[place].index
     }
 
-    /// A copy of the point at a place.
+    /// A copy of the point at a position.
     pub fn copy_at(&self, alloc: Global, place: usize) -> Result<Point, NoMemory>
         requires { place < length self.now }
         ensures { IfOk result (λ p. slice_get self.now place ≡ Some p) }
@@ -192,7 +192,7 @@ impl Points {
         self.as_slice()[place].copy(alloc)
     }
 
-    /// How many points lie below an index.
+    /// How many points are below an index.
     pub fn count_below(&self, index: i64) -> usize
         requires { Rises self.now }
         ensures { IsSplit (λ x. int_lt x.index index) self.now result }
@@ -200,7 +200,7 @@ impl Points {
         count_below(self.as_slice(), index)
     }
 
-    /// As [`point_bytes`](crate::point_bytes), of all points together.
+    /// Like [`point_bytes`](crate::point_bytes), for all points together.
     pub fn bytes(&self) -> u64
         ensures { result ≡ capped (weigh point_bytes self.now) }
     {
@@ -214,7 +214,7 @@ impl Points {
         Ok(List::from_vec(copy_all(alloc, self.as_slice())?))
     }
 
-    /// Adds a point behind the last one.
+    /// Adds a point after the last one.
     pub fn push(&mut self, alloc: Global, point: Point) -> Result<(), NoMemory>
         ensures ok { OnOk result (self.new ≡ self.old ++ point ∷ []) }
         ensures err { OnErr result (self.new ≡ self.old) }

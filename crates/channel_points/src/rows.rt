@@ -35,7 +35,7 @@ impl<T> Model for Rows<T> {
     ghost invariant = { λ r. IsRows r.full.items r.last.items r.count };
 }
 
-/// Where the last block is full, it joins the full ones, and an empty one stands in its place.
+/// If the last block is full, it joins the full ones, and an empty one takes its place.
 fn turn<T: Drop>(full: &mut Vec<List<T>>, last: &mut Vec<T>) -> Result<(), NoMemory>
     requires { AreBlocks full.old.items last.old.items }
     ensures blocks { AreBlocks full.new.items last.new.items }
@@ -58,7 +58,7 @@ fn item_at<T>(items: &[T], place: usize) -> Option<&T>
     items.get(place)
 }
 
-/// How far a place lies behind so many full blocks.
+/// How far a place is past this many full blocks.
 fn behind(place: usize, blocks: usize) -> usize
     requires { blocks * 1024 ≤ place }
     ensures { result ≡ place - blocks * 1024 }

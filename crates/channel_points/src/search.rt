@@ -1,11 +1,11 @@
-//! Searches in points that stand in the order of their indexes.
+//! Searches in points that are in the order of their indexes.
 ghost use Rattle.std.specs.Prelude.{◌≡◌, int_lt};
 ghost use Rattle.channel_points.specs.Order.{Rises};
 ghost use Rattle.channel_points.specs.Splits.{IsSplit};
 
 use etp_values::Point;
 
-/// How many points lie below an index.
+/// How many points are below an index.
 pub fn count_below(points: &[Point], index: i64) -> usize
     requires { Rises points.now }
     ensures { IsSplit (λ x. int_lt x.index index) points.now result }

@@ -1,4 +1,4 @@
--- What is said at the answer to a SubscribeChannels.
+-- What is sent when a SubscribeChannels is answered.
 use Rattle.std.specs.Prelude.{ℕ, List, [], ◌++◌, ◌≡◌, map}
 use Rattle.std.proofs.Common.{◌∙◌}
 use Rattle.keyed_requests.specs.Keyed.{finished, finished_state, request_reply}

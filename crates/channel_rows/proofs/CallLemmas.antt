@@ -1,4 +1,4 @@
--- What is called for, and what is said, where there are points.
+-- What is called for, and what is sent, if there are points.
 use Rattle.std.specs.Prelude.{ℤ, List, [], ◌∷◌, ◌≡◌, ◌≢◌, length, refl}
 use Rattle.std.proofs.Common.{arith}
 use Rattle.etp_values.specs.declared.point.ChannelPoint.{ChannelPoint}

@@ -20,14 +20,14 @@ its_place (negsuc k) there = absurd (false≢true (sym there ∙ neg_below k))
 
 -- ---- flags
 
--- one that is not set, behind the last, is one that would be added
+-- one that is not set, after the last, is one that would be added
 pub flag_added : (flags : List Bool) (n : ℕ) → length flags ≤ n → with_flag (flags ++ false ∷ []) n ≡ with_flag flags n
 flag_added [] zero low = refl
 flag_added [] (suc n) low = refl
 flag_added (b ∷ bs) zero low = absurd (omega arith)
 flag_added (b ∷ bs) (suc n) low = ap (λ l. b ∷ l) (flag_added bs n (omega arith))
 
--- one that is there is set in its place
+-- one that exists is set in its place
 pub flag_set : (flags : List Bool) (n : ℕ) → n < length flags → slice_set flags n true ≡ with_flag flags n
 flag_set [] n low = absurd (omega arith)
 flag_set (b ∷ bs) zero low = refl

@@ -1,4 +1,4 @@
--- Loading goes on by one item.
+-- Loading continues by one item.
 use Rattle.std.specs.Prelude.{Bool, ℤ, List, [], ◌∷◌, ◌++◌, ◌≡◌, Option, Some, refl}
 use Rattle.std.proofs.Common.{ap, sym, ◌∙◌, append_assoc}
 use Rattle.etp_values.specs.declared.point.ChannelPoint.{ChannelPoint}

@@ -58,11 +58,11 @@ open_called (Calls uris kept) = Calls (call.Meta uris) (pending.Open kept)
 abbrev pub open_outcome : List (List ℕ × List ℕ) → LoadOutcome
 open_outcome uris = open_called (plain_outcome object_uri open_response uris)
 
--- an open channel is told of at once, and of all changes
+-- of an open channel new points are wanted first, and data changes are accepted
 abbrev pub open_info : ChannelMetadataRecord → OpenChannelInfo
 open_info m = record { metadata = m; prefer_realtime = true; data_changes = true }
 
--- a channel of which something is said is open from then on
+-- a channel for which there is metadata is open from then on
 abbrev pub opened_as : List Bool → Decision ChannelMetadataRecord → List Bool × Decision OpenChannelInfo
 opened_as opens (Refused code) = (opens, Refused code)
 opened_as opens (Granted m) = (opened opens m.id, Granted (open_info m))
@@ -85,12 +85,12 @@ close_one opens channel = if is_open opens channel then (closed opens channel, G
 abbrev pub close_outcome : List Bool → List (List ℕ × ℤ) → Loading
 close_outcome opens ids = leaves (checked_state close_one opens ids) (Replies (request_reply close_response (checked close_one opens ids)))
 
--- a request that is refused as a whole leaves the channels
+-- a request that is refused as a whole leaves the channels as they are
 abbrev pub unless_leaving : Option ErrorCode → List Bool → Loading → Loading
 unless_leaving (Some code) opens l = leaves opens (Replies (refusal_alone code))
 unless_leaving None opens l = l
 
--- ---- LoadChannelData: without items nothing is asked and nothing said
+-- ---- LoadChannelData: without items the store is asked nothing, and nothing is sent
 
 abbrev pub load_called : Decision (List ChannelPoint) → LoadOutcome
 load_called (Refused code) = Replies (refusal_alone code)
@@ -132,12 +132,12 @@ truncate_called at (Calls items kept) = Calls (call.Truncate items) (pending.Tru
 abbrev pub truncate_outcome : List Bool → ℤ → List (List ℕ × TruncateInfo) → LoadOutcome
 truncate_outcome opens at items = truncate_called at (plain_outcome (checked_cutting opens) truncate_response items)
 
--- what the store decided of a key: the moment, or a refusal
+-- what the store decided about a key: the moment, or a refusal
 abbrev pub truncate_verdict : ℤ → Verdict → Decision ℤ
 truncate_verdict at verdict.Accepted = Granted at
 truncate_verdict at (verdict.Refused code) = Refused code
 
--- the same beside its key
+-- the same with its key
 abbrev pub truncate_decided : ℤ → List ℕ × Verdict → Decision ℤ
 truncate_decided at found = truncate_verdict at found.1
 
@@ -155,9 +155,9 @@ load_outcome opens at (message.ChannelsClosed m) = leaves opens (Replies (refusa
 load_outcome opens at (message.ReplaceRangeResponse m) = leaves opens (Replies (refusal_alone InvalidMessageType))
 load_outcome opens at (message.TruncateChannelsResponse m) = leaves opens (Replies (refusal_alone InvalidMessageType))
 
--- ---- what comes of the store's answer to its call; an answer that is none to the call has no reply
+-- ---- what comes of the store's answer to its call; an answer that does not belong to the call has no reply
 
--- what is said, and the channels that are open then
+-- what is sent, and the channels that are open then
 pub record Loaded : Type 0 where
   pub opens : List Bool
   pub sendings : List (Sending ChannelDataLoadMessage)
@@ -178,7 +178,7 @@ abbrev pub metas_reply : List ChannelDef → List Bool → LoadPending → List 
 metas_reply defs opens (pending.Open items) metas = says (finished_state (open_one defs) 1 opens items metas) (request_reply open_response (finished (open_one defs) 1 opens items metas))
 metas_reply defs opens _ metas = says opens []
 
--- what the session says to the store's answer, and which channels are open then
+-- what the session sends once the store has answered, and which channels are open then
 abbrev pub load_reply : List ChannelDef → List Bool → LoadPending → Reply → Loaded
 load_reply defs opens kept answer.Written = says opens (written_reply kept)
 load_reply defs opens kept (answer.Verdicts verdicts) = says opens (verdicts_reply kept verdicts)

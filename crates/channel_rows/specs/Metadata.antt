@@ -1,4 +1,4 @@
--- What is said of a channel.
+-- What is reported about a channel.
 use Rattle.std.specs.Prelude.{ℕ, ℤ, true, List, [], ◌∷◌, Option, Some, None, codes, slice_get}
 use Rattle.server_config.specs.declared.config.ChannelDef.{ChannelDef}
 use Rattle.server_config.specs.declared.config.ValueKind.{ValueKind}
@@ -30,7 +30,7 @@ kind_of kind.Double = sent.TypeDouble
 kind_of kind.String = sent.TypeString
 kind_of kind.Bytes = sent.TypeBytes
 
--- an index that there may be none of
+-- an index that may be missing
 abbrev pub index_value : Option ℤ → IndexValue
 index_value None = index.Null
 index_value (Some z) = index.Long z
@@ -48,7 +48,7 @@ time_index first last = record {
   filterable = true;
 }
 
--- what is said of a channel of this id
+-- what is reported about a channel of this id
 abbrev pub metadata_of : ℤ → Option ℤ → Option ℤ → ChannelDef → ChannelMetadataRecord
 metadata_of channel first last d = record {
   uri = plain_uri d.uri;
@@ -66,7 +66,7 @@ metadata_of channel first last d = record {
   custom_data = [];
 }
 
--- the configured channel at a place
+-- the configured channel at an index
 abbrev pub def_at : List ChannelDef → Option ℕ → Option ChannelDef
 def_at defs None = None
 def_at defs (Some n) = slice_get defs n
@@ -79,7 +79,7 @@ abbrev pub said_of : ℤ → Option ℤ → Option ℤ → Option ChannelDef →
 said_of channel first last None = Refused NotFound
 said_of channel first last (Some d) = Granted (metadata_of channel first last d)
 
--- what is said of a channel of which the store knows this
+-- what is reported about a channel, by what the store knows about it
 abbrev pub metadata_by : List ChannelDef → MetaReply → Decision ChannelMetadataRecord
 metadata_by defs (known.Known channel first last) = said_of channel first last (channel_at defs channel)
 metadata_by defs (known.Refused code) = Refused code

@@ -1,4 +1,4 @@
--- What a session tells its client of channels unasked.
+-- The notices about channels that a session sends its client.
 use Rattle.std.specs.Prelude.{ℕ, ℤ, List, [], ◌∷◌, ◌++◌, Option, Some, None, codes, map, fold}
 use Rattle.std.specs.BTreeMap.{insert_entry}
 use Rattle.std.specs.Cmp.Lexicographic.{slice_cmp}
@@ -22,7 +22,7 @@ use Rattle.subscribe_core.specs.declared.stop.StopCause.{StopCause}
 use Rattle.subscribe_core.specs.declared.stop.StopCause.TheVariants.{Unsubscribed, Lagged}
 use Rattle.channel_rows.specs.Points.{items_of}
 
--- points behind the last one
+-- points after the last one
 abbrev pub append_notice : ℤ → List Point → ChannelSubscribeMessage
 append_notice channel points = message.ChannelData (record { payload = items_of channel points })
 
@@ -30,7 +30,7 @@ append_notice channel points = message.ChannelData (record { payload = items_of 
 abbrev pub interval_of : ℤ → ℤ → IndexInterval
 interval_of from to = record { start_index = index.Long from; end_index = index.Long to; uom = []; depth_datum = [] }
 
--- what a client is told of a change
+-- the notice of a change
 abbrev pub notice_of : ℤ → ℤ → What → ChannelSubscribeMessage
 notice_of at channel (Append points) = append_notice channel points
 notice_of at channel (Replace from to points) = message.RangeReplaced (record { change_time = at; channel_ids = channel ∷ []; changed_interval = interval_of from to; payload = items_of channel points })
@@ -55,12 +55,12 @@ ids_of subs = fold (λ ids s. insert_entry (slice_cmp nat_cmp) ids (signed_decim
 
 -- ---- News
 
--- what is said, and the subscriptions that are left
+-- what is sent, and the subscriptions that are left
 pub record Told : Type 0 where
   pub subs : Subbed
   pub sendings : List (Sending ChannelSubscribeMessage)
 
--- all subscriptions end where too many entries were left to tell, and else all changes are told
+-- all subscriptions end if too many entries were left to send, otherwise all changes are sent
 abbrev pub news_told : Option StopCause → ℕ → List ChannelChange → Subbed → Told
 news_told (Some cause) upto changes v = record { subs = record v { subs = [] }; sendings = Notice (stop_response cause (ids_of v.subs)) ∷ [] }
 news_told None upto changes v = record {

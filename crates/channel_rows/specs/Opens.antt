@@ -3,23 +3,23 @@ use Rattle.std.specs.Prelude.{ℕ, zero, suc, ℤ, Bool, true, false, List, [], 
 use Rattle.std.specs.List.{list_all}
 use Rattle.channel_rows.specs.Ids.{place_of}
 
--- the flag at a place
+-- the flag at an index
 abbrev pub flag_at : List Bool → Option ℕ → Bool
 flag_at flags None = false
 flag_at flags (Some n) = get_or flags n false
 
--- a flag for each channel, at the place that is its id, up to the last that was opened
+-- a flag for each channel, at the index that is its id, up to the last that was opened
 abbrev pub is_open : List Bool → ℤ → Bool
 is_open flags channel = flag_at flags (place_of channel)
 
--- the flags with the one at a place set; those that are missing before it are not
+-- the flags with the one at an index set; those that are missing before it are not set
 abbrev pub with_flag : List Bool → ℕ → List Bool
 with_flag [] zero = true ∷ []
 with_flag [] (suc n) = false ∷ with_flag [] n
 with_flag (b ∷ bs) zero = true ∷ bs
 with_flag (b ∷ bs) (suc n) = b ∷ with_flag bs n
 
--- the same where there is a place
+-- the same if there is an index
 abbrev pub with_flag_at : List Bool → Option ℕ → List Bool
 with_flag_at flags None = flags
 with_flag_at flags (Some n) = with_flag flags n
@@ -28,7 +28,7 @@ with_flag_at flags (Some n) = with_flag flags n
 abbrev pub opened : List Bool → ℤ → List Bool
 opened flags channel = with_flag_at flags (place_of channel)
 
--- the flags without the one at a place
+-- the flags without the one at an index
 abbrev pub without_flag_at : List Bool → Option ℕ → List Bool
 without_flag_at flags None = flags
 without_flag_at flags (Some n) = slice_set flags n false

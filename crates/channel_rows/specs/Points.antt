@@ -28,12 +28,12 @@ channel_items points = map (λ x. item_of x.channel x.point) points
 
 -- ---- points that are loaded
 
--- the index of the item before
+-- the index of the previous item
 abbrev pub same_index : Option ℤ → Decision ℤ
 same_index None = Refused InvalidArgument
 same_index (Some z) = Granted z
 
--- an item's one index, or that of the item before
+-- an item's one index, or that of the previous item
 abbrev pub index_of : Option ℤ → List IndexValue → Decision ℤ
 index_of before [] = same_index before
 index_of before (index.Null ∷ []) = same_index before
@@ -56,7 +56,7 @@ point_at x (Granted z) =
     else if is_value_large x.value then Refused SizeExceeded
     else Granted (record { channel = x.channel_id; point = record { index = z; value = x.value } })
 
--- the point of an item, behind one of this index: its channel, its index, its attributes and its value are tested in this order
+-- the point of an item that follows one with this index: its channel, its index, its attributes and its value are tested in this order
 abbrev pub item_point : List Bool → Option ℤ → DataItem → Decision ChannelPoint
 item_point opens before x = if not (is_open opens x.channel_id) then Refused NotFound else point_at x (index_of before x.indexes)
 
@@ -74,7 +74,7 @@ abbrev pub loaded : List Bool → Option ℤ → List DataItem → Decision (Lis
 loaded opens before [] = Granted []
 loaded opens before (x ∷ xs) = loaded_after (λ z. loaded opens z xs) (item_point opens before x)
 
--- points behind these
+-- points after these
 abbrev pub put_behind : List ChannelPoint → Decision (List ChannelPoint) → Decision (List ChannelPoint)
 put_behind ps (Refused code) = Refused code
 put_behind ps (Granted qs) = Granted (ps ++ qs)
@@ -86,7 +86,7 @@ abbrev pub long_in : IndexValue → Option ℤ
 long_in (index.Long z) = Some z
 long_in _ = None
 
--- both ends, where they are longs
+-- both ends, if they are longs
 abbrev pub ends_with : Option ℤ → Option ℤ → Option (ℤ × ℤ)
 ends_with None to = None
 ends_with (Some from) None = None

@@ -79,7 +79,8 @@ metadata_found defs found = metadata_by defs found.1
 
 -- ---- SubscribeChannels
 
--- where a subscription starts: at the last points, where so many are asked for, else at a long, and past the last point without one
+-- where a subscription starts: at the last points, if a number of them is requested, otherwise at a long, and past the last point without
+-- one
 abbrev pub start_at : IndexValue → Option ℤ → Option Start
 start_at index.Null None = Some start.Live
 start_at index.Null (Some count) = Some (start.Latest count)
@@ -92,7 +93,7 @@ start_at (index.PassIndexedDepth d) count = None
 abbrev pub names : Naming → ℤ → Naming
 names n channel = record n { named = n.named ++ channel ∷ [] }
 
--- a channel is subscribed, or was named before
+-- a channel has a subscription, or was named before
 abbrev pub is_taken : List Sub → List ℤ → ℤ → Bool
 is_taken subs named channel = has_sub channel subs || list_any (int_eq channel) named
 
@@ -100,7 +101,7 @@ is_taken subs named channel = has_sub channel subs || list_any (int_eq channel) 
 abbrev pub is_full : List Sub → ℕ → Bool
 is_full subs going = nat_le 256 (length subs + going)
 
--- no channel is taken twice, and no more channels than there is room for go into the call
+-- no channel is subscribed to twice, and no more channels than there is room for go into the call
 abbrev pub subscribe_with : List Sub → Bool → Naming → ChannelSubscribeInfo → Option Start → Naming × Decision StartAsk
 subscribe_with subs is_taken n x None = (n, Refused InvalidIndexKind)
 subscribe_with subs is_taken n x (Some start) =
@@ -125,7 +126,7 @@ subscribe_called (Calls items kept) = Calls (call.Subscribe items) (pending.Subs
 abbrev pub begin_outcome : List Sub → List (List ℕ × ChannelSubscribeInfo) → SubscribeOutcome
 begin_outcome subs items = subscribe_called (request_outcome (λ a. a) (λ a. a) subscribe_response (checked (subscribe_one subs) none_named items))
 
--- the points that a subscription starts with, where there are some
+-- the points that a subscription starts with, if there are any
 abbrev pub first_notices : ℤ → List Point → List ChannelSubscribeMessage
 first_notices channel [] = []
 first_notices channel (p ∷ ps) = append_notice channel (p ∷ ps) ∷ []
@@ -149,7 +150,7 @@ begin_one mark b key a (x ∷ xs) = begins mark b a x.1
 abbrev pub beginning : Subbed → Beginning
 beginning subs = record { subs = subs; notices = [] }
 
--- ---- UnsubscribeChannels: each key sees what the earlier ones ended
+-- ---- UnsubscribeChannels: each key sees which subscriptions the earlier ones ended
 
 abbrev pub stop_one : Subbed → ℤ → Subbed × Decision ℤ
 stop_one v channel = if has_sub channel v.subs then (without channel v, Granted channel) else (without channel v, Refused NotFound)
@@ -157,7 +158,7 @@ stop_one v channel = if has_sub channel v.subs then (without channel v, Granted 
 abbrev pub stop_outcome : Subbed → List (List ℕ × ℤ) → Subscribing
 stop_outcome v ids = leaves (checked_state stop_one v ids) (Replies (request_reply (stop_response Unsubscribed) (checked stop_one v ids)))
 
--- a request that is refused as a whole leaves the subscriptions
+-- a request that is refused as a whole leaves the subscriptions as they are
 abbrev pub unless_leaving : Option ErrorCode → Subbed → Subscribing → Subscribing
 unless_leaving (Some code) v s = leaves v (Replies (refusal_alone code))
 unless_leaving None v s = s
@@ -174,7 +175,7 @@ has_secondary i = nat_lt 0 (length i.secondary_intervals)
 abbrev pub has_no_ends : ChannelRangeInfo → Bool
 has_no_ends i = is_none (ends_of i.interval)
 
--- all are tested for one cause before any is for the next
+-- all are tested for one cause before any is tested for the next
 abbrev pub ranges_refusal : List ChannelRangeInfo → Option ErrorCode
 ranges_refusal infos =
     if nat_lt 1024 (named_channels infos) then Some LimitExceeded
@@ -182,7 +183,7 @@ ranges_refusal infos =
     else if list_any has_no_ends infos then Some InvalidIndexKind
     else None
 
--- the ranges of each channel of an interval, and none where it has no ends
+-- the ranges of each channel of an interval, and none if it has no ends
 abbrev pub asks_within : List ℤ → Option (ℤ × ℤ) → List RangeAsk
 asks_within channels None = []
 asks_within channels (Some ends) = map (λ c. record { channel = c; from = ends.0; to = ends.1 }) channels
@@ -211,7 +212,7 @@ subscribe_outcome v (message.ChannelsTruncated m) = leaves v (Replies (refusal_a
 
 -- ---- a poll
 
--- News are asked for where there is a subscription, and the journal is longer than what was told of
+-- News is asked for if there is a subscription, and the journal is longer than what was sent of it
 abbrev pub news_from : List Sub → ℕ → Option ℕ → Option StoreCall
 news_from subs front None = None
 news_from subs front (Some cursor) = if nat_lt cursor front then Some (call.News cursor subs) else None
@@ -220,7 +221,7 @@ news_from subs front (Some cursor) = if nat_lt cursor front then Some (call.News
 abbrev pub news_call : Subbed → ℕ → Option StoreCall
 news_call v front = news_from v.subs front (asked_from v)
 
--- ---- what comes of the store's answer to its call; an answer that is none to the call has no reply
+-- ---- what comes of the store's answer to its call; an answer that does not belong to the call has no reply
 
 abbrev pub says : Subbed → List (Sending ChannelSubscribeMessage) → Told
 says v sendings = record { subs = v; sendings = sendings }
@@ -244,7 +245,7 @@ abbrev pub news_reply : Option StopCause → Subbed → SubscribePending → ℕ
 news_reply cause v pending.News upto changes = news_told cause upto changes v
 news_reply cause v _ upto changes = says v []
 
--- why subscriptions end that have so many entries to be told of
+-- why subscriptions end that have this many entries left to send
 abbrev pub lag_cause : ℕ → ℕ → Option StopCause
 lag_cause limit lag = if nat_lt limit lag then Some (Lagged lag) else None
 
@@ -256,6 +257,6 @@ replied defs limit mark v kept (answer.News upto lag changes) = news_reply (lag_
 replied defs limit mark v kept (answer.Refused code) = says v (refusal_alone code)
 replied defs limit mark v kept _ = says v []
 
--- the answer of a store whose channels are these, where so many entries may be left to tell
+-- the reply of a server whose channels are these, if this many entries may be left to send
 abbrev pub subscribe_reply : List ChannelDef → ℕ → Subbed → SubscribePending → Answer → Told
 subscribe_reply defs limit v kept a = replied defs limit a.mark v kept a.reply

@@ -9,7 +9,7 @@ use keyed_requests::Decision;
 use msg_channel::{DataItem, IndexInterval, IndexValue};
 use std::alloc::Global;
 
-/// The greatest number of bytes of a channel's value that is a text or a run of bytes.
+/// The maximum length of a channel's value that is a text or a run of bytes, in bytes.
 pub const MAX_VALUE_LEN: usize = 32_768;
 
 /// A point of a channel as it is sent.
@@ -68,7 +68,7 @@ fn same_index(before: Option<i64>) -> Decision<i64>
     }
 }
 
-/// An item's one index, or that of the item before.
+/// An item's one index, or that of the previous item.
 fn index_of(before: Option<i64>, indexes: &[IndexValue]) -> Decision<i64>
     ensures { result ≡ index_of before indexes.now }
 {
@@ -120,7 +120,7 @@ fn point_at(item: DataItem, index: Decision<i64>) -> Decision<ChannelPoint>
     }
 }
 
-/// The point of an item, behind one of this index: its channel, its index, its attributes and its value are tested in this order.
+/// The point of an item that follows one with this index: its channel, its index, its attributes and its value are tested in this order.
 fn item_point(opens: &Opens, before: Option<i64>, item: DataItem) -> Decision<ChannelPoint>
     ensures { result ≡ item_point opens.now before item }
 {
@@ -166,7 +166,7 @@ pub(crate) fn long_in(index: IndexValue) -> Option<i64>
     }
 }
 
-/// The ends of an interval, where both are longs.
+/// The ends of an interval, if both are longs.
 pub(crate) fn ends_of(interval: &IndexInterval) -> Option<(i64, i64)>
     ensures { result ≡ ends_of interval.now }
 {

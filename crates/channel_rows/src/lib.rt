@@ -1,8 +1,8 @@
-//! What the requests of the two protocols of channels are answered, and what is told of channels unasked.
+//! What the requests of the two protocols of channels are answered, and what is sent about channels without a request.
 //!
-//! [`load_outcome`] and [`load_reply`] are the two halves of a request of the ChannelDataLoad protocol: they know which channels
-//! a session has open ([`Opens`]). [`subscribe_outcome`] and [`subscribe_reply`] are those of the ChannelSubscribe protocol: they
-//! know the session's subscriptions. [`news_call`] is what a poll asks the store for; its answer goes to [`subscribe_reply`] too.
+//! [`load_outcome`] and [`load_reply`] are the two halves of a request of the ChannelDataLoad protocol: they know which channels a session
+//! has open ([`Opens`]). [`subscribe_outcome`] and [`subscribe_reply`] are those of the ChannelSubscribe protocol: they know the session's
+//! subscriptions. [`news_call`] is what a poll asks the store for; its answer goes to [`subscribe_reply`] too.
 #![tactic(auto)]
 
 mod ids;

@@ -12,7 +12,7 @@ use msg_channel::DataItem;
 use std::alloc::Global;
 use store_machine::StoreCall;
 
-/// What comes of a LoadChannelData: without items nothing is asked and nothing said.
+/// What comes of a LoadChannelData: without items the store is asked nothing, and nothing is sent.
 #[tactic(auto, using(crate::proofs::CallLemmas::none_loaded, crate::proofs::CallLemmas::some_loaded))]
 pub(crate) fn append_outcome(
     alloc: Global,

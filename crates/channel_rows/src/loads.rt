@@ -18,7 +18,7 @@ use store_machine::{MetaReply, Reply, StoreCall, Verdict};
 /// What a request of the ChannelDataLoad protocol keeps while the store is asked.
 #[derive(Drop)]
 pub enum LoadPending {
-    /// OpenChannels, with what was decided of its keys.
+    /// OpenChannels, with what was decided about its keys.
     Open {
         items: Named<Decision<()>>,
     },
@@ -28,7 +28,7 @@ pub enum LoadPending {
     Replace {
         moment: i64,
     },
-    /// TruncateChannels, at this moment, with what was decided of its keys.
+    /// TruncateChannels, at this moment, with what was decided about its keys.
     Truncate {
         moment: i64,
         items: Named<Decision<()>>,
@@ -129,7 +129,7 @@ fn metas_reply(
     }
 }
 
-/// Nothing is said of an answer that is none to the call.
+/// An answer that does not belong to the call has no reply.
 fn no_reply(alloc: Global, reply: Reply) -> List<Sending<ChannelDataLoadMessage>>
     ensures { result ≡ [] }
 {
@@ -137,8 +137,8 @@ fn no_reply(alloc: Global, reply: Reply) -> List<Sending<ChannelDataLoadMessage>
     List::new(alloc)
 }
 
-/// The reply at the store's answer to the call of a request of the ChannelDataLoad protocol; channels that it opens are open then.
-/// An answer that is none to the call has no reply.
+/// The reply to a request of the ChannelDataLoad protocol, once the store has answered its call; channels that it opens are open from then
+/// on. An answer that does not belong to the call has no reply.
 pub fn load_reply(
     alloc: Global,
     defs: &List<ChannelDef>,

@@ -1,4 +1,4 @@
-//! What is said of a channel.
+//! What is reported about a channel.
 ghost use Rattle.std.specs.Prelude.{◌≡◌, IfOk};
 ghost use Rattle.std.specs.Option.{option_copied};
 ghost use Rattle.channel_rows.specs.Metadata.{channel_at, index_value, kind_of, metadata_by, metadata_of, time_index};
@@ -104,7 +104,7 @@ fn channel_at(defs: &[ChannelDef], channel: i64) -> Option<&ChannelDef>
     }
 }
 
-/// What is said of a channel of which the store knows this.
+/// What is reported about a channel, by what the store knows about it.
 pub(crate) fn metadata_by(
     alloc: Global,
     defs: &List<ChannelDef>,

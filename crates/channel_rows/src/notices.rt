@@ -1,4 +1,4 @@
-//! What a session tells its client of channels unasked.
+//! The notices about channels that a session sends its client.
 ghost use Rattle.std.specs.Prelude.{◌≡◌, ◌++◌, [], map, IfOk, OnOk};
 ghost use Rattle.std.specs.List.{flat_map};
 ghost use Rattle.channel_store.specs.declared.change.What.TheVariants as what;
@@ -18,7 +18,7 @@ use std::alloc::Global;
 use std::collections::BTreeMap;
 use subscribe_core::{Outgoing, StopCause, Subs};
 
-/// Points behind the last one.
+/// Points after the last one.
 pub(crate) fn append_notice(
     alloc: Global,
     channel: i64,
@@ -81,7 +81,7 @@ fn truncated_notice(
     }))
 }
 
-/// What a client is told of a change.
+/// The notice of a change.
 fn change_notice(alloc: Global, told: &Outgoing) -> Result<ChannelSubscribeMessage, NoMemory>
     ensures { IfOk result (λ m. m ≡ notice_of told.now.change.at told.now.change.channel (shown told.now).what) }
 {
@@ -159,7 +159,7 @@ fn tell_pending(
     Ok(())
 }
 
-/// Adds a notice of a change of which a subscription is told. Nothing may be pending.
+/// Adds a notice of a change that a subscription is sent. Nothing may be pending.
 fn tell_change(
     alloc: Global,
     subs: &mut Subs,
@@ -177,7 +177,7 @@ fn tell_change(
     tell_pending(alloc, subs, notices)
 }
 
-/// Tells of changes up to a place of the journal.
+/// Adds notices of the changes up to a place of the journal.
 fn tell_all(
     alloc: Global,
     subs: &mut Subs,
@@ -196,7 +196,7 @@ fn tell_all(
     Ok(List::from_vec(notices))
 }
 
-/// What is told at the store's answer to News: all changes, or that the subscriptions end.
+/// What is sent when the store has answered News: all changes, or that the subscriptions end.
 pub(crate) fn news_told(
     alloc: Global,
     cause: Option<StopCause>,

@@ -7,7 +7,7 @@ use etp_values::NoMemory;
 use std::alloc::Global;
 use std::marker::Model;
 
-/// A flag for each channel, at the place that is its id, up to the last that was opened. A contract sees the flags.
+/// A flag for each channel, at the index that is its id, up to the last that was opened. A contract sees the flags.
 #[derive(Drop)]
 pub struct Opens {
     flags: Vec<bool>,
@@ -82,7 +82,7 @@ fn flag_at(flags: &[bool], place: usize) -> bool
     }
 }
 
-/// Adds flags that are not set until there is one at the place.
+/// Adds flags that are not set until there is one at the index.
 fn extend(flags: &mut Vec<bool>, place: usize) -> Result<(), NoMemory>
     ensures there { OnOk result (place < vec_len flags.new) }
     ensures same { OnOk result (with_flag flags.new.items place ≡ with_flag flags.old.items place) }
@@ -95,7 +95,7 @@ fn extend(flags: &mut Vec<bool>, place: usize) -> Result<(), NoMemory>
     Ok(())
 }
 
-/// Sets the flag at a place.
+/// Sets the flag at an index.
 #[tactic(auto, using(crate::proofs::FlagLemmas::flag_set))]
 fn set_flag(flags: &mut Vec<bool>, place: usize) -> Result<(), NoMemory>
     ensures { OnOk result (flags.new.items ≡ with_flag flags.old.items place) }
@@ -105,7 +105,7 @@ fn set_flag(flags: &mut Vec<bool>, place: usize) -> Result<(), NoMemory>
     Ok(())
 }
 
-/// Takes back the flag at a place, where there is one.
+/// Clears the flag at an index, if there is one.
 fn unset_flag(flags: &mut [bool], place: usize)
     ensures { flags.new ≡ slice_set flags.old place false }
 {

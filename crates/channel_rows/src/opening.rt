@@ -40,7 +40,7 @@ impl PlainRequest for OpenChannels {
     }
 }
 
-/// The second half of OpenChannels: a channel that is known is open from then on.
+/// The second half of OpenChannels: a known channel is open from then on.
 #[derive(Drop)]
 struct OpenChannelsReply<'a> {
     defs: &'a List<ChannelDef>,
@@ -94,7 +94,7 @@ impl<'a> KeyedReply for OpenChannelsReply<'a> {
     }
 }
 
-/// A channel of which something is said is open from then on.
+/// A channel for which there is metadata is open from then on.
 fn opened_as(
     opens: &mut Opens,
     said: Decision<ChannelMetadataRecord>,
@@ -143,7 +143,7 @@ pub(crate) fn open_request(
     }
 }
 
-/// What comes of one whose keys pass the limits.
+/// What comes of one whose keys are within the limits.
 fn open_outcome(
     alloc: Global,
     defs: &List<ChannelDef>,
@@ -171,7 +171,7 @@ pub(crate) fn open_reply(
     request_reply(alloc, &OpenChannelsReply { defs }, opens, items, findings)
 }
 
-/// CloseChannels, of which each key sees what the earlier ones closed.
+/// CloseChannels, in which each key sees what the earlier ones closed.
 #[derive(Drop)]
 struct CloseChannels;
 
@@ -236,7 +236,7 @@ pub(crate) fn close_request(
     }
 }
 
-/// What comes of one whose keys pass the limits.
+/// What comes of one whose keys are within the limits.
 #[tactic(auto, using(keyed_requests::proofs::CaseLemmas::by_response))]
 fn close_outcome(alloc: Global, opens: &mut Opens, ids: Named<i64>) -> Result<LoadOutcome, NoMemory>
     ensures outcome { IfOk result (λ o. o ≡ (close_outcome opens.old ids).outcome) }

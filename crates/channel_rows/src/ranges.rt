@@ -11,10 +11,10 @@ use msg_channel::ChannelRangeInfo;
 use std::alloc::Global;
 use store_machine::{RangeAsk, StoreCall};
 
-/// How many channels a GetRanges names at most.
+/// The greatest number of channels in a GetRanges.
 pub const MAX_RANGE_CHANNELS: u64 = 1_024;
 
-/// How many channels are named; a number above the greatest of 64 bits is that.
+/// How many channels are named; `u64::MAX` for a number above that.
 fn named_channels(infos: &[ChannelRangeInfo]) -> u64
     ensures { result ≡ min (named_channels infos.now) (2 ^ 64 - 1) }
 {
@@ -47,7 +47,7 @@ fn is_any_without_ends(infos: &[ChannelRangeInfo]) -> bool
     false
 }
 
-/// Why a GetRanges is refused: all its ranges are tested for one cause before any is for the next.
+/// Why a GetRanges is refused: all its ranges are tested for one cause before any is tested for the next.
 fn ranges_refusal(infos: &[ChannelRangeInfo]) -> Option<ErrorCode>
     ensures { result ≡ ranges_refusal infos.now }
 {
@@ -82,7 +82,7 @@ fn push_channels(
     Ok(())
 }
 
-/// Adds the ranges of each channel of an interval, where it has ends.
+/// Adds the ranges of each channel of an interval, if it has ends.
 fn push_asks(
     asks: &mut Vec<RangeAsk>,
     channels: &[i64],

@@ -25,14 +25,14 @@ use std::mem;
 use store_machine::{Start, StartAsk, StartReply, StoreCall};
 use subscribe_core::{MAX_SUBS, Subs};
 
-/// What the keys of a SubscribeChannels pass on: the channels that were named so far, and how many go into the call.
+/// What the keys of a SubscribeChannels pass on: the channels named so far, and how many go into the call.
 #[derive(Drop)]
 pub struct Naming {
     pub named: List<i64>,
     pub going: u64,
 }
 
-/// What the keys of a SubscribeChannels that is answered pass on: the subscriptions with those that began, and what each of these
+/// What the keys of a SubscribeChannels that is being answered pass on: the subscriptions with those that began, and what each of these
 /// starts with.
 #[derive(Drop)]
 pub struct Beginning {
@@ -40,7 +40,7 @@ pub struct Beginning {
     pub notices: List<ChannelSubscribeMessage>,
 }
 
-/// Where a subscription starts: at the last points, where so many are asked for, else at a long, and past the last point without
+/// Where a subscription starts: at the last points, if a number of them is requested, otherwise at a long, and past the last point without
 /// one.
 fn start_at(index: IndexValue, latest: Option<i32>) -> Option<Start>
     ensures { result ≡ start_at index latest }
@@ -83,7 +83,7 @@ fn is_named(channels: &[i64], channel: i64) -> bool
     false
 }
 
-/// Whether a channel is subscribed, or was named before.
+/// Whether a channel has a subscription, or was named before.
 fn is_taken(subs: &[Sub], named: &[i64], channel: i64) -> bool
     ensures { result ≡ is_taken subs.now named.now channel }
 {
@@ -142,14 +142,14 @@ fn names(alloc: Global, state: &mut Naming, channel: i64) -> Result<(), NoMemory
     Ok(())
 }
 
-/// Whether there is no room for one subscription more behind those that stand and those that go into the call.
+/// Whether there is no room for one more subscription after the existing ones and those that go into the call.
 fn is_full(subs: &[Sub], going: u64) -> bool
     ensures { result ≡ is_full subs.now going }
 {
     (subs.len() as u64).saturating_add(going) >= MAX_SUBS as u64
 }
 
-/// No channel is taken twice, and no more channels than there is room for go into the call.
+/// No channel is subscribed to twice, and no more channels than there is room for go into the call.
 fn subscribe_with(
     subs: &[Sub],
     is_taken: bool,
@@ -177,7 +177,7 @@ fn subscribe_with(
     })
 }
 
-/// The second half, at an answer that was made from a journal of this length.
+/// The second half, for an answer that was made from a journal of this length.
 #[derive(Drop)]
 struct SubscribeReply {
     mark: u64,
@@ -230,7 +230,7 @@ impl KeyedReply for SubscribeReply {
     }
 }
 
-/// The points that a subscription starts with, where there are some.
+/// The points that a subscription starts with, if there are any.
 #[tactic(auto, using(crate::proofs::CallLemmas::none_first, crate::proofs::CallLemmas::some_first))]
 fn add_first(
     alloc: Global,
@@ -306,7 +306,7 @@ pub(crate) fn begin_request(
     }
 }
 
-/// What comes of one whose keys pass the limits.
+/// What comes of one whose keys are within the limits.
 fn begin_outcome(
     alloc: Global,
     subs: &List<Sub>,
@@ -318,14 +318,14 @@ fn begin_outcome(
         named: List::new(alloc),
         going: 0,
     };
-    // The first half begins no subscription, so any mark serves.
+    // The first half begins no subscription, so any mark works.
     let reply = SubscribeReply { mark: 0 };
     let request = SubscribeChannels { subs };
     let outcome = request_outcome(alloc, &request, &reply, &mut naming, items)?;
     Ok(subscribe_called(outcome))
 }
 
-/// Notices behind a reply.
+/// Notices after a reply.
 fn with_notices(
     sendings: List<Sending<ChannelSubscribeMessage>>,
     notices: List<ChannelSubscribeMessage>,
@@ -339,7 +339,7 @@ fn with_notices(
     Ok(List::from_vec(all))
 }
 
-/// The reply to a SubscribeChannels, and behind it what each subscription starts with.
+/// The reply to a SubscribeChannels, followed by what each subscription starts with.
 pub(crate) fn begin_reply(
     alloc: Global,
     mark: u64,

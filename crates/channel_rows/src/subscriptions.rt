@@ -29,7 +29,7 @@ use subscribe_core::{StopCause, Subs, stop_cause};
 /// What a request of the ChannelSubscribe protocol, or a poll, keeps while the store is asked.
 #[derive(Drop)]
 pub enum SubscribePending {
-    /// GetChannelMetadata, with what was decided of its keys.
+    /// GetChannelMetadata, with what was decided about its keys.
     Metadata { items: Named<Decision<()>> },
     /// SubscribeChannels, with the subscriptions that its keys ask for.
     Subscribe { items: Named<Decision<StartAsk>> },
@@ -120,7 +120,7 @@ fn metadata_request(
     }
 }
 
-/// What comes of one whose keys pass the limits.
+/// What comes of one whose keys are within the limits.
 fn metadata_outcome(
     alloc: Global,
     defs: &List<ChannelDef>,
@@ -173,8 +173,8 @@ fn refuse_message(
     refused_outcome(alloc, ErrorCode::InvalidMessageType)
 }
 
-/// What a poll asks the store for, with the journal's length: News, where there is a subscription and the journal is longer than
-/// what was told of.
+/// What a poll asks the store for, with the journal's length: News, if there is a subscription and the journal is longer than what was sent
+/// of it.
 pub fn news_call(alloc: Global, subs: &Subs, front: u64) -> Result<Option<StoreCall>, NoMemory>
     ensures { IfOk result (λ call. call ≡ news_call subs.now front) }
 {
@@ -290,7 +290,7 @@ fn news_reply(
     }
 }
 
-/// Nothing is said of an answer that is none to the call.
+/// An answer that does not belong to the call has no reply.
 fn no_reply(alloc: Global, reply: Reply) -> List<Sending<ChannelSubscribeMessage>>
     ensures { result ≡ [] }
 {
@@ -298,9 +298,9 @@ fn no_reply(alloc: Global, reply: Reply) -> List<Sending<ChannelSubscribeMessage
     List::new(alloc)
 }
 
-/// The reply at the store's answer to the call of a request of the ChannelSubscribe protocol, or what is told at that to a poll's, and
-/// the subscriptions that stand then. `limit` is how many entries may be left to tell before subscriptions end. An answer that is
-/// none to the call has no reply.
+/// The reply to a request of the ChannelSubscribe protocol, or the notices of a poll, once the store has answered the call, and the
+/// subscriptions that then exist. `limit` is how many entries may be left to send before subscriptions end. An answer that does not belong
+/// to the call has no reply.
 pub fn subscribe_reply(
     alloc: Global,
     defs: &List<ChannelDef>,

@@ -44,7 +44,7 @@ impl<'a> PlainRequest for TruncateChannels<'a> {
     }
 }
 
-/// The second half: a channel that was cut has the moment of the request.
+/// The second half: a channel that was truncated has the moment of the request.
 #[derive(Drop)]
 struct TruncateReply {
     moment: i64,
@@ -111,7 +111,7 @@ pub(crate) fn truncate_request(
     }
 }
 
-/// What comes of one whose keys pass the limits.
+/// What comes of one whose keys are within the limits.
 fn truncate_outcome(
     alloc: Global,
     opens: &Opens,

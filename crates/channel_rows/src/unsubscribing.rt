@@ -14,7 +14,7 @@ use keyed_requests::{
 use std::alloc::Global;
 use subscribe_core::{StopCause, Subs};
 
-/// Each key sees what the earlier ones ended.
+/// Each key sees which subscriptions the earlier ones ended.
 #[derive(Drop)]
 struct UnsubscribeChannels;
 
@@ -69,7 +69,7 @@ pub(crate) fn stop_request(
     }
 }
 
-/// What comes of one whose keys pass the limits.
+/// What comes of one whose keys are within the limits.
 #[tactic(auto, using(keyed_requests::proofs::CaseLemmas::by_response))]
 fn stop_outcome(
     alloc: Global,

@@ -60,12 +60,12 @@ rise-each : (place : ℕ) (at : ℤ) (what : ℤ → Option What) (n : ℕ) (cs 
 rise-each place at what n [] h all = tt
 rise-each place at what n (c ∷ cs) h all = (h zero n c (add-zero n) refl all.0, rise-each place at what (suc n) cs (λ k m x e there rises. h (suc k) m x (omega arith) there rises) all.1)
 
--- a channel after what happens to it, where that fits
+-- a channel after what happens to it, if that fits
 happens-rises : (place : ℕ) (id at : ℤ) (c : Channel) (o : Option What) → Rises c.points → ((w : What) → o ≡ Some w → Fits c.points w) → Rises (happens place id at c o).points
 happens-rises place id at c None rises fits = rises
 happens-rises place id at c (Some w) rises fits = rises-after c.points w rises (fits w refl)
 
--- what happens to a channel, where something does, fits its points
+-- what happens to a channel, if something does, fits its points
 abbrev FitsIn : List Point → Option What → Type 0
 FitsIn xs None = Unit {0}
 FitsIn xs (Some w) = Fits xs w

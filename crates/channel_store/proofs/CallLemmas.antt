@@ -1,4 +1,4 @@
--- What a call that changes says of a store as it is seen, by the arguments that its caller gave.
+-- What a call that changes a store says about the store as it is seen, by the arguments that its caller gave.
 use Rattle.std.proofs.Common.{◌≡◌, ◌<◌, ℕ, List, [], Result, Option, subst, sym}
 use Rattle.std.specs.Prelude.{ℤ, MatchResult, zip}
 use Rattle.etp_values.specs.Gives.{Gives}

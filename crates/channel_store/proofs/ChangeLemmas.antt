@@ -24,7 +24,7 @@ pub none_later : (place : ℕ) (x : ChannelChange) (xs : List ChannelChange) →
 none_later place x [] h all = refl
 none_later place x (y ∷ ys) h all = ap (λ b. cond b (Some y) (find (λ z. z.place == place) ys)) (differs_after place x.place y.place h all.0) ∙ none_later place x ys h all.1
 
--- this change, if it stands at the place
+-- this change, if it is at the place
 abbrev pub if_at : ℕ → Option ChannelChange → Option ChannelChange
 if_at place None = None
 if_at place (Some x) = cond (x.place == place) (Some x) None
@@ -60,7 +60,7 @@ find-next place (x ∷ xs) (suc count) point =
     ap (λ b. cond b (Some x) (find (λ y. nat_le place y.place) xs)) later
     ∙ find-next place xs count ((λ k d low high. point.0 (suc k) d (omega arith) (omega arith)), (λ k d low high. point.1 (suc k) d (omega arith) (omega arith)))
 
--- ---- halving
+-- ---- bisection
 
 at-place : (place : ℕ) (xs : List ChannelChange) (k : ℕ) (d : ChannelChange) → k < length xs → stands_before place (slice_get xs k) ≡ nat_lt (get_or xs k d).place place
 at-place place xs k d h = ap (stands_before place) (slice_get-get_or xs k d h)

@@ -28,7 +28,7 @@ below_test s t i h k = grind (arith, ints)
 out_test : (s f t i : ℤ) → int_lt t s ≡ true → at_most s i ≡ true → not (at_most f i && at_most i t) ≡ true
 out_test s f t i h k = grind (arith, ints)
 
--- two filters in either order, where the outer one changes with it
+-- two filters in either order, if the outer one changes with it
 filter-swap : {X : Type 0} (p q r : X → Bool) → ((x : X) → q x ≡ true → r x ≡ p x) → (xs : List X) → filter q (filter p xs) ≡ filter r (filter q xs)
 filter-swap p q r h [] = refl
 filter-swap p q r h (x ∷ xs) = by (p x) (q x) (r x) refl refl refl (filter-swap p q r h xs)

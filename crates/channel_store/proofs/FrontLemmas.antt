@@ -1,4 +1,4 @@
--- How many points of a copy stand in front of what is put below an end.
+-- How many points of a copy come before what is put below an end.
 use Rattle.std.proofs.Common.{ℕ, zero, suc, ◌≡◌, ◌≤◌, ◌<◌, true, false, cond, List, [], ◌∷◌, ◌++◌, length, take, get_or, ap, sym, ◌∙◌, arith, append-nil}
 use Rattle.std.specs.Prelude.{ℤ}
 use Rattle.std.specs.List.{AllByRecursion}
@@ -16,7 +16,7 @@ front-all to [] n within all more = front-nil to n more
 front-all to (x ∷ xs) zero within all more = absurd (omega arith)
 front-all to (x ∷ xs) (suc n) within all more = ap (λ b. cond b (x ∷ put_below to more xs) (more ++ x ∷ xs)) all.0 ∙ ap (λ l. x ∷ l) (front-all to xs n (omega arith) all.1 more)
 
--- those before the first that lies above the end
+-- those before the first that is above the end
 pub front-at : (to : ℤ) (xs : List Point) (n : ℕ) (d : Point) → n < length xs → AllByRecursion (λ x. at_most x.index to ≡ true) (take n xs) → at_most (get_or xs n d).index to ≡ false → IsFront to n xs
 front-at to [] n d within all above more = absurd (omega arith)
 front-at to (x ∷ xs) zero d within all above more = ap (λ b. cond b (x ∷ put_below to more xs) (more ++ x ∷ xs)) above

@@ -35,7 +35,7 @@ pub given-is : (o : Option (List Point)) (xs ys : List Point) → Some xs ≡ o 
 given-is None xs ys e h = cc
 given-is (Some zs) xs ys e h = let same : xs ≡ zs = cc in same ∙ h
 
--- ---- what is told once a call is ready
+-- ---- what is returned once a call is ready
 
 tells-staged : (what : ℤ → Option What) (cs : List Channel) (id : ℤ) (points : List Point) → IfGiven (option_map told_by (what id)) (λ xs. xs ≡ points) → Tells (row_at (staged_by what cs) id) points
 tells-staged what cs id points h = subst (λ o. Tells o points) (sym (row_at-staged what cs id (channel_at cs id) refl)) (by (channel_at cs id))

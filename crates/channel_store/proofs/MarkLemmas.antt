@@ -56,7 +56,7 @@ unmarked from first (x ∷ xs) (suc count) ms h =
     unmarked from first xs count ms (λ k d low within. h (suc k) d (omega arith) (omega arith))
     ∙ sym (unmarked-one from first x xs ms (h zero x (omega arith) (omega arith)))
 
--- what stands before the first place that counts sets no marks
+-- what comes before the first place that counts sets no marks
 pub marked-first : (from first low : ℕ) (xs : List ChannelChange) (count : ℕ) (ms : List Bool) → low ≡ max from first
     → IsPartitionPoint (λ x. nat_lt x.place low ≡ true) (λ x. nat_lt x.place low ≡ false) xs count → marked from first (drop count xs) ms ≡ marked from first xs ms
 marked-first from first low xs count ms is point =
@@ -117,7 +117,7 @@ front xs n x some = drop-here xs n x (slice_get_within xs n x some) (sym (get_or
 apart : (first place : ℕ) → first ≤ place → place ≡ first + (place - first)
 apart first place h = omega (arith, h)
 
--- a change behind those before the first place that counts
+-- a change after those before the first place that counts
 pub at-or-past : (from first low : ℕ) (xs : List ChannelChange) (count n : ℕ) (x : ChannelChange) → low ≡ max from first
     → IsPartitionPoint (λ y. nat_lt y.place low ≡ true) (λ y. nat_lt y.place low ≡ false) xs count → count ≤ n → slice_get xs n ≡ Some x → (from ≤ x.place) × (first ≤ x.place)
 at-or-past from first low xs count n x is point behind some =
@@ -133,7 +133,7 @@ pub marked-next : (from first : ℕ) (xs : List ChannelChange) (n : ℕ) (x : Ch
 marked-next from first xs n x ms some from_it first_it =
     sym (ap (λ l. marked from first l ms) (front xs n x some) ∙ marked-one from first x (drop (n + 1) xs) ms (x.place - first) from_it (apart first x.place first_it))
 
--- it lies past the marks
+-- it is past the marks
 pub marked-stop : (from first : ℕ) (xs : List ChannelChange) (n : ℕ) (x : ChannelChange) (ms : List Bool) → PlacesRise xs → slice_get xs n ≡ Some x → first ≤ x.place → length ms ≤ x.place - first
     → ms ≡ marked from first (drop n xs) ms
 marked-stop from first xs n x ms rises some first_it beyond =

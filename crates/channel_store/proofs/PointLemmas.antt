@@ -30,7 +30,7 @@ above_after i x y h k = grind (arith, ints)
 not_below_after : (i x y : ℤ) → int_lt x y ≡ true → int_lt x i ≡ false → int_lt y i ≡ false
 not_below_after i x y h k = grind (arith, ints)
 
--- what lies at or below an end, and not in the interval, lies below the interval
+-- what is at or below an end, and not in the interval, is below the interval
 below_both : (from to x : ℤ) → at_most x to ≡ true → not (is_within from to x) ≡ true → int_lt x from ≡ true
 below_both from to x h k = grind (arith, ints)
 
@@ -85,7 +85,7 @@ follows-all (x ∷ y ∷ ys) i rises h =
 pub rises-follows : (xs : List Point) (p : Point) → Rises xs → follows xs p.index ≡ true → Rises (xs ++ p ∷ [])
 rises-follows xs p rises h = rises-push _ xs p rises (follows-all xs p.index rises h)
 
--- what takes a point goes on to fit
+-- what takes a point still fits
 pub fits-with_point : (xs : List Point) (w : What) (p : Point) → Fits xs w → takes w p ≡ true → follows (before_next xs w) p.index ≡ true → Fits xs (with_point p w)
 fits-with_point xs (Append points) p fits h k = subst Rises (append_assoc xs points (p ∷ [])) (rises-follows (xs ++ points) p fits k)
 fits-with_point xs (Replace from to points) p fits h k = (rises-follows points p fits.0 k, all-push _ points p fits.1 h)

@@ -1,4 +1,4 @@
--- What the code's writes to one row do to all.
+-- How the code's writes to one row affect all.
 use Rattle.std.proofs.Common.{refl, ℕ, zero, suc, ◌≡◌, ◌<◌, ◌≤◌, ◌+◌, Bool, true, false, cond, ◌||◌, List, [], ◌∷◌, ◌++◌, length, map, take, drop, append-nil, get_or, ap, sym, ◌∙◌, arith, subst, zero-add, add-one, Option, Some, None, Ok, Err}
 use Rattle.std.specs.Prelude.{ℤ, pos, negsuc, slice_get, slice_set, Result, nat_lt, int_lt, zip}
 use Rattle.std.proofs.Math.IntN.{nat_abs}

@@ -163,7 +163,7 @@ open-steps cs earlier (id ∷ ids) from to = by (or_else (unless (is_some (chann
         ∙ ap (λ l. outcome (channels_refusal cs (earlier ++ id ∷ []) ids) (staged_by (replaced l from to []) cs)) (append_assoc earlier (id ∷ []) ids)
     by (Some e) step rest = ap (λ r. next_rows r (λ rs. steps (open_channel (Between from to)) rs ids)) step
 
--- an item whose channel is listed, and whose index lies inside
+-- an item whose channel is listed, and whose index is inside
 pub record IsInside (cs : List Channel) (ids : List ℤ) (from to : ℤ) (i : ChannelPoint) : Type 0 where
   pub listed : is_listed ids i.channel ≡ true
   pub there : is_some (channel_at cs i.channel) ≡ true

@@ -10,7 +10,7 @@ use Rattle.channel_store.specs.declared.change.ChannelChange.{ChannelChange}
 use Rattle.channel_store.specs.Points.{after, copy, Rises}
 use Rattle.channel_store.specs.Splits.{RisesBy}
 
--- a channel: the object that it is, what its values are, its points, and its changes in order
+-- a channel: its object, the kind of its values, its points, and its changes in order
 pub record Channel : Type 0 where
   pub uri : StoreUri
   pub kind : ValueKind
@@ -37,7 +37,7 @@ PlacesRise xs = RisesBy (λ x y. x.place < y.place) xs
 abbrev pub IsPastAll : ℕ → List ChannelChange → Type 0
 IsPastAll place changes = AllByRecursion (λ x. x.place < place) changes
 
--- what holds of every channel: its points rise and are what its changes left, and the places of its changes rise
+-- what holds for every channel: its points rise and are what its changes left, and the places of its changes rise
 pub record IsKept (c : Channel) : Type 0 where
   pub rising : Rises c.points
   pub folded : c.points ≡ copy (whats_of c.changes)

@@ -11,7 +11,7 @@ use Rattle.channel_store.specs.Told.{told_by}
 abbrev pub what_of : Draft → What
 what_of d = d.what
 
--- what is about to happen fits the channel's points, has its own once more for the channel, and there is room for them
+-- what is about to happen fits the channel's points, has its own points a second time for the channel, and there is room for them
 pub record IsReady (points : List Point) (len cap : ℕ) (d : Draft) : Type 0 where
   pub same : d.points.items ≡ told_by d.what
   pub fits : Fits points d.what

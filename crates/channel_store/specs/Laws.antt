@@ -24,7 +24,7 @@ ReplacesRise = (cs : List Channel) (ids : List ℤ) (from to : ℤ) (items : Lis
 abbrev pub TruncatesRise : Type 0
 TruncatesRise = (cs : List Channel) (cuts : List (ℤ × ℤ)) (place : ℕ) (at : ℤ) → AllRise cs → AllRise (changed place at (truncated cuts) cs)
 
--- a change, where there is one, lies within its interval
+-- a change, if there is one, is within its interval
 abbrev pub LiesWithin : Option What → Type 0
 LiesWithin None = Unit {0}
 LiesWithin (Some w) = IsWithin w

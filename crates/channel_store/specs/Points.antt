@@ -1,4 +1,4 @@
--- The points of a channel, and what a subscriber is told of its changes.
+-- The points of a channel, and what a subscriber is sent of its changes.
 use Rattle.std.specs.Prelude.{ℕ, ℤ, pos, ◌-ℤ◌, int_lt, Bool, true, false, List, [], ◌∷◌, ◌++◌, ◌≡◌, fold, filter, not, ◌&&◌, if◌then◌else◌, Option, Some, None, option_map, nat_lt, length, slice_get, ◌-◌}
 use Rattle.std.specs.Int.{int_max}
 use Rattle.std.specs.List.{flat_map, AllByRecursion}
@@ -17,7 +17,7 @@ is_within from to index = at_most from index && at_most index to
 
 -- ---- the points after a change
 
--- these points before the first that lies above `to`, or at the end
+-- these points before the first that is above `to`, or at the end
 abbrev pub put_below : ℤ → List Point → List Point → List Point
 put_below to points [] = points
 put_below to points (x ∷ xs) = if at_most x.index to then x ∷ put_below to points xs else points ++ x ∷ xs
@@ -34,7 +34,8 @@ inside from to xs = filter (λ x. is_within from to x.index) xs
 abbrev pub up_to : ℤ → List Point → List Point
 up_to end xs = filter (λ x. at_most x.index end) xs
 
--- the points after a change: an append adds behind the last one, a replacement clears its interval and fills it, a truncation drops what lies above its end
+-- the points after a change: an append adds after the last one, a replacement clears its interval and fills it, a truncation drops what is
+-- above its end
 abbrev pub after : List Point → What → List Point
 after xs (Append points) = xs ++ points
 after xs (Replace from to points) = put_below to points (outside from to xs)
@@ -44,18 +45,18 @@ after xs (Truncate end) = up_to end xs
 abbrev pub copy : List What → List Point
 copy changes = fold after [] changes
 
--- ---- what a subscriber from an index on is told
+-- ---- what a subscriber from an index on is sent
 
 -- the points at or past `start`
 abbrev pub past : ℤ → List Point → List Point
 past start xs = filter (λ x. at_most start x.index) xs
 
--- an append, where there is something to append
+-- an append, if there is something to append
 abbrev pub append_of : List Point → List What
 append_of [] = []
 append_of (x ∷ xs) = Append (x ∷ xs) ∷ []
 
--- a change as it is told from `start` on, or nothing; `all` is false where replacements and truncations are left out
+-- a change as it is sent from `start` on, or nothing; `all` is false if replacements and truncations are left out
 abbrev pub view : ℤ → Bool → What → List What
 view start all (Append points) = append_of (past start points)
 view start true (Replace from to points) = if int_lt to start then [] else Replace (int_max from start) to (past start points) ∷ []
@@ -67,7 +68,7 @@ view start false (Truncate end) = []
 abbrev pub stream : ℤ → Bool → List Point → List What → List What
 stream start all there later = append_of (past start there) ++ flat_map (view start all) later
 
--- the points of a replacement lie at or below its end
+-- the points of a replacement are at or below its end
 abbrev pub IsWithin : What → Type 0
 IsWithin (Append points) = Unit {0}
 IsWithin (Replace from to points) = AllByRecursion (λ x. at_most x.index to ≡ true) points
@@ -94,11 +95,11 @@ last_of [] = None
 last_of (x ∷ []) = Some x.index
 last_of (x ∷ y ∷ ys) = last_of (y ∷ ys)
 
--- an index lies past another, if there is one
+-- an index is past another, if there is one
 abbrev pub lies_past : Option ℤ → ℤ → Bool
 lies_past None index = true
 lies_past (Some last) index = int_lt last index
 
--- an index lies past the last point
+-- an index is past the last point
 abbrev pub follows : List Point → ℤ → Bool
 follows xs index = lies_past (last_of xs) index

@@ -16,12 +16,12 @@ use Rattle.channel_store.specs.Channels.{Channel}
 
 -- ---- channels and items
 
--- the channel of an id, which is its place
+-- the channel of an id, which is its index
 abbrev pub channel_at : List Channel → ℤ → Option Channel
 channel_at cs (pos k) = slice_get cs k
 channel_at cs (negsuc k) = None
 
--- the points of a channel, where there is one
+-- the points of a channel, if there is one
 abbrev pub points_in : Option Channel → List Point
 points_in None = []
 points_in (Some c) = c.points
@@ -56,18 +56,18 @@ abbrev pub unless : Bool → ChannelError → Option ChannelError
 unless true e = None
 unless false e = Some e
 
--- what a call answers that is refused for this reason, or for none
+-- what a call answers that is refused for this reason, if any
 abbrev pub verdict : Option ChannelError → Result (Unit {0}) ChannelError
 verdict None = Ok tt
 verdict (Some e) = Err e
 
--- a call is refused for this reason, or for none, unless memory ran out
+-- a call is refused for this reason, if any, unless memory ran out
 abbrev pub Refuses : Result (Unit {0}) ChannelError → Option ChannelError → Type 0
 Refuses result refusal = Gives NoMemory result (verdict refusal)
 
 -- ---- tests
 
--- an index lies from -2^62 to 2^62
+-- an index is from -2^62 to 2^62
 abbrev pub in_range : ℤ → Bool
 in_range index = is_within (negsuc 4611686018427387903) (pos 4611686018427387904) index
 
@@ -111,7 +111,7 @@ abbrev pub item_refusal : Option Channel → ChannelPoint → Option ChannelErro
 item_refusal None i = Some (NoChannel i.channel)
 item_refusal (Some c) i = or_else (unless (in_range i.point.index) (Index i.channel)) (unless (suits c.kind i.point.value) (Kind i.channel))
 
--- the first item whose index doesn't lie past the last of those before it: the points of its channel that count, and earlier items
+-- the first item whose index is not past the last of those before it: the points of its channel that count, and earlier items
 abbrev pub disorder : (ℤ → List Point) → List ChannelPoint → List ChannelPoint → Option ChannelError
 disorder there earlier [] = None
 disorder there earlier (i ∷ is) = if follows (there i.channel ++ points_of i.channel earlier) i.point.index then disorder there (earlier ++ i ∷ []) is else Some (Order i.channel)

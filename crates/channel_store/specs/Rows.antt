@@ -1,4 +1,4 @@
--- A channel during a call: what is about to happen to it is made first, and done once nothing can be refused any more.
+-- A channel during a call: what is about to happen to it is prepared first, and done once nothing can be refused any more.
 use Rattle.std.specs.Prelude.{ℕ, ℤ, ◌≡◌, ◌≢◌, Bool, true, false, List, [], ◌++◌, Option, Some, None, Result, Ok, Err, if◌then◌else◌}
 use Rattle.std.specs.List.{AllByRecursion}
 use Rattle.etp_values.specs.declared.point.Point.{Point}
@@ -31,7 +31,7 @@ what_by Behind points = Append points
 what_by (Between from to) points = Replace from to points
 what_by (UpTo end) points = Truncate end
 
--- an append begins, where nothing has begun
+-- an append begins, if nothing has begun
 abbrev pub begun : Option What → What
 begun None = Append []
 begun (Some w) = w
@@ -48,7 +48,7 @@ takes (Append points) p = true
 takes (Replace from to points) p = is_within from to p.index
 takes (Truncate end) p = false
 
--- a point joins what is about to happen to the channel `id`, which may have it, and where it follows
+-- a point joins what is about to happen to the channel `id`, which may have it, if it follows
 abbrev pub joins : ℤ → List Point → What → Point → Result What ChannelError
 joins id points w p = if takes w p then (if follows (before_next points w) p.index then Ok (with_point p w) else Err (Order id)) else Err (Outside id)
 
@@ -57,7 +57,7 @@ abbrev pub staged_as : Row → Result What ChannelError → Result Row ChannelEr
 staged_as r (Ok w) = Ok (record r { staged = Some w })
 staged_as r (Err e) = Err e
 
--- a point joins this change of a row; where nothing has begun it lies outside
+-- a point joins this change of a row; if nothing has begun it is outside
 abbrev pub added_by : ℤ → Point → Row → Option What → Result Row ChannelError
 added_by id p r None = Err (Outside id)
 added_by id p r (Some w) = staged_as r (joins id r.shown.points w p)
@@ -80,7 +80,7 @@ abbrev pub Due : ℕ → Channel → Option What → Type 0
 Due place c None = Unit {0}
 Due place c (Some w) = IsPastAll place c.changes
 
--- what is about to happen to a row may stand at this place of the journal
+-- what is about to happen to a row may have this place in the journal
 abbrev pub IsDue : ℕ → Row → Type 0
 IsDue place r = Due place r.shown r.staged
 
@@ -90,7 +90,7 @@ Fits xs (Append points) = Rises (xs ++ points)
 Fits xs (Replace from to points) = Rises points × AllByRecursion (λ x. is_within from to x.index ≡ true) points
 Fits xs (Truncate end) = Unit {0}
 
--- a call that makes a value out of an old one ends as expected, unless memory ran out
+-- a call that makes a new value from an old one ends as expected, unless memory ran out
 abbrev pub Becomes : {A : Type 0} → Result (Unit {0}) ChannelError → A → Result A ChannelError → Type 0
 Becomes (Ok _) new expected = expected ≡ Ok new
 Becomes (Err e) new expected = e ≢ NoMemory → expected ≡ Err e

@@ -25,11 +25,11 @@ abbrev pub happens : ℕ → ℤ → ℤ → Channel → Option What → Channel
 happens place id at c None = c
 happens place id at c (Some w) = happened place id at c w
 
--- the channels after a call whose entry stands at `place` with the moment `at`, by what happens to each id
+-- the channels after a call whose entry is at `place` with the moment `at`, by what happens to each id
 abbrev pub changed : ℕ → ℤ → (ℤ → Option What) → List Channel → List Channel
 changed place at what cs = by_number (λ k c. happens place (pos k) at c (what (pos k))) 0 cs
 
--- a call whose entry stands at `place` did this to each id, or was refused and left the channels as they were
+-- a call whose entry is at `place` did this to each id, or was refused and left the channels as they were
 abbrev pub Changes : Result (Unit {0}) ChannelError → ℕ → ℤ → (ℤ → Option What) → List Channel → List Channel → Type 0
 Changes result place at what old new = MatchResult result (λ _. new ≡ changed place at what old) (λ _. new ≡ old)
 
@@ -55,7 +55,7 @@ truncated (cut ∷ cuts) id = if int_eq id cut.0 then Some (Truncate cut.1) else
 abbrev pub IsNewPlace : ℕ → List Channel → Type 0
 IsNewPlace place cs = AllByRecursion (λ c. IsPastAll place c.changes) cs
 
--- the first place that passes, where the list begins at `place`
+-- the first place that passes, if the list begins at `place`
 abbrev pub first_place : {X : Type 0} → (X → Bool) → ℕ → List X → Option ℤ
 first_place p place [] = None
 first_place p place (x ∷ xs) = if p x then Some (pos place) else first_place p (suc place) xs
@@ -73,7 +73,7 @@ range_in (Some e) points = Err e
 abbrev pub range_of : List Channel → ℤ → ℤ → ℤ → Result (List Point) ChannelError
 range_of cs id from to = range_in (range_refusal (channel_at cs id) id from to) (inside from to (points_at cs id))
 
--- the points of a channel at or past `start`, where there is one
+-- the points of a channel at or past `start`, if there is one
 abbrev pub tail_in : Option Channel → ℤ → ℤ → Result (List Point) ChannelError
 tail_in None id start = Err (NoChannel id)
 tail_in (Some c) id start = Ok (past start c.points)
@@ -82,7 +82,7 @@ tail_in (Some c) id start = Ok (past start c.points)
 abbrev pub tail_of : List Channel → ℤ → ℤ → Result (List Point) ChannelError
 tail_of cs id start = tail_in (channel_at cs id) id start
 
--- the changes of a channel, where there is one
+-- the changes of a channel, if there is one
 abbrev pub changes_in : Option Channel → List ChannelChange
 changes_in None = []
 changes_in (Some c) = c.changes

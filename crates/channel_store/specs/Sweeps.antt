@@ -29,22 +29,22 @@ row_at rows (negsuc k) = None
 
 -- ---- one row
 
--- the place of an id in a list of this length
+-- the index of an id in a list of this length
 abbrev pub place_in : ℕ → ℤ → Option ℕ
 place_in len (pos k) = if nat_lt k len then Some k else None
 place_in len (negsuc k) = None
 
--- a row in front of what became of the rows behind it
+-- a row before what became of the rows after it
 abbrev pub with_row : Row → Result (List Row) ChannelError → Result (List Row) ChannelError
 with_row r (Ok rs) = Ok (r ∷ rs)
 with_row r (Err e) = Err e
 
--- what became of a row, in front of the rows behind it
+-- what became of a row, before the rows after it
 abbrev pub before_rows : Result Row ChannelError → List Row → Result (List Row) ChannelError
 before_rows (Ok r) rs = Ok (r ∷ rs)
 before_rows (Err e) rs = Err e
 
--- a step of the row at a place
+-- a step of the row at an index
 abbrev pub step_row : ℕ → (Row → Result Row ChannelError) → ChannelError → List Row → Result (List Row) ChannelError
 step_row k f absent [] = Err absent
 step_row zero f absent (r ∷ rs) = before_rows (f r) rs
@@ -55,7 +55,7 @@ abbrev pub step_at : ℤ → (Row → Result Row ChannelError) → List Row → 
 step_at (pos k) f rows = step_row k f (NoChannel (pos k)) rows
 step_at (negsuc k) f rows = Err (NoChannel (negsuc k))
 
--- a further step, where the one before was not refused
+-- a further step, if the one before was not refused
 abbrev pub next_rows : {X : Type 0} → Result X ChannelError → (X → Result (List Row) ChannelError) → Result (List Row) ChannelError
 next_rows (Ok x) f = f x
 next_rows (Err e) f = Err e
@@ -75,7 +75,7 @@ append_item rows i = step_at i.channel (λ r. added i.channel i.point (record r 
 abbrev pub add_item : List Row → ChannelPoint → Result (List Row) ChannelError
 add_item rows i = step_at i.channel (λ r. added i.channel i.point r) rows
 
--- a change without points begins, where nothing is about to happen yet
+-- a change without points begins, if nothing is about to happen yet
 abbrev pub opened_by : ℤ → Way → Row → Option What → Result Row ChannelError
 opened_by id way r None = Ok (record r { staged = Some (what_by way []) })
 opened_by id way r (Some w) = Err (Doubled id)
@@ -88,13 +88,13 @@ opened id way r = opened_by id way r r.staged
 abbrev pub open_channel : Way → List Row → ℤ → Result (List Row) ChannelError
 open_channel way rows id = step_at id (opened id way) rows
 
--- a truncation begins in the row of an id, where its end is in range
+-- a truncation begins in the row of an id, if its end is in range
 abbrev pub open_cut : List Row → ℤ × ℤ → Result (List Row) ChannelError
 open_cut rows cut = step_at cut.0 (λ r. if in_range cut.1 then opened cut.0 (UpTo cut.1) r else Err (Index cut.0)) rows
 
 -- ---- refusals of items
 
--- the channel that a row shows, where there is a row
+-- the channel that a row shows, if there is a row
 abbrev pub shown_in : Option Row → Option Channel
 shown_in None = None
 shown_in (Some r) = Some r.shown
@@ -114,13 +114,13 @@ inside_refusal_in rows from to i = inside_refusal (is_staged (row_at rows i.chan
 
 -- ---- all rows of a list of ids
 
--- the row at a place is changed, where there is one
+-- the row at an index is changed, if there is one
 abbrev pub modify : ℕ → (Row → Row) → List Row → List Row
 modify k f [] = []
 modify zero f (r ∷ rs) = f r ∷ rs
 modify (suc k) f (r ∷ rs) = r ∷ modify k f rs
 
--- the row of an id is changed, where there is one
+-- the row of an id is changed, if there is one
 abbrev pub modify_at : ℤ → (Row → Row) → List Row → List Row
 modify_at (pos k) f rows = modify k f rows
 modify_at (negsuc k) f rows = rows
@@ -151,22 +151,22 @@ all_done place at ids rows = swept (λ id r. done place id at r) ids rows
 abbrev pub ids_of : List ChannelPoint → List ℤ
 ids_of items = map (λ i. i.channel) items
 
--- all that is about to happen may stand at this place of the journal
+-- all that is about to happen may have this place in the journal
 abbrev pub AllDue : ℕ → List Row → Type 0
 AllDue place rows = AllByRecursion (IsDue place) rows
 
--- a call is accepted exactly without a refusal, and leaves these channels; else it leaves those that were there
+-- a call is accepted exactly without a refusal, and leaves these channels; otherwise it leaves those that were there
 abbrev pub EndsAs : Result (Unit {0}) ChannelError → List Row → List Row → Option ChannelError → List Channel → Type 0
 EndsAs (Ok _) old new refusal expected = (refusal ≡ None) × (new ≡ map plain expected)
 EndsAs (Err e) old new refusal expected = (e ≢ NoMemory → refusal ≡ Some e) × (new ≡ old)
 
 -- ---- what a call was given
 
--- the points of what is about to happen to the row of an id, where there is a row and something is
+-- the points of what is about to happen to the row of an id, if there is a row and something is
 abbrev pub told_at : Option Row → Option (List Point)
 told_at None = None
 told_at (Some r) = option_map told_by r.staged
 
--- where something is about to happen, it has these points
+-- if something is about to happen, it has these points
 abbrev pub Tells : Option Row → List Point → Type 0
 Tells o points = IfGiven (told_at o) (λ xs. xs ≡ points)

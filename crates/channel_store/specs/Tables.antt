@@ -9,11 +9,11 @@ use Rattle.channel_store.specs.Rows.{Row}
 use Rattle.channel_store.specs.Store.{id_of}
 use Rattle.channel_store.specs.Sweeps.{shown_of, IsIdle}
 
--- under each URI there is the id of its channel
+-- under each URI is the id of its channel
 abbrev pub HasIds : List (StoreUri × ℤ) → List Channel → Type 0
 HasIds ids cs = (u : StoreUri) → lookup (same_uri u) ids ≡ id_of u cs
 
--- an id was put under a URI, where there was none
+-- an id was put under a URI that had none
 abbrev pub PutsId : StoreUri → ℤ → List (StoreUri × ℤ) → List (StoreUri × ℤ) → Type 0
 PutsId uri id old new = (u : StoreUri) → lookup (same_uri u) new ≡ option_or (lookup (same_uri u) old) (if same_uri u uri then Some id else None)
 

@@ -1,4 +1,4 @@
--- What a change tells, and what that counts.
+-- The points of a change, and what they count.
 use Rattle.std.specs.Prelude.{ℕ, Bool, false, List, [], ◌∷◌, ◌++◌, length, Option, Some, None, Result, Ok, Err, nat_le, nat_lt, if◌then◌else◌}
 use Rattle.etp_values.specs.declared.point.Point.{Point}
 use Rattle.etp_values.specs.Weight.{capped, weigh}
@@ -24,7 +24,7 @@ with_point p (Truncate end) = Truncate end
 abbrev pub change_bytes : ChannelChange → ℕ
 change_bytes x = weigh point_bytes (told_by x.what)
 
--- a change, where there is one, stands before a place
+-- a change, if there is one, is before a place
 abbrev pub stands_before : ℕ → Option ChannelChange → Bool
 stands_before place None = false
 stands_before place (Some x) = nat_lt x.place place
@@ -33,7 +33,7 @@ stands_before place (Some x) = nat_lt x.place place
 abbrev pub size_of : List Point → PointSize
 size_of xs = record { points = length xs; bytes = capped (weigh point_bytes xs) }
 
--- the same where there are so many points at most
+-- the same if there are at most this many points
 abbrev pub size_within : ℕ → List Point → Option PointSize
 size_within most xs = if nat_le (length xs) most then Some (size_of xs) else None
 
@@ -42,12 +42,12 @@ abbrev pub sized : {E : Type 0} → Result (List Point) E → Result PointSize E
 sized (Ok xs) = Ok (size_of xs)
 sized (Err e) = Err e
 
--- the same where it has so many points at most
+-- the same if it has at most this many points
 abbrev pub sized_within : {E : Type 0} → ℕ → Result (List Point) E → Result (Option PointSize) E
 sized_within most (Ok xs) = Ok (size_within most xs)
 sized_within most (Err e) = Err e
 
--- how a call ended, without what it gave
+-- how a call ended, apart from what it gave
 abbrev pub ending : {A E : Type 0} → Result A E → Result (Unit {0}) E
 ending (Ok x) = Ok tt
 ending (Err e) = Err e

@@ -1,4 +1,4 @@
-//! The calls that change the channels: tests first, then all memory, and then the change, which nothing can stop.
+//! The calls that change the channels: first the tests, then all allocation, and then the change, which can't fail.
 ghost use Rattle.std.specs.Prelude.{◌≡◌, [], IfOk, length, zip};
 ghost use Rattle.channel_store.specs.Refusals.{Refuses, append_refusal, first_refusal, interval_refusal, replace_refusal, truncate_refusal};
 ghost use Rattle.channel_store.specs.Rows.{Becomes};
@@ -97,7 +97,7 @@ pub fn append_all(
     }
 }
 
-/// The items join a replacement that has begun, where all lie inside.
+/// The items join a replacement that has begun, if all are inside.
 fn fill_inside(
     alloc: Global,
     tracks: &mut Vec<Track>,
@@ -116,7 +116,7 @@ fn fill_inside(
     }
 }
 
-/// The items join a replacement that has begun, where its interval is one.
+/// The items join a replacement that has begun, if its interval is valid.
 fn fill(
     alloc: Global,
     tracks: &mut Vec<Track>,

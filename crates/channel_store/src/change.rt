@@ -11,15 +11,15 @@ use std::alloc::Global;
 /// What happened to the points of a channel.
 #[derive(Debug, Drop, PartialEq, Eq)]
 pub enum What {
-    /// These points were added behind the last one.
+    /// These points were added after the last one.
     Append(Points),
-    /// The points from `from` to `to` gave way to these, which lie there too.
+    /// The points from `from` to `to` were replaced by these, which are in that interval too.
     Replace {
         from: i64,
         to: i64,
         points: BoxedPoints,
     },
-    /// The points above `end` went.
+    /// The points above `end` were dropped.
     Truncate {
         end: i64,
     },
@@ -60,7 +60,7 @@ impl Copied for ChannelChange {
 }
 
 impl What {
-    /// Adds a point behind the last one. A truncation has none.
+    /// Adds a point after the last one. A truncation has none.
     pub(crate) fn push(&mut self, alloc: Global, point: Point) -> Result<(), NoMemory>
         ensures ok { OnOk result (self.new ≡ with_point point self.old) }
         ensures err { OnErr result (self.new ≡ self.old) }

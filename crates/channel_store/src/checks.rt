@@ -1,4 +1,4 @@
-//! Tests on the items of a call, before anything is made.
+//! Tests on the items of a call, before anything is changed.
 ghost use Rattle.std.specs.Prelude.{◌≡◌};
 ghost use Rattle.std.specs.Option.{option_copied};
 ghost use Rattle.channel_store.specs.Refusals.{cut_refusal, first_refusal, in_range, interval_refusal, is_listed, suits, verdict};
@@ -15,7 +15,7 @@ pub const MIN_INDEX: i64 = -4_611_686_018_427_387_904;
 /// The greatest index.
 pub const MAX_INDEX: i64 = 4_611_686_018_427_387_904;
 
-/// Whether an index lies from -2^62 to 2^62.
+/// Whether an index is from -2^62 to 2^62.
 pub fn in_range(index: i64) -> bool
     ensures { result ≡ in_range index }
 {
@@ -39,7 +39,7 @@ fn suits(kind: ValueKind, value: &DataValue) -> bool
     }
 }
 
-/// The place of a channel's id in a list of so many.
+/// The index of a channel's id in a list of this length.
 pub fn place_of(len: usize, channel: i64) -> Option<usize>
     ensures { result ≡ place_in len channel }
 {
@@ -90,7 +90,7 @@ pub fn check_items(tracks: &[Track], items: &[ChannelPoint]) -> Result<(), Chann
     Ok(())
 }
 
-/// Whether an interval does not end before it begins, and lies in range.
+/// Whether an interval does not end before it begins, and is in range.
 pub fn check_interval(from: i64, to: i64) -> Result<(), ChannelError>
     ensures { result ≡ verdict (interval_refusal from to) }
 {
@@ -152,7 +152,7 @@ fn is_listed(ids: &[i64], id: i64) -> bool
     false
 }
 
-/// Why a channel does not get this end, where these were cut before.
+/// Why a channel does not get this end, if these were truncated before.
 pub fn check_cut(
     tracks: &[Track],
     earlier: &[i64],

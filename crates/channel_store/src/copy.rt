@@ -1,4 +1,4 @@
-//! The copy of a channel that whoever is told of its changes keeps.
+//! The copy of a channel that a receiver of its changes keeps.
 ghost use Rattle.std.specs.Prelude.{◌≡◌, ◌≤◌, ◌+◌, [], not, length, IfOk, OnErr, OnOk};
 ghost use Rattle.std.specs.Vec.{vec_len, vec_capacity};
 ghost use Rattle.channel_store.specs.Copies.{IsFront};
@@ -12,7 +12,7 @@ use std::alloc::Global;
 use std::marker::Model;
 use std::mem;
 
-/// A change of a channel, as whoever follows the channel is told of it.
+/// A change of a channel, as it is sent to those who follow the channel.
 #[derive(Debug, Drop, PartialEq, Eq)]
 pub struct ChangeMsg {
     pub channel: i64,
@@ -58,7 +58,7 @@ fn keep_up_to(points: &mut Vec<Point>, end: i64)
     );
 }
 
-/// How many points stand in front of the first that lies above `to`.
+/// How many points come before the first that is above `to`.
 fn count_in_front(points: &[Point], to: i64) -> usize
     ensures within { result ≤ length points.now }
     ensures put { IsFront to result points.now }
@@ -71,7 +71,7 @@ fn count_in_front(points: &[Point], to: i64) -> usize
     points.len()
 }
 
-/// Puts points in the place of those from `from` to `to`.
+/// Replaces the points from `from` to `to` by these.
 fn put_instead(points: &mut Vec<Point>, from: i64, to: i64, more: Vec<Point>)
     requires { vec_len points.old + vec_len more ≤ vec_capacity points.old }
     ensures { points.new.items ≡ put_below to more.items (outside from to points.old.items) }
@@ -81,7 +81,7 @@ fn put_instead(points: &mut Vec<Point>, from: i64, to: i64, more: Vec<Point>)
     put_at(points, place, more);
 }
 
-/// Does to the points what happened to the channel, where `more` are the points of that change.
+/// Applies to the points what happened to the channel, if `more` are the points of that change.
 fn fold_in(points: &mut Vec<Point>, what: &What, mut more: Vec<Point>)
     requires room { vec_len points.old + vec_len more ≤ vec_capacity points.old }
     requires same { more.items ≡ told_by what.now }
@@ -112,7 +112,7 @@ fn reserve(points: &mut Vec<Point>, count: usize) -> Result<(), NoMemory>
     Ok(())
 }
 
-/// The points with what happened, or as they are where memory is refused.
+/// The points with what happened, or unchanged if allocation fails.
 fn take_into(points: &mut Vec<Point>, what: &What, more: Vec<Point>) -> Result<(), NoMemory>
     requires { more.items ≡ told_by what.now }
     ensures ok { OnOk result (points.new.items ≡ after points.old.items what.now) }
@@ -124,7 +124,7 @@ fn take_into(points: &mut Vec<Point>, what: &What, more: Vec<Point>) -> Result<(
 }
 
 impl ChannelCopy {
-    /// The copy of a channel of which nothing was told yet.
+    /// The copy of a channel before any change was received.
     pub fn new(alloc: Global) -> ChannelCopy
         ensures { result ≡ [] }
     {
@@ -145,7 +145,7 @@ impl ChannelCopy {
         taken
     }
 
-    /// The points, to be read.
+    /// Borrows the points.
     pub fn points(&self) -> &List<Point>
         ensures { result.now ≡ self.now }
     {

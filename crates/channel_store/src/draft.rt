@@ -1,4 +1,4 @@
-//! What is about to happen to a channel, with all the memory that it takes.
+//! What is about to happen to a channel, with all the memory that it needs.
 ghost use Rattle.std.specs.Prelude.{◌≡◌, [], IfOk};
 ghost use Rattle.std.specs.Vec.{vec_len, vec_capacity};
 ghost use Rattle.channel_store.specs.Points.{last_of, lies_past};
@@ -21,7 +21,7 @@ pub enum Way {
     UpTo { end: i64 },
 }
 
-/// A change that is not done yet, and its points once more for the channel.
+/// A change that is not done yet, and a second copy of its points for the channel.
 #[derive(Drop)]
 pub struct Draft {
     pub points: Vec<Point>,
@@ -56,7 +56,7 @@ impl Draft {
         })
     }
 
-    /// The index that the next point has to lie past, in a channel that has these points.
+    /// The index that the next point has to exceed, in a channel that has these points.
     pub fn last(&self, points: &[Point]) -> Option<i64>
         requires { self.now.points.items ≡ told_by self.now.what }
         ensures { result ≡ last_of (before_next points.now self.now.what) }
@@ -123,7 +123,7 @@ impl Draft {
     }
 }
 
-/// Whether an index lies past another, if there is one.
+/// Whether an index is past another, if there is one.
 fn is_past(last: Option<i64>, index: i64) -> bool
     ensures { result ≡ lies_past last index }
 {

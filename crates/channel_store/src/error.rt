@@ -5,14 +5,14 @@ use etp_values::NoMemory;
 use std::alloc::{AllocError, AllocFailed};
 use thiserror::Error;
 
-/// Why a call was refused. A number is the channel that it was refused for.
+/// Why a call was refused. A number is the channel for which it was refused.
 #[derive(Clone, Copy, Debug, PartialEq, Eq, Error)]
 pub enum ChannelError {
     /// There is no channel of this id.
     #[error("there is no channel {0}")]
     NoChannel(i64),
-    /// An index lies below -2^62 or above 2^62.
-    #[error("an index of channel {0} lies below -2^62 or above 2^62")]
+    /// An index is below -2^62 or above 2^62.
+    #[error("an index of channel {0} is below -2^62 or above 2^62")]
     Index(i64),
     /// A value is not null, and not of the channel's kind.
     #[error("a value of channel {0} is of another kind")]
@@ -20,16 +20,16 @@ pub enum ChannelError {
     /// A channel is listed twice.
     #[error("channel {0} is listed twice")]
     Doubled(i64),
-    /// An interval ends before it begins, or is to be replaced and lies out of range.
-    #[error("the interval ends before it begins or lies out of range")]
+    /// An interval ends before it begins, or is to be replaced and is out of range.
+    #[error("the interval ends before it begins or is out of range")]
     Interval,
-    /// An index does not lie past the one before it.
-    #[error("an index of channel {0} does not lie past the one before it")]
+    /// An index is not past the previous one.
+    #[error("an index of channel {0} is not past the previous one")]
     Order(i64),
-    /// An item is not of a channel that is replaced, or lies outside the interval.
-    #[error("an item of channel {0} lies outside what is replaced")]
+    /// An item is not of a channel that is replaced, or is outside the interval.
+    #[error("an item of channel {0} is outside the replaced interval")]
     Outside(i64),
-    /// Memory was refused.
+    /// Out of memory.
     #[error("out of memory")]
     NoMemory,
 }

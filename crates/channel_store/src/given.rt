@@ -78,7 +78,7 @@ fn share(
     Ok(ChannelPoints::single(channel, points))
 }
 
-/// The items, which share the points of the change where they are of one channel.
+/// The items, which share the points of the change if they are of one channel.
 fn gather(
     alloc: Global,
     tracks: &[Track],

@@ -7,7 +7,7 @@ pub fn copy_is_points()
     ensures { CopyIsPoints }
 {}
 
-/// An accepted call leaves the points of every channel in order, and the points of an accepted replacement lie in its interval.
+/// An accepted call leaves the points of every channel in order, and the points of an accepted replacement are in its interval.
 pub fn accepted_calls()
     ensures appends { AppendsRise }
     ensures replaces { ReplacesRise }

@@ -1,11 +1,11 @@
 //! What is measured: the points of each configured channel, and how they came to be.
 //!
-//! A [`ChannelStore`] has the channels of a configuration; a channel's id is its place there. Each has its points in the order of
-//! their indexes, and its changes in order, each with the place of its entry in the journal. [`What`] says what a change did: it
-//! added points behind the last one, replaced those of an interval, or dropped those above an end.
+//! A [`ChannelStore`] has the channels of a configuration; a channel's id is its index there. Each has its points in the order of their
+//! indexes, and its changes in order, each with the place of its entry in the journal. [`What`] says what a change did: it added points
+//! after the last one, replaced those of an interval, or dropped those above an end.
 //!
-//! A call is tested first, then made ready in memory, and then done, which nothing can stop: so it changes all channels or none.
-//! Whoever is told of the changes one by one keeps a [`ChannelCopy`]; [`copy_is_points`] is the law for them.
+//! A call is tested first, then allocated for, and then done, which can't fail: so it changes all channels or none. Whoever receives the
+//! changes one by one keeps a [`ChannelCopy`]; [`copy_is_points`] is the law for them.
 #![tactic(auto)]
 
 mod calls;

@@ -9,7 +9,7 @@ ghost use Rattle.channel_store.specs.Told.{stands_before};
 use crate::change::ChannelChange;
 use channel_points::Rows;
 
-/// Whether the change of this number stands before a place. Past the last change none does.
+/// Whether the change of this number is before a place. After the last change none is.
 fn stands_before(changes: &Rows<ChannelChange>, number: usize, place: u64) -> bool
     ensures { result ≡ stands_before place (slice_get changes.now.items number) }
 {
@@ -19,7 +19,7 @@ fn stands_before(changes: &Rows<ChannelChange>, number: usize, place: u64) -> bo
     }
 }
 
-/// How many changes stand before a place.
+/// How many changes are before a place.
 fn count_before(changes: &Rows<ChannelChange>, place: u64) -> usize
     requires { PlacesRise changes.now.items }
     ensures point { IsPartitionPoint (λ x. nat_lt x.place place ≡ true)
@@ -39,7 +39,7 @@ fn count_before(changes: &Rows<ChannelChange>, place: u64) -> usize
     low
 }
 
-/// The change whose entry stands at a place.
+/// The change whose entry is at a place.
 pub fn change_at(changes: &Rows<ChannelChange>, place: u64) -> Option<&ChannelChange>
     requires { PlacesRise changes.now.items }
     ensures { option_copied result ≡ find (λ x. x.place == place) changes.now.items }
@@ -54,7 +54,7 @@ pub fn change_at(changes: &Rows<ChannelChange>, place: u64) -> Option<&ChannelCh
     None
 }
 
-/// The place of the first change whose entry stands at or past a place.
+/// The place of the first change whose entry is at or past a place.
 pub fn next_place(changes: &Rows<ChannelChange>, place: u64) -> Option<u64>
     requires { PlacesRise changes.now.items }
     ensures { result

@@ -10,7 +10,7 @@ use channel_points::{count_below, points_bytes};
 use etp_values::{Copied, List, NoMemory, Point};
 use std::alloc::Global;
 
-/// How many points lie at or below an index.
+/// How many points are at or below an index.
 fn count_to(points: &[Point], index: i64) -> usize
     requires { Rises points.now }
     ensures { IsSplit (λ x. at_most x.index index) points.now result }
@@ -71,7 +71,7 @@ fn size_of(points: &[Point]) -> PointSize
     }
 }
 
-/// The size of `count` points behind the first `place`.
+/// The size of `count` points after the first `place`.
 fn size_behind(points: &[Point], place: usize, count: usize) -> PointSize
     requires { place + count ≤ length points.now }
     ensures { result ≡ size_of (take count (drop place points.now)) }
@@ -79,7 +79,7 @@ fn size_behind(points: &[Point], place: usize, count: usize) -> PointSize
     size_of(&points[place..place + count])
 }
 
-/// The same, where `count` is `most` at most: more points are not looked at.
+/// The same, if `count` is at most `most`: more points are not looked at.
 fn size_of_few(points: &[Point], place: usize, count: usize, most: u64) -> Option<PointSize>
     requires { place + count ≤ length points.now }
     ensures { result ≡ size_within most (take count (drop place points.now)) }
@@ -90,7 +90,7 @@ fn size_of_few(points: &[Point], place: usize, count: usize, most: u64) -> Optio
     Some(size_behind(points, place, count))
 }
 
-/// How many points lie below an interval, and how many in it.
+/// How many points are below an interval, and how many in it.
 fn place_inside(points: &[Point], from: i64, to: i64) -> (usize, usize)
     requires { Rises points.now }
     ensures below { IsSplit (λ x. int_lt x.index from) points.now result.0 }
@@ -124,7 +124,7 @@ pub fn size_inside(points: &[Point], from: i64, to: i64) -> PointSize
     size_behind(points, start, count)
 }
 
-/// The size of the points from `from` to `to`, where they are `most` at most: more points are not looked at.
+/// The size of the points from `from` to `to`, if they are at most `most`: more points are not looked at.
 pub fn size_inside_within(points: &[Point], from: i64, to: i64, most: u64) -> Option<PointSize>
     requires { Rises points.now }
     ensures { result ≡ size_within most (inside from to points.now) }
@@ -151,7 +151,7 @@ pub fn size_past(points: &[Point], start: i64) -> PointSize
     size_of(&points[place..])
 }
 
-/// The size of the points at or past `start`, where they are `most` at most: more points are not looked at.
+/// The size of the points at or past `start`, if they are at most `most`: more points are not looked at.
 pub fn size_past_within(points: &[Point], start: i64, most: u64) -> Option<PointSize>
     requires { Rises points.now }
     ensures { result ≡ size_within most (past start points.now) }
@@ -160,7 +160,7 @@ pub fn size_past_within(points: &[Point], start: i64, most: u64) -> Option<Point
     size_of_few(points, place, points.len() - place, most)
 }
 
-/// Copies of `count` points behind the first `place`.
+/// Copies of `count` points after the first `place`.
 fn copy_behind(
     alloc: Global,
     points: &[Point],
@@ -193,7 +193,7 @@ fn cut(points: &mut Vec<Point>, end: i64)
     points.truncate(count);
 }
 
-/// Turns the points behind the first `place` by `count`.
+/// Rotates the points after the first `place` by `count`.
 fn turn_behind(points: &mut Vec<Point>, place: usize, count: usize)
     requires { place + count ≤ vec_len points.old }
     ensures items { points.new.items ≡ take place points.old.items
@@ -216,7 +216,7 @@ fn drop_inside(points: &mut Vec<Point>, from: i64, to: i64)
     drop_behind(points, start, count);
 }
 
-/// Drops `count` points behind the first `place`.
+/// Drops `count` points after the first `place`.
 fn drop_behind(points: &mut Vec<Point>, place: usize, count: usize)
     requires { place + count ≤ vec_len points.old }
     ensures items { points.new.items
@@ -229,7 +229,7 @@ fn drop_behind(points: &mut Vec<Point>, place: usize, count: usize)
     points.truncate(left);
 }
 
-/// Puts points behind the first `place`.
+/// Inserts points after the first `place`.
 pub fn put_at(points: &mut Vec<Point>, place: usize, mut more: Vec<Point>)
     requires within { place ≤ vec_len points.old }
     requires room { vec_len points.old + vec_len more ≤ vec_capacity points.old }
@@ -241,7 +241,7 @@ pub fn put_at(points: &mut Vec<Point>, place: usize, mut more: Vec<Point>)
     turn_behind(points, place, behind);
 }
 
-/// Puts points in the place of those from `from` to `to`.
+/// Replaces the points from `from` to `to` by these.
 fn put_between(points: &mut Vec<Point>, from: i64, to: i64, more: Vec<Point>)
     requires rising { Rises points.old.items }
     requires room { vec_len points.old + vec_len more ≤ vec_capacity points.old }
@@ -252,7 +252,7 @@ fn put_between(points: &mut Vec<Point>, from: i64, to: i64, more: Vec<Point>)
     put_at(points, place, more);
 }
 
-/// Does to the points what is to happen, whose own points are `more`.
+/// Applies to the points what is to happen, whose own points are `more`.
 pub fn apply(points: &mut Vec<Point>, what: &What, mut more: Vec<Point>)
     requires rising { Rises points.old.items }
     requires room { vec_len points.old + vec_len more ≤ vec_capacity points.old }

@@ -141,7 +141,7 @@ fn open_cut(
     open(alloc, &mut tracks[place], Way::UpTo { end }, channel)
 }
 
-/// A truncation begins in each of these channels, by the end at its place.
+/// A truncation begins in each of these channels, by the end at its index.
 pub fn open_cuts(
     alloc: Global,
     tracks: &mut Vec<Track>,
@@ -187,7 +187,7 @@ fn commit(tracks: &mut Vec<Track>, place: u64, channel: i64, at: i64)
     tracks[number].commit(place, channel, at);
 }
 
-/// Does what is about to happen to the channels of these items. Takes no memory.
+/// Does what is about to happen to the channels of these items. It does not allocate.
 pub fn commit_items(tracks: &mut Vec<Track>, place: u64, at: i64, items: &[ChannelPoint])
     requires { AllDue place tracks.old.items }
     ensures { tracks.new.items ≡ all_done place at (ids_of items.now) tracks.old.items }
@@ -197,7 +197,7 @@ pub fn commit_items(tracks: &mut Vec<Track>, place: u64, at: i64, items: &[Chann
     }
 }
 
-/// Does what is about to happen to these channels. Takes no memory.
+/// Does what is about to happen to these channels. It does not allocate.
 pub fn commit_channels(tracks: &mut Vec<Track>, place: u64, at: i64, channels: &[i64])
     requires { AllDue place tracks.old.items }
     ensures { tracks.new.items ≡ all_done place at channels.now tracks.old.items }

@@ -23,10 +23,10 @@ use server_config::Config;
 use std::alloc::Global;
 use std::marker::Model;
 
-/// The channels of a configuration with their points and changes. A channel's id is its place in the configuration.
+/// The channels of a configuration with their points and changes. A channel's id is its index in the configuration.
 ///
-/// A contract sees the list of the channels. A call that changes does so whole or not at all: after any error the store is
-/// as before.
+/// A contract sees the list of the channels. A call that changes the store takes effect completely or not at all: after any error the store
+/// is as before.
 #[derive(Drop)]
 pub struct ChannelStore {
     alloc: Global,
@@ -60,17 +60,17 @@ impl ChannelStore {
         Ok(ChannelStore { alloc, tracks, ids })
     }
 
-    /// The id of the channel that is this object. It costs one look into a table, however many channels there are.
+    /// The id of the channel that is this object. It costs one look-up in a table, however many channels there are.
     pub fn channel_of(&self, uri: &StoreUri) -> Option<i64>
         ensures { result ≡ id_of uri.now self.now }
     {
         id_in(&self.ids, uri)
     }
 
-    /// Adds points behind the last ones of their channels, as the changes of the entry at `place`.
+    /// Adds points after the last ones of their channels, as the changes of the entry at `place`.
     ///
-    /// `Index` and `Kind` refuse an item by itself; `Order` comes where no item is refused so, and an index does not
-    /// lie past the last one of its channel, in the store or among the earlier items.
+    /// `Index` and `Kind` refuse an item by itself; `Order` is returned if no item is refused for these, and an index is not past the last
+    /// one of its channel, in the store or among the earlier items.
     pub fn append(
         &mut self,
         place: u64,
@@ -88,7 +88,7 @@ impl ChannelStore {
         }
     }
 
-    /// As [`append`](ChannelStore::append), with the items as the entry keeps them, which share the memory of the changes.
+    /// Like [`append`](ChannelStore::append), with the items as the entry keeps them, which share the memory of the changes.
     pub fn take_append(
         &mut self,
         place: u64,
@@ -104,7 +104,7 @@ impl ChannelStore {
         append_all(self.alloc, &mut self.tracks, place, at, items.as_slice())
     }
 
-    /// Whether an append of these items would be refused. Takes the memory that it would take, and changes nothing.
+    /// Whether an append of these items would be refused. Allocates what the append would allocate, and changes nothing.
     pub fn test_append(&mut self, items: &List<ChannelPoint>) -> Result<(), ChannelError>
         ensures answer { Refuses result (append_refusal self.old items.now) }
         ensures same { self.new ≡ self.old }
@@ -112,7 +112,7 @@ impl ChannelStore {
         test_append(self.alloc, &mut self.tracks, items.as_slice())
     }
 
-    /// Puts points in the place of those from `from` to `to`, in each of the channels, as the changes of the entry at `place`.
+    /// Replaces the points from `from` to `to` by these, in each of the channels, as the changes of the entry at `place`.
     pub fn replace(
         &mut self,
         place: u64,
@@ -134,7 +134,7 @@ impl ChannelStore {
         }
     }
 
-    /// As [`replace`](ChannelStore::replace), with the items as the entry keeps them, which share the memory of the changes.
+    /// Like [`replace`](ChannelStore::replace), with the items as the entry keeps them, which share the memory of the changes.
     pub fn take_replace(
         &mut self,
         place: u64,
@@ -164,7 +164,7 @@ impl ChannelStore {
         )
     }
 
-    /// Whether a replacement would be refused. Takes the memory that it would take, and changes nothing.
+    /// Whether a replacement would be refused. Allocates what the replacement would allocate, and changes nothing.
     pub fn test_replace(
         &mut self,
         channels: &List<i64>,
@@ -185,7 +185,7 @@ impl ChannelStore {
         )
     }
 
-    /// Drops the points above an end, in each of the channels by the end at its place, as the changes of the entry at `place`.
+    /// Drops the points above an end, in each of the channels by the end at its index, as the changes of the entry at `place`.
     pub fn truncate(
         &mut self,
         place: u64,
@@ -210,7 +210,7 @@ impl ChannelStore {
         )
     }
 
-    /// Whether a channel would be refused this end, where these channels stand before it in the call.
+    /// Whether a channel would be refused this end, if these channels come before it in the call.
     pub fn test_cut(&self, earlier: &[i64], channel: i64, end: i64) -> Result<(), ChannelError>
         ensures { result ≡ verdict (cut_refusal self.now earlier.now (channel, end)) }
     {
@@ -243,8 +243,8 @@ impl ChannelStore {
         Ok(track.range_size(from, to))
     }
 
-    /// How many points a channel has from `from` to `to`, and what they count, where they are `most` at most. More points cost
-    /// no more than finding the ends of the range.
+    /// How many points a channel has from `from` to `to`, and what they count, if they are at most `most`. More points cost no more than
+    /// finding the ends of the range.
     pub fn range_size_within(
         &self,
         channel: i64,
@@ -283,8 +283,8 @@ impl ChannelStore {
         Ok(track.tail_size(start))
     }
 
-    /// How many points a channel has at or past `start`, and what they count, where they are `most` at most. More points cost no
-    /// more than finding `start`.
+    /// How many points a channel has at or past `start`, and what they count, if they are at most `most`. More points cost no more than
+    /// finding `start`.
     pub fn tail_size_within(
         &self,
         channel: i64,
@@ -330,7 +330,7 @@ impl ChannelStore {
         track.index_from_end(count)
     }
 
-    /// The place of a channel's first change whose entry stands at or past a place of the journal.
+    /// The place of a channel's first change whose entry is at or past a place of the journal.
     pub fn next_place(&self, channel: i64, place: u64) -> Option<u64>
         ensures { result ≡ option_map (λ x. x.place)
             (find (λ x. nat_le place x.place) (changes_at self.now channel)) }
@@ -341,7 +341,7 @@ impl ChannelStore {
         track.next_place(place)
     }
 
-    /// The change of a channel whose entry stands at a place of the journal.
+    /// The change of a channel whose entry is at a place of the journal.
     pub fn change_at(&self, channel: i64, place: u64) -> Option<&ChannelChange>
         ensures { option_copied result ≡ find (λ x. x.place == place)
             (changes_at self.now channel) }

@@ -1,6 +1,6 @@
 //! Subscriptions to channels.
 
-/// A subscription that stands: the index that it starts at, and the place of the journal from which on it is told of changes.
+/// A subscription: the index that it starts at, and the place of the journal from which it is sent changes.
 #[derive(Clone, Copy, Debug, Drop, PartialEq, Eq)]
 pub struct Sub {
     pub channel: i64,

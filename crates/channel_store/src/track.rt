@@ -97,28 +97,28 @@ impl Track {
         copy_past(alloc, self.points.as_slice(), start)
     }
 
-    /// How many points lie from `from` to `to`, and what they count.
+    /// How many points are from `from` to `to`, and what they count.
     pub fn range_size(&self, from: i64, to: i64) -> PointSize
         ensures { result ≡ size_of (inside from to self.now.shown.points) }
     {
         size_inside(self.points.as_slice(), from, to)
     }
 
-    /// How many points lie from `from` to `to`, and what they count, where they are `most` at most.
+    /// How many points are from `from` to `to`, and what they count, if they are at most `most`.
     pub fn range_size_within(&self, from: i64, to: i64, most: u64) -> Option<PointSize>
         ensures { result ≡ size_within most (inside from to self.now.shown.points) }
     {
         size_inside_within(self.points.as_slice(), from, to, most)
     }
 
-    /// How many points lie at or past `start`, and what they count, where they are `most` at most.
+    /// How many points are at or past `start`, and what they count, if they are at most `most`.
     pub fn tail_size_within(&self, start: i64, most: u64) -> Option<PointSize>
         ensures { result ≡ size_within most (past start self.now.shown.points) }
     {
         size_past_within(self.points.as_slice(), start, most)
     }
 
-    /// How many points lie at or past `start`, and what they count.
+    /// How many points are at or past `start`, and what they count.
     pub fn tail_size(&self, start: i64) -> PointSize
         ensures { result ≡ size_of (past start self.now.shown.points) }
     {
@@ -132,14 +132,14 @@ impl Track {
         copy_inside(alloc, self.points.as_slice(), from, to)
     }
 
-    /// The change whose entry stands at a place of the journal.
+    /// The change whose entry is at a place of the journal.
     pub fn change_at(&self, place: u64) -> Option<&ChannelChange>
         ensures { option_copied result ≡ find (λ x. x.place == place) self.now.shown.changes }
     {
         change_at(&self.changes, place)
     }
 
-    /// The place of the first change whose entry stands at or past a place of the journal.
+    /// The place of the first change whose entry is at or past a place of the journal.
     pub fn next_place(&self, place: u64) -> Option<u64>
         ensures { result ≡ option_map (λ x. x.place)
             (find (λ x. nat_le place x.place) self.now.shown.changes) }
@@ -174,7 +174,7 @@ impl Track {
         Ok(())
     }
 
-    /// Begins an append, where nothing is about to happen yet.
+    /// Begins an append, if nothing is about to happen yet.
     pub fn begin_append(&mut self, alloc: Global) -> Result<(), NoMemory>
         ensures ok { OnOk result
             (self.new ≡ record self.old { staged = Some (begun self.old.staged) }) }
@@ -237,7 +237,7 @@ impl Track {
         self.draft = None;
     }
 
-    /// Does what is about to happen, and notes it as the change of the entry at `place`. Takes no memory.
+    /// Does what is about to happen, and notes it as the change of the entry at `place`. It does not allocate.
     pub fn commit(&mut self, place: u64, channel: i64, at: i64)
         requires { IsDue place self.old }
         ensures { self.new ≡ done place channel at self.old }

@@ -24,7 +24,7 @@ pub fn fresh_tracks(alloc: Global, defs: &[ChannelDef]) -> Result<Vec<Track>, No
     Ok(tracks)
 }
 
-/// Puts the id of a channel under its URI, where there is none yet.
+/// Puts the id of a channel under its URI, if there is none yet.
 #[tactic(auto, using(crate::proofs::TableLemmas::put_there))]
 fn put_id(
     ids: &mut IndexMap<StoreUri, i64>,
@@ -41,7 +41,7 @@ fn put_id(
     Ok(())
 }
 
-/// The ids of the channels of definitions by their URIs; that of the first, where several have one URI.
+/// The ids of the channels of definitions by their URIs; that of the first, if several have one URI.
 #[tactic(auto, using(crate::proofs::TableLemmas::ids_done))]
 pub fn ids_by_uri(alloc: Global, defs: &[ChannelDef]) -> Result<IndexMap<StoreUri, i64>, NoMemory>
     ensures { IfOk result (λ ids. HasIds ids.entries (map fresh defs.now)) }

@@ -1,6 +1,6 @@
-//! Copies a file of the folder and then the input to the output: the system's files and streams through the adapters.
+//! Copies a file of the working directory and then the input to the output: the system's files and streams through the adapters.
 //!
-//! It then asks for a file that is not there, and prints the status line of that.
+//! It then asks for a file that does not exist, and prints the status line of that.
 #![tactic(auto)]
 
 use etp_outside::{

@@ -50,7 +50,7 @@ fn print_dims(rt: &HostRuntime, list: &str, count: &str) -> io::Result<()> {
     }
 }
 
-/// Why a record is no array, if it is none.
+/// Why a record is not an array, if it is not.
 fn judge(
     alloc: Global,
     dims: &str,
@@ -139,7 +139,7 @@ fn patch(
     store.patch(alloc, key, &starts, &counts, values)
 }
 
-/// A call on an array that is there.
+/// A call on an existing array.
 fn print_held(
     rt: &HostRuntime,
     store: &mut ArrayStore,

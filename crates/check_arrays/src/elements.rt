@@ -1,4 +1,4 @@
-//! Lists and elements from their words. `-` is the list of none, and a text may be written as `PIECE*COUNT`.
+//! Lists and elements from their words. `-` is the empty list, and a text may be written as `PIECE*COUNT`.
 use etp_values::{AnyArray, Bits32, Bits64, Blob, List, NoMemory, Text};
 use std::alloc::Global;
 
@@ -54,7 +54,7 @@ fn doubles(alloc: Global, items: &[&str]) -> Result<List<Bits64>, NoMemory> {
     Ok(List::from_vec(values))
 }
 
-/// A piece so many times.
+/// A piece, repeated.
 fn times(alloc: Global, piece: &str, count: u32) -> Result<String, NoMemory> {
     let mut text = String::new(alloc);
     for _ in 0..count {
@@ -63,7 +63,7 @@ fn times(alloc: Global, piece: &str, count: u32) -> Result<String, NoMemory> {
     Ok(text)
 }
 
-/// A piece so many times, by blocks of 1,024.
+/// A piece, repeated, by blocks of 1,024.
 fn repeated(alloc: Global, piece: &str, count: u32) -> Result<Text, NoMemory> {
     let block = times(alloc, piece, 1024)?;
     let mut text = times(alloc, block.as_str(), count / 1024)?;

@@ -39,7 +39,7 @@ fn patch_of(
     })
 }
 
-/// The operation of these words, if they are of one.
+/// The operation of these words, if they are one.
 fn op_of(alloc: Global, words: &[&str]) -> Result<Option<ArrayOp>, NoMemory> {
     match words {
         ["set", space, path, dims, kind, values, at] => {
@@ -71,7 +71,7 @@ fn ops_of(alloc: Global, line: &str) -> Result<List<ArrayOp>, NoMemory> {
     Ok(List::from_vec(ops))
 }
 
-/// Does the operations of a line, and counts them.
+/// Applies the operations of a line, and counts them.
 fn apply(alloc: Global, store: &mut ArrayStore, line: &str) -> Result<usize, NoMemory> {
     let ops = ops_of(alloc, line)?;
     let count = ops.len();
@@ -80,7 +80,7 @@ fn apply(alloc: Global, store: &mut ArrayStore, line: &str) -> Result<usize, NoM
     Ok(count)
 }
 
-/// Does the operations of a line, and prints how many they are.
+/// Applies the operations of a line, and prints how many they are.
 pub(crate) fn print_applied(
     rt: &HostRuntime,
     store: &mut ArrayStore,

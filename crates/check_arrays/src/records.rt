@@ -1,4 +1,4 @@
-//! The calls on a copy of a record, which stands in no store.
+//! The calls on a copy of a record that is in no store.
 use crate::elements::{elements, numbers};
 use crate::showing::{print_answer, print_record};
 use array_store::{ArrayError, ArrayRecord, read_slice, write_patch};

@@ -44,7 +44,7 @@ fn kind_of(values: &AnyArray) -> &'static str {
     }
 }
 
-/// Prints the kind, and each element behind a space.
+/// Prints the kind, and each element after a space.
 fn print_elements(rt: &HostRuntime, values: &AnyArray) -> io::Result<()> {
     print!(rt; "{}", kind_of(values))?;
     match values {

@@ -18,7 +18,7 @@ fn uri_of(alloc: Global, word: &str) -> StoreUri {
     }
 }
 
-/// So many bytes 0x41.
+/// This many bytes 0x41.
 fn payload_of(alloc: Global, count: &str) -> Result<Blob, NoMemory> {
     let mut bytes = Vec::new(alloc);
     for _ in 0..count.parse::<u32>().unwrap_or(0) {

@@ -1,9 +1,9 @@
-//! Plays asks and messages to clients, and prints what each sends and hands out.
+//! Plays asks and messages to clients, and prints what each sends and returns.
 //!
-//! A line of the input is `begin MOMENT` (a client from here on), an ask (`space PATH`, `put URI BYTES`, `get URI`, `open URI`,
-//! `load POINTS`, `meta URI`, `subscribe CHANNEL START`, `ping`, `close`, where `put` has so many bytes 0x41 and points are
-//! `CHANNEL:INDEX:LONG`), `take HEX`, `copy CHANNEL`, or a remark that begins with `#`. Each ask is made at the moment 7. The input and the
-//! expected output were made outside of this product (`outside/check_client.py`).
+//! A line of the input is `begin MOMENT` (a client from here on), an ask (`space PATH`, `put URI BYTES`, `get URI`, `open URI`, `load
+//! POINTS`, `meta URI`, `subscribe CHANNEL START`, `ping`, `close`, where BYTES is how many bytes 0x41 are put and points are
+//! `CHANNEL:INDEX:LONG`), `take HEX`, `copy CHANNEL`, or a comment that begins with `#`. Each ask is made at the moment 7. The input and
+//! the expected output were made outside of this product (`outside/check_client.py`).
 #![tactic(auto)]
 
 mod asks;
@@ -64,7 +64,7 @@ fn print_taken(rt: &HostRuntime, outcome: &Result<List<Got>, ClientError>) -> io
     }
 }
 
-/// Takes a message, and prints what it hands out or why it is refused.
+/// Takes a message, and prints what it returns or why it is refused.
 fn take(rt: &HostRuntime, client: &mut Client, digits: &str) -> io::Result<()> {
     let bytes = hex::decode(rt.alloc(), digits).map_err(|_| AllocError)?;
     let outcome = client.take(rt.alloc(), bytes.as_slice());

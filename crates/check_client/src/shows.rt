@@ -1,4 +1,4 @@
-//! What is handed out, in words.
+//! What is returned, in words.
 use channel_store::{ChangeMsg, What};
 use client_core::{ClientError, Got};
 use etp_values::{DataValue, NoMemory, Point};
@@ -50,7 +50,7 @@ fn change_text(alloc: Global, change: &ChangeMsg) -> Result<String, NoMemory> {
     }
 }
 
-/// What a message hands out.
+/// What a message returns.
 pub(crate) fn show(alloc: Global, got: &Got) -> Result<String, NoMemory> {
     match got {
         Got::Opened(id) => {

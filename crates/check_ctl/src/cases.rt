@@ -1,4 +1,4 @@
-//! What a line of the input says of a run.
+//! What a line of the input says about a run.
 use etp_outside::{Item, MemDial, MemFile, MemHost, MemLink, MemSource};
 use etp_values::{Blob, List, NoMemory, Text};
 use std::alloc::Global;
@@ -6,7 +6,7 @@ use std::alloc::Global;
 /// The name of the file that a host has.
 const FILE_NAME: &str = "file";
 
-/// What a run is handed.
+/// What a run is given.
 #[derive(Drop)]
 pub(crate) struct Case {
     pub(crate) words: Vec<String>,
@@ -69,7 +69,7 @@ fn only(alloc: Global, word: &str) -> Result<List<u64>, NoMemory> {
     Ok(List::from_vec(numbers))
 }
 
-/// A dialer of the link of these words, the first of which is the number of its call that fails; without words of none.
+/// A dialer of the link of these words, the first of which is the number of its call that fails; without words a dialer of no link.
 fn dialer_of(alloc: Global, text: &str) -> Result<MemDial, NoMemory> {
     let words: Vec<&str> = text.split_whitespace().collect(alloc)?;
     let mut links = Vec::new(alloc);

@@ -1,12 +1,12 @@
 //! Runs the client over hosts, links and streams in memory, and prints what each command wrote, how it ended, and what it sent.
 //!
-//! A line of the input is a run, in four fields between `|`: the words of the command line, the content of the file `file`, the content of the
-//! input, and the link. A content is in hexadecimal, `-` for none. A link is the number of its call that fails, or 0, and what comes over it: `-`
-//! is an idle turn, and anything else a message in hexadecimal; behind the last one the peer has ended the link. An empty field stands for no link
-//! to dial. The clock tells 7, 8 and so on. A line that begins with `#` is printed as it is.
+//! A line of the input is a run, in four fields between `|`: the words of the command line, the content of the file `file`, the content of
+//! the input, and the link. A content is in hexadecimal, `-` for none. A link is the number of its call that fails, or 0, and what comes
+//! over it: `-` is an idle turn, and anything else a message in hexadecimal; after the last one the peer has ended the link. An empty field
+//! means that there is no link to dial. The clock returns 7, 8 and so on. A line that begins with `#` is printed as it is.
 //!
-//! What is printed is what the command wrote, and then its status and status line, where the link went, and each message that was sent over it.
-//! The lines and what is expected of them were made outside of this product (`outside/check_ctl.py`).
+//! What is printed is what the command wrote, and then its status and status line, where the link was dialed to, and each message that was
+//! sent over it. The lines and the expected output were made outside of this product (`outside/check_ctl.py`).
 #![tactic(auto)]
 
 mod cases;
@@ -22,7 +22,7 @@ use std::io::{self, BufRead, BufReader, Write};
 use std::sync::Wait;
 use watch_views::{Counts, Latest, View, Window};
 
-/// The first moment that the clock tells.
+/// The first moment that the clock returns.
 const FIRST_MOMENT: i64 = 7;
 
 /// How many points the window shows.
@@ -33,7 +33,7 @@ fn print_message<R: AllocGlobal + Print>(rt: &R, message: &[u8]) -> io::Result<(
     println!(rt; "sent {digits}")
 }
 
-/// Where a link went, and what was sent over it.
+/// Where a link was dialed to, and what was sent over it.
 fn print_link<R: AllocGlobal + Print>(rt: &R, link: &MemLink) -> io::Result<()> {
     match link.to() {
         Some(address) => {

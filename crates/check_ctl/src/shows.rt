@@ -1,7 +1,7 @@
 //! How messages are shown.
 use std::alloc::{AllocError, Global};
 
-/// A message of more bytes is shown by its front and its length.
+/// A message of more bytes than this is shown by its front and its length.
 const SHOWN: usize = 600;
 
 /// Bytes in hexadecimal; of many the front, and how many there are.

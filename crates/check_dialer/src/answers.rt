@@ -1,15 +1,15 @@
-//! What the servers answer and say, as bytes.
+//! What the servers answer and send, as bytes.
 
 /// What a server does for its one client.
 #[derive(Clone, Copy)]
 pub(crate) struct Part {
     /// What it answers the request.
     pub(crate) answer: &'static [u8],
-    /// What it says next.
+    /// What it sends next.
     pub(crate) message: &'static [u8],
-    /// How many bytes it then hears.
+    /// How many bytes it then reads.
     pub(crate) hears: usize,
-    /// What it says to that.
+    /// What it sends after that.
     pub(crate) goodbye: &'static [u8],
     /// Whether it then closes its side, before the client has closed its own.
     pub(crate) closes: bool,
@@ -21,12 +21,12 @@ const HELLO: &[u8] = b"\x82\x05Hello";
 /// A server's goodbye.
 const GOODBYE: &[u8] = b"\x88\x00";
 
-/// How many bytes "Hello" has in a client's frame, and the goodbye behind it.
+/// The length of "Hello" in a client's frame, and of the goodbye after it.
 const CLIENT_HELLO: usize = 11;
 
 const CLIENT_GOODBYE: usize = 8;
 
-/// Takes the request, with the subprotocol. The key is the answer to the standard's sample.
+/// Accepts the request, with the subprotocol. The key is the answer to the standard's sample.
 const TAKEN: &[u8] =
     b"HTTP/1.1 101 Switching Protocols\r\nUpgrade: websocket\r\nConnection: Upgrade\r\nSec-WebSocket-Accept: s3pPLMBiTxaQ9kYGzzhZRbK+xOo=\r\nSec-WebSocket-Protocol: etp12.energistics.org\r\n\r\n";
 
@@ -46,11 +46,11 @@ const NOT_FOUND: &[u8] = b"HTTP/1.1 404 Not Found\r\nContent-Length: 0\r\n\r\n";
 
 const GARBAGE: &[u8] = b"garbage\r\n\r\n";
 
-/// An answer that takes the request, up to the middle of a line.
+/// An answer that accepts the request, up to the middle of a line.
 const HALF: &[u8] =
     b"HTTP/1.1 101 Switching Protocols\r\nUpgrade: websocket\r\nConnection: Upgrade\r\nSec-WebSoc";
 
-/// A server that says goodbye once it has heard a message.
+/// A server that says goodbye once it has read a message.
 pub(crate) const ENDS_FIRST: Part = Part {
     answer: TAKEN,
     message: HELLO,
@@ -59,13 +59,13 @@ pub(crate) const ENDS_FIRST: Part = Part {
     closes: false,
 };
 
-/// A server that says goodbye once it has heard a message and the client's goodbye.
+/// A server that says goodbye once it has read a message and the client's goodbye.
 pub(crate) const ENDS_LAST: Part = Part {
     hears: CLIENT_HELLO + CLIENT_GOODBYE,
     ..ENDS_FIRST
 };
 
-/// A server that says no more after its answer, and waits for the client to go.
+/// A server that sends nothing more after its answer, and waits for the client to leave.
 const ANSWERS_ONLY: Part = Part {
     answer: b"",
     message: b"",
@@ -99,7 +99,7 @@ pub(crate) const SAYS_GARBAGE: Part = Part {
     ..ANSWERS_ONLY
 };
 
-/// A server that goes in the middle of its answer.
+/// A server that leaves in the middle of its answer.
 pub(crate) const GOES_HALFWAY: Part = Part {
     answer: HALF,
     closes: true,

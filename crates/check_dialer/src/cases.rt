@@ -21,12 +21,12 @@ const ANY_PORT: &str = "127.0.0.1:0";
 
 const HOST: &str = "127.0.0.1";
 
-/// How long a server that says nothing is waited for, and how long another, in seconds.
+/// How long to wait for a server that sends nothing, and for any other, in seconds.
 const SILENCE: u64 = 1;
 
 const PATIENCE: u64 = 10;
 
-/// A name that no host has, and that no server of names is asked for: its one label is a letter longer than a label can be.
+/// A name that no host has, and for which no name server is asked: its one label is one letter longer than a label can be.
 const NO_NAME: &str = "aaaaaaaaaaaaaaaaaaaaaaaaaaaaaaaaaaaaaaaaaaaaaaaaaaaaaaaaaaaaaaaa";
 
 /// Has a server play a part to a client of its port.
@@ -93,7 +93,7 @@ fn print_both<R: AllocGlobal + Print>(
     println!(rt; "{name}: {seen}; the server {heard}")
 }
 
-/// Servers that take the client: what it asks, and who says goodbye first.
+/// Servers that accept the client: what it asks, and who says goodbye first.
 pub(crate) fn print_taken<R>(rt: &R, net: &SampleNet<R>) -> io::Result<()>
 where
     R: AllocGlobal
@@ -160,7 +160,7 @@ where
     println!(rt; "{name}: {seen}")
 }
 
-/// A server that says nothing, a port at which nobody listens, and a host that has no address.
+/// A server that sends nothing, a port at which nobody listens, and a host that has no address.
 pub(crate) fn print_unanswered<R>(rt: &R) -> io::Result<()>
 where
     R: AllocGlobal + Print + Sync + RandomSource + Net<Listener = TcpListener, Stream = TcpStream>,
@@ -180,7 +180,7 @@ where
     print_dialed(rt, "no such host", NO_NAME, address.port(), PATIENCE)
 }
 
-/// A server at an IPv6 address: the request has it in brackets. The line is the same where the machine has no such address.
+/// A server at an IPv6 address: the request has it in brackets. The line is the same if the machine has no such address.
 pub(crate) fn print_bracketed<R>(rt: &R, net: &SampleNet<R>) -> io::Result<()>
 where
     R: AllocGlobal

@@ -6,7 +6,7 @@ use std::alloc::Global;
 /// What is asked of a server.
 pub(crate) const PATH: &str = "/wells";
 
-/// So many turns that any wait is over.
+/// Enough turns for any wait to be over.
 const TURNS: u32 = 1000;
 
 /// What came of dialing.
@@ -23,12 +23,11 @@ pub(crate) struct Seen {
     pub(crate) call: Call,
     /// The first message that came.
     pub(crate) got: Option<Blob>,
-    /// Whether the server then ended the link. It is false where that was not waited for.
+    /// Whether the server then ended the link. It is false if that was not awaited.
     pub(crate) ended: bool,
 }
 
-/// Dials a port, sends a message, takes one, and hangs up. Where the client is patient it first waits until the server has ended
-/// the link.
+/// Dials a port, sends a message, takes one, and hangs up. If the client is patient it first waits until the server has ended the link.
 pub(crate) fn visit<D: Dialer>(
     alloc: Global,
     dial: &mut D,

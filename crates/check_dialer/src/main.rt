@@ -1,8 +1,8 @@
 //! Dials servers over the loopback, and prints what came of each.
 //!
-//! The servers are sockets that answer with bytes written out (`answers`), and one is our own door. The requests, keys and frames are
-//! those of RFC 6455, sections 1.3, 4.1 and 5.3. The system picks each port, and what is printed does not depend on which, nor on
-//! whether the machine has an IPv6 address.
+//! The servers are sockets that answer with literal bytes (`answers`), and one is our own door. The requests, keys and frames are those of
+//! RFC 6455, sections 1.3, 4.1 and 5.3. The system picks each port, and what is printed does not depend on which, nor on whether the
+//! machine has an IPv6 address.
 #![tactic(auto)]
 
 mod answers;

@@ -1,4 +1,4 @@
-//! The system's network, with random bytes that are known.
+//! The system's network, with known random bytes.
 use std::io;
 use std::net::{Net, SocketAddr, TcpListener, TcpStream};
 use std::random::RandomSource;

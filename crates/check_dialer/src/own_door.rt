@@ -13,10 +13,10 @@ use std::{io, thread};
 /// How many bytes the message has: more than a link keeps before it writes.
 const SIZE: usize = 300_000;
 
-/// How often the door is dialed. It passes over a client that it does not hear of for two seconds, as on a busy machine.
+/// How often the door is dialed. It drops a client from which nothing came for two seconds, as may happen on a busy machine.
 const TRIES: u32 = 50;
 
-/// Sends the first message of the next link back, and waits for the link's end. It says whether both came.
+/// Sends the first message of the next link back, and waits for the link's end. Returns whether both came.
 fn echo<R: Net<Listener = TcpListener, Stream = TcpStream> + Clock>(
     alloc: Global,
     door: &mut TcpDoor<R>,
@@ -38,7 +38,7 @@ fn send_back(alloc: Global, link: &mut impl Link) -> bool {
     }
 }
 
-/// Dials a door until it takes the client, and says whether the message came back.
+/// Dials a door until it accepts the client, and returns whether the message came back.
 fn is_echoed<D: Dialer>(alloc: Global, dial: &mut D, port: u16, message: &Blob) -> bool {
     for _ in 0..TRIES {
         let seen = visit(alloc, dial, "127.0.0.1", port, message, false);
@@ -65,7 +65,7 @@ fn message(alloc: Global) -> Result<Blob, AllocError> {
     Blob::from_vec(bytes).map_err(|_| AllocError)
 }
 
-/// Dials our own door, and prints what either saw.
+/// Dials our own door, and prints what each side saw.
 pub(crate) fn print_own_door<R>(rt: &R) -> io::Result<()>
 where
     R: AllocGlobal

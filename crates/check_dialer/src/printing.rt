@@ -5,7 +5,7 @@ use etp_values::Blob;
 use std::alloc::{AllocError, Global};
 use std::io;
 
-/// The fields of a request that are printed. A server does not care for the order in which they come.
+/// The fields of a request that are printed. A server does not depend on their order.
 const FIELDS: [&str; 6] = [
     "Host",
     "Upgrade",
@@ -15,7 +15,7 @@ const FIELDS: [&str; 6] = [
     "Sec-WebSocket-Protocol",
 ];
 
-/// Prints the first line of a request and the values of its fields, with PORT in the place of the port.
+/// Prints the first line of a request and the values of its fields, with PORT in place of the port.
 pub(crate) fn print_request<R: AllocGlobal + Print>(
     rt: &R,
     request: &[u8],
@@ -92,7 +92,7 @@ fn message_text(alloc: Global, message: &Blob, end: &str) -> Result<String, Allo
     format!(in alloc; "got {digits}{end}")
 }
 
-/// What a server heard behind the request, in words.
+/// What a server read after the request, in words.
 pub(crate) fn heard_text(alloc: Global, heard: &Heard) -> Result<String, AllocError> {
     let end = if heard.hung_up { "the end" } else { "no end" };
     if heard.frames.is_empty() {

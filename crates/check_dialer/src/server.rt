@@ -8,15 +8,15 @@ use std::time::Duration;
 /// How long a server waits for its client, in seconds.
 const PATIENCE: u64 = 20;
 
-/// The longest request, and the most that a server hears behind it, in bytes.
+/// The longest request, and the most that a server reads after it, in bytes.
 const LONGEST: usize = 1000;
 
-/// What a server had of its client.
+/// What a server got from its client.
 #[derive(Drop)]
 pub(crate) struct Heard {
     /// The head of the request, with the empty line.
     pub(crate) request: Vec<u8>,
-    /// What came behind it.
+    /// What came after it.
     pub(crate) frames: Vec<u8>,
     /// Whether the client then closed the connection.
     pub(crate) hung_up: bool,
@@ -63,7 +63,7 @@ fn read_head(stream: &mut TcpStream, head: &mut Vec<u8>) -> io::Result<()> {
     Ok(())
 }
 
-/// Reads so many bytes.
+/// Reads this many bytes.
 fn hear(stream: &mut TcpStream, frames: &mut Vec<u8>, size: usize) -> io::Result<()> {
     let mut byte = [0u8; 1];
     for _ in 0..size {
@@ -73,7 +73,7 @@ fn hear(stream: &mut TcpStream, frames: &mut Vec<u8>, size: usize) -> io::Result
     Ok(())
 }
 
-/// Reads until the client has closed the connection, and says whether it has. One that it broke off is closed too.
+/// Reads until the client has closed the connection, and returns whether it has. A connection that it reset counts as closed.
 fn hear_out(stream: &mut TcpStream, frames: &mut Vec<u8>) -> bool {
     let mut byte = [0u8; 1];
     for _ in 0..LONGEST {
@@ -90,7 +90,7 @@ fn hear_out(stream: &mut TcpStream, frames: &mut Vec<u8>) -> bool {
     false
 }
 
-/// Whether a read failed since nothing came in time.
+/// Whether a read failed because nothing came in time.
 fn is_late(kind: ErrorKind) -> bool {
     matches!(kind, ErrorKind::WouldBlock | ErrorKind::TimedOut)
 }

@@ -1,4 +1,4 @@
-//! Ends as a program whose peer has ended the subscription: with status 16, and its line on standard output.
+//! Ends like a program whose peer has ended the subscription: with status 16, and its line on standard output.
 #![tactic(auto)]
 
 use etp_outside::{Status, StdSink};

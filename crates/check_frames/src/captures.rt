@@ -1,10 +1,10 @@
-//! Captures that stand in files.
+//! Captures in files.
 use etp_capture::{CaptureError, CaptureReader, Frame, kinds};
 use etp_outside::StdSource;
 use etp_schema::Side;
 use std::{fs, io};
 
-/// A frame, and the offset that it stands at.
+/// A frame, and its offset.
 #[derive(Drop)]
 pub(crate) struct Placed {
     pub(crate) offset: u64,
@@ -15,7 +15,7 @@ pub(crate) struct Placed {
 #[derive(Drop)]
 pub(crate) struct Capture {
     pub(crate) frames: Vec<Placed>,
-    /// Why no more could be read behind the frames.
+    /// Why nothing more could be read after the frames.
     pub(crate) fault: Option<CaptureError>,
 }
 
@@ -40,7 +40,7 @@ pub(crate) fn read_capture(rt: &HostRuntime, file: &str) -> io::Result<Capture> 
     Ok(Capture { frames, fault })
 }
 
-/// The side that sent the frame's message, where it has one.
+/// The side that sent the frame's message, if it has one.
 pub(crate) fn sender_of(frame: &Frame) -> Option<Side> {
     match frame.kind {
         kinds::IN => Some(Side::Client),

@@ -3,7 +3,7 @@
 /// The digest of no bytes.
 pub(crate) const NO_BYTES: u64 = 0xCBF2_9CE4_8422_2325;
 
-/// The digest of these bytes behind those that gave `start`.
+/// The digest of these bytes after those that gave `start`.
 pub(crate) fn digest(start: u64, bytes: &[u8]) -> u64 {
     let mut digest = start;
     for byte in bytes {

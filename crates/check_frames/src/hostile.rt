@@ -1,12 +1,12 @@
 //! Shows and checks messages that no well-behaved peer sends.
 //!
-//! The samples are the messages of a capture. Of them are made messages of random bytes, half of them behind the header of a sample,
-//! and samples that are damaged in one to three places. Each is shown and checked; and after every thousand it is printed how many
-//! lines that made, how many messages were taken and refused, and a digest of all lines so far. `outside/hostile_messages.py` makes and
-//! reads the same messages.
+//! The samples are the messages of a capture. From them are made messages of random bytes, half of them after the header of a sample, and
+//! samples that are damaged in one to three places. Each is shown and checked; and after every thousand it is printed how many lines that
+//! made, how many messages were accepted and refused, and a digest of all lines so far. `outside/hostile_messages.py` makes and reads the
+//! same messages.
 //!
-//! With no words the seed is 1, and there are ten thousand messages of each sort. `SEED THOUSANDS` gives others, and a third word
-//! `lines` prints the lines themselves.
+//! With no words the seed is 1, and there are ten thousand messages of each sort. `SEED THOUSANDS` gives others, and a third word `lines`
+//! prints the lines themselves.
 ghost use Rattle.std.specs.Prelude.{◌<◌, length};
 
 mod making;
@@ -28,7 +28,7 @@ struct Plan {
     seed: u64,
     /// How many thousand messages of each sort.
     thousands: u64,
-    /// Whether the lines are printed, and not their digest.
+    /// Whether the lines are printed, instead of their digest.
     lines: bool,
 }
 
@@ -152,7 +152,7 @@ fn make_all(rt: &HostRuntime, plan: &Plan, samples: &[Frame]) -> io::Result<()>
     Ok(())
 }
 
-/// Makes messages of the samples of a capture, as the words say.
+/// Makes messages from the samples of a capture, as the words say.
 pub(crate) fn print_hostile(rt: &HostRuntime, capture: Capture, words: &[&str]) -> io::Result<()> {
     let Ok(samples) = samples(rt.alloc(), capture) else {
         return println!(rt; "no memory for the samples");

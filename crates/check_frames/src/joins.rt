@@ -1,5 +1,5 @@
-//! Gives each message of a capture to one joiner, and prints what it answers: the message that is whole, field by field, or why it
-//! is refused; and what it awaits then.
+//! Gives each message of a capture to one joiner, and prints what it answers: the message that is whole, field by field, or why it is
+//! refused; and what it then awaits.
 //!
 //! The capture has a case for each rule, and some hundred puts and replies with their chunks, now and then not as they should be
 //! (`outside/join_samples.py`).
@@ -48,7 +48,7 @@ fn join_read(
     }
 }
 
-/// Gives the joiner the frame's message, where it has one.
+/// Gives the joiner the frame's message, if it has one.
 fn join_frame(rt: &HostRuntime, joiner: &mut Joiner, frame: &Frame) -> io::Result<()> {
     let Some(sender) = sender_of(frame) else {
         return Ok(());

@@ -10,7 +10,7 @@
 //! values LINES                                reads and writes values
 //! ```
 //!
-//! What a part prints stands behind its line. The files and the expected output were made outside of this product
+//! What a part prints follows its line. The files and the expected output were made outside of this product
 //! (`outside/check_frames.py`).
 #![tactic(auto)]
 

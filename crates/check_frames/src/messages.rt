@@ -1,5 +1,5 @@
 //! Prints of each frame of a capture the line that shows it, and of each message that is read its header, the message field by field,
-//! and a line where it is not written as the bytes that it came in. Of a message that is refused it prints why.
+//! and a line if it is not written as the bytes that it came in. Of a message that is refused it prints why.
 //!
 //! The capture has every message of the profile with every field filled, once for each side that sends it, and a message for each
 //! cause that refuses one, all of which were made by the schema alone (`outside/message_samples.py`).
@@ -11,7 +11,7 @@ use etp_values::Blob;
 use std::alloc::Global;
 use std::io::{self, Write};
 
-/// The bytes of the message; none where the header does not name it, or there is no memory.
+/// The bytes of the message; `None` if the header does not name it, or memory runs out.
 fn rewritten(alloc: Global, header: &Header, message: &Message) -> Option<Blob> {
     if !header.names(message)
         || header.has_flag(flags::EXTENSION)
@@ -59,7 +59,7 @@ fn print_read(
     }
 }
 
-/// Reads the frame's message, where it has one.
+/// Reads the frame's message, if it has one.
 fn print_typed(rt: &HostRuntime, frame: &Frame) -> io::Result<()> {
     let Some(sender) = sender_of(frame) else {
         return Ok(());

@@ -1,8 +1,8 @@
-//! Cuts each message of a capture into the parts in which it is sent, and prints how many blobs the message has, and of each part how
-//! long its printed form is and a sum of that.
+//! Cuts each message of a capture into the parts in which it is sent, and prints how many blobs the message has, and for each part how long
+//! its printed form is and a sum of that.
 //!
-//! A frame's tag is the number of the session that sends the message, and its moment the limit of bytes. The capture has 2,000
-//! messages of every kind, most of them too long for one part (`outside/part_samples.py`).
+//! A frame's tag is the number of the session that sends the message, and its moment the limit of bytes. The capture has 2,000 messages of
+//! every kind, most of them too long for one part (`outside/part_samples.py`).
 use crate::captures::{Placed, sender_of};
 use crate::digest::{NO_BYTES, digest};
 use etp_capture::Frame;
@@ -23,7 +23,7 @@ fn print_parts(rt: &HostRuntime, parts: &[Message]) -> io::Result<()> {
     Ok(())
 }
 
-/// Cuts the message, and answers how many blobs it has.
+/// Cuts the message, and returns how many blobs it has.
 fn cut(rt: &HostRuntime, message: Message, limit: u64, number: u64, blobs: u64) -> io::Result<u64> {
     let count = blobs_in(&message, limit);
     let parts = split(rt.alloc(), message, limit, number, blobs);
@@ -35,7 +35,7 @@ fn cut(rt: &HostRuntime, message: Message, limit: u64, number: u64, blobs: u64) 
     Ok(count)
 }
 
-/// Cuts what was read, where so many blobs were sent before, and answers how many there are then.
+/// Cuts what was read, if this many blobs were sent before, and returns how many there are then.
 fn cut_read(
     rt: &HostRuntime,
     frame: &Frame,
@@ -55,7 +55,7 @@ fn cut_read(
     }
 }
 
-/// Cuts the frame's message, where it has one.
+/// Cuts the frame's message, if it has one.
 fn cut_frame(rt: &HostRuntime, frame: &Frame, blobs: u64) -> io::Result<u64> {
     let Some(sender) = sender_of(frame) else {
         return Ok(blobs);

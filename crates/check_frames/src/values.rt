@@ -1,11 +1,11 @@
 //! Runs lines on values and their encoding, and prints what each gives.
 //!
 //! ```text
-//! uri TEXT          the canonical text of a URI, or why it is none
-//! memory            the text of the refusal of a URI for want of memory
-//! id TEXT           an identifier's text, where it is one
+//! uri TEXT          the canonical text of a URI, or why it is not one
+//! memory            the text of the refusal of a URI as memory runs out
+//! id TEXT           an identifier's text, if it is one
 //! named ID TEXT     the identifier of a text in the name space of an identifier
-//! pairs NAME ..     the names in their order, each with its place in the line, unless one comes twice
+//! pairs NAME ..     the names in their order, each with its place in the line, unless one occurs twice
 //! shared TEXT       the text, from a box and from a shared value
 //! values HEX        custom data: the bytes that were read and are written, the nodes, the weight, and how it is written
 //! node NODE HEX     a value of a node of a table of its own: the bytes that were read and are written, and how it is written

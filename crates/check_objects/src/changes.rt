@@ -49,7 +49,7 @@ fn put_object(
     Ok(ObjectOp::SetObject(KeyedObject::new(alloc, record.copy(alloc)?)?))
 }
 
-/// The operation of these words, if they are of one.
+/// The operation of these words, if they are one.
 fn op_of(alloc: Global, words: &[&str]) -> Result<Option<ObjectOp>, NoMemory> {
     match words {
         ["put_space", path, at] => Ok(Some(put_space(alloc, path, number(at))?)),
@@ -74,7 +74,7 @@ fn ops_of(alloc: Global, line: &str) -> Result<List<ObjectOp>, NoMemory> {
     Ok(List::from_vec(ops))
 }
 
-/// Does the operations of a line, and says how many they are.
+/// Applies the operations of a line, and returns how many they are.
 pub(crate) fn change(
     alloc: Global,
     store: &mut ObjectStore,

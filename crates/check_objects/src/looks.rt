@@ -32,7 +32,7 @@ fn show_object(alloc: Global, object: Option<&ObjectRecord>) -> Result<String, N
     )?)
 }
 
-/// What is looked at by these words, if they are of a look.
+/// What is looked at by these words, if they are a look.
 pub(crate) fn look(
     alloc: Global,
     store: &ObjectStore,

@@ -16,7 +16,7 @@ use object_store::ObjectStore;
 use std::alloc::Global;
 use std::io::{self, BufRead, BufReader};
 
-/// What a line gives: what it looks at, else how many operations were done.
+/// What a line gives: what it looks at, otherwise how many operations were done.
 fn answer(alloc: Global, store: &mut ObjectStore, line: &str) -> Result<String, NoMemory> {
     let words = words_of(alloc, line)?;
     if let Some(seen) = look(alloc, store, words.as_slice())? {

@@ -1,6 +1,6 @@
-//! Reads the lines of its input as points, and prints what each spells.
+//! Reads the lines of its input as points, and prints the point of each.
 //!
-//! A line's first byte tells the kind of the channel: `a` stands for the first kind of the schema, `b` for the next. The input and the expected
+//! A line's first byte gives the kind of the channel: `a` means the first kind of the schema, `b` the next. The input and the expected
 //! output were made outside of this product (`outside/check_points.py`). The input's last line is too long.
 #![tactic(auto)]
 
@@ -15,7 +15,7 @@ fn barred(alloc: Global, text: &str) -> Result<String, NoMemory> {
     Ok(format!(in alloc; "|{text}|")?)
 }
 
-/// Bytes as their numbers, each behind a space.
+/// Bytes as their numbers, each after a space.
 fn numbers(alloc: Global, bytes: &[u8]) -> Result<String, NoMemory> {
     let mut text = String::new(alloc);
     for byte in bytes {
@@ -25,7 +25,7 @@ fn numbers(alloc: Global, bytes: &[u8]) -> Result<String, NoMemory> {
     Ok(text)
 }
 
-/// A value of a channel; no line spells another.
+/// A value of a channel; no line has another.
 fn value_text(alloc: Global, value: &DataValue) -> Result<String, NoMemory> {
     match value {
         DataValue::Boolean(truth) => Ok(format!(in alloc; "boolean {truth}")?),
@@ -57,7 +57,7 @@ fn point_text(alloc: Global, point: Option<Point>) -> Result<String, NoMemory> {
     }
 }
 
-/// What a line spells.
+/// The point of a line.
 fn line_text(alloc: Global, line: &[u8]) -> Result<String, NoMemory> {
     match line {
         [kind, rest @ ..] => {

@@ -1,14 +1,14 @@
 //! A gate at which sessions wait for one another.
 //!
-//! A rule is `SESSION.TURN.OTHER.UNTIL`: the session waits before its turn until the other one has come to its turn UNTIL. Rules have
-//! commas between them.
+//! A rule is `SESSION.TURN.OTHER.UNTIL`: the session waits before its turn until the other one has come to its turn UNTIL. Rules are
+//! separated by commas.
 use etp_outside::Gate;
 use etp_values::NoMemory;
 use std::alloc::Global;
 use std::sync::atomic::{AtomicU64, Ordering};
 use std::thread;
 
-/// How often a session that waits looks again. Then it gives up.
+/// How often a waiting session looks again before it gives up.
 const LOOKS: u64 = 10_000_000;
 
 #[derive(Drop)]
@@ -29,7 +29,7 @@ impl Rule {
         }
     }
 
-    /// Holds a session up before a turn.
+    /// Makes a session wait before a turn.
     fn hold(&self, session: u64, turn: u64) {
         if session == self.session && turn == self.turn {
             self.wait();

@@ -36,7 +36,7 @@ fn link(alloc: Global, word: &str) -> Result<MemLink, NoMemory> {
     Ok(MemLink::new(alloc, items(alloc, coming)?, only(alloc, fails)?))
 }
 
-/// A listener that gives the links of these words. Its call of the number that `fails` spells fails.
+/// A listener that gives out the links of these words. The call whose number `fails` denotes fails.
 pub(crate) fn door_of(alloc: Global, fails: &str, words: &[&str]) -> Result<MemDoor, NoMemory> {
     let mut links = Vec::new(alloc);
     for word in words {

@@ -1,15 +1,15 @@
 //! Runs the server over links in memory, each session in a thread of its own, and sessions with few ids left, and prints what each was
 //! answered, in hexadecimal.
 //!
-//! A line `serve CONFIG SESSIONS RULES LINK ..` of the input is a run. CONFIG is the file of the configuration, and SESSIONS how many
-//! links are served; `SESSIONS@FAIL` has the number of the listener's call that fails, too. A link is `FAIL:ITEM,..`: the number of its call that fails, or 0, and what comes over it, where `-` is an idle
-//! turn and anything else a message in hexadecimal. The rules, `-` for none, hold sessions up where the order of what they do matters (`gates`).
-//! What is printed is the server's report and its status, and then, in the order of their numbers, how each session ended and what
-//! it was sent.
+//! A line `serve CONFIG SESSIONS RULES LINK ..` of the input is a run. CONFIG is the file of the configuration, and SESSIONS how many links
+//! are served; `SESSIONS@FAIL` also gives the number of the listener's call that fails. A link is `FAIL:ITEM,..`: the number of its call
+//! that fails, or 0, and what comes over it, where `-` is an idle turn and anything else a message in hexadecimal. The rules, `-` for none,
+//! make sessions wait where the order of what they do matters (`gates`). What is printed is the server's report and its status, and then,
+//! in the order of their numbers, how each session ended and what it was sent.
 //!
 //! A line `ids FIRST MESSAGE ..` is a session alone: the first of its own ids, and the messages that it gets, each in hexadecimal.
 //!
-//! The lines and what is expected of them were made outside of this product (`outside/check_server.py`).
+//! The lines and the expected output were made outside of this product (`outside/check_server.py`).
 #![tactic(auto)]
 
 mod gates;

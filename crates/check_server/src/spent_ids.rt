@@ -1,4 +1,4 @@
-//! Sessions that have few ids left. None of their messages asks the store. A session that has ended says so after each message.
+//! Sessions that have few ids left. None of their messages asks the store. A session that has ended reports it after each message.
 use etp_values::{Id16, List, NoMemory, Shared, Text};
 use server_config::{Config, MAX_JOURNAL, MAX_LAG};
 use session_core::Session;
@@ -21,7 +21,7 @@ fn configuration(alloc: Global) -> Result<Config, NoMemory> {
     })
 }
 
-/// A session whose own ids begin with `first`, where they may.
+/// A session whose own ids begin with `first`, if they may.
 fn new_session(alloc: Global, first: i64) -> Result<Option<Session>, NoMemory> {
     if first < 1 || first > MAX_ID || first % 2 != 1 {
         return Ok(None);
@@ -30,7 +30,7 @@ fn new_session(alloc: Global, first: i64) -> Result<Option<Session>, NoMemory> {
     Ok(Some(session))
 }
 
-/// Gives a message to the session; true where the session asks the store.
+/// Gives a message to the session; true if the session asks the store.
 fn asks(alloc: Global, session: &mut Session, digits: &str) -> io::Result<bool> {
     let bytes = hex::decode(alloc, digits).map_err(|_| AllocError)?;
     let call = session

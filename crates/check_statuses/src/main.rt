@@ -1,4 +1,4 @@
-//! Prints each exit status that a program can end with, and what a program that ends with it tells.
+//! Prints each exit status that a program can end with, and what a program that ends with it writes.
 #![tactic(auto)]
 
 use etp_outside::{Status, StdSink};

@@ -17,7 +17,7 @@ fn kind_of(word: &str) -> ValueKind {
     }
 }
 
-/// The URI of a channel: those of odd ids stand in a dataspace.
+/// The URI of a channel: those of odd ids are in a dataspace.
 fn channel_uri(alloc: Global, id: usize) -> Result<StoreUri, NoMemory> {
     let space = if id % 2 == 1 { "w" } else { "-" };
     let number = format!(in alloc; "{id}")?;
@@ -51,7 +51,7 @@ fn types(alloc: Global, word: &str) -> Result<Option<Shared<List<Text>>>, NoMemo
     }
 }
 
-/// A configuration with a journal of so many entries, accepted types, and channels of these kinds.
+/// A configuration with a journal of this many entries, accepted types, and channels of these kinds.
 pub(crate) fn config_of(
     alloc: Global,
     journal: &str,

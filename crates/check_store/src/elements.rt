@@ -1,4 +1,4 @@
-//! Elements of arrays, with commas between them.
+//! Elements of arrays, separated by commas.
 use crate::words::{members, numbers, texts};
 use etp_values::{AnyArray, Bits32, Bits64, Blob, List, NoMemory};
 use std::alloc::Global;

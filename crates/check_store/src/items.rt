@@ -8,7 +8,7 @@ use std::alloc::Global;
 use store_machine::{Cutting, RangeAsk, SpacePut, Want};
 use tx_stage::Op;
 
-/// The word at a place, or `-`.
+/// The word at an index, or `-`.
 fn at<'a>(words: &[&'a str], place: usize) -> &'a str {
     match words.get(place) {
         Some(word) => word,
@@ -106,7 +106,7 @@ pub(crate) fn wants(alloc: Global, items: &[&str]) -> Result<List<Want>, NoMemor
     Ok(List::from_vec(wants))
 }
 
-/// So many points of a channel with one value, from an index on.
+/// This many points of a channel with one value, from an index on.
 fn push_points(
     alloc: Global,
     points: &mut Vec<ChannelPoint>,

@@ -15,7 +15,7 @@ fn name_of(alloc: Global, kind: &str, number: &str) -> Result<ObjectName, NoMemo
     })
 }
 
-/// The URI of the object of a type and a number, or of a dataspace where the type is `-`.
+/// The URI of the object of a type and a number, or of a dataspace if the type is `-`.
 pub(crate) fn uri_of(
     alloc: Global,
     space: &str,

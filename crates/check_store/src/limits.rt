@@ -1,4 +1,4 @@
-//! The limits of the store and of what it stands on, as text.
+//! The limits of the store and of what it depends on, as text.
 use array_store::{MAX_BYTES, MAX_ELEMENTS, MAX_RANK};
 use channel_store::MAX_INDEX;
 use std::io;

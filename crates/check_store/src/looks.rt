@@ -28,7 +28,7 @@ pub(crate) fn print_spaces(rt: &HostRuntime, spaces: &[SpaceRecord]) -> io::Resu
     Ok(())
 }
 
-/// Prints what the client says of an object.
+/// Prints what the client says about an object.
 fn print_said(rt: &HostRuntime, object: &ObjectRecord) -> io::Result<()> {
     print!(rt; "object ")?;
     print_uri(rt, &object.uri)?;
@@ -63,7 +63,7 @@ fn print_array(rt: &HostRuntime, array: &ArrayRecord) -> io::Result<()> {
     print_elements(rt, &array.values)
 }
 
-/// Prints what an array is, in front of its custom data.
+/// Prints what an array is, before its custom data.
 fn print_frame(
     rt: &HostRuntime,
     dims: &List<i64>,

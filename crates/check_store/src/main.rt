@@ -36,7 +36,7 @@ fn new_store(alloc: Global, journal: &str, types: &str, kinds: &str) -> Result<S
     Store::new(alloc, config_of(alloc, journal, types, kinds)?)
 }
 
-/// Puts a new store in the place of the one before.
+/// Replaces the previous store by a new one.
 fn print_new(
     rt: &HostRuntime,
     store: &mut Store,

@@ -54,7 +54,7 @@ fn patch(
     })
 }
 
-/// What is done, by its words; a removal where they are of nothing else.
+/// What is done, by its words; a removal if they are nothing else.
 fn what_of(alloc: Global, words: &[&str]) -> Result<OpWhat, NoMemory> {
     match words {
         [

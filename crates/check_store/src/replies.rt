@@ -41,7 +41,7 @@ fn print_each(rt: &HostRuntime, points: &[ChannelPoint]) -> io::Result<()> {
     Ok(())
 }
 
-/// Prints each point, or of many how many they are, and the first and the last index.
+/// Prints each point, or if there are many their number and the first and the last index.
 fn print_points(rt: &HostRuntime, points: &[ChannelPoint]) -> io::Result<()> {
     if points.len() <= FEW {
         return print_each(rt, points);
@@ -112,7 +112,7 @@ fn print_reply(rt: &HostRuntime, reply: &Reply) -> io::Result<()> {
     }
 }
 
-/// Prints an answer, and how many entries the journal has behind it.
+/// Prints an answer, and how many entries the journal then has.
 pub(crate) fn print_answer(rt: &HostRuntime, entries: u64, answer: Answer) -> io::Result<()> {
     print!(rt; "mark {} entries {entries} ", answer.mark)?;
     print_reply(rt, &answer.reply)

@@ -1,4 +1,4 @@
-//! Calls of the sessions whose numbers the journal tells.
+//! Calls of the sessions whose numbers are in the journal.
 ghost use Rattle.std.specs.Prelude.{◌≡◌, ◌≤◌, ◌∷◌, [], IfSome, length};
 ghost use Rattle.store_machine.specs.Laws.{is_enter};
 ghost use Rattle.store_machine.specs.Legal.{IsNext, own};
@@ -32,11 +32,11 @@ fn is_enter(act: &Act) -> bool
     matches!(act, Act::Enter)
 }
 
-/// How many entries a session has, if the number is one's.
+/// How many entries a session has, if the number is a session's.
 fn next_of(store: &Store, by: u64) -> Option<u64>
     ensures { IfSome result (IsNext store.now.journal by) }
 {
-    // For the proof alone: what the test for an Enter says.
+    // For the proof only: what the test for an Enter says.
     number_laws();
     if by >= store.entries() {
         return None;
@@ -47,7 +47,7 @@ fn next_of(store: &Store, by: u64) -> Option<u64>
     Some(own_entries(store, by))
 }
 
-/// Has the store answer a session's call; none where the number is no session's.
+/// Has the store answer a session's call; `None` if the number is no session's.
 pub(crate) fn ask(
     alloc: Global,
     store: &mut Store,

@@ -3,7 +3,7 @@ use etp_values::{AnyArray, Bits32, Bits64, Boxed, DataValue, List, Named, StoreU
 use std::fmt::Display;
 use std::io;
 
-/// How long a text may be that is printed whole.
+/// The greatest length of a text that is printed whole.
 const SHORT: usize = 64;
 
 /// Prints a text, or how long it is.
@@ -14,7 +14,7 @@ pub(crate) fn print_text(rt: &HostRuntime, text: &str) -> io::Result<()> {
     print!(rt; "{text}")
 }
 
-/// Prints each byte behind a dot, or how many there are.
+/// Prints each byte after a dot, or how many there are.
 pub(crate) fn print_bytes(rt: &HostRuntime, bytes: &[u8]) -> io::Result<()> {
     if bytes.len() > SHORT {
         return print!(rt; "#{}", bytes.len());
@@ -33,7 +33,7 @@ pub(crate) fn print_uri(rt: &HostRuntime, uri: &StoreUri) -> io::Result<()> {
     }
 }
 
-/// Prints each of some texts behind a mark.
+/// Prints each of some texts after a mark.
 pub(crate) fn print_texts(rt: &HostRuntime, mark: &str, texts: &[Text]) -> io::Result<()> {
     for text in texts {
         print!(rt; "{mark}")?;
@@ -125,7 +125,7 @@ fn kind_of(values: &AnyArray) -> &'static str {
     }
 }
 
-/// Prints the kind, and each element behind a space.
+/// Prints the kind, and each element after a space.
 pub(crate) fn print_elements(rt: &HostRuntime, values: &AnyArray) -> io::Result<()> {
     print!(rt; "{}", kind_of(values))?;
     match values {

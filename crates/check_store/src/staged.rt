@@ -48,7 +48,7 @@ fn ops(alloc: Global, items: &[&str]) -> Result<List<Op>, NoMemory> {
     Ok(List::from_vec(ops))
 }
 
-/// A transaction that touched keys and has operations by these items, each in their order.
+/// A transaction that touched keys and has operations given by these items, each in their order.
 pub(crate) fn staged(alloc: Global, items: &[&str]) -> Result<Staged, NoMemory> {
     let ops = ops(alloc, items)?;
     let touched = touches(alloc, items)?;

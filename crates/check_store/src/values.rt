@@ -21,7 +21,7 @@ fn list_of_texts(alloc: Global, word: &str) -> Result<DataValue, NoMemory> {
     Ok(DataValue::ArrayOfString(Boxed::new(alloc, items)?))
 }
 
-/// A value on the heap, by its letter.
+/// A boxed value, by its letter.
 fn long_value(alloc: Global, letter: &str, content: &str) -> Result<DataValue, NoMemory> {
     match letter {
         "s" => string(alloc, content),

@@ -12,7 +12,7 @@ pub(crate) fn words_of<'a>(alloc: Global, text: &'a str) -> Result<Vec<&'a str>,
     Ok(words)
 }
 
-/// The items behind a colon, each of which has words; none where nothing stands there.
+/// The items after a colon, each of which has words; none if there is nothing.
 pub(crate) fn items_of<'a>(alloc: Global, text: &'a str) -> Result<Vec<&'a str>, NoMemory> {
     let mut items = Vec::new(alloc);
     if text.is_empty() {
@@ -45,12 +45,12 @@ pub(crate) fn number(word: &str) -> i64 {
     word.parse::<i64>().unwrap_or(0)
 }
 
-/// How many, or which place.
+/// A count or an index.
 pub(crate) fn count(word: &str) -> u32 {
     word.parse::<u32>().unwrap_or(0)
 }
 
-/// Numbers, with commas between them.
+/// Numbers, separated by commas.
 pub(crate) fn numbers(alloc: Global, word: &str) -> Result<List<i64>, NoMemory> {
     longs(alloc, word, ',')
 }
@@ -65,7 +65,7 @@ pub(crate) fn longs(alloc: Global, word: &str, between: char) -> Result<List<i64
     Ok(List::from_vec(values))
 }
 
-/// A piece so many times.
+/// A piece, repeated.
 fn times(alloc: Global, piece: &str, count: u32) -> Result<String, NoMemory> {
     let mut text = String::new(alloc);
     for _ in 0..count {
@@ -74,7 +74,7 @@ fn times(alloc: Global, piece: &str, count: u32) -> Result<String, NoMemory> {
     Ok(text)
 }
 
-/// A piece so many times, by blocks of 1,024.
+/// A piece, repeated, by blocks of 1,024.
 fn repeated(alloc: Global, piece: &str, count: u32) -> Result<Text, NoMemory> {
     let block = times(alloc, piece, 1024)?;
     let mut text = times(alloc, block.as_str(), count / 1024)?;

@@ -1,9 +1,9 @@
-//! The captures that cases are run on, put together of parts with a `+` between them. A part is the name of a file, or is made here:
+//! The captures that cases are run on, composed of parts with a `+` between them. A part is the name of a file, or is made here:
 //!
-//! - `COUNT` is so many zeros;
-//! - `points:MOMENT:COUNT` is so many messages of the tag 0, from that moment on, one a moment: message K, from 0 on, has the id
-//!   2 K + 6, and appends to channel 0 a point at index K with the value K;
-//! - `polls:MOMENT:COUNT` is so many polls of the tag 1, from that moment on, one a moment;
+//! - `COUNT` is that many zeros;
+//! - `points:MOMENT:COUNT` is COUNT messages of the tag 0, from that moment on, one a moment: message K, from 0 on, has the id 2 K + 6, and
+//!   appends to channel 0 a point at index K with the value K;
+//! - `polls:MOMENT:COUNT` is COUNT polls of the tag 1, from that moment on, one a moment;
 //! - `load:N` is what the tool itself writes as the capture of a load of N messages.
 
 use crate::runs::{Faults, run_case};
@@ -19,7 +19,7 @@ fn push_head(into: &mut Vec<u8>, kind: u8, tag: u32, moment: i64, length: u32) -
     Ok(())
 }
 
-/// Appends the shortest spelling of a long that is not negative.
+/// Appends the shortest spelling of a non-negative long.
 fn push_long(into: &mut Vec<u8>, value: u32) -> io::Result<()> {
     let mut left = 2 * u64::from(value);
     for _ in 0..4 {
@@ -45,7 +45,7 @@ fn append_point(alloc: Global, number: u32) -> io::Result<Vec<u8>> {
     Ok(message)
 }
 
-/// Appends so many points, a frame each.
+/// Appends this many points, a frame each.
 fn push_points(alloc: Global, into: &mut Vec<u8>, moment: i64, count: u32) -> io::Result<()> {
     for number in 0..count {
         let message = append_point(alloc, number)?;
@@ -57,7 +57,7 @@ fn push_points(alloc: Global, into: &mut Vec<u8>, moment: i64, count: u32) -> io
     Ok(())
 }
 
-/// Appends so many polls, a frame each.
+/// Appends this many polls, a frame each.
 fn push_polls(into: &mut Vec<u8>, moment: i64, count: u32) -> io::Result<()> {
     for number in 0..count {
         let at = moment.wrapping_add(i64::from(number));
@@ -82,7 +82,7 @@ fn push_load(rt: &HostRuntime, into: &mut Vec<u8>, size: &str) -> io::Result<()>
     }
 }
 
-/// Appends frames from a moment on; of no form there is none.
+/// Appends frames from a moment on; none for an unknown form.
 fn push_frames(
     alloc: Global,
     into: &mut Vec<u8>,
@@ -107,7 +107,7 @@ fn push_made(rt: &HostRuntime, into: &mut Vec<u8>, form: &str, rest: &str) -> io
     }
 }
 
-/// Appends so many zeros for a number, else a file.
+/// Appends zeros if the part is a number, otherwise a file.
 fn push_plain(rt: &HostRuntime, into: &mut Vec<u8>, part: &str) -> io::Result<()> {
     let bytes = match part.parse::<u32>() {
         Ok(count) => vec![in rt.alloc(); 0u8; count as usize]?,

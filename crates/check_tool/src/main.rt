@@ -1,11 +1,11 @@
 //! Runs the tool on cases, and prints what it wrote and how it ended.
 //!
-//! A line of the input is a case, `CUT READ WRITE CAPTURE WORD..`: the words are those of the tool, CAPTURE is its input (`captures`),
-//! and its output stands in memory. The input gives one byte at a time, and one of more than 65,536 bytes so many. The read of number
-//! READ fails and the write of number WRITE, where they are not 0. The tool is run on the capture and on each of its fronts that is
-//! up to CUT bytes shorter. Of an input that was made for the case, and of an output of 400,000 bytes or more, the length and a
-//! digest are printed. The cases and what is expected of them were made by a program that shares nothing with this one
-//! (`outside/check_tool.py`). Behind the cases the tool is run over a system that fails, and the program ends as that does.
+//! A line of the input is a case, `CUT READ WRITE CAPTURE WORD..`: the words are those of the tool, CAPTURE is its input (`captures`), and
+//! its output is in memory. The input gives one byte at a time, or 65,536 if it has more bytes than that. The read of number READ fails and
+//! the write of number WRITE, where they are not 0. The tool is run on the capture and on each of its prefixes that is up to CUT bytes
+//! shorter. Of an input that was made for the case, and of an output of 400,000 bytes or more, the length and a digest are printed. The
+//! cases and the expected output were made by a program that shares no code with this one (`outside/check_tool.py`). After the cases the
+//! tool is run over a system that fails, and the program ends as that does.
 #![tactic(auto)]
 
 mod captures;
@@ -21,7 +21,7 @@ use std::io::{self, BufRead, BufReader, Write};
 use std::process::ExitCode;
 use tool_forms::{finish, run_program};
 
-/// The number of bytes from which on an output is printed as its digest.
+/// The size from which an output is printed as its digest, in bytes.
 const LONG: usize = 400_000;
 
 /// Prints how long an input or an output is, and its digest.
@@ -58,7 +58,7 @@ fn print_case(
     }
 }
 
-/// The number that a word spells, or 0.
+/// The number that a word denotes, or 0.
 fn number_in(word: &String) -> u64 {
     word.as_str().parse::<u64>().unwrap_or(0)
 }
@@ -72,7 +72,7 @@ fn capture_of(rt: &HostRuntime, parts: &str) -> io::Result<Vec<u8>> {
     Ok(capture)
 }
 
-/// Runs the case of a line on its capture and on the fronts of it.
+/// Runs the case of a line on its capture and on prefixes of it.
 fn run_line(rt: &HostRuntime, line: &str) -> io::Result<()> {
     println!(rt; "# {line}")?;
     let mut words = Vec::new(rt.alloc());
@@ -108,9 +108,9 @@ fn run_lines(rt: &HostRuntime) -> io::Result<()> {
     Ok(())
 }
 
-/// Runs the tool over a system whose output takes nothing and whose files get no memory: it ends with status 5 where it has a
-/// capture to show, and with status 6 where it has a configuration to read. Gives the second, after the first. What it tells of each
-/// on standard error is printed here.
+/// Runs the tool over a system whose output takes nothing and whose files get no memory: it ends with status 5 if it has a capture to show,
+/// and with status 6 if it has a configuration to read. Returns the second, after the first. What each writes to standard error is printed
+/// here.
 fn run_over_faults(rt: &HostRuntime) -> ExitCode {
     let mut told = StdSink::new(io::writer(rt));
     let words = ["etptool", "show"];

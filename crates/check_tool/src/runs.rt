@@ -23,14 +23,14 @@ fn only(alloc: Global, number: u64) -> Result<List<u64>, NoMemory> {
     Ok(List::from_vec(numbers))
 }
 
-/// How many bytes an input of so many gives at a time.
+/// How many bytes an input of this size gives at a time.
 fn at_a_time(len: usize) -> usize
     ensures { 0 < result }
 {
     if len > 65_536 { 65_536 } else { 1 }
 }
 
-/// Runs the tool on a capture, and answers how that ended and what was written.
+/// Runs the tool on a capture, and returns how that ended and what was written.
 pub(crate) fn run_case(
     rt: &HostRuntime,
     words: &[String],

@@ -28,7 +28,7 @@ by_answers : (b : Bool) (d : Option Due) (closes : Bool) (m : Message) (s : Stat
 by_answers true d closes m s = tt
 by_answers false d closes m s = tt
 
--- no ask is answered by want of memory
+-- no ask is answered by running out of memory
 pub asked_answers : (s : State) (a : Ask) (moment : ℤ) → IsAnswer (asked s a moment).result
 unfolding asked
 asked_answers s a moment = by_answers (not (is_open s.heard.phase) || is_spent s.next (pieces s (message_of moment a))) (due_of a) (is_close a) (message_of moment a) s

@@ -1,4 +1,4 @@
--- What writes to each channel of a list leave.
+-- The result of writing to each channel of a list.
 use Rattle.std.specs.Prelude.{◌≡◌, ℕ, ◌<◌, ◌≤◌, ◌+◌, List, ◌++◌, drop, length, map, slice_set, take}
 use Rattle.std.proofs.Common.{ap, append-nil, arith, get_or, ◌∙◌}
 use Rattle.std.proofs.lemmas.List.{drop_all, length-map, take_all}

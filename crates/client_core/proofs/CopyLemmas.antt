@@ -126,7 +126,7 @@ own_last c (f ∷ fs) last is = by (int_eq f.id c) refl (own_last c fs last is)
     by true e rest = rest
     by false e rest = passed c f _ e ∙ rest
 
--- the copy of a channel, where one was subscribed
+-- the copy of a channel, if one was subscribed to
 pub subscribed_copy : (c channel : ℤ) (fs : List Channel) (b : Bool) → int_eq channel c ≡ b → copy_in c (subscribed channel fs) ≡ (if b then Some [] else copy_in c fs)
 subscribed_copy c channel fs true is =
     ap (λ z. copy_in c (subscribed z fs)) (int_eq_is channel c is) ∙ own_last c fs (record { id = c; live = true; copy = [] }) (int_eq_self c)

@@ -1,4 +1,4 @@
--- A channel's copy is what the changes leave that were handed out since its subscription, whatever happens.
+-- A channel's copy is what the changes leave that were returned since its subscription, whatever happens.
 use Rattle.std.specs.Prelude.{◌≡◌, ℕ, ℤ, Bool, true, false, not, ◌||◌, List, [], ◌∷◌, ◌++◌, Option, Some, None, option_map, Result, Ok, Err, fold, map, refl, if◌then◌else◌}
 use Rattle.std.specs.List.{flat_map, list_any}
 use Rattle.std.specs.Map.{values_of}
@@ -44,7 +44,7 @@ use Rattle.client_core.proofs.CopyLemmas.{copy_more, follows_all, stopped_keeps,
 abbrev Stands : ℤ → Option (List What) → Heard → Type 0
 Stands c before s = copy_in c s.channels ≡ option_map copy before
 
--- What a message leaves and hands out keeps the copy of a channel so. The message came to a client with these open asks.
+-- What a message leaves and returns keeps this property of a channel's copy. The message came to a client with these open asks.
 abbrev Keeps : ℤ → List Asked → Option (List What) → Taken → Type 0
 Keeps c asks before t = copy_in c t.state.channels ≡ option_map copy (handed c asks before t.result)
 
@@ -52,7 +52,7 @@ if_keeps : (c : ℤ) (asks : List Asked) (before : Option (List What)) (b : Bool
 if_keeps c asks before true x y p q = p
 if_keeps c asks before false x y p q = q
 
--- ---- what is handed out
+-- ---- what is returned
 
 nothing_more : (before : Option (List What)) → option_map copy before ≡ option_map copy (option_map (λ ws. ws ++ []) before)
 nothing_more None = refl
@@ -82,7 +82,7 @@ changes_keep c asks before id (Some cs) s stands =
 
 -- ---- an answer
 
--- an ask that waits for another thing is no subscription
+-- an ask that waits for something else is not a subscription
 not_accepted : (c id : ℤ) (asks : List Asked) (d : Due) (before : Option (List What)) → due_at id asks ≡ Some d → is_subscription c (Some d) ≡ false
     → option_map copy before ≡ option_map copy (handed c asks before (Ok (got.Done id ∷ [])))
 not_accepted c id asks d before at other =

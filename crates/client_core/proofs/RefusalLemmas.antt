@@ -1,4 +1,4 @@
--- Want of memory is no refusal of an ask or a message.
+-- Running out of memory is not a refusal of an ask or a message.
 use Rattle.std.specs.Prelude.{◌≡◌, ℕ, ℤ, Bool, true, false, List, Option, Some, None, Result, Ok, Err, if◌then◌else◌}
 use Rattle.std.proofs.Common.{subst, sym}
 use Rattle.channel_store.specs.declared.copy.ChangeMsg.{ChangeMsg}
@@ -36,7 +36,7 @@ abbrev pub IsAnswer : {A : Type 0} → Result A ClientError → Type 0
 IsAnswer (Ok x) = Unit {0}
 IsAnswer (Err e) = IsCause e
 
--- ---- no step is answered by want of memory
+-- ---- no step is answered by running out of memory
 
 if_answers : (b : Bool) (x y : Taken) → IsAnswer x.result → IsAnswer y.result → IsAnswer (if b then x else y).result
 if_answers true x y p q = p

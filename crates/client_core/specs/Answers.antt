@@ -27,13 +27,13 @@ use Rattle.client_core.specs.declared.state.Due.{Due}
 use Rattle.client_core.specs.declared.state.Due.TheVariants as due
 use Rattle.client_core.specs.declared.state.Phase.TheVariants as phase
 
--- ---- what an ask is told
+-- ---- what an ask is answered
 
 -- the value under an ask's key
 abbrev pub at_key : {A : Type 0} → List (List ℕ × A) → Option A
 at_key xs = lookup (bytes_eq (codes "c")) xs
 
--- what a channel is, as the ask of this id is told
+-- what a channel is, for the ask of this id
 abbrev pub meta_of : ℤ → ChannelMetadataRecord → Got
 meta_of id m = got.Meta id m.id (channel_data_kind_place m.data_kind)
 
@@ -83,7 +83,7 @@ abbrev pub store_object : StoreMessage → Option (List ℕ)
 store_object (store.GetDataObjectsResponse x) = option_map (λ o. o.payload) (at_key x.data_objects)
 store_object _ = None
 
--- the data of the object that a message brings
+-- the data of the object that a message carries
 abbrev pub object_in : Message → Option (List ℕ)
 object_in (message.Store x) = store_object x
 object_in _ = None
@@ -92,7 +92,7 @@ abbrev pub subscribe_granted : ChannelSubscribeMessage → Bool
 subscribe_granted (subscribe.SubscribeChannelsResponse x) = is_granted x.success
 subscribe_granted _ = false
 
--- a message says that the channel is subscribed
+-- a message says that the channel is subscribed to
 abbrev pub grants_subscription : Message → Bool
 grants_subscription (message.ChannelSubscribe x) = subscribe_granted x
 grants_subscription _ = false
@@ -101,7 +101,7 @@ abbrev pub subscribe_channel : ChannelSubscribeMessage → Option ChannelMetadat
 subscribe_channel (subscribe.GetChannelMetadataResponse x) = at_key x.metadata
 subscribe_channel _ = None
 
--- what a message says of the channel
+-- what a message says about the channel
 abbrev pub channel_in : Message → Option ChannelMetadataRecord
 channel_in (message.ChannelSubscribe x) = subscribe_channel x
 channel_in _ = None
@@ -110,14 +110,14 @@ abbrev pub load_channel : ChannelDataLoadMessage → Option ChannelMetadataRecor
 load_channel (load.OpenChannelsResponse x) = option_map (λ i. i.metadata) (at_key x.channels)
 load_channel _ = None
 
--- what a message says of the channel that it opens for loading
+-- what a message says about the channel that it opens for loading
 abbrev pub opened_in : Message → Option ChannelMetadataRecord
 opened_in (message.ChannelDataLoad x) = load_channel x
 opened_in _ = None
 
 -- ---- answers
 
--- that the ask of this id is done, where its key is granted
+-- that the ask of this id is done, if its key is granted
 abbrev pub done : ℤ → Bool → Option Got
 done id true = Some (got.Done id)
 done id false = None
@@ -154,7 +154,7 @@ is_loaded id a = is_load a.due && int_lt a.id id
 abbrev pub without_loads : ℤ → List Asked → List Asked
 without_loads id asks = filter (λ a. not (is_loaded id a)) asks
 
--- a channel that is subscribed begins with an empty copy
+-- a channel that is subscribed to begins with an empty copy
 abbrev pub subscribed : ℤ → List Channel → List Channel
 subscribed channel cs = filter (λ f. not (int_eq f.id channel)) cs ++ record { id = channel; live = true; copy = [] } ∷ []
 

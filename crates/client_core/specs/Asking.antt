@@ -40,7 +40,7 @@ is_close _ = false
 abbrev pub max_id : ℕ
 max_id = 4611686018427387904
 
--- how many bytes a message has at most
+-- the maximum size of a message, in bytes
 abbrev pub limit : ℕ
 limit = 16777216
 
@@ -102,7 +102,7 @@ sends d ms s = record s {
   out = s.out ++ numbered s.next s.next ms;
 }
 
--- how many blobs were sent after a message; the count stands still at the greatest number of 64 bits
+-- how many blobs were sent after a message; the count stops at the greatest 64-bit number
 abbrev pub blobs_after : ℕ → Message → ℕ
 blobs_after blobs m = min (blobs + blobs_in limit m) (2 ^ 64 - 1)
 
@@ -119,11 +119,11 @@ abbrev pub asked_by : Bool → Option Due → Bool → Message → State → Ste
 asked_by true d closes m s = record { state = s; result = Err error.State }
 asked_by false d closes m s = record { state = closed_if closes (sends_message d m s); result = Ok (pos s.next) }
 
--- an ask with this message while the session is open: refused where the ids don't reach
+-- an ask with this message while the session is open: refused if there are not enough ids
 abbrev pub asked_with : Option Due → Bool → Message → State → Step State ℤ
 asked_with d closes m s = asked_by (is_spent s.next (pieces s m)) d closes m s
 
--- an ask at this moment: refused before the session is open, after the end, and where the ids don't reach
+-- an ask at this moment: refused before the session is open, after the end, and if there are not enough ids
 unfoldable pub asked : State → Ask → ℤ → Step State ℤ
 asked s a moment = let m = message_of moment a in asked_by (not (is_open s.heard.phase) || is_spent s.next (pieces s m)) (due_of a) (is_close a) m s
 
@@ -142,7 +142,7 @@ abbrev pub first_of : List (List ℕ) → Option (List ℕ)
 first_of [] = None
 first_of (b ∷ bs) = Some b
 
--- the messages that are left behind it
+-- the messages that are left after it
 abbrev pub rest_of : List (List ℕ) → List (List ℕ)
 rest_of [] = []
 rest_of (b ∷ bs) = bs

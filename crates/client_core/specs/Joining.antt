@@ -9,7 +9,7 @@ use Rattle.etp_frame.specs.declared.message.Message.TheVariants as message
 use Rattle.client_parts.specs.Joining.{core_joined, dataspace_joined, load_joined, store_joined, subscribe_joined}
 use Rattle.client_core.specs.declared.state.Kept.{Kept}
 
--- a further part of a message, put behind what there is of it
+-- a further part of a message, appended to what there is of it
 abbrev pub joined : Message → Message → Message
 joined (message.Core x) (message.Core y) = message.Core (core_joined x y)
 joined (message.Dataspace x) (message.Dataspace y) = message.Dataspace (dataspace_joined x y)
@@ -33,8 +33,7 @@ abbrev pub is_exception : Message → Bool
 is_exception (message.Core x) = core_exception x
 is_exception _ = false
 
--- A message goes on with one of which parts came: it is of its protocol, number and correlation, or an exception to the same
--- request.
+-- A message continues one of which parts came: it is of its protocol, number and correlation, or an exception to the same request.
 abbrev pub goes_on : Header → Header → Message → Bool
 goes_on k h m = int_eq h.correlation k.correlation && (is_exception m || (int_eq h.protocol k.protocol && int_eq h.kind k.kind))
 

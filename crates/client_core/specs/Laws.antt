@@ -38,7 +38,7 @@ abbrev pub accepts : ℤ → List Asked → Got → Bool
 accepts channel asks (got.Done id) = is_subscription channel (due_at id asks)
 accepts channel asks _ = false
 
--- what is handed out of a channel
+-- what is returned about a channel
 abbrev pub change_of : ℤ → ChangeMsg → List What
 change_of channel c = if int_eq c.channel channel then c.what ∷ [] else []
 
@@ -46,8 +46,8 @@ abbrev pub told_of : ℤ → Got → List What
 told_of channel (got.Change c) = change_of channel c
 told_of channel _ = []
 
--- The changes of a channel that were handed out since its subscription was last accepted, with what a message hands out to a client
--- with these open asks.
+-- The changes of a channel that were returned since its subscription was last accepted, with what a message returns to a client with these
+-- open asks.
 abbrev pub handed : ℤ → List Asked → Option (List What) → Result (List Got) ClientError → Option (List What)
 handed channel asks before (Ok gots) = if list_any (accepts channel asks) gots then Some [] else option_map (λ ws. ws ++ flat_map (told_of channel) gots) before
 handed channel asks before (Err e) = before
@@ -62,7 +62,7 @@ abbrev pub since : ℤ → State → Option (List What) → List Event → Optio
 since channel s before [] = before
 since channel s before (e ∷ es) = since channel (stepped s e) (since_event channel s before e) es
 
--- Whatever happens, a channel's copy is what the changes leave that were handed out since its subscription was last accepted; before
--- that there is none.
+-- Whatever happens, a channel's copy is what the changes leave that were returned since its subscription was last accepted; before that
+-- there is none.
 abbrev pub CopiesAreFolds : Type 0
 CopiesAreFolds = (channel moment : ℤ) (es : List Event) → copy_of channel (fold stepped (begun moment) es) ≡ option_map copy (since channel (begun moment) None es)

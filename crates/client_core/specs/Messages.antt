@@ -28,7 +28,7 @@ keyed x = (codes "c", x) ∷ []
 
 -- ---- RequestSession
 
--- a protocol as it is asked for: version 1.2.0.0 of a store
+-- a protocol as it is requested: version 1.2.0.0 of a store
 abbrev pub requested : ℤ → SupportedProtocol
 requested protocol = record {
   protocol = protocol;
@@ -63,7 +63,7 @@ request_session moment = record {
   endpoint_capabilities = [];
 }
 
--- the message by which a client begins
+-- the message with which a client begins
 abbrev pub request_message : ℤ → Message
 request_message moment = message.Core (core.RequestSession (request_session moment))
 
@@ -133,7 +133,7 @@ pinged moment = message.Core (core.Ping (record { current_date_time = moment }))
 abbrev pub session_closed : Message
 session_closed = message.Core (core.CloseSession (record { reason = [] }))
 
--- what is sent of an ask, which was made at this moment
+-- what is sent for an ask, which was made at this moment
 abbrev pub message_of : ℤ → Ask → Message
 message_of moment (ask.PutSpace path) = space_put path
 message_of moment (ask.Put uri payload) = object_put uri payload

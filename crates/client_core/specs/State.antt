@@ -15,7 +15,7 @@ pub record Heard : Type 0 where
   pub last : ℤ
   -- the asks that wait for their answers, by their ids
   pub asks : List Asked
-  -- the channels that were subscribed, each with its copy
+  -- the channels that were subscribed to, each with its copy
   pub channels : List Channel
   -- the objects that await their chunks, if any
   pub joiner : Option Awaited

@@ -36,7 +36,7 @@ use Rattle.client_core.specs.declared.state.Due.{Due}
 use Rattle.client_core.specs.declared.state.Phase.{Phase}
 use Rattle.client_core.specs.declared.state.Phase.TheVariants as phase
 
--- what a message leaves, and what it hands out
+-- what a message leaves, and what it returns
 abbrev pub Taken : Type 0
 Taken = Step Heard (List Got)
 
@@ -49,12 +49,12 @@ gives gots s = record { state = s; result = Ok gots }
 
 -- ---- a whole message
 
--- the first of the codes, if there are any, else 0
+-- the first of the codes, if there are any, otherwise 0
 abbrev pub first_code : List (List ℕ × ErrorInfo) → ℤ
 first_code [] = pos 0
 first_code (x ∷ xs) = x.1.code
 
--- the code of the whole request's refusal, else that of its first key, else 0
+-- the code of the whole request's refusal, otherwise that of its first key, otherwise 0
 abbrev pub code_by : Option ErrorInfo → List (List ℕ × ErrorInfo) → ℤ
 code_by (Some info) errors = info.code
 code_by None errors = first_code errors
@@ -98,7 +98,7 @@ abbrev pub subscribe_whole : Header → ChannelSubscribeMessage → Heard → Ta
 subscribe_whole h (subscribe.SubscriptionsStopped x) s = stops x s
 subscribe_whole h x s = told h (message.ChannelSubscribe x) s
 
--- a message of which nothing is left to come
+-- a complete message
 abbrev pub on_whole : Header → Message → Heard → Taken
 on_whole h (message.Core x) s = core_whole h x s
 on_whole h (message.ChannelSubscribe x) s = subscribe_whole h x s
@@ -143,7 +143,7 @@ core_silent (core.Acknowledge x) = true
 core_silent (core.Ping x) = true
 core_silent _ = false
 
--- Acknowledge and Ping give nothing, also between parts
+-- Acknowledge and Ping give nothing, even between parts
 abbrev pub is_silent : Message → Bool
 is_silent (message.Core x) = core_silent x
 is_silent _ = false
@@ -214,8 +214,7 @@ abbrev pub FailsBy : {A : Type 0} → ClientError → Step State A → State →
 FailsBy error.NoMemory expected before left = (left.heard.phase ≡ phase.Ended) × (left.out ≡ before.out)
 FailsBy e expected before left = (expected.result ≡ Err e) × (left ≡ expected.state)
 
--- A call answers what its step does and leaves that state. Where memory was refused the client has ended, with the same left to
--- send.
+-- A call answers what its step does and leaves that state. If memory ran out the client has ended, with the same left to send.
 abbrev pub Steps : {A : Type 0} → Result A ClientError → Step State A → State → State → Type 0
 Steps (Ok x) expected before left = (expected.result ≡ Ok x) × (left ≡ expected.state)
 Steps (Err e) expected before left = FailsBy e expected before left

@@ -15,7 +15,7 @@ use msg_channel::{
 use msg_core::{CoreMessage, DataspaceMessage};
 use msg_store::{GetDataObjectsResponse, StoreMessage};
 
-/// The place of a kind of data in the schema's order.
+/// The index of a kind of data in the schema's order.
 fn kind_place(kind: ChannelDataKind) -> u32
     ensures { result ≡ channel_data_kind_place kind }
 {
@@ -35,7 +35,7 @@ fn kind_place(kind: ChannelDataKind) -> u32
     }
 }
 
-/// What a channel is, as the ask of this id is told.
+/// What a channel is, for the ask of this id.
 fn meta_of(id: i64, metadata: &ChannelMetadataRecord) -> Got
     ensures { result ≡ meta_of id metadata.now }
 {
@@ -46,7 +46,7 @@ fn meta_of(id: i64, metadata: &ChannelMetadataRecord) -> Got
     }
 }
 
-/// That the ask of this id is done, where its key is granted.
+/// That the ask of this id is done, if its key is granted.
 fn done(id: i64, granted: bool) -> Option<Got>
     ensures { result ≡ done id granted }
 {

@@ -8,9 +8,9 @@ use etp_values::{Blob, ChannelPoint, List, StoreUri, Text};
 /// An ask. Each is sent as one message; the data of a large object follow in chunks.
 #[derive(Drop)]
 pub enum Ask {
-    /// Makes or writes the dataspace of this path.
+    /// Creates or overwrites the dataspace of this path.
     PutSpace(Text),
-    /// Makes or writes an object with these data, in XML.
+    /// Creates or overwrites an object with these data, in XML.
     Put { uri: StoreUri, payload: Blob },
     /// Gets an object's data.
     Get(StoreUri),
@@ -20,7 +20,7 @@ pub enum Ask {
     Load(List<ChannelPoint>),
     /// Asks what a channel is.
     Meta(StoreUri),
-    /// Subscribes a channel: all its changes from the index `start` on, in microseconds since 1970-01-01 UTC.
+    /// Subscribes to a channel: all its changes from the index `start` on, in microseconds since 1970-01-01 UTC.
     Subscribe { channel: i64, start: i64 },
     /// Asks for a Pong.
     Ping,
@@ -28,7 +28,7 @@ pub enum Ask {
     Close,
 }
 
-/// What an ask waits for; the end of the session is waited for by nobody.
+/// What an ask waits for; nothing waits for the end of the session.
 pub(crate) fn due_of(ask: &Ask) -> Option<Due>
     ensures { result ≡ due_of ask.now }
 {

@@ -64,7 +64,7 @@ impl Asks {
         due_at(self.items.as_slice(), id)
     }
 
-    /// Adds an ask, where it waits for something.
+    /// Adds an ask, if it waits for something.
     pub(crate) fn add(&mut self, id: u64, due: Option<Due>) -> Result<(), NoMemory>
         requires { id < 2 ^ 63 }
         ensures { OnOk result (self.new ≡ self.old ++ asked_under id due) }

@@ -1,4 +1,4 @@
-//! The channels that were subscribed, with their copies.
+//! The channels that were subscribed to, with their copies.
 ghost use Rattle.std.specs.Prelude.{◌≡◌, [], not, filter, OnOk};
 ghost use Rattle.std.specs.List.{list_any};
 ghost use Rattle.std.specs.Map.{values_of};
@@ -50,7 +50,7 @@ fn find(channels: &[Channel], id: i64) -> Option<&List<Point>>
     None
 }
 
-/// Takes a change into the copy of a channel, where the change is of it.
+/// Takes a change into the copy of a channel, if the change is of it.
 fn follow_one(alloc: Global, channel: &mut Channel, change: &ChangeMsg) -> Result<(), NoMemory>
     ensures { OnOk result (channel.new ≡ followed change.now channel.old) }
 {
@@ -101,7 +101,7 @@ fn is_among(named: &[(Text, i64)], id: i64) -> bool
     false
 }
 
-/// Ends the subscription of a channel, where it is one of these.
+/// Ends the subscription of a channel, if it is one of these.
 fn stop_one(channel: &mut Channel, named: &[(Text, i64)])
     ensures { channel.new ≡ stop (values_of named.now) channel.old }
 {
@@ -144,14 +144,14 @@ impl Channels {
         }
     }
 
-    /// The copy of a channel, if it was subscribed.
+    /// The copy of a channel, if it was subscribed to.
     pub(crate) fn copy(&self, id: i64) -> Option<&List<Point>>
         ensures { option_copied result ≡ copy_in id self.now }
     {
         find(self.items.as_slice(), id)
     }
 
-    /// A channel whose subscription stands from now on, with an empty copy.
+    /// Adds a channel whose subscription is active from now on, with an empty copy.
     pub(crate) fn subscribe(&mut self, alloc: Global, id: i64) -> Result<(), NoMemory>
         ensures { OnOk result (self.new ≡ subscribed id self.old) }
     {
@@ -164,7 +164,7 @@ impl Channels {
         Ok(())
     }
 
-    /// Whether the changes are all of channels whose subscriptions stand.
+    /// Whether the changes are all of channels whose subscriptions are active.
     pub(crate) fn are_live(&self, changes: &[ChangeMsg]) -> bool
         ensures { result ≡ are_live self.now changes.now }
     {
@@ -187,7 +187,7 @@ impl Channels {
         follow_all(alloc, &mut self.items, changes)
     }
 
-    /// Ends the subscriptions of the channels under these names. Their copies stay.
+    /// Ends the subscriptions of the channels under these names. Their copies are kept.
     pub(crate) fn stop(&mut self, named: &[(Text, i64)])
         ensures { self.new ≡ stopped (values_of named.now) self.old }
     {

@@ -20,11 +20,11 @@ use std::alloc::Global;
 use std::collections::VecDeque;
 use std::marker::Model;
 
-/// The greatest number of bytes of a message.
+/// The maximum length of a message, in bytes.
 const MAX_MESSAGE_LEN: u64 = 16_777_216;
 
-/// A client. Whoever drives it sends what [`next_out`](Client::next_out) has, hands in the messages that come by
-/// [`take`](Client::take), and asks by [`ask`](Client::ask).
+/// A client. Whoever drives it sends what [`next_out`](Client::next_out) has, passes in the messages that come with [`take`](Client::take),
+/// and asks with [`ask`](Client::ask).
 ///
 /// After `NoMemory` the client has ended.
 pub struct Client {
@@ -34,7 +34,7 @@ pub struct Client {
     out: VecDeque<Blob>,
 }
 
-/// Written out, so that whoever holds one drops it by one call.
+/// Written out, so that whatever holds one drops it by a single call.
 impl Drop for Client {
     fn drop(self) {
         let Client {
@@ -58,7 +58,7 @@ impl Model for Client {
 }
 
 impl Client {
-    /// A client that has this to send, of an ask with one message that waits.
+    /// A client that has this to send, for an ask with one message that waits.
     fn new(alloc: Global, asks: Asks, out: Vec<Blob>) -> Client
         ensures { result ≡ beginning asks out.items }
     {
@@ -85,8 +85,8 @@ impl Client {
         Ok(Client::new(alloc, asks, out))
     }
 
-    /// Asks for something, and answers the id of the ask's first message. An ask is refused by `State`, and nothing of it is sent,
-    /// before the session is open, after the end, and where its messages need ids above 2^62.
+    /// Asks for something, and returns the id of the ask's first message. An ask is refused by `State`, and nothing of it is sent, before
+    /// the session is open, after the end, and if its messages need ids above 2^62.
     pub fn ask(&mut self, alloc: Global, ask: Ask, moment: i64) -> Result<i64, ClientError>
         ensures { Steps result (asked self.old ask moment) self.old self.new }
     {
@@ -99,9 +99,9 @@ impl Client {
         }
     }
 
-    /// Takes the bytes of a message, and hands out the answer or the changes that it brings. The causes of a refusal are tested in
-    /// this order: `State` after the end, `Frame`, `Id`, `State` before the session is open, `Join`, and then, of a message that is
-    /// whole, `Refused`, `Stopped` and `Unasked`.
+    /// Takes the bytes of a message, and returns the answer or the changes that it brings. The causes of a refusal are tested in this
+    /// order: `State` after the end, `Frame`, `Id`, `State` before the session is open, `Join`, and then, for a whole message, `Refused`,
+    /// `Stopped` and `Unasked`.
     pub fn take(&mut self, alloc: Global, bytes: &[u8]) -> Result<List<Got>, ClientError>
         ensures { Steps result (takes self.old bytes.now) self.old self.new }
     {
@@ -114,7 +114,7 @@ impl Client {
         }
     }
 
-    /// The bytes of the next message to send, which is then taken as sent; none where nothing is left.
+    /// The bytes of the next message to send, which is then counted as sent; `None` if nothing is left.
     pub fn next_out(&mut self) -> Option<Blob>
         ensures first { result ≡ first_of self.old.out }
         ensures rest { self.new ≡ record self.old { out = rest_of self.old.out } }
@@ -122,7 +122,7 @@ impl Client {
         self.out.pop_front()
     }
 
-    /// The points of a channel that was subscribed: those that its changes since its last subscription leave. They stay when the
+    /// The points of a channel that was subscribed to: those that its changes since its last subscription leave. They are kept when the
     /// subscription or the client ends.
     pub fn copy(&self, channel: i64) -> Option<&List<Point>>
         ensures { option_copied result ≡ copy_of channel self.now }
@@ -130,7 +130,7 @@ impl Client {
         self.heard.copy(channel)
     }
 
-    /// Whether the client has ended: nothing is taken any more.
+    /// Whether the client has ended: nothing is accepted any more.
     pub fn ended(&self) -> bool
         ensures { result ≡ is_ended self.now.heard.phase }
     {
@@ -176,7 +176,7 @@ impl Client {
         Ok(Ok(id))
     }
 
-    /// Adds the messages of an ask that waits for this, and answers the id of the first.
+    /// Adds the messages of an ask that waits for this, and returns the id of the first.
     fn send(
         &mut self,
         alloc: Global,

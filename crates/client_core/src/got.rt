@@ -1,4 +1,4 @@
-//! What a client hands out.
+//! What a client returns.
 use channel_store::ChangeMsg;
 use etp_frame::{FrameError, JoinError};
 use etp_values::{Blob, Id16, NoMemory, Text};
@@ -9,44 +9,44 @@ use thiserror::Error;
 pub enum Got {
     /// The session of this identity is open.
     Opened(Id16),
-    /// What the ask of this id wanted is done.
+    /// What the ask of this id asked for is done.
     Done(i64),
     /// The data of the object that the ask of this id got.
     Object(i64, Blob),
-    /// What a channel is: its number, and the place of its values' kind in the order of `ChannelDataKind`.
+    /// What a channel is: its number, and the index of its values' kind in the order of `ChannelDataKind`.
     Meta { id: i64, channel: i64, kind: u32 },
     /// A change of a subscribed channel.
     Change(ChangeMsg),
-    /// A Pong with the server's moment, in microseconds since 1970-01-01 UTC.
+    /// A Pong with the server's time, in microseconds since 1970-01-01 UTC.
     Pong(i64),
 }
 
-/// Why a message or an ask is refused. A client lives on where an ask is refused, by itself (`State`) or by the server (`Refused`), and
-/// where subscriptions stop. Any other refusal ends it.
+/// Why a message or an ask is refused. A client continues if an ask is refused, by itself (`State`) or by the server (`Refused`), and if
+/// subscriptions stop. Any other refusal ends it.
 #[derive(Debug, Drop, Error)]
 pub enum ClientError {
-    /// The bytes are no message of a server.
+    /// The bytes are not a message that a server may send.
     #[error("the message can't be read: {0}")]
     Frame(FrameError),
-    /// The message's id is even, or not above the one before.
-    #[error("the message id {0} is even or not above the one before")]
+    /// The message's id is even, or not greater than the previous one.
+    #[error("the message id {0} is even or not greater than the previous one")]
     Id(i64),
     /// The message is neither the answer to an ask that waits nor about a subscribed channel. It answers the ask of this id, or none.
-    #[error("nothing calls for the message, which answers {0}")]
+    #[error("no ask awaits the message, which answers {0}")]
     Unasked(i64),
-    /// The session is not open yet, or has ended, or the ask's ids would pass the greatest.
-    #[error("the session is not open, or has ended, or the ids are spent")]
+    /// The session is not open yet, or has ended, or the ask's ids would exceed the greatest.
+    #[error("the session is not open, or has ended, or the ids are used up")]
     State,
-    /// A part or a chunk does not fit what came before it, or the data pass their limit.
+    /// A part or a chunk does not fit what came before it, or the data exceed their limit.
     #[error("parts or chunks are out of order: {0}")]
     Join(JoinError),
     /// The server refuses the ask of this id.
-    #[error("the ask {id} is refused by the code {code}")]
+    #[error("ask {id} was refused with code {code}")]
     Refused { id: i64, code: i32 },
     /// The server has ended subscriptions, for this reason.
     #[error("subscriptions have ended")]
     Stopped(Text),
-    /// Memory was refused.
-    #[error("memory was refused")]
+    /// Out of memory.
+    #[error("out of memory")]
     NoMemory,
 }

@@ -1,4 +1,4 @@
-//! What a client knows of the messages that came.
+//! What a client knows about the messages that came.
 ghost use Rattle.std.specs.Prelude.{◌≡◌};
 ghost use Rattle.std.specs.Option.{option_copied};
 ghost use Rattle.client_core.specs.Notices.{copy_in};
@@ -13,7 +13,7 @@ use etp_values::{List, Point};
 use std::alloc::Global;
 use std::marker::Model;
 
-/// A client but for what it sends.
+/// A client apart from what it sends.
 #[derive(Drop)]
 pub(crate) struct Hearing {
     pub(crate) phase: Phase,
@@ -34,7 +34,7 @@ impl Model for Hearing {
 }
 
 impl Hearing {
-    /// Nothing came yet, and these asks wait.
+    /// Nothing has come yet, and these asks wait.
     pub(crate) fn new(alloc: Global, asks: Asks) -> Hearing
         ensures { result ≡ record first_heard { asks = asks } }
     {
@@ -68,14 +68,14 @@ impl Hearing {
         }
     }
 
-    /// Takes nothing any more.
+    /// Accepts nothing any more.
     pub(crate) fn end(&mut self)
         ensures { self.new ≡ record self.old { phase = phase.Ended } }
     {
         self.phase = Phase::Ended;
     }
 
-    /// The copy of a channel, if it was subscribed.
+    /// The copy of a channel, if it was subscribed to.
     pub(crate) fn copy(&self, channel: i64) -> Option<&List<Point>>
         ensures { option_copied result ≡ copy_in channel self.now.channels }
     {

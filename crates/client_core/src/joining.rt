@@ -12,7 +12,7 @@ use msg_core::{CoreMessage, DataspaceMessage};
 use msg_store::StoreMessage;
 use std::alloc::Global;
 
-/// The later of two messages that are not parts of one: nobody looks at the earlier one any more.
+/// The later of two messages that are not parts of one: the earlier one is not looked at any more.
 fn later<M: Drop>(earlier: M, later: M) -> M
     ensures { result ≡ later }
 {
@@ -92,7 +92,7 @@ fn load_behind(
     }
 }
 
-/// A further part of a message behind what there is of it.
+/// A further part of a message, appended to what there is of it.
 fn joined(alloc: Global, first: Message, more: Message) -> Result<Message, NoMemory>
     ensures { IfOk result (λ m. m ≡ joined first more) }
 {
@@ -135,7 +135,7 @@ pub(crate) fn is_exception(message: &Message) -> bool
     }
 }
 
-/// Whether a message goes on with one of which parts came, the last of them with the header `kept`.
+/// Whether a message continues one of which parts came, the last of them with the header `kept`.
 fn goes_on(kept: &Header, header: &Header, message: &Message) -> bool
     ensures { result ≡ goes_on kept.now header.now message.now }
 {

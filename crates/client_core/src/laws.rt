@@ -1,7 +1,7 @@
-//! What holds of a client whatever it asks and takes, for proofs alone.
+//! What holds for a client whatever it asks and takes, for proofs only.
 ghost use Rattle.client_core.specs.Laws.{CopiesAreFolds};
 
-/// A channel's copy is what the changes leave that were handed out since its subscription was last accepted.
+/// A channel's copy is what the changes leave that were returned since its subscription was last accepted.
 pub fn copies_are_folds()
     ensures { CopiesAreFolds }
 {}

@@ -1,8 +1,8 @@
 //! The client of a store, as a pure machine.
 //!
 //! [`Client`] is what a program keeps that asks a server. Asks and moments go in by [`Client::ask`], and the bytes of messages by
-//! [`Client::take`]; answers and changes come out of `take`, and the bytes to send by [`Client::next_out`]. It opens no socket and
-//! asks no clock, so each of its calls is a step of the machine that `specs/Asking` and `specs/Taking` define.
+//! [`Client::take`]; answers and changes come out of `take`, and the bytes to send come out of [`Client::next_out`]. It opens no socket and
+//! reads no clock, so each of its calls is a step of the machine that `specs/Asking` and `specs/Taking` define.
 #![tactic(auto)]
 
 mod answers;

@@ -30,7 +30,7 @@ fn keyed<T: Drop>(alloc: Global, value: T) -> Result<Named<T>, NoMemory>
     Ok(Named::from_sorted(items))
 }
 
-/// A protocol as it is asked for: version 1.2.0.0 of a store.
+/// A protocol as it is requested: version 1.2.0.0 of a store.
 fn requested(alloc: Global, protocol: i32) -> Result<SupportedProtocol, NoMemory>
     ensures { IfOk result (λ p. p ≡ requested protocol) }
 {
@@ -108,7 +108,7 @@ fn request_session(alloc: Global, moment: i64) -> Result<RequestSession, NoMemor
     })
 }
 
-/// The message by which a client begins.
+/// The message with which a client begins.
 pub(crate) fn request_message(alloc: Global, moment: i64) -> Result<Message, NoMemory>
     ensures { IfOk result (λ m. m ≡ request_message moment) }
 {
@@ -292,7 +292,7 @@ fn close(alloc: Global) -> Result<Message, NoMemory>
     )?))
 }
 
-/// What is sent of an ask, which was made at this moment.
+/// What is sent for an ask, which was made at this moment.
 pub(crate) fn message_of(alloc: Global, ask: Ask, moment: i64) -> Result<Message, NoMemory>
     ensures { IfOk result (λ m. m ≡ message_of moment ask) }
 {

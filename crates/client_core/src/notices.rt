@@ -1,4 +1,4 @@
-//! What a server tells unasked of channels that are subscribed.
+//! What a server sends, without being asked, about channels that are subscribed to.
 ghost use Rattle.std.specs.Prelude.{◌≡◌, IfOk, None};
 ghost use Rattle.client_core.specs.Notices.{changes_of, notice};
 
@@ -8,7 +8,7 @@ use etp_frame::{Header, Message};
 use etp_values::{List, NoMemory};
 use std::alloc::Global;
 
-/// No changes of a message that is no notice.
+/// No changes, for a message that is not a notice.
 fn no_changes<M: Drop>(message: M) -> Result<Option<List<ChangeMsg>>, NoMemory>
     ensures { IfOk result (λ cs. cs ≡ None) }
 {
@@ -16,7 +16,7 @@ fn no_changes<M: Drop>(message: M) -> Result<Option<List<ChangeMsg>>, NoMemory>
     Ok(None)
 }
 
-/// The changes that a message tells of, if it is a notice with long indexes.
+/// The changes that a message reports, if it is a notice with long indexes.
 pub(crate) fn changes_of(
     alloc: Global,
     message: Message,

@@ -17,7 +17,7 @@ const MAX_ID: u64 = 4_611_686_018_427_387_904;
 /// The first own id.
 pub(crate) const FIRST_ID: u64 = 2;
 
-/// How far one own id is above the one before: own ids are even.
+/// How far each own id is above the previous one: own ids are even.
 const OWN_ID_STEP: u64 = 2;
 
 /// A client's own ids, of which a contract sees the next one.
@@ -53,7 +53,7 @@ impl Ids {
         self.next
     }
 
-    /// Whether there are too few ids for so many messages.
+    /// Whether there are too few ids for this many messages.
     pub(crate) fn are_spent(&self, messages: &[Message]) -> bool
         ensures { result ≡ is_spent self.now messages.now }
     {
@@ -61,7 +61,7 @@ impl Ids {
         end > (MAX_ID + OWN_ID_STEP) as u128
     }
 
-    /// Goes behind the ids of so many messages.
+    /// Moves past the ids of this many messages.
     pub(crate) fn pass(&mut self, count: usize)
         requires { self.old + 2 * count ≤ max_id + 2 }
         ensures { self.new ≡ self.old + 2 * count }

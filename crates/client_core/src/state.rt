@@ -5,11 +5,11 @@ use etp_frame::{Header, Message};
 /// How far a client has come.
 #[derive(Clone, Copy, Drop)]
 pub enum Phase {
-    /// The session is asked for, and not open yet.
+    /// The session has been requested, and is not open yet.
     Waiting,
-    /// The session is open: asks are taken.
+    /// The session is open: asks are accepted.
     Open,
-    /// Nothing is taken any more.
+    /// Nothing is accepted any more.
     Ended,
 }
 
@@ -28,7 +28,7 @@ pub enum Due {
     Opening,
     /// What a channel is.
     Metadata,
-    /// The Pong of a later Ping: points that are loaded have no response.
+    /// The Pong of a later Ping: loading points has no response.
     Load,
     /// The response to a subscription of the channel of this number.
     Subscription(i64),
@@ -43,12 +43,12 @@ pub struct Asked {
     pub due: Due,
 }
 
-/// A channel that was subscribed.
+/// A channel that was subscribed to.
 #[derive(Drop)]
 pub struct Channel {
     /// The channel's number.
     pub id: i64,
-    /// Whether the subscription stands.
+    /// Whether the subscription is active.
     pub live: bool,
     /// The points that the changes since the subscription leave.
     pub copy: ChannelCopy,

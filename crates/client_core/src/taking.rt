@@ -25,7 +25,7 @@ use msg_core::{CoreMessage, ErrorInfo, ProtocolException};
 use msg_store::StoreMessage;
 use std::alloc::Global;
 
-/// What a message hands out, or why it is refused.
+/// What a message returns, or why it is refused.
 pub(crate) type Answer = Result<List<Got>, ClientError>;
 
 // ---- messages at first sight
@@ -40,7 +40,7 @@ fn core_silent(message: &CoreMessage) -> bool
     }
 }
 
-/// Whether a message gives nothing, also between parts.
+/// Whether a message gives nothing, even between parts.
 fn is_silent(message: &Message) -> bool
     ensures { result ≡ is_silent message.now }
 {
@@ -128,7 +128,7 @@ fn first_code(errors: &Named<ErrorInfo>) -> i32
     }
 }
 
-/// The code of the whole request's refusal, else that of its first key, else 0.
+/// The code of the whole request's refusal, otherwise that of its first key, otherwise 0.
 fn code_of(exception: &ProtocolException) -> i32
     ensures { result ≡ code_of exception.now }
 {
@@ -138,9 +138,9 @@ fn code_of(exception: &ProtocolException) -> i32
     }
 }
 
-// ---- what is handed out
+// ---- what is returned
 
-/// Nothing, of a message at which nobody looks.
+/// Nothing, for a message that is not looked at.
 fn nothing(alloc: Global, message: Message) -> Result<Answer, NoMemory>
     ensures { IfOk result (λ a. a ≡ Ok []) }
 {
@@ -157,7 +157,7 @@ fn one(alloc: Global, got: Got) -> Result<List<Got>, NoMemory>
     Ok(List::from_vec(gots))
 }
 
-/// Memory was refused, and nobody looks at the message any more.
+/// Out of memory, and the message is not looked at any more.
 fn no_memory(message: Message) -> Result<Answer, NoMemory>
     ensures { IsErr result }
 {
@@ -176,7 +176,7 @@ fn handed(alloc: Global, changes: List<ChangeMsg>) -> Result<Answer, NoMemory>
     Ok(Ok(List::from_vec(gots)))
 }
 
-/// Why bytes are no message; want of memory is none.
+/// Why bytes are not a message; running out of memory is not such a cause.
 fn frame_error(error: FrameError) -> Result<ClientError, NoMemory>
     ensures value { IfOk result (λ e. e ≡ refused.Frame error) }
     ensures fault { OnOk result (IsFault error) }
@@ -187,7 +187,7 @@ fn frame_error(error: FrameError) -> Result<ClientError, NoMemory>
     }
 }
 
-/// Why the joiner refuses a message; want of memory is none.
+/// Why the joiner refuses a message; running out of memory is not such a cause.
 fn join_error(error: JoinError) -> Result<ClientError, NoMemory>
     ensures value { IfOk result (λ e. e ≡ refused.Join error) }
     ensures fault { OnOk result (IsJoinFault error) }
@@ -199,7 +199,7 @@ fn join_error(error: JoinError) -> Result<ClientError, NoMemory>
 }
 
 impl Hearing {
-    /// Refuses a message, after which nothing is taken any more.
+    /// Refuses a message, after which nothing is accepted any more.
     fn fail(&mut self, error: ClientError) -> Answer
         ensures answer { result ≡ (fails error self.old).result }
         ensures state { self.new ≡ (fails error self.old).state }
@@ -208,7 +208,7 @@ impl Hearing {
         Err(error)
     }
 
-    /// Refuses a message at which nobody looks.
+    /// Refuses a message that is not looked at.
     fn turn_away(&mut self, message: Message, error: ClientError) -> Answer
         ensures answer { result ≡ (fails error self.old).result }
         ensures state { self.new ≡ (fails error self.old).state }
@@ -273,7 +273,7 @@ impl Hearing {
         self.in_order(alloc, header, message)
     }
 
-    /// A message that may come: no other may stand between the parts of one.
+    /// A message that may come: no other may come between the parts of one.
     fn in_order(
         &mut self,
         alloc: Global,
@@ -334,7 +334,7 @@ impl Hearing {
         Ok(Ok(List::new(alloc)))
     }
 
-    /// A message of which nothing is left to come.
+    /// A complete message.
     fn on_whole(
         &mut self,
         alloc: Global,
@@ -417,7 +417,7 @@ impl Hearing {
         Err(ClientError::Stopped(stopped.reason))
     }
 
-    /// A message that answers an ask or tells of changes.
+    /// A message that answers an ask or reports changes.
     fn on_told(
         &mut self,
         alloc: Global,
@@ -470,7 +470,7 @@ impl Hearing {
         }
     }
 
-    /// The answer to an ask, of a message at which nobody looks any more.
+    /// The answer to an ask, for a message that is not looked at any more.
     fn on_got(
         &mut self,
         alloc: Global,

@@ -51,7 +51,7 @@ breaks_grows st c = breaks_grows_by (is_opening c.at.stage) st c
 pub shown_grows : (bytes : List ℕ) (st : Status) (c : Course) → Grows c (breaks st (writes bytes c))
 shown_grows bytes st c = grows_trans c (writes bytes c) (breaks st (writes bytes c)) (writes_grows bytes c) (breaks_grows st (writes bytes c))
 
--- ---- an output that took a front of what was to be shown, and a session that was closed then
+-- ---- an output that took a prefix of what was to be shown, and a session that was closed then
 
 front_written : (w bytes more : List ℕ) (n : ℕ) → IsPrefix (w ++ take n bytes) (w ++ bytes ++ more)
 front_written w bytes more n =
@@ -69,7 +69,7 @@ module _ (g : Course → Course) (bytes : List ℕ) (n : ℕ) where
   short_fronts : (c : Course) (ms : List (List ℕ)) (bs : List ℕ) (r : Course) → Fronts (writes bytes c) ms bs r → Fronts c ms (take n bytes) r
   short_fronts c ms bs r f = record { sent = f.sent; written = prefix_trans (c.written ++ take n bytes) (c.written ++ bytes ++ bs) r.written (front_written c.written bytes bs n) f.written }
 
-  -- the step in front of which all was to be written
+  -- the step before which all was to be written
   abbrev whole : Course → Course
   whole c = g (writes bytes c)
 
@@ -119,7 +119,7 @@ cut_short (stop.Cut e) g late bytes p l m told later o q i less f rose h = (
 )
 cut_short stop.Left g late bytes p l m told later o q i less f rose h = absurd h
 
--- ---- a command that was stopped ends so
+-- ---- a command that was stopped ends this way
 
 by_close_stopped : (r : Result ℤ ClientError) (s : State) (c : Course) (st : Status) → (by_close status.Stopped r s c).status ≡ Some st → status.Stopped ≡ st
 by_close_stopped (Ok id) s c st e = same_Some status.Stopped st e

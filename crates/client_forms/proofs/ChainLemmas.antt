@@ -1,4 +1,4 @@
--- Pieces of work, one behind another.
+-- Steps of a command, one after another.
 use Rattle.std.proofs.Common.{◌≡◌, ℕ, ℤ, List, [], ◌++◌, Some, arith, inl, inr, refl, ap, sym, subst, ◌∙◌, append_assoc}
 use Rattle.std.proofs.lemmas.List.{append-nil}
 use Rattle.std.proofs.KnownBytes.{Appends-trans}
@@ -96,7 +96,7 @@ fronts_moved c q later s1 s2 b1 b2 r h = record {
   written = subst (λ l. IsPrefix l r.written) (append_assoc c.written b1 b2) h.written;
 }
 
--- a fact of the course of the second step, wherever that begins, is one of both
+-- a fact about the course of the second step, wherever that begins, is one about both
 behind : (f g : Course → Course) (p q : Place) (x y : Outside) (P : Course → Type 0) (more : List ℤ) → (h : Goes f p q x y) → (c : Course) → IsAt p c → P (g (moved c q more h.messages h.bytes)) → P (g (f (record c { moments = h.moments ++ more })))
 behind f g p q x y P more h c here k = subst (λ (d : Course). P (g d)) (sym (h.course c more here)) k
 
@@ -134,7 +134,7 @@ goes_stops (stop.Short st) f g p q x y z h k = (goes_cuts f g st p q x y z h k.0
 goes_stops (stop.Cut e) f g p q x y z h k = (goes_breaks f g p q x y z h k.0, cause_later e x y z h.did.kept k.1)
 goes_stops stop.Left f g p q x y z h k = absurd k
 
--- ---- a step behind one that ended the command
+-- ---- a step after one that ended the command
 
 fronts_later : (c r s : Course) (ms : List (List ℕ)) (bs : List ℕ) → Fronts c ms bs r → Grows r s → Fronts c ms bs s
 fronts_later c r s ms bs f more = record {

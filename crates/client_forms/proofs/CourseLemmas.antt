@@ -13,7 +13,7 @@ use Rattle.client_core.specs.declared.got.ClientError.{ClientError}
 use Rattle.client_forms.specs.Ctl.{Course, Place, Stage, drained, ends, writes, sends, by_ask, asks_at, asks_if, asks, unclosed, by_close, closes_at, closes}
 use Rattle.client_forms.specs.Work.{IsAt, moved, place}
 
--- a course that stands at a place and goes on
+-- a course that is at a place and continues
 abbrev pub set_at : Place → Course → Course
 set_at p c = record c { at = p; status = None }
 
@@ -27,7 +27,7 @@ pub stepped : (f : Course → Course) (p q : Place) (moments : List ℤ) (messag
 stepped f p q moments messages bytes end h c later here =
     subst (λ (d : Course). f (record d { moments = moments ++ later }) ≡ end (moved d q later messages bytes)) (sym (at_path p c here)) (h c later)
 
--- nothing sent and nothing written besides
+-- nothing more sent and nothing more written
 pub nothing_moved : (c : Course) (q : Place) (later : List ℤ) → record c { at = q; moments = later } ≡ moved c q later [] []
 nothing_moved c q later =
     ap (λ m. record c { at = q; moments = later; sent = m }) (sym (append-nil c.sent))

@@ -47,7 +47,7 @@ dials_by status.LinkFault server taken sent d e h = inl h
 dials_by status.NoMemory server taken sent d e h = inl h
 dials_by st server taken sent d e h = h
 
--- ---- what a status says of the course
+-- ---- what a status says about the course
 
 whole_front : (sent : List (List ℕ)) (written : List ℕ) (r : Course) → Whole sent written r → Front sent written r
 whole_front sent written r h = record {
@@ -154,7 +154,7 @@ done_over (stop.Cut cause.Input) x y why e = cc
 done_over (stop.Cut cause.Memory) x y why e = cc
 done_over stop.Left x y why e = cc
 
--- ---- no link could be had
+-- ---- no link could be made
 
 undialed : (st : Status) (server : Address) (course : List ℤ → List Item → Course) (i : Input) (o : Output) (told : Option (List ℤ)) (d e : Dials) → DialsBy st server [] [] d e → ByStatus st [] [] (course [] []) (world i o told d) (world i o told e) → Runs st server course (world i o told d) (world i o told e)
 undialed st server course i o told d e dialed done = record {

@@ -13,7 +13,7 @@ use Rattle.client_forms.specs.Ctl.{Course, asks, ends_first, loads, loads_from, 
 use Rattle.client_forms.specs.Filling.{takes}
 use Rattle.client_forms.specs.Loading.{Filled, Read, closes_message, filled, of_channel, read_lines, with_line}
 
--- ---- one line more
+-- ---- one more line
 
 not_long : (n : ℕ) → n ≤ 65536 → nat_lt 65536 n ≡ false
 not_long n h = grind (arith, nat_tests, h)
@@ -66,7 +66,7 @@ pub none_left : (bytes : List ℕ) (left : Option (List ℕ)) (given : List (Lis
 none_left bytes None given h = absurd h.consumed
 none_left bytes (Some rest) given h = ap lines_in (h.consumed ∙ ap (λ l. h.taken ++ l) h.end ∙ append-nil h.taken) ∙ h.lines
 
--- a line of some bytes is at least as long where more follow them
+-- a line of some bytes is at least as long if more follow them
 pub record Begun (n : ℕ) (given ls : List (List ℕ)) : Type 0 where
   pub long : List ℕ
   pub later : List (List ℕ)
@@ -93,7 +93,7 @@ in_some : (b : ℕ) (ls : List (List ℕ)) → (line : List ℕ) × (more : List
 in_some b [] = ([], [], refl)
 in_some b (l ∷ ls) = (l, ls, refl)
 
--- a byte in front of a line that grows
+-- a byte before a line that grows
 front_more : (b : ℕ) (given : List (List ℕ)) (long : List ℕ) (later ls more : List (List ℕ)) → ((g : List (List ℕ)) (l : List ℕ) → ls ≡ g ++ l ∷ later → Begun (length l) g more) → in_front b ls ≡ given ++ long ∷ later → Begun (length long) given (in_front b more)
 front_more b [] long later [] more rest h =
     let s = in_some b more in
@@ -117,7 +117,7 @@ begins : (a more : List ℕ) (given : List (List ℕ)) (long : List ℕ) (later 
 begins [] more given long later h = absurd (no_line given long later h)
 begins (b ∷ bs) more given long later h = step_more b (b == 10) given long later (lines_in bs) (lines_in (bs ++ more)) (λ g l e. begins bs more g l later e) h
 
--- all lines have a line that is too long behind those that were given
+-- a line that is too long follows those that were given
 pub has_long : (bytes : List ℕ) (left : Option (List ℕ)) (given : List (List ℕ)) → MeetsLong (Some bytes) left given → Begun 65537 given (lines_in bytes)
 has_long bytes None given h = absurd h.consumed
 has_long bytes (Some rest) given h =

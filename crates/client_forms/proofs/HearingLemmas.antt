@@ -1,4 +1,4 @@
--- What a message does to a command, by what its client says of it.
+-- What a message does to a command, by what its client says about it.
 use Rattle.std.proofs.Common.{◌≡◌, ◌<◌, ◌+◌, ℕ, ℤ, Bool, true, false, if◌then◌else◌, List, [], ◌∷◌, ◌++◌, Option, None, Some, Result, Ok, Err, fold, length, get_or, take, drop, refl, ap, sym, subst, ◌∙◌}
 use Rattle.std.proofs.lemmas.List.{take-append-drop}
 use Rattle.std.proofs.lemmas.List.Sums.{fold_more, fold-append}
@@ -65,7 +65,7 @@ module _ (shown : ℤ → List ChangeMsg → List ℕ) (job : Job) where
   rests : (gots : List Got) → Rests (all_of gots)
   rests gots = record { same = λ st c. ended_stays shown job st gots c; kept = rest_kept gots; fronts = λ c. fronts_grown c (all_of gots c) (goes_on_all_grows shown job gots c) }
 
-  -- one that ends the command, with others behind it
+  -- one that ends the command, with others after it
   pub gone_last : (S : Stage → Type 0) (e : Stop) (gots : List Got) (i : ℕ) (g : Got) (stage : Stage) (s t : State) (x y z : Outside) → i < length gots → g ≡ get_or gots i g → (h : Comes S (all_of (take i gots)) (place s stage) t x y) → Stops e (on g) (place t h.stage) y z → Stops e (all_of gots) (place s stage) x z
   gone_last S e gots i g stage s t x y z within is h k =
       let p = place s stage in

@@ -19,7 +19,7 @@ use Rattle.client_forms.proofs.FillLemmas.{full_line, has_long, long_line, none_
 
 -- ---- what reading on gave
 
--- the reader stands at the next line
+-- the reader is at the next line
 pub at_line : (bytes : List ℕ) (before left : Option (List ℕ)) (r : Reader) (now : Reading) (f : Course → Course) (h : ReadsFor bytes before r f) → HasGiven (Some bytes) left now (h.read.given ++ now.line ∷ []) → length now.line ≤ 65536
     → IsAtLine bytes left (record r { lines = now }) f
 at_line bytes before left r now f h gave short =
@@ -74,7 +74,7 @@ stops_later stop.Left f before mid now less h = absurd h
 
 -- ---- the point of the line
 
--- the reader with so many lines read, and this message
+-- the reader with this many lines read, and this message
 abbrev pub reader_with : Reader → ℕ → Batch → Reader
 reader_with r count b = record r { count = count; batch = b }
 

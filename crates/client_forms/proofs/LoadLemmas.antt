@@ -48,7 +48,7 @@ loads_ended channel (Some other) f st c = ap (λ (d : Course). loads channel (So
 ended_is : (st : Status) (c : Course) → c.status ≡ Some st → c ≡ ends st c
 ended_is st c h = λ i. record c { status = h i }
 
--- so what has ended so stays so
+-- so what has ended this way stays so
 kept_by : (g : Course → Course) → ((st : Status) (c : Course) → g (ends st c) ≡ ends st c) → (st : Status) (c : Course) → c.status ≡ Some st → (g c).status ≡ Some st
 kept_by g same st c h = ap (λ (d : Course). (g d).status) (ended_is st c h) ∙ ap (λ (d : Course). d.status) (same st c)
 
@@ -87,7 +87,7 @@ plan_full u r job left bytes f full a job_is h is =
 pub load_reads : (job : Job) (left : Option (List ℕ)) (u : StoreUri) (lines : List (List ℕ)) → job ≡ Loading u lines → IsAtEnd left → HasRead job left
 load_reads job left u lines is end = subst (λ j. HasRead j left) (sym is) end
 
--- the Ping behind all points
+-- the Ping after all points
 pub plan_ping : (u : StoreUri) (r : Reader) (job : Job) (left : Option (List ℕ)) (f : Course → Course) → HasLoaded u r job left → ((c : Course) → f c ≡ pings c)
     → Plan (OwesLoad u at.Loaded r job left) (IsLoad u at.Loaded r job left) (HasRead job left) f Asked (action.Ask asked.Ping)
 plan_ping u r job left f h same =
@@ -157,7 +157,7 @@ plans_refit r owes stands read f g stage x y is same fronts h = subst (λ (v : S
     at_asked (Err (stop.Cut e)) h = (fronts, h.1)
     at_asked (Err stop.Left) h = absurd h
 
--- ---- what it knows of where it stands
+-- ---- what it knows about where it is
 
 pub opening_is : (u : StoreUri) (now : LoadStage) (r : Reader) (job : Job) (left : Option (List ℕ)) (stage : Stage) → now ≡ at.Opening → IsLoad u now r job left stage → IsReady u r job left × (stage ≡ Opening)
 opening_is u now r job left stage is h = subst (λ v. IsLoad u v r job left stage) is h

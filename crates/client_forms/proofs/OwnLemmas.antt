@@ -1,4 +1,4 @@
--- A command ends its course with a status of its own: no fault, and no words in no form.
+-- A command ends its course with a status of its own: no fault, and not that of a malformed command line.
 use Rattle.std.proofs.Common.{◌≡◌, ℤ, Bool, true, false, List, [], ◌∷◌, Option, None, Some, Result, Ok, Err, if◌then◌else◌, subst}
 use Rattle.std.proofs.lemmas.Option.{none-some, same_Some}
 use Rattle.client_core.specs.Asking.{asked}

@@ -1,4 +1,4 @@
--- What commands that wait behind each step want done.
+-- What commands that wait after each step want done.
 use Rattle.std.proofs.Common.{◌≡◌, ℕ, ℤ, List, [], Option, Result, Ok, Err, refl, sym, subst}
 use Rattle.channel_store.specs.declared.copy.ChangeMsg.{ChangeMsg}
 use Rattle.client_core.specs.State.{State}
@@ -52,12 +52,12 @@ ask_waits a e = cc
 ask_reports : (a : Ask) (bytes : List ℕ) → action.Ask a ≡ action.Report bytes → ⊥
 ask_reports a bytes e = cc
 
--- an ask that something is left to do behind
+-- an ask after which something is left to do
 pub plan_ask : (owes : Stage → (Course → Course) → Type 0) (stands : Stage → Type 0) (read : Type 0) (f : Course → Course) (before stage : Stage) (rest : Course → Course) (a : Ask) → owes stage rest → Rests rest
     → ((s : State) (c : Course) → f (standing (place s before) c) ≡ rest (acts (action.Ask a) (standing (place s stage) c))) → Plan owes stands read f before (action.Ask a)
 plan_ask owes stands read f before stage rest a there rests same = record { stage = stage; rest = rest; there = there; rests = rests; waits = λ e. absurd (ask_waits a e); reads = λ bytes e. absurd (ask_reports a bytes e); same = same }
 
--- the same where making it may want memory, and the command waits then
+-- the same if making it may run out of memory, and the command then waits
 pub given_ask : (r : Result Action Stop) (a : Ask) (owes : Stage → (Course → Course) → Type 0) (stands : Stage → Type 0) (read : Type 0) (f : Course → Course) (before stage : Stage) (x y : Outside) → GivesAction r (action.Ask a) → owes stage (λ c. c)
     → ((s : State) (c : Course) → f (standing (place s before) c) ≡ acts (action.Ask a) (standing (place s stage) c)) → ((c : Course) → Fronts c [] [] (f c)) → Plans r owes stands read f before x y
 given_ask (Ok b) a owes stands read f before stage x y is o same fronts = subst (λ v. Plan owes stands read f before v) (sym is) (plan_ask owes stands read f before stage (λ c. c) a o idle_rests same)

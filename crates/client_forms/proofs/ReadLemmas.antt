@@ -38,7 +38,7 @@ asks_at_undone : (a : Ask) (ms : List ℤ) (c : Course) → c.status ≡ None �
 asks_at_undone a [] c going e = none-some status.Done (sym going ∙ e)
 asks_at_undone a (t ∷ ts) c going e = let s = asked c.at.client a t in by_ask_undone s.result s.state (record c { moments = ts }) going e
 
--- a course that stands there
+-- a course that is there
 abbrev there : Place → List ℤ → Course
 there p moments = record (fresh moments) { at = p }
 

@@ -1,4 +1,4 @@
--- Pieces of work that are steps of the same courses.
+-- Steps of a command that are steps of the same courses.
 use Rattle.std.proofs.Common.{◌≡◌, ℤ, List, [], ◌++◌, Some, Result, Ok, Err, refl, sym, subst, ◌∙◌}
 use Rattle.std.proofs.KnownBytes.{Appends-nil}
 use Rattle.std.proofs.lemmas.List.{append-nil}
@@ -57,7 +57,7 @@ ends_refit f h st p q x y e k = record {
       (λ c later. e (record c { moments = k.moments ++ later }) ∙ k.course (set_at q c) later (record { here = refl; going = refl }));
 }
 
--- a fact of the other's course is one of its own
+-- a fact about the other's course is one about its own
 refit_fact : (f h : Course → Course) (p q : Place) (moments : List ℤ) (P : Course → Type 0) → Refit f h p q → (c : Course) → IsAt p c → P (h (record (set_at q c) { moments = moments })) → P (f (record c { moments = moments }))
 refit_fact f h p q moments P e c here k =
     subst (λ (d : Course). P (f (record d { moments = moments }))) (sym (at_path p c here)) (subst P (sym (e (record c { moments = moments }))) k)

@@ -67,7 +67,7 @@ came_item item ms ss bs l m told o i z t d = record {
   input = d.kept.input;
 }
 
--- nothing came and nothing went, but a link's count of faults may have risen
+-- nothing came and nothing was sent, but a link's count of faults may have risen
 pub came_nothing : (l m : Line) (told : Option (List ℤ)) (o : Output) (i : Input) → Told l.talk m.talk (λ a b. b ≡ a) → l.faults ≤ m.faults → Came [] [] [] [] (outside l told o i) (outside m told o i)
 came_nothing l m told o i same less = record {
   told = told_self told (λ xs ys. ys ≡ xs ++ []) (λ xs. sym (append-nil xs));
@@ -183,7 +183,7 @@ module _ (stands : Stage → Type 0) (shown : ℤ → List ChangeMsg → List �
     is_here : IsAt (place s h.stage) (here [])
     is_here = record { here = refl; going = refl }
 
-    -- a fact of what the message makes of the course is one of the whole course
+    -- a fact about what the message makes of the course is one about the whole course
     by_step : (P : Course → Type 0) (ms : List ℤ) → P (on (here ms)) → P (ctl shown job (h.moments ++ ms) (h.taken ++ Message bytes ∷ []))
     by_step P ms k = subst P (sym (one_more (Message bytes) ms)) k
 
@@ -302,7 +302,7 @@ module _ (shown : ℤ → List ChangeMsg → List ℕ) (job : Job) (moment : ℤ
   start_cut e l m less f why =
       start_ends e f.front l m less f.said (f.rest, f.whole ∙ ap (λ (v : State). v.out) is) (send_why before after o i e l m why)
 
--- there was no memory for the first message
+-- memory ran out for the first message
 pub not_begun : (shown : ℤ → List ChangeMsg → List ℕ) (job : Job) (moment : ℤ) (before after : Option (List ℤ)) → Told before after (λ xs ys. ys ≡ xs ++ moment ∷ []) → (l : Line) (o : Output) (i : Input) → Ended (stop.Cut cause.Memory) shown job (outside l before o i) (outside l after o i)
 not_begun shown job moment before after tick l o i =
     start_ends shown job moment before after (begun moment) refl tick o i cause.Memory [] l l (no_less l.faults) (quiet l.talk) ((begun moment).out, refl) tt

@@ -10,7 +10,7 @@ use Rattle.client_core.specs.Asking.{first_of, rest_of}
 use Rattle.client_forms.specs.Sending.{Sending}
 use Rattle.client_forms.specs.Work.{Says}
 
--- a link said nothing
+-- a link sent nothing
 pub quiet : (x : Option Talk) → Told x x (Says [])
 quiet x = told_self x (Says []) (λ t. record { coming = refl; taken = refl; sent = sym (append-nil t.sent); to = refl })
 

@@ -30,7 +30,7 @@ fold_last f b [] x = refl
 fold_last f b (y ∷ ys) x = fold_last f (f b y) ys x
 
 module _ {B : Type 0} (r : Reading B) (channel : ℤ) (fed : List ChangeMsg) where
-  -- one change more
+  -- one more change
   one_more : (c : ChangeMsg) (a : Seen) (x y : B) → WasFed channel fed a (seen r x) → IsFedOnce r c x y → WasFed channel (fed ++ c ∷ []) a (seen r y)
   one_more c a x y h k = record {
     channel_is = k.channel_same ∙ h.channel_is;
@@ -63,7 +63,7 @@ pub fed_none : {B : Type 0} (r : Reading B) (turn : B → B) (channel : ℤ) (xs
 fed_none r turn channel [] h = tt
 fed_none r turn channel (x ∷ xs) h = (h x, fed_none r turn channel xs h)
 
--- the board that was fed one change more
+-- the board that was fed one more change
 pub fed_on : {B : Type 0} (r : Reading B) (shown : ℤ → List ChangeMsg → List ℕ) (channel : ℤ) (fed : List ChangeMsg) (c : ChangeMsg) (count next : ℕ) (xs ys : List B) → next ≡ count + 1 → IsFed shown channel fed count (seen_on r xs) → AllFed r c xs ys
     → IsFed shown channel (fed ++ c ∷ []) next (seen_on r ys)
 fed_on r shown channel fed c count next xs ys more h k = record {
@@ -79,7 +79,7 @@ fed_acts : (b : Bool) (lines : List ℕ) (channel : ℤ) (fed : List ChangeMsg) 
 fed_acts true lines channel fed c = refl
 fed_acts false lines channel fed c = refl
 
--- what a further change comes to
+-- what a further change results in
 pub feeds_acts : (shown : ℤ → List ChangeMsg → List ℕ) (most count : ℕ) (lines : List ℕ) (channel : ℤ) (fed : List ChangeMsg) (c : Course) → lines ≡ shown channel fed → length fed ≡ count
     → feeds shown most channel fed c ≡ acts (if count == most then action.Report lines else action.Wait) (comes_to (Watched channel fed) c)
 feeds_acts shown most count lines channel fed c is many =
@@ -89,7 +89,7 @@ feeds_acts shown most count lines channel fed c is many =
 pub watch_reads : (job : Job) (left : Option (List ℕ)) (u : StoreUri) (most : ℕ) → job ≡ Watching u most → HasRead job left
 watch_reads job left u most is = subst (λ j. HasRead j left) (sym is) tt
 
--- ---- what it knows of where it stands
+-- ---- what it knows about where it is
 
 pub opening_is : (u : StoreUri) (most : ℕ) (now : WatchStage) (count : ℕ) (views : List Seen) (shown : ℤ → List ChangeMsg → List ℕ) (job : Job) (stage : Stage) → now ≡ at.Opening → IsWatch u most now count views shown job stage
     → (job ≡ Watching u most) × Show shown views × (count ≡ 0) × (stage ≡ Opening)
@@ -109,7 +109,7 @@ board_shows r shown channel fed count xs h = lines_fed r channel fed h.first xs 
 -- ---- what it wants
 
 module _ (shown : ℤ → List ChangeMsg → List ℕ) (g : Got) (u : StoreUri) (most : ℕ) (job : Job) (left : Option (List ℕ)) (stage : Stage) (job_is : job ≡ Watching u most) (x y : Outside) where
-  -- a watch that stands so
+  -- a watch in this state
   abbrev standing_at : WatchStage → ℕ → List Seen → Stage → Type 0
   standing_at now count views v = IsWatch u most now count views shown job v
 

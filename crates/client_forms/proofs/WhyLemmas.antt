@@ -1,4 +1,4 @@
--- Why commands stop, whatever the objects outside tell.
+-- Why commands stop, whatever the objects outside reveal.
 use Rattle.std.proofs.Common.{◌≡◌, ◌≤◌, ℕ, ℤ, Bool, true, false, not, List, [], ◌++◌, Option, Result, Ok, Err, IfErr, arith, refl, ap}
 use Rattle.etp_outside.proofs.FaultLemmas.{rose_later}
 use Rattle.etp_outside.specs.declared.status.Status.{Status}
@@ -40,12 +40,12 @@ why_is stop.Left x y z k h = tt
 pub stop_later : (e : Stop) (x y z : Outside) → NoLess x y → NoLess y z × IsWhy e y z → NoLess x z × IsWhy e x z
 stop_later e x y z k h = (less_both x y z k h.0, why_is e x y z k h.1)
 
--- a step behind another
+-- a step after another
 pub why_later : {A : Type 0} (r : Result A Stop) (x y z : Outside) → NoLess x y → Why r y z → Why r x z
 why_later (Ok a) x y z k h = less_both x y z k h
 why_later (Err e) x y z k h = stop_later e x y z k h
 
--- ---- what steps of courses say of it
+-- ---- what steps of courses say about it
 
 abbrev pub Owns : (Course → Course) → Type 0
 Owns f = (c : Course) → AreOwn c.status → AreOwn (f c).status
@@ -74,7 +74,7 @@ breaks_own_by st own c before = breaks_own st c own before
 pub shows_own : (bytes : List ℕ) → Owns (λ c. breaks status.Stopped (writes bytes c))
 shows_own bytes c before = breaks_own status.Stopped (writes bytes c) tt before
 
--- ---- what commands say of it
+-- ---- what commands say about it
 
 given_up : (e : Stop) (l : Line) (told : Option (List ℤ)) (o : Output) (i j : Input) → GivesUp e i.faults j.faults → IsWhy e (outside l told o i) (outside l told o j)
 given_up (stop.Over st) l told o i j h = h

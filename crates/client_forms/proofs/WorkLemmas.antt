@@ -1,4 +1,4 @@
--- Pieces of a command's work: an ask, the close of its session, and bytes that it writes.
+-- Steps of a command: an ask, the close of its session, and bytes that it writes.
 use Rattle.std.proofs.Common.{◌≡◌, ◌≤◌, ℕ, ℤ, List, [], ◌∷◌, ◌++◌, take, drop, Option, None, Some, Result, Ok, Err, arith, inl, refl, ap, sym, subst, ◌∙◌, append_assoc}
 use Rattle.std.specs.Io.KnownBytes.{Appends}
 use Rattle.std.proofs.KnownBytes.{Appends-nil}
@@ -25,7 +25,7 @@ use Rattle.client_forms.specs.declared.stop.Stop.TheVariants as stop
 use Rattle.client_forms.proofs.CourseLemmas.{stepped, set_at, ask_done, ask_refused, close_done, close_refused, asks_grows, closes_grows, Grows}
 use Rattle.client_forms.proofs.SendLemmas.{quiet}
 
--- a clock told a moment more
+-- a clock returned one more moment
 abbrev pub OneMoment : ℤ → Option (List ℤ) → Option (List ℤ) → Type 0
 OneMoment moment old new = Told old new (λ xs ys. ys ≡ xs ++ moment ∷ [])
 
@@ -52,7 +52,7 @@ prefix_of_nothing xs ys p = subst (λ l. IsPrefix l ys) (sym (append-nil xs)) p
 pub fronts_grown : (c d : Course) → Grows c d → Fronts c [] [] d
 fronts_grown c d g = record { sent = prefix_of_nothing c.sent d.sent g.sent; written = prefix_of_nothing c.written d.written g.written }
 
--- a front of messages, before a course that has them all
+-- a prefix of messages, before a course that has them all
 front_sent : (c : Course) (q : Place) (end : Course → Course) (messages front rest : List (List ℕ)) (r : Course) → front ++ rest ≡ messages → ((d : Course) → (end d).sent ≡ d.sent) → ((d : Course) → (end d).written ≡ d.written) → r ≡ end (moved c q [] messages []) → Fronts c front [] r
 front_sent c q end messages front rest r whole same_sent same_written e =
     subst (λ (d : Course). Fronts c front [] d) (sym e)
@@ -63,7 +63,7 @@ front_sent c q end messages front rest r whole same_sent same_written e =
 
 -- ---- an ask
 
--- it was done, and a front of it sent
+-- it was done, and a prefix of it sent
 ask_cut : (a : Ask) (moment id : ℤ) (s mid : State) (stage : Stage) (l m : Line) (told later : Option (List ℤ)) (o : Output) (i : Input) → (asked s a moment).result ≡ Ok id → mid ≡ (asked s a moment).state → SendsFront mid.out l.talk m.talk → Used l m → OneMoment moment told later → Breaks (asks a) (place s stage) (outside l told o i) (outside m later o i)
 ask_cut a moment id s mid stage l m told later o i ok is_mid f used tick =
     record {
@@ -90,7 +90,7 @@ ask_sent (Err cause.Output) a moment id s mid t stage l m told later o i ok is_m
 ask_sent (Err cause.Input) a moment id s mid t stage l m told later o i ok is_mid h why used tick = absurd why
 ask_sent (Err cause.Memory) a moment id s mid t stage l m told later o i ok is_mid h why used tick = (ask_cut a moment id s mid stage l m told later o i ok is_mid h used tick, tt)
 
--- there was no memory for a step that takes a moment first
+-- memory ran out for a step that takes a moment first
 at_moment : (f : Course → Course) (moment : ℤ) (p : Place) (l : Line) (told later : Option (List ℤ)) (o : Output) (i : Input) → ((c : Course) → Grows c (f c)) → OneMoment moment told later → Breaks f p (outside l told o i) (outside l later o i)
 at_moment f moment p l told later o i grows tick =
     record {
@@ -112,7 +112,7 @@ ask_ends a moment e s t stage l told later o i err is_t tick =
       course = stepped (asks a) (place s stage) (place t stage) (moment ∷ []) [] [] (ends status.Limit) (ask_refused a s t stage moment e err is_t);
     }
 
--- the client refused it, or had no memory
+-- the client refused it, or memory ran out
 pub ask_failed : (e : ClientError) (a : Ask) (moment : ℤ) (s t : State) (stage : Stage) (l : Line) (told later : Option (List ℤ)) (o : Output) (i : Input) → FailsBy e (asked s a moment) s t → OneMoment moment told later → Stops (refused_by e) (asks a) (place s stage) (outside l told o i) (outside l later o i)
 ask_failed error.NoMemory a moment s t stage l told later o i h tick = (at_moment (asks a) moment (place s stage) l told later o i (asks_grows a) tick, tt)
 ask_failed (error.Frame x) a moment s t stage l told later o i h tick = ask_ends a moment (error.Frame x) s t stage l told later o i h.0 h.1 tick
@@ -125,7 +125,7 @@ ask_failed (error.Stopped x) a moment s t stage l told later o i h tick = ask_en
 
 -- ---- the close of a session
 
--- it was done, and a front of it sent
+-- it was done, and a prefix of it sent
 record CloseCut (st : Status) (p : Place) (front : List (List ℕ)) (moment : ℤ) : Type 0 where
   pub fronts : (c : Course) → IsAt p c → Fronts c front [] (closes st (record c { moments = moment ∷ [] }))
   pub end : (c : Course) → IsAt p c → (closes st (record c { moments = moment ∷ [] })).status ≡ Some st

@@ -1,4 +1,4 @@
--- What a command sends, writes and answers, by the items that its link took and the moments that its clock told.
+-- What a command sends, writes and answers, by the items that its link took and the moments that its clock returned.
 use Rattle.std.specs.Prelude.{ℕ, ℤ, negsuc, ◌-◌, ◌^◌, ◌==◌, Bool, true, false, List, [], ◌∷◌, ◌++◌, codes, length, fold, if◌then◌else◌, Option, None, Some, Result, Ok, Err}
 use Rattle.std.specs.Fmt.{decimal}
 use Rattle.channel_store.specs.declared.copy.ChangeMsg.{ChangeMsg}
@@ -29,16 +29,16 @@ pub data Job : Type 0 where
 
 -- what a command waits for
 pub data Stage : Type 0 where
-  -- that the session is open
+  -- the session to be open
   Opening : Stage
-  -- the answer to the first ask behind that
+  -- the answer to the first ask after that
   Asked : Stage
-  -- the Pong behind all points
+  -- the Pong after all points
   Loaded : Stage
   -- further changes of this channel; these were fed to the views
   Watched : (channel : ℤ) → (fed : List ChangeMsg) → Stage
 
--- where a command stands
+-- where a command is
 pub record Place : Type 0 where
   pub client : State
   pub stage : Stage
@@ -81,7 +81,7 @@ abbrev pub by_ask : Result ℤ ClientError → State → Course → Course
 by_ask (Ok id) s c = sends s c
 by_ask (Err e) s c = ends status.Limit (with_client s c)
 
--- an ask takes a moment; where none is left nothing happens
+-- an ask takes a moment; if none is left nothing happens
 abbrev pub asks_at : Ask → List ℤ → Course → Course
 asks_at a [] c = c
 asks_at a (t ∷ ts) c = let s = asked c.at.client a t in by_ask s.result s.state (record c { moments = ts })
@@ -94,7 +94,7 @@ asks_if (Some st) a c = c
 abbrev pub asks : Ask → Course → Course
 asks a c = asks_if c.status a c
 
--- how a command ends whose client can't close the session: what was done well has met a limit, and an earlier cause stands
+-- how a command ends whose client can't close the session: what was done well has met a limit, and an earlier cause takes precedence
 abbrev pub unclosed : Status → Status
 unclosed status.Done = status.Limit
 unclosed st = st
@@ -118,7 +118,7 @@ is_opening Asked = false
 is_opening Loaded = false
 is_opening (Watched channel fed) = false
 
--- the same of a session that may not be open yet: there is none to close then
+-- the same for a session that may not be open yet: then there is none to close
 abbrev pub breaks : Status → Course → Course
 breaks st c = if is_opening c.at.stage then ends st c else closes st c
 
@@ -134,7 +134,7 @@ abbrev pub loads_last : ℤ → List Point → Course → Course
 loads_last channel [] c = c
 loads_last channel (p ∷ ps) c = loads_one channel c (p ∷ ps)
 
--- a status that stands is kept
+-- an earlier status is kept
 abbrev pub ends_if : Option Status → Status → Course → Course
 ends_if None st c = ends st c
 ends_if (Some other) st c = c
@@ -150,12 +150,12 @@ pings_if (Some st) c = c
 abbrev pub pings : Course → Course
 pings c = pings_if c.status c
 
--- all points are sent, and then a Ping; where a line was refused, the message that is still open is not sent
+-- all points are sent, and then a Ping; if a line was refused, the message that is still open is not sent
 abbrev pub loads : ℤ → Option Status → Filled → Course → Course
 loads channel None f c = pings (loads_last channel f.last (loads_all channel f.closed c))
 loads channel (Some st) f c = ends_first st (loads_all channel f.closed c)
 
--- lines are loaded from the one of this number on, where the open message has these points
+-- lines are loaded from the one of this number on, if the open message has these points
 abbrev pub loads_from : ℤ → ℕ → ℕ → List Point → List (List ℕ) → Course → Course
 loads_from channel kind n held lines c = let r = read_lines kind n lines in loads channel r.refused (filled held r.points) c
 
@@ -191,7 +191,7 @@ loaded_line n = codes "loaded " ++ decimal n ++ codes "\n"
 
 -- `shown` are the lines of the views of a channel that were fed these changes
 module _ (shown : ℤ → List ChangeMsg → List ℕ) where
-  -- one more change was fed; behind the last one the views are shown
+  -- one more change was fed; after the last one the views are shown
   abbrev pub feeds : ℕ → ℤ → List ChangeMsg → Course → Course
   feeds count channel fed c =
       if length fed == count then closes status.Done (writes (shown channel fed) (comes_to (Watched channel fed) c)) else comes_to (Watched channel fed) c
@@ -207,7 +207,7 @@ module _ (shown : ℤ → List ChangeMsg → List ℕ) where
   goes_by (Watching u count) (Watched channel fed) (got.Change x) c = feeds count channel (fed ++ x ∷ []) c
   goes_by job stage g c = c
 
-  -- the lines of the views, where there are any
+  -- the lines of the views, if there are any
   abbrev pub showing : Stage → List ℕ
   showing (Watched channel fed) = shown channel fed
   showing stage = []

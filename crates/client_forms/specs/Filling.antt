@@ -1,4 +1,4 @@
--- What the code of `load` knows of what it has read and what is left to do.
+-- What the code of `load` knows about what it has read and what is left to do.
 use Rattle.std.specs.Prelude.{◌≡◌, ◌≢◌, ◌≤◌, ◌+◌, ◌||◌, ℕ, ℤ, Bool, true, false, List, [], ◌∷◌, ◌++◌, length, Option, None, Some, Result, Ok, Err}
 use Rattle.std.specs.Io.KnownBytes.{IsAtEnd}
 use Rattle.channel_points.specs.Bytes.{point_bytes}
@@ -37,7 +37,7 @@ pub record Holds (b : Batch) (held : List Point) : Type 0 where
 abbrev pub takes : List Point → Point → Bool
 takes held p = is_none held || fits (held ++ p ∷ [])
 
--- what adding a point comes to: the message takes it, or is answered, and the point begins the next one
+-- what adding a point results in: the message takes it, or is returned, and the point begins the next one
 abbrev pub Adds : {E : Type 0} → Result (Option Batch) E → Batch → Batch → List Point → Point → Type 0
 Adds (Ok None) a b held p = (takes held p ≡ true) × (b.channel ≡ a.channel) × Holds b (held ++ p ∷ [])
 Adds (Ok (Some full)) a b held p = (takes held p ≡ false) × (b.channel ≡ a.channel) × Holds b (p ∷ []) × (full.points.items ≡ of_channel a.channel held)
@@ -60,7 +60,7 @@ pub record ReadsFor (bytes : List ℕ) (left : Option (List ℕ)) (r : Reader) (
   pub read : HasReadTo bytes left r held later
   pub same : (c : Course) → f c ≡ loads_from r.batch.channel r.kind (r.count + 1) held later c
 
--- it stands at the next line
+-- it is at the next line
 pub record IsAtLine (bytes : List ℕ) (left : Option (List ℕ)) (r : Reader) (f : Course → Course) : Type 0 where
   pub held : List Point
   pub later : List (List ℕ)
@@ -93,7 +93,7 @@ pub record HasReadAll (bytes : List ℕ) (left : Option (List ℕ)) (r : Reader)
   pub count : length (lines_in bytes) ≡ r.count
   pub same : (c : Course) → f c ≡ pings (loads_last r.batch.channel held c)
 
--- a message is full, and this is left to do behind it
+-- a message is full, and this is left to do after it
 pub record IsFull (bytes : List ℕ) (left : Option (List ℕ)) (r : Reader) (full : Batch) (f : Course → Course) : Type 0 where
   pub rest : Course → Course
   pub reads : ReadsFor bytes left r rest
@@ -113,20 +113,20 @@ StopsRead (stop.Short st) f before after = ⊥
 StopsRead (stop.Cut e) f before after = CutsRead e before after
 StopsRead stop.Left f before after = ⊥
 
--- what reading a line comes to
+-- what reading a line results in
 abbrev pub Turns : Result Turn Stop → List ℕ → Option (List ℕ) → ℕ → ℕ → Reader → (Course → Course) → Type 0
 Turns (Ok turn.More) bytes left before after r f = ReadsFor bytes left r f
 Turns (Ok (turn.Full full)) bytes left before after r f = IsFull bytes left r full f
 Turns (Ok turn.NoMore) bytes left before after r f = HasReadAll bytes left r f
 Turns (Err e) bytes left before after r f = StopsRead e f before after
 
--- what filling a message comes to
+-- what filling a message results in
 abbrev pub Fills : Result (Option Batch) Stop → List ℕ → Option (List ℕ) → ℕ → ℕ → Reader → (Course → Course) → Type 0
 Fills (Ok (Some full)) bytes left before after r f = IsFull bytes left r full f
 Fills (Ok None) bytes left before after r f = HasReadAll bytes left r f
 Fills (Err e) bytes left before after r f = StopsRead e f before after
 
--- what is wanted behind the last line: a message with the points that are left, or the Ping
+-- what is wanted after the last line: a message with the points that are left, or the Ping
 abbrev pub WantsLast : Action → LoadStage → ℤ → List Point → Type 0
 WantsLast a now channel [] = (a ≡ action.Ask asked.Ping) × (now ≡ at.Loaded)
 WantsLast a now channel (p ∷ ps) = (a ≡ action.Ask (asked.Load (of_channel channel (p ∷ ps)))) × (now ≡ at.Read)

@@ -1,4 +1,4 @@
--- What the code knows of where a command stands, in the words of the definitions.
+-- What the code knows about where a command is, in the words of the definitions.
 use Rattle.std.specs.Prelude.{◌≡◌, ℕ, Bool, true, false, List, Option}
 use Rattle.std.specs.Io.KnownBytes.{IsAtEnd}
 use Rattle.etp_values.specs.declared.uri.StoreUri.{StoreUri}

@@ -13,12 +13,12 @@ pub record Read : Type 0 where
   pub points : List Point
   pub refused : Option Status
 
--- a line that is a point, or none, in front of what is read of the lines behind it; `n` is its number
+-- a line that is a point, or none, before what is read of the lines after it; `n` is its number
 abbrev pub with_line : ℕ → Option Point → Read → Read
 with_line n None later = record { points = []; refused = Some (status.Input n) }
 with_line n (Some p) later = record { points = p ∷ later.points; refused = later.refused }
 
--- what is read of lines for a channel of this kind, where the first has the number `n`
+-- what is read of lines for a channel of this kind, if the first has the number `n`
 abbrev pub read_lines : ℕ → ℕ → List (List ℕ) → Read
 read_lines kind n [] = record { points = []; refused = None }
 read_lines kind n (l ∷ ls) =
@@ -41,7 +41,7 @@ pub record Filled : Type 0 where
 abbrev pub closes_message : List Point → Filled → Filled
 closes_message ps later = record { closed = ps ∷ later.closed; last = later.last }
 
--- how points are put into messages, where the open one has these
+-- how points are put into messages, if the open one has these
 abbrev pub filled : List Point → List Point → Filled
 filled held [] = record { closed = []; last = held }
 filled held (p ∷ ps) =

@@ -1,4 +1,4 @@
--- What a command wants done with an answer, and what it does behind that before it waits again.
+-- What a command wants done with an answer, and what it does after that before it waits again.
 use Rattle.std.specs.Prelude.{◌≡◌, ◌≢◌, ℕ, ℤ, Bool, true, false, List, [], ◌++◌, Option, Result, Ok, Err, None, Some}
 use Rattle.client_core.specs.State.{State}
 use Rattle.etp_outside.specs.Faults.{Rose}
@@ -23,11 +23,11 @@ is_wait action.Wait = true
 is_wait (action.Ask a) = false
 is_wait (action.Report bytes) = false
 
--- a course of a command that stands here and goes on
+-- a course of a command that is here and continues
 abbrev pub standing : Place → Course → Course
 standing p c = record c { at = p; status = None }
 
--- what a command does behind an action: it changes nothing of a course that has ended, and else only adds
+-- what a command does after an action: it changes nothing of a course that has ended, and otherwise only adds
 pub record Rests (g : Course → Course) : Type 0 where
   pub same : (st : Status) (c : Course) → g (ends st c) ≡ ends st c
   pub kept : (st : Status) (c : Course) → c.status ≡ Some st → (g c).status ≡ Some st
@@ -39,9 +39,9 @@ pub record Plan (owes : Stage → (Course → Course) → Type 0) (stands : Stag
   pub rest : Course → Course
   pub there : owes stage rest
   pub rests : Rests rest
-  -- where it waits, nothing is left to do
+  -- if it waits, nothing is left to do
   pub waits : a ≡ action.Wait → stands stage × ((c : Course) → rest c ≡ c)
-  -- where it is done, it has read what it was to read
+  -- if it is done, it has read what it was to read
   pub reads : (bytes : List ℕ) → a ≡ action.Report bytes → read
   pub same : (s : State) (c : Course) → f (standing (place s before) c) ≡ rest (acts a (standing (place s stage) c))
 
@@ -70,7 +70,7 @@ GivesUp stop.Left before now = ⊥
 abbrev pub Waits : (Course → Course) → Type 0
 Waits rest = rest ≡ (λ c. c)
 
--- the action that is wanted, or want of memory
+-- the action that is wanted, or running out of memory
 abbrev pub GivesAction : Result Action Stop → Action → Type 0
 GivesAction (Ok a) wanted = a ≡ wanted
 GivesAction (Err e) wanted = e ≡ stop.Cut cause.Memory
@@ -89,7 +89,7 @@ pub record Doing (owes : Stage → (Course → Course) → Type 0) (stands : Sta
   pub did : Did moments messages bytes x y
   pub course : (c : Course) (later : List ℤ) → IsAt p c → f (record c { moments = moments ++ later }) ≡ rest (acts a (moved c (place s stage) later messages bytes))
 
--- what doing an action comes to: the command waits, or wants something further, or has stopped
+-- what doing an action results in: the command waits, or wants something further, or has stopped
 abbrev pub ActsOn : Result (Option Action) Stop → (Stage → (Course → Course) → Type 0) → (Stage → Type 0) → Type 0 → (Course → Course) → Place → State → Outside → Outside → Type 0
 ActsOn (Ok None) owes stands read f p s x y = Comes stands f p s x y
 ActsOn (Ok (Some a)) owes stands read f p s x y = Doing owes stands read f p s a x y

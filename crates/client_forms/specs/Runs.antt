@@ -23,7 +23,7 @@ pub record Talks (taken : List Item) (sent : List (List ℕ)) (a b : Talk) : Typ
   pub said : b.sent ≡ a.sent ++ sent
   pub to : b.to ≡ a.to
 
--- these moments were told, items taken, messages sent, and bytes written
+-- these moments were returned, items taken, messages sent, and bytes written
 pub record Came (moments : List ℤ) (taken : List Item) (sent : List (List ℕ)) (written : List ℕ) (x y : Outside) : Type 0 where
   pub told : Told x.told y.told (λ xs ys. ys ≡ xs ++ moments)
   pub talked : Told x.line.talk y.line.talk (Talks taken sent)
@@ -73,7 +73,7 @@ pub record Ended (e : Stop) (shown : ℤ → List ChangeMsg → List ℕ) (job :
   pub came : Came moments taken sent written x y
   pub end : EndsBy e sent written (ctl shown job moments taken) x y
 
--- what a turn comes to
+-- what a turn results in
 abbrev pub Turns : Result (Unit {0}) Stop → (Stage → Type 0) → (ℤ → List ChangeMsg → List ℕ) → Job → State → Outside → Outside → Type 0
 Turns (Ok u) stands shown job s x y = Going stands shown job s x y
 Turns (Err e) stands shown job s x y = Ended e shown job x y

@@ -34,7 +34,7 @@ abbrev pub SendsAll : Result (Unit {0}) Cause → State → State → Option Tal
 SendsAll (Ok u) s t x y = (t ≡ drained s) × Told x y (Says s.out)
 SendsAll (Err e) s t x y = SendsFront s.out x y
 
--- a link that did not take a message has failed, or there was no memory
+-- a link that did not take a message has failed, or memory ran out
 abbrev pub SendCause : Result (Unit {0}) Cause → ℕ → ℕ → Type 0
 SendCause (Ok u) before now = Unit {0}
 SendCause (Err cause.Link) before now = Rose before now
@@ -52,7 +52,7 @@ abbrev pub refused_by : ClientError → Stop
 refused_by error.NoMemory = stop.Cut cause.Memory
 refused_by e = stop.Over status.Limit
 
--- how a command stops that is to end with a status, where its last message was not sent: an earlier cause than that stands
+-- how a command stops that is to end with a status, if its last message was not sent: an earlier cause takes precedence
 abbrev pub short_by : Status → Cause → Stop
 short_by st cause.Memory = stop.Cut cause.Memory
 short_by st e = stop.Short st
@@ -66,12 +66,12 @@ abbrev pub closed_by : Status → Result (Unit {0}) Cause → Stop
 closed_by st (Ok u) = stop.Over st
 closed_by st (Err e) = unsent_by st e
 
--- the same where the client could not close the session
+-- the same if the client could not close the session
 abbrev pub unclosed_by : Status → ClientError → Stop
 unclosed_by st error.NoMemory = stop.Cut cause.Memory
 unclosed_by st e = stop.Over (unclosed st)
 
--- how a command stops that could not write all that it was to show
+-- how a command stops that could not write everything that it was to show
 abbrev pub shortened : Stop → Stop
 shortened (stop.Over st) = stop.Short st
 shortened e = e

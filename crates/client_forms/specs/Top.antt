@@ -1,4 +1,4 @@
--- What the top call answers, by all that it was handed and left.
+-- What the top call answers, by all that it was given and left.
 use Rattle.std.specs.Prelude.{◌≡◌, ◌≢◌, ◌⊎◌, ◌<◌, ◌≤◌, ℕ, ℤ, Bool, true, List, [], ◌∷◌, ◌++◌, length, Option, None, Some, IfSome, unwrap_or}
 use Rattle.std.specs.Option.{option_map}
 use Rattle.std.specs.Io.KnownBytes.{Keeps, Appends, IsAtEnd}
@@ -19,13 +19,13 @@ use Rattle.client_words.specs.Words.{Command, Form, Put, Get, Load, Watch}
 use Rattle.client_forms.specs.Ctl.{Course, Job, Putting, Getting, Loading, Watching, ctl}
 use Rattle.client_forms.specs.Work.{Input, Output}
 
--- what a dialer tells: the links that came back, whether the peer of one had ended it, and how often it failed
+-- what a dialer reveals: the links that came back, whether the peer of one had ended it, and how often it failed
 pub record Dials : Type 0 where
   pub backs : Option (List (Option Talk))
   pub ended : Bool
   pub faults : ℕ
 
--- a dialer that tells this
+-- a dialer that reveals this
 abbrev pub dials : Option (List (Option Talk)) → Bool → ℕ → Dials
 dials backs ended faults = record { backs = backs; ended = ended; faults = faults }
 
@@ -46,7 +46,7 @@ pub record World : Type 0 where
 abbrev pub world : Input → Output → Option (List ℤ) → Dials → World
 world i o told d = record { input = i; output = o; told = told; dials = d }
 
--- from w to z nothing was dialed, read, written or told
+-- from w to z nothing was dialed, read, written or returned by the clock
 pub record Untouched (w z : World) : Type 0 where
   pub input : Keeps w.input.left z.input.left
   pub output : Keeps w.output.held z.output.held
@@ -74,7 +74,7 @@ pub record CameBack (server : Address) (taken : List Item) (sent : List (List �
 abbrev pub HasDialed : Address → List Item → List (List ℕ) → Dials → Dials → Type 0
 HasDialed server taken sent d e = Told d.backs e.backs (CameBack server taken sent)
 
--- with a fault or for want of memory there may be no link
+-- with a fault or if memory ran out there may be no link
 abbrev pub MayHaveDialed : Address → List Item → List (List ℕ) → Dials → Dials → Type 0
 MayHaveDialed server taken sent d e = HasDialed server taken sent d e ⊎ (e.backs ≡ d.backs)
 
@@ -98,12 +98,12 @@ pub record Whole (sent : List (List ℕ)) (written : List ℕ) (r : Course) : Ty
   pub written_is : written ≡ r.written
   pub moments : r.moments ≡ []
 
--- or a front of it
+-- or a prefix of it
 pub record Front (sent : List (List ℕ)) (written : List ℕ) (r : Course) : Type 0 where
   pub sent_is : IsPrefix sent r.sent
   pub written_is : IsPrefix written r.written
 
--- the course ended so
+-- the course ended this way
 abbrev pub ByCourse : Status → List (List ℕ) → List ℕ → Course → Type 0
 ByCourse st sent written r = Whole sent written r × (r.status ≡ Some st)
 
@@ -111,11 +111,11 @@ ByCourse st sent written r = Whole sent written r × (r.status ≡ Some st)
 abbrev pub LeftAlone : List (List ℕ) → List ℕ → Course → World → Type 0
 LeftAlone sent written r z = Whole sent written r × (r.status ≡ None) × (z.dials.ended ≡ true)
 
--- it ended so, and its last words did not get through
+-- it ended this way, and its last words did not get through
 abbrev pub CutShort : Status → List (List ℕ) → List ℕ → Course → World → World → Type 0
 CutShort st sent written r w z = Front sent written r × (r.status ≡ Some st) × (Rose w.dials.faults z.dials.faults ⊎ Rose w.output.faults z.output.faults)
 
--- what a status says of the course of a command
+-- what a status says about the course of a command
 abbrev pub ByStatus : Status → List (List ℕ) → List ℕ → Course → World → World → Type 0
 ByStatus status.ReadFault sent written r w z = Front sent written r
 ByStatus status.WriteFault sent written r w z = Front sent written r
@@ -133,7 +133,7 @@ ReadsAll st command left = Unit {0}
 
 -- a command that has this course ran over a link to this server, or none could be had
 pub record Runs (st : Status) (server : Address) (course : List ℤ → List Item → Course) (w z : World) : Type 0 where
-  -- the moments that were told, the items that were taken, and what was sent and written
+  -- the moments that were returned, the items that were taken, and what was sent and written
   pub moments : List ℤ
   pub told : Told w.told z.told (λ xs ys. ys ≡ xs ++ moments)
   pub taken : List Item
@@ -145,7 +145,7 @@ pub record Runs (st : Status) (server : Address) (course : List ℤ → List Ite
 
 -- the command of a form was begun
 pub record Ran (st : Status) (form : Form) (shown : ℤ → List ChangeMsg → List ℕ) (file : Option (List ℕ)) (w z : World) : Type 0 where
-  -- the bytes of the file and of the input, where these tell them
+  -- the bytes of the file and of the input, if these reveal them
   pub payload : List ℕ
   pub payload_is : IfSome file (λ bytes. payload ≡ bytes)
   pub read : List ℕ
@@ -153,11 +153,11 @@ pub record Ran (st : Status) (form : Form) (shown : ℤ → List ChangeMsg → L
   pub runs : Runs st (server_of form.address) (ctl shown (job_of form.command payload read)) w z
   pub all_read : ReadsAll st form.command z.input.left
 
--- the most bytes of a file that is put
+-- the maximum size of a file that is put, in bytes
 abbrev pub max_file : ℕ
 max_file = 67108864
 
--- nothing was begun: the file that is to be put is too long or can't be read, or there was no memory
+-- nothing was begun: the file that is to be put is too long or can't be read, or memory ran out
 abbrev pub NotBegun : Status → Command → (List ℕ → Option (List ℕ)) → Type 0
 NotBegun status.Limit (Put u name) files = IfSome (files name) (λ bytes. max_file < length bytes)
 NotBegun status.ReadFault (Put u name) files = Unit {0}
@@ -169,23 +169,23 @@ abbrev pub file_of : Command → (List ℕ → Option (List ℕ)) → Option (Li
 file_of (Put u name) files = files name
 file_of command files = None
 
--- the input of a command that reads it tells its bytes
+-- the input of a command that reads it reveals its bytes
 abbrev pub Tells : Command → Option (List ℕ) → Type 0
 Tells (Load u) left = left ≢ None
 Tells command left = Unit {0}
 
--- what a status says of a form
+-- what a status says about a form
 abbrev pub Fulfils : Status → Form → (ℤ → List ChangeMsg → List ℕ) → (List ℕ → Option (List ℕ)) → World → World → Type 0
 Fulfils st form shown files w z = Tells form.command w.input.left → (NotBegun st form.command files × Untouched w z) ⊎ Ran st form shown (file_of form.command files) w z
 
--- a status that is a fault comes only where a count of faults rose, and the status of words in no form never
+-- a status that is a fault occurs only if a count of faults rose, and the status of a malformed command line never
 pub record HasCause (st : Status) (w z : World) : Type 0 where
   pub read : st ≡ status.ReadFault → Rose w.input.faults z.input.faults
   pub write : st ≡ status.WriteFault → Rose w.output.faults z.output.faults
   pub link : st ≡ status.LinkFault → Rose w.dials.faults z.dials.faults
   pub form : st ≢ status.Usage
 
--- the same of words, which may be in no form
+-- the same for words, which may be malformed
 abbrev pub Answers : Status → Option Form → (ℤ → List ChangeMsg → List ℕ) → (List ℕ → Option (List ℕ)) → World → World → Type 0
 Answers st None shown files w z = ((st ≡ status.Usage) ⊎ (st ≡ status.NoMemory)) × Untouched w z
 Answers st (Some form) shown files w z = Fulfils st form shown files w z

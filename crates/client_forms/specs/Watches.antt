@@ -1,4 +1,4 @@
--- What the code of `watch` knows of where it stands.
+-- What the code of `watch` knows about where it is.
 use Rattle.std.specs.Prelude.{◌≡◌, ℕ, ℤ, List, length}
 use Rattle.channel_store.specs.declared.copy.ChangeMsg.{ChangeMsg}
 use Rattle.etp_values.specs.declared.uri.StoreUri.{StoreUri}
@@ -7,7 +7,7 @@ use Rattle.client_forms.specs.Shown.{Seen, Show, WereFed}
 use Rattle.client_forms.specs.declared.watching.WatchStage.{WatchStage}
 use Rattle.client_forms.specs.declared.watching.WatchStage.TheVariants as at
 
--- it watches a channel: these views were fed so many of its changes, and show these lines
+-- it watches a channel: these views were fed this many of its changes, and show these lines
 pub record IsFed (shown : ℤ → List ChangeMsg → List ℕ) (channel : ℤ) (fed : List ChangeMsg) (count : ℕ) (seen : List Seen) : Type 0 where
   pub first : List Seen
   pub shows : Show shown first
@@ -21,7 +21,7 @@ pub record IsWatching (shown : ℤ → List ChangeMsg → List ℕ) (count : ℕ
   pub stage_is : stage ≡ Watched channel fed
   pub is_fed : IsFed shown channel fed count seen
 
--- a command to watch so many changes, by what it waits for and how many were fed
+-- a command to watch this many changes, by what it waits for and how many were fed
 abbrev pub StandsAt : WatchStage → ℕ → List Seen → (ℤ → List ChangeMsg → List ℕ) → Stage → Type 0
 StandsAt at.Opening count seen shown stage = Show shown seen × (count ≡ 0) × (stage ≡ Opening)
 StandsAt at.Asked count seen shown stage = Show shown seen × (count ≡ 0) × (stage ≡ Asked)

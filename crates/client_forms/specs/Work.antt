@@ -1,4 +1,4 @@
--- What a piece of a command's work does outside, and to the command's course.
+-- What a step of a command does outside, and to the command's course.
 use Rattle.std.specs.Prelude.{◌≡◌, ◌≤◌, ◌⊎◌, ℕ, ℤ, Bool, List, ◌++◌, Option, None, Some, Result, Ok, Err}
 use Rattle.std.specs.Io.KnownBytes.{Appends}
 use mathlib.Core.List.{IsPrefix}
@@ -16,7 +16,7 @@ use Rattle.client_forms.specs.declared.stop.Cause.TheVariants as cause
 use Rattle.client_forms.specs.declared.stop.Stop.{Stop}
 use Rattle.client_forms.specs.declared.stop.Stop.TheVariants as stop
 
--- what a link tells, how often it failed, and whether its peer has ended it
+-- what a link reveals, how often it failed, and whether its peer has ended it
 pub record Line : Type 0 where
   pub talk : Option Talk
   pub faults : ℕ
@@ -39,15 +39,15 @@ pub record Outside : Type 0 where
   pub output : Output
   pub input : Input
 
--- a link that tells this
+-- a link that reveals this
 abbrev pub line : Option Talk → ℕ → Bool → Line
 line talk faults ended = record { talk = talk; faults = faults; ended = ended }
 
--- an output that holds this, and failed so often
+-- an output that holds this, and failed this often
 abbrev pub output : Option (List ℕ) → ℕ → Output
 output held faults = record { held = held; faults = faults }
 
--- an input that has this left, and failed so often
+-- an input that has this left, and failed this often
 abbrev pub input : Option (List ℕ) → ℕ → Input
 input left faults = record { left = left; faults = faults }
 
@@ -73,23 +73,23 @@ pub record Kept (x y : Outside) : Type 0 where
   pub input : x.input.faults ≤ y.input.faults
   pub ended : y.line.ended ≡ x.line.ended
 
--- these moments were told, these messages sent, and these bytes written
+-- these moments were returned, these messages sent, and these bytes written
 pub record Did (moments : List ℤ) (messages : List (List ℕ)) (bytes : List ℕ) (x y : Outside) : Type 0 where
   pub told : Told x.told y.told (λ xs ys. ys ≡ xs ++ moments)
   pub said : Told x.line.talk y.line.talk (Says messages)
   pub written : Appends x.output.held y.output.held bytes
   pub kept : Kept x y
 
--- a course that went on: where it stands now, the moments that are left, and what was sent and written besides
+-- a course that continued: where it is now, the moments that are left, and what was sent and written in addition
 abbrev pub moved : Course → Place → List ℤ → List (List ℕ) → List ℕ → Course
 moved c q later messages bytes = record c { at = q; moments = later; sent = c.sent ++ messages; written = c.written ++ bytes }
 
--- a course of a command that stands here and goes on
+-- a course of a command that is here and continues
 pub record IsAt (p : Place) (c : Course) : Type 0 where
   pub here : c.at ≡ p
   pub going : c.status ≡ None
 
--- any course that stands at p makes this step, by the moments that were told, and goes on at q
+-- any course that is at p makes this step, by the moments that were returned, and continues at q
 pub record Goes (f : Course → Course) (p q : Place) (x y : Outside) : Type 0 where
   pub moments : List ℤ
   pub messages : List (List ℕ)
@@ -106,7 +106,7 @@ pub record Ends (f : Course → Course) (st : Status) (p : Place) (x y : Outside
   pub did : Did moments messages bytes x y
   pub course : (c : Course) (later : List ℤ) → IsAt p c → f (record c { moments = moments ++ later }) ≡ ends st (moved c left later messages bytes)
 
--- what was sent and written of a step that was cut off: a front of what the course has then
+-- what was sent and written by a step that was cut off: a prefix of what the course has then
 pub record Fronts (c : Course) (messages : List (List ℕ)) (bytes : List ℕ) (r : Course) : Type 0 where
   pub sent : IsPrefix (c.sent ++ messages) r.sent
   pub written : IsPrefix (c.written ++ bytes) r.written
@@ -118,7 +118,7 @@ pub record Breaks (f : Course → Course) (p : Place) (x y : Outside) : Type 0 w
   pub did : Did moments messages bytes x y
   pub course : (c : Course) → IsAt p c → Fronts c messages bytes (f (record c { moments = moments }))
 
--- with this status a command ends by itself: none is a fault, and none is of words in no form
+-- with this status a command ends by itself: none is a fault, and none is that of a malformed command line
 abbrev pub IsOwn : Status → Type 0
 IsOwn status.Done = Unit {0}
 IsOwn status.Limit = Unit {0}
@@ -128,7 +128,7 @@ IsOwn (status.Input n) = Unit {0}
 IsOwn status.Stopped = Unit {0}
 IsOwn st = ⊥
 
--- a command may end so though its last words did not get through: an earlier cause stands
+-- a command may end this way although its last words did not get through: an earlier cause takes precedence
 abbrev pub IsLate : Status → Type 0
 IsLate (status.Refused code) = Unit {0}
 IsLate status.Stopped = Unit {0}
@@ -139,7 +139,7 @@ abbrev pub MayClose : Status → Type 0
 MayClose status.Done = Unit {0}
 MayClose st = IsLate st
 
--- the same of a step that ends the course with this status
+-- the same for a step that ends the course with this status
 pub record Cuts (f : Course → Course) (st : Status) (p : Place) (x y : Outside) : Type 0 where
   pub moments : List ℤ
   pub messages : List (List ℕ)
@@ -149,7 +149,7 @@ pub record Cuts (f : Course → Course) (st : Status) (p : Place) (x y : Outside
   pub end : (c : Course) → IsAt p c → (f (record c { moments = moments })).status ≡ Some st
   pub late : IsLate st
 
--- what failed, or that memory was refused
+-- what failed, or that memory ran out
 abbrev pub IsCause : Cause → Outside → Outside → Type 0
 IsCause cause.Link x y = Rose x.line.faults y.line.faults
 IsCause cause.Output x y = Rose x.output.faults y.output.faults
@@ -162,7 +162,7 @@ pub record NoLess (x y : Outside) : Type 0 where
   pub output : x.output.faults ≤ y.output.faults
   pub input : x.input.faults ≤ y.input.faults
 
--- why a command stopped, whatever its link, its clock and its input tell
+-- why a command stopped, whatever its link, its clock and its input reveal
 abbrev pub IsWhy : Stop → Outside → Outside → Type 0
 IsWhy (stop.Over st) x y = IsOwn st
 IsWhy (stop.Short st) x y = IsLate st
@@ -177,7 +177,8 @@ Why (Err e) x y = NoLess x y × IsWhy e x y
 abbrev pub HasFailed : Outside → Outside → Type 0
 HasFailed x y = Rose x.line.faults y.line.faults ⊎ Rose x.output.faults y.output.faults
 
--- a step that ended the command: as the course ends, or so but without all that was to be sent and written, or by something outside
+-- a step that ended the command: as the course ends, or in the same way but without all that was to be sent and written, or because of
+-- something outside
 abbrev pub Stops : Stop → (Course → Course) → Place → Outside → Outside → Type 0
 Stops (stop.Over st) f p x y = Ends f st p x y
 Stops (stop.Short st) f p x y = Cuts f st p x y × HasFailed x y
@@ -188,7 +189,7 @@ abbrev pub Works : Result (Unit {0}) Stop → (Course → Course) → Place → 
 Works (Ok u) f p q x y = Goes f p q x y
 Works (Err e) f p q x y = Stops e f p x y
 
--- what a step leaves of a command that it does not end: the stage that it comes to, and what holds of the command there
+-- what a step leaves of a command that it does not end: the stage that it reaches, and what holds for the command there
 pub record Comes (stands : Stage → Type 0) (f : Course → Course) (p : Place) (s : State) (x y : Outside) : Type 0 where
   pub stage : Stage
   pub there : stands stage
@@ -198,7 +199,7 @@ abbrev pub Steps : Result (Unit {0}) Stop → (Stage → Type 0) → (Course →
 Steps (Ok u) stands f p s x y = Comes stands f p s x y
 Steps (Err e) stands f p s x y = Stops e f p x y
 
--- how a command stops on a refusal of its client's: where there was no memory it is not known which
+-- how a command stops on a refusal from its client: if memory ran out it is not known which
 abbrev pub FailsOn : ClientError → Stop → (ClientError → Course → Course) → Place → Outside → Outside → Type 0
 FailsOn error.NoMemory e on p x y = (e ≡ stop.Cut cause.Memory) × (y ≡ x)
 FailsOn other e on p x y = Stops e (on other) p x y

@@ -13,7 +13,7 @@ use std::alloc::Global;
 /// What a command wants done.
 #[derive(Drop)]
 pub(crate) enum Action {
-    /// Nothing: it waits for further answers.
+    /// Nothing: it waits for more answers.
     Wait,
     /// To ask for something.
     Ask(Ask),

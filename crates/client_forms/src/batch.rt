@@ -11,10 +11,10 @@ use etp_values::{ChannelPoint, List, NoMemory, Point};
 use std::alloc::Global;
 use std::mem;
 
-/// The most points that one message takes.
+/// The greatest number of points in one message.
 const MOST_POINTS: usize = 1_000;
 
-/// The most bytes that they count.
+/// The greatest size of these points, in bytes.
 const MOST_BYTES: u64 = 8_388_608;
 
 /// Points of one channel for one message.
@@ -49,7 +49,7 @@ impl Batch {
         self.points.is_empty()
     }
 
-    /// Whether the message takes this point as well. It takes any point first.
+    /// Whether the message takes this point as well. It always takes a first point.
     fn takes(&self, point: &Point) -> bool
         ensures { (held : List Point) → Holds self.now held → result ≡ takes held point.now }
     {
@@ -71,7 +71,7 @@ impl Batch {
         Ok(())
     }
 
-    /// Adds a point. Where the message does not take it, it begins the next one, and the message is answered.
+    /// Adds a point. If the message does not take it, it begins the next one, and the message is returned.
     pub(crate) fn add(&mut self, alloc: Global, point: Point) -> Result<Option<Batch>, NoMemory>
         ensures { (held : List Point) → Holds self.old held → Adds result self.old self.new held point }
     {

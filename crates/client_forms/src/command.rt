@@ -20,7 +20,7 @@ use watch_views::{Board, View};
 
 /// A command, with what it waits for.
 pub(crate) trait Command: Drop {
-    /// That it is this command at this stage and does this before it waits again, where the board has these views, they show these lines, and
+    /// That it is this command at this stage and does this before it waits again, if the board has these views, they show these lines, and
     /// the input has this left.
     ghost owes: { Self → List Seen → (ℤ → List ChangeMsg → List ℕ) → Job → Option (List ℕ) → Stage → (Course → Course) → Type 0 };
 
@@ -32,7 +32,7 @@ pub(crate) trait Command: Drop {
         ensures { (seen : List Seen) (shown : ℤ → List ChangeMsg → List ℕ) (job : Job) (left : Option (List ℕ)) (stage : Stage)
             → stands self.now seen shown job left stage → result ≡ is_opening stage };
 
-    /// Appends what is to be shown where the server has stopped its subscription.
+    /// Appends what is to be shown if the server has stopped its subscription.
     fn show(&self, alloc: Global, board: &Board, into: &mut Vec<u8>) -> Result<(), NoMemory>
         ensures { (shown : ℤ → List ChangeMsg → List ℕ) (job : Job) (left : Option (List ℕ)) (stage : Stage)
             → stands self.now (seen_on (reading (λ s. s.channel) (λ s. (⟦<dyn View as View>⟧ s.view.vtable).held s.view.value) (λ s. (⟦<dyn View as View>⟧ s.view.vtable).step s.view.value) (λ s. (⟦<dyn View as View>⟧ s.view.vtable).shown s.view.value)) board.now.shelves.items) shown job left stage
@@ -53,7 +53,7 @@ pub(crate) trait Command: Drop {
         ensures kept { R.faults from.old ≤ R.faults from.new }
         ensures why { IfErr result (λ e. GivesUp e (R.faults from.old) (R.faults from.new)) };
 
-    /// What it wants done next, behind what was done.
+    /// What it wants done next, after what was done.
     fn more<R: Source>(&mut self, alloc: Global, from: &mut R) -> Result<Action, Stop>
         ensures plans { (seen : List Seen) (shown : ℤ → List ChangeMsg → List ℕ) (job : Job) (stage : Stage) (rest : Course → Course) (l : Line) (told : Option (List ℤ)) (o : Output)
             → owes self.old seen shown job (R.left from.old) stage rest
@@ -63,7 +63,7 @@ pub(crate) trait Command: Drop {
         ensures why { IfErr result (λ e. GivesUp e (R.faults from.old) (R.faults from.new)) };
 }
 
-/// Does what a command wants done, and answers what it wants then; nothing where it waits.
+/// Does what a command wants done, and returns what it wants then; nothing if it waits.
 fn act<J: Command, L: Link, C: Clock, W: Sink, R: Source>(
     alloc: Global,
     command: &mut J,
@@ -112,7 +112,7 @@ fn wanted(action: Result<Action, Stop>) -> Result<Option<Action>, Stop>
     }
 }
 
-/// Does what a command wants done, one action behind another, until it waits.
+/// Does what a command wants done, one action after another, until it waits.
 fn act_all<J: Command, L: Link, C: Clock, W: Sink, R: Source>(
     alloc: Global,
     command: &mut J,

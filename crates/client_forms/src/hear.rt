@@ -1,4 +1,4 @@
-//! What a command does with a message: its client takes it, and the answers in it go on one after another.
+//! What a command does with a message: its client takes it, and the answers in it are processed one after another.
 ghost use Rattle.std.specs.Prelude.{◌≡◌, ℕ, ℤ, List, Err, fold};
 ghost use Rattle.channel_store.specs.declared.copy.ChangeMsg.{ChangeMsg};
 ghost use Rattle.etp_outside.specs.declared.status.Status.TheVariants.{Done};
@@ -67,7 +67,7 @@ fn break_off<L: Link, C: Clock>(
     close(alloc, status, client, link, clock)
 }
 
-/// The stop of a command that could not write all that it was to show.
+/// The stop of a command that could not write everything that it was to show.
 fn shortened(stop: Stop) -> Stop
     ensures { result ≡ shortened stop }
 {
@@ -99,7 +99,7 @@ fn stop_with<L: Link, C: Clock, W: Sink>(
     }
 }
 
-/// The same of the command itself.
+/// The same for the command itself.
 fn stop<J: Command, L: Link, C: Clock, W: Sink>(
     alloc: Global,
     command: &J,
@@ -131,7 +131,7 @@ fn stop<J: Command, L: Link, C: Clock, W: Sink>(
     }
 }
 
-/// What a command does with a refusal of its client's.
+/// What a command does with a refusal from its client.
 fn on_error<J: Command, L: Link, C: Clock, W: Sink>(
     alloc: Global,
     error: &ClientError,

@@ -1,9 +1,10 @@
 //! The client's commands over a link: `put` and `get` of an object, `load` of points into a channel, and `watch` of its changes.
 //!
 //! What a command sends, writes and answers is `ctl` of `specs/Ctl`: a fold over the items that its link took, by the moments that its
-//! clock told. [`talk`] has the pieces of work that commands are made of, each a step of that fold, and each command is a [`Command`](command::Command).
+//! clock returned. [`talk`] has the steps that commands are made of, each a step of that fold, and each command is a
+//! [`Command`](command::Command).
 //!
-//! [`run_client`] does what words ask for over any host, dialer, input, output and clock, and [`finish`] tells how that ended.
+//! [`run_client`] does what words ask for over any host, dialer, input, output and clock, and [`finish`] reports how that ended.
 #![tactic(auto)]
 
 mod action;

@@ -24,7 +24,7 @@ use std::alloc::Global;
 use std::mem;
 use watch_views::Board;
 
-/// The lines that are read for a channel of some kind: so many were read, and the points of the last ones are not sent yet.
+/// The lines that are read for a channel of some kind: how many were read, and the points of the last ones, which are not sent yet.
 #[derive(Drop)]
 struct Reader {
     kind: u32,
@@ -38,7 +38,7 @@ struct Reader {
 enum Turn {
     /// A point that the message took.
     More,
-    /// A point that begins a further message; the one before it is full.
+    /// A point that begins another message; the previous one is full.
     Full(Batch),
     /// There is no further line.
     NoMore,
@@ -47,15 +47,15 @@ enum Turn {
 /// What `load` waits for.
 #[derive(Clone, Copy, Drop)]
 enum LoadStage {
-    /// That the session is open.
+    /// The session to be open.
     Opening,
-    /// That the channel is open.
+    /// The channel to be open.
     Asked,
     /// Nothing: it reads.
     Reading,
     /// Nothing: the last points were sent, and a Ping is to follow.
     Read,
-    /// The Pong behind all points.
+    /// The Pong after all points.
     Loaded,
 }
 
@@ -88,7 +88,7 @@ impl Reader {
         self.batch = Batch::new(alloc, channel);
     }
 
-    /// Reads lines until a message is full, and answers its points; none where the lines have ended.
+    /// Reads lines until a message is full, and returns its points; `None` if the lines have ended.
     fn fill<R: Source>(&mut self, alloc: Global, from: &mut R) -> Result<Option<Batch>, Stop>
         ensures fills { (bytes : List ℕ) (f : Course → Course) → ReadsFor bytes (R.left from.old) self.old f
             → Fills result bytes (R.left from.new) (R.faults from.old) (R.faults from.new) self.new f }
@@ -122,7 +122,7 @@ impl Reader {
         }
     }
 
-    /// Adds the point of the line that it stands at.
+    /// Adds the point of the current line.
     fn add_line(&mut self, alloc: Global) -> Result<Turn, Stop>
         ensures turns { (bytes : List ℕ) (left : Option (List ℕ)) (before after : ℕ) (f : Course → Course) → IsAtLine bytes left self.old f
             → Turns result bytes left before after self.new f }
@@ -153,7 +153,7 @@ impl Load {
         }
     }
 
-    /// Reads until a message is full, which is to be sent; behind the last one a Ping is.
+    /// Reads until a message is full, which is to be sent; after the last one a Ping is.
     fn read<R: Source>(&mut self, alloc: Global, from: &mut R) -> Result<Action, Stop>
         ensures plans { (seen : List Seen) (shown : ℤ → List ChangeMsg → List ℕ) (job : Job) (rest : Course → Course) (l : Line) (told : Option (List ℤ)) (o : Output)
             → IsLoading self.old.uri self.old.reader job (R.left from.old) rest
@@ -172,7 +172,7 @@ impl Load {
         }
     }
 
-    /// To send the points that are left, or a Ping where none are.
+    /// To send the points that are left, or a Ping if none are.
     fn send_last(&mut self, alloc: Global) -> Action
         ensures same { (self.new.uri ≡ self.old.uri) × (self.new.reader.count ≡ self.old.reader.count) }
         ensures wants { (held : List Point) → Holds self.old.reader.batch held → WantsLast result self.new.stage self.old.reader.batch.channel held }

@@ -1,4 +1,4 @@
-//! What the client tells of how it ended.
+//! What the client reports about how it ended.
 ghost use Rattle.std.specs.Prelude.{◌≡◌, ◌≤◌};
 ghost use Rattle.std.specs.Process.{exit_status};
 ghost use Rattle.etp_outside.specs.Status.{number_of};
@@ -13,7 +13,7 @@ use std::process::ExitCode;
 const USAGE: &[u8] =
     b"\netpctl put URL URI FILE\netpctl get URL URI\netpctl load URL URI < LINES\netpctl watch URL URI COUNT\n";
 
-/// Tells `errors` how the client has ended, and gives its exit status. What can't be told is lost.
+/// Writes to `errors` how the client has ended, and returns its exit status. What can't be written is lost.
 pub fn finish<W: Sink>(alloc: Global, status: Status, errors: &mut W) -> ExitCode
     ensures number { exit_status result ≡ number_of status }
     ensures told { IsTold status (told status) (W.held errors.old) (W.held errors.new) (W.faults errors.old) (W.faults errors.new) }

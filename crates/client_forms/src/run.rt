@@ -39,7 +39,7 @@ use std::sync::Wait;
 use url::Url;
 use watch_views::{Board, View};
 
-/// The most bytes of a file that is put.
+/// The maximum size of a file that is put, in bytes.
 const MAX_FILE_LEN: usize = 67_108_864;
 
 /// The port of an address that names none.
@@ -129,7 +129,7 @@ fn hear_all<J: Command, L: Link, C: Clock, W: Sink, R: Source, T: Wait>(
     unreachable!()
 }
 
-/// Sends what a client has to send that has begun at a moment, and takes what comes.
+/// Sends what a client that has begun at a moment has to send, and takes what comes.
 fn start<J: Command, L: Link, C: Clock, W: Sink, R: Source, T: Wait>(
     rt: &T,
     alloc: Global,
@@ -377,8 +377,8 @@ fn run<H: Host, D: Dialer, R: Source, W: Sink, C: Clock, T: Wait>(
     }
 }
 
-/// Does what the words say, and answers how that ended. The forms are `put URL URI FILE`, `get URL URI`, `load URL URI` and
-/// `watch URL URI COUNT`. The views show the channel that is watched.
+/// Does what the words say, and returns how that ended. The forms are `put URL URI FILE`, `get URL URI`, `load URL URI` and `watch URL URI
+/// COUNT`. The views show the channel that is watched.
 pub fn run_client<H: Host, D: Dialer, R: Source, W: Sink, C: Clock, T: Wait>(
     rt: &T,
     alloc: Global,

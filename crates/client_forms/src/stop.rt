@@ -1,7 +1,7 @@
 //! Why a command stops.
 use etp_outside::Status;
 
-/// Something outside that failed, or memory that was refused.
+/// Something outside that failed, or running out of memory.
 #[derive(Clone, Copy, Debug, Drop)]
 pub(crate) enum Cause {
     /// The link failed.
@@ -10,7 +10,7 @@ pub(crate) enum Cause {
     Output,
     /// The input failed.
     Input,
-    /// Memory was refused.
+    /// Out of memory.
     Memory,
 }
 

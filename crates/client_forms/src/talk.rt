@@ -70,8 +70,8 @@ fn refused_by(error: ClientError) -> Stop
     }
 }
 
-/// Closes the session of a command that ends with this status. Where the command was done and the link fails then, that is why it
-/// stops; an earlier cause stands.
+/// Closes the session of a command that ends with this status. If the command was done and the link fails then, that is why it stops; an
+/// earlier cause takes precedence.
 pub(crate) fn close<L: Link, C: Clock>(
     alloc: Global,
     status: Status,
@@ -100,7 +100,7 @@ fn closed_by(status: Status, sent: Result<(), Cause>) -> Stop
     }
 }
 
-/// The same where it was not sent.
+/// The same if it was not sent.
 fn unsent_by(status: Status, cause: Cause) -> Stop
     ensures { result ≡ unsent_by status cause }
 {
@@ -110,7 +110,7 @@ fn unsent_by(status: Status, cause: Cause) -> Stop
     }
 }
 
-/// The same of a command that has another status.
+/// The same for a command that has another status.
 fn short_by(status: Status, cause: Cause) -> Stop
     ensures { result ≡ short_by status cause }
 {

@@ -22,7 +22,7 @@ const FROM_FIRST: i64 = -4_611_686_018_427_387_904;
 /// What `watch` waits for.
 #[derive(Clone, Copy, Drop)]
 enum WatchStage {
-    /// That the session is open.
+    /// The session to be open.
     Opening,
     /// What the channel is.
     Asked,
@@ -123,7 +123,7 @@ fn ask_meta(alloc: Global, uri: &StoreUri) -> Result<Action, Stop>
     }
 }
 
-/// To subscribe the channel from its first index on.
+/// To subscribe to the channel from its first index on.
 fn subscribe(channel: i64) -> Action
     ensures { result ≡ action.Ask (asked.Subscribe channel from_first) }
 {
@@ -131,7 +131,7 @@ fn subscribe(channel: i64) -> Action
     Action::Ask(Ask::Subscribe { channel, start })
 }
 
-/// To show the board behind the last change, or to wait for further ones.
+/// To show the board after the last change, or to wait for more.
 fn show_at(alloc: Global, most: u64, count: u64, board: &Board) -> Result<Action, Stop>
     ensures { GivesAction result (if count == most then action.Report (lines_of (reading (λ s. s.channel) (λ s. (⟦<dyn View as View>⟧ s.view.vtable).held s.view.value) (λ s. (⟦<dyn View as View>⟧ s.view.vtable).step s.view.value) (λ s. (⟦<dyn View as View>⟧ s.view.vtable).shown s.view.value)) board.now.shelves.items) else action.Wait) }
 {

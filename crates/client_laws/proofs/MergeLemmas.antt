@@ -1,4 +1,4 @@
--- Names that come behind all that there are: putting them in adds them at the end.
+-- Names that come after all existing ones: inserting them appends them.
 use Rattle.std.proofs.Common.{◌≡◌, ℕ, List, [], ◌∷◌, ◌++◌, ap, ◌∙◌}
 use Rattle.std.specs.declared.cmp.Ordering.{Ordering}
 use Rattle.std.specs.declared.cmp.Ordering.TheVariants.{Less}
@@ -23,6 +23,6 @@ unfolding IsStrictlySortedBy
 front_rises [] b h = tt
 front_rises (x ∷ a) b h = (below_front (λ y. cmp x.0 y ≡ Less) a b h.0, front_rises a b h.1)
 
--- entries behind others are put at their end
+-- entries after others are put at their end
 pub merged_behind : {A : Type 0} (xs ys : List (List ℕ × A)) → Rise (xs ++ ys) → merged xs ys ≡ xs ++ ys
 merged_behind xs ys o = ap (λ h. with_all h ys) (put_behind [] xs (front_rises xs ys o)) ∙ put_behind xs ys o

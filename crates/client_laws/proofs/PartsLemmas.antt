@@ -1,4 +1,4 @@
--- The parts of each message that comes in parts. For the crates above, too: that the items of all groups are those of the message.
+-- The parts of each message that comes in parts. For the crates above, too: the items of all groups are those of the message.
 use Rattle.std.proofs.Common.{◌≡◌, ℕ, pos, Bool, true, false, not, ◌||◌, List, [], ◌∷◌, ◌++◌, Option, Some, None, fold, map, option_map, if◌then◌else◌, refl, sym, ap, subst, ◌∙◌, append_assoc, append-nil}
 use Rattle.std.specs.List.{AllByRecursion}
 use Rattle.std.specs.Ordering.{int_eq}
@@ -94,7 +94,7 @@ told_unread h a b t u v = due_unread h a t u (due_at h.correlation t.asks) ∙ s
 
 -- ---- a message whose one field is in groups
 
--- what is asked of the parts of a message: their headers, and that it may come
+-- what is required of the parts of a message: their headers, and that it may come
 abbrev Comes : Header → Heard → Message → List Sent → Type 0
 Comes h s m xs = (AreOfParts h s.last (headers xs)) × (IsFree s.kept h m) × (may_come s.phase m ≡ true)
 
@@ -125,7 +125,7 @@ module _ {A : Type 0} (e : Bool) (wrap : List A → Message) (tests : IsWrap e w
       (wrap_part s.phase comes.2 xs) comes.1
       (subst (λ ms. Same h (put (wrap xs) ms) (wrap xs)) (sym are) (same (groups size limit xs) (groups_all size limit xs)))
 
-  -- ---- items behind others
+  -- ---- items after others
 
   module _ (grows : (a b : List A) → joined (wrap a) (wrap b) ≡ wrap (a ++ b)) where
     appended : (a : List A) (gs : List (List A)) → fold joined (wrap a) (map wrap gs) ≡ wrap (a ++ all_of gs)
@@ -173,7 +173,7 @@ module _ {A : Type 0} (e : Bool) (wrap : List (List ℕ × A) → Message) (test
 
 -- ---- each message
 
--- the parts of a message end so
+-- the parts of a message end this way
 abbrev Parted : List Message → Message → Type 0
 Parted ps m = (h : Header) (s : Heard) (sent : List Sent) → messages sent ≡ ps → Comes h s m sent → Ends s sent (on_read h m s)
 

@@ -42,7 +42,7 @@ use Rattle.client_laws.proofs.TakenLemmas.{IsAlike, ends_fresh, first_alike, hea
 
 -- ---- what a client sees of a message at first sight
 
--- a part that no client passes over, and that is of the same kind as another message
+-- a part that no client ignores, and that is of the same kind as another message
 abbrev IsLike : Message → Message → Type 0
 IsLike m p = (is_silent p ≡ false) × (is_closing p ≡ false) × (is_opening p ≡ is_opening m) × (is_exception p ≡ is_exception m)
 

@@ -133,7 +133,7 @@ behind h e s x (y ∷ xs) heads parts goes =
     let rest = behind h e left y xs heads.3 parts.1 (goes_with x.0 y.0 kept.message y.1 (b.0 ∙ sym a.0) (b.1 ∙ sym a.1) (b.2 ∙ sym a.2)) in
     more_ends s left x y xs (on_whole h (fold joined (grown s.kept x.1) (messages (y ∷ xs))) (record s { last = h.id; kept = None })) step refl rest
 
--- ---- behind an answer whose place an exception takes
+-- ---- after an answer whose place an exception takes
 
 behind_core : (k p : CoreMessage) → is_exception (message.Core k) ≡ false → is_exception (message.Core p) ≡ true → joined (message.Core k) (message.Core p) ≡ message.Core p
 behind_core (core.ProtocolException x) p answer exception = absurd (false≢true (sym answer))

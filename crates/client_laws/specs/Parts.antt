@@ -66,7 +66,7 @@ AreRead _ _ = ⊥
 -- ---- parts
 
 -- The headers of the parts of a message with this header, where `last` is the last id that came: they have its protocol, kind and
--- correlation, each has an id that is odd and above the one before, and the last alone is flagged as the last.
+-- correlation, each has an id that is odd and above the one before, and only the last is flagged as the last.
 abbrev pub AreOfParts : Header → ℤ → List Header → Type 0
 AreOfParts h last [] = ⊥
 AreOfParts h last (x ∷ []) = (x ≡ h) × (is_fresh last h.id ≡ true) × (has_flag h.flags final_part ≡ true)
@@ -84,7 +84,7 @@ store_objects (store.GetDataObjectsResponse x) = true
 store_objects (store.Chunk x) = true
 store_objects _ = false
 
--- objects, whose long data go in chunks, and a chunk: no parts are put together to these
+-- objects, whose long data are sent in chunks, and a chunk: no parts are put together to these
 abbrev pub has_objects : Message → Bool
 has_objects (message.Store x) = store_objects x
 has_objects _ = false
@@ -117,7 +117,7 @@ abbrev pub LoadRises : ChannelDataLoadMessage → Type 0
 LoadRises (load.OpenChannelsResponse x) = Rise x.channels
 LoadRises _ = Unit {0}
 
--- the names of a message that a client puts together by names rise, as they do in each message that is made
+-- the names of a message that a client puts together by names rise, as they do in each message that is sent
 abbrev pub Rises : Message → Type 0
 Rises (message.Core x) = CoreRises x
 Rises (message.Dataspace x) = DataspaceRises x
@@ -133,8 +133,8 @@ abbrev pub IsFree : Option Kept → Header → Message → Type 0
 IsFree None h m = Unit {0}
 IsFree (Some k) h m = (goes_on k.header h m ≡ true) × (is_exception m ≡ true) × (is_exception k.message ≡ false)
 
--- These are a message's parts, under headers of its parts, and a client takes it in its phase, and behind what it keeps. Chunks
--- and messages with objects are left out: those are put together by a joiner.
+-- These are a message's parts, under headers of its parts, and a client takes it in its phase, and after what it keeps. Chunks and messages
+-- with objects are left out: those are put together by a joiner.
 pub record Splits (limit number blobs : ℕ) (h : Header) (m : Message) (sent : List Sent) (s : Heard) : Type 0 where
   pub messages : map (λ x. x.1) sent ≡ parts limit number blobs m
   pub headers : AreOfParts h s.last (map (λ x. x.0) sent)
@@ -157,8 +157,8 @@ ReadPartsAreJoined = (limit number blobs : ℕ) (h : Header) (m : Message) (sent
 abbrev pub IsBarred : Header → Message → Heard → Type 0
 IsBarred h m s = (may_come s.phase m ≡ false) ⊎ (is_broken s.kept h m ≡ true)
 
--- then the first of its parts is refused as the whole message is, and the client has ended as it has after the whole, but for the
--- last id that came
+-- then the first of its parts is refused as the whole message is, and the client has ended as it has after the whole, except for the last
+-- id that came
 abbrev pub FirstIsRefused : Type 0
 FirstIsRefused = (limit number blobs : ℕ) (h : Header) (m : Message) (x y : Sent) (sent : List Sent) (s : Heard)
     → map (λ x. x.1) (x ∷ y ∷ sent) ≡ parts limit number blobs m → AreOfParts h s.last (map (λ x. x.0) (x ∷ y ∷ sent)) → has_objects m ≡ false → IsBarred h m s

@@ -1,4 +1,4 @@
-//! Laws of the client beside those of its own crate, for proofs alone.
+//! Laws of the client besides those of its own crate, for proofs only.
 #![tactic(auto)]
 
 mod laws;

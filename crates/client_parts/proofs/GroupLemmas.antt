@@ -20,14 +20,14 @@ among channels q = list_any (λ c. int_eq c q) channels
 here : (ids : List ℤ) (n : ℕ) → n < length ids → drop n ids ≡ get_or ids n (pos 0) ∷ drop (n + 1) ids
 here ids n within = drop-cons ids n (pos 0) within ∙ ap (λ k. get_or ids n (pos 0) ∷ drop k ids) (sym (add-one n))
 
--- ---- a place for each channel that is listed
+-- ---- a group for each channel that is listed
 
 both : (a b : Bool) (o : Option (List Point)) → cond b (Some []) (cond a (Some []) o) ≡ cond (a || b) (Some []) o
 both true true o = refl
 both true false o = refl
 both false b o = refl
 
--- one channel more has its place
+-- one more channel has its group
 pub listed_more : (ids : List ℤ) (n : ℕ) (q k : ℤ) (v : List Point) (before after whole : Option (List Point)) → n < length ids → after ≡ cond (int_eq k q) (Some v) before → k ≡ get_or ids n (pos 0) → v ≡ []
     → cond (list_any (λ x. int_eq x q) (drop n ids)) (Some []) before ≡ whole → cond (list_any (λ x. int_eq x q) (drop (n + 1) ids)) (Some []) after ≡ whole
 listed_more ids n q k v before after whole within put key empty so_far =
@@ -58,7 +58,7 @@ replaced_all i channels points at groups =
     all_from (λ c. replaced_by i (unwrap_or (at c) []) c) (replaced i points) channels
     (λ q there. ap (λ t. replaced_by i (unwrap_or t []) q) (groups q ∙ ap (λ b. cond b (Some (of_channel q points)) None) there))
 
--- one channel more has its change
+-- one more channel has its change
 pub changes_more : (f : ℤ → ChangeMsg) (ids : List ℤ) (n : ℕ) (k : ℤ) (x : ChangeMsg) (before after whole : List ChangeMsg) → n < length ids → after ≡ before ++ x ∷ [] → x ≡ f k → k ≡ get_or ids n (pos 0)
     → before ++ map f (drop n ids) ≡ whole → after ++ map f (drop (n + 1) ids) ≡ whole
 changes_more f ids n k x before after whole within pushed is key so_far =
@@ -70,7 +70,7 @@ changes_more f ids n k x before after whole within pushed is key so_far =
 pub changes_done : (f : ℤ → ChangeMsg) (ids : List ℤ) (n : ℕ) (before whole : List ChangeMsg) → length ids ≤ n → before ++ map f (drop n ids) ≡ whole → before ≡ whole
 changes_done f ids n before whole end so_far = sym (append-nil before) ∙ ap (λ l. before ++ map f l) (sym (drop_all n ids end)) ∙ so_far
 
--- where each point is of a channel that is listed
+-- if each point is of a channel that is listed
 pub replaced_so : (i : IndexInterval) (channels : List ℤ) (points : List ChannelPoint) (at : ℤ → Option (List Point)) (changes : List ChangeMsg) → true ≡ list_all (is_listed channels) points
     → ((q : ℤ) → at q ≡ group channels points q) → changes ≡ map (λ c. replaced_by i (unwrap_or (at c) []) c) channels → Some changes ≡ replacements channels i (Some points)
 replaced_so i channels points at changes all groups made =

@@ -1,4 +1,4 @@
--- Names that come behind all that there are: putting them in adds them at the end; for the crates above too.
+-- Names that come after all existing ones: inserting them appends them; for the crates above too.
 use Rattle.std.proofs.Common.{◌≡◌, ℕ, ◌+◌, ◌-◌, ◌<◌, ◌≤◌, ◌==◌, zero, suc, Bool, true, false, List, [], ◌∷◌, ◌++◌, length, get_or, refl, sym, ap, subst, ◌∙◌, arith, inl, inr, append_assoc}
 use Rattle.std.specs.declared.cmp.Ordering.{Ordering}
 use Rattle.std.specs.declared.cmp.Ordering.TheVariants.{Less, Greater}
@@ -21,7 +21,7 @@ cmp = slice_cmp nat_cmp
 abbrev pub Ordered : List (List ℕ) → Type 0
 Ordered names = IsStrictlySortedBy (slice_cmp nat_cmp) names
 
--- ---- two lists in order, of which the second begins behind the end of the first
+-- ---- two lists in order, of which the second begins after the end of the first
 
 on_left : (ks ls : List (List ℕ)) (k : ℕ) → Ordered ks → k + 1 < length ks → cmp (get_or (ks ++ ls) k []) (get_or (ks ++ ls) (k + 1) []) ≡ Less
 on_left ks ls k o h =
@@ -59,7 +59,7 @@ entries_behind xs ys x y o p long more last first less =
     let ends : cmp (get_or (keys_of xs) (length (keys_of xs) - 1) []) (get_or (keys_of ys) 0 []) ≡ Less = (λ j. cmp (last_name j) (first_name j)) ∙ less_from (slice_cmp nat_cmp x.0 y.0) less in
     subst Ordered (sym (map-append (λ e. e.0) xs ys)) (names_behind (keys_of xs) (keys_of ys) o p (λ a b. ends))
 
--- what holds where a test passed
+-- what holds if a test passed
 pub on_true : {P : Type 0} (b : Bool) → (b ≡ true → P) → OnTrue b P
 on_true true h = h refl
 on_true false h = tt
@@ -68,7 +68,7 @@ pub filled : (n : ℕ) (b : Bool) → b ≡ (n == 0) → b ≡ false → 1 ≤ n
 filled zero b is not_so = absurd (false≢true (sym not_so ∙ is))
 filled (suc n) b is not_so = omega arith
 
--- with no entries in one of the two
+-- if one of the two has no entries
 pub none_before : {A : Type 0} (xs ys : List (List ℕ × A)) → length xs ≡ 0 → Ordered (keys_of ys) → Ordered (keys_of (xs ++ ys))
 none_before [] ys none o = o
 none_before (x ∷ xs) ys none o = absurd (omega arith)
@@ -77,7 +77,7 @@ pub none_behind : {A : Type 0} (xs ys : List (List ℕ × A)) → length ys ≡ 
 none_behind xs [] none o = subst (λ l. Ordered (keys_of l)) (sym (append-nil xs)) o
 none_behind xs (y ∷ ys) none o = absurd (omega arith)
 
--- ---- entries put into a list that they come behind
+-- ---- entries put into a list that they come after
 
 name_at : {A : Type 0} (P : List ℕ → Type 0) (front : List (List ℕ × A)) (x : List ℕ × A) (back : List (List ℕ × A)) → AllByRecursion P (keys_of (front ++ x ∷ back)) → P x.0
 name_at P [] x back all = all.0

@@ -1,4 +1,4 @@
--- A point behind the last run.
+-- A point after the last run.
 use Rattle.std.specs.Prelude.{◌≡◌, List, [], ◌∷◌, ◌++◌, refl}
 use Rattle.std.proofs.Common.{ap}
 use Rattle.etp_values.specs.declared.point.ChannelPoint.{ChannelPoint}

@@ -1,4 +1,4 @@
--- What a server tells unasked of channels that are subscribed.
+-- What a server sends, without being asked, about channels that are subscribed to.
 use Rattle.std.specs.Prelude.{ℤ, pos, Bool, true, false, ◌&&◌, List, [], ◌∷◌, ◌++◌, Option, Some, None, filter, fold, map, option_map, if◌then◌else◌}
 use Rattle.std.specs.List.{list_all, list_any}
 use Rattle.std.specs.Ordering.{int_eq}
@@ -42,7 +42,7 @@ index_of [] = pos 0
 abbrev pub point_of : DataItem → ChannelPoint
 point_of x = record { channel = x.channel_id; point = record { index = index_of x.indexes; value = x.value } }
 
--- the points of items, where all of them are points
+-- the points of items, if all of them are points
 abbrev pub points_of : List DataItem → Option (List ChannelPoint)
 points_of xs = if list_all is_point xs then Some (map point_of xs) else None
 
@@ -51,7 +51,7 @@ points_of xs = if list_all is_point xs then Some (map point_of xs) else None
 abbrev pub run_of : ChannelPoint → Run
 run_of p = record { channel = p.channel; points = p.point ∷ [] }
 
--- a point behind the last run, or in a run of its own where its channel is another
+-- a point after the last run, or in a run of its own if its channel is another
 abbrev pub behind : Run → ChannelPoint → List Run
 behind r p = if int_eq r.channel p.channel then record r { points = r.points ++ p.point ∷ [] } ∷ [] else r ∷ run_of p ∷ []
 
@@ -104,8 +104,7 @@ truncations ts = if list_all (λ t. is_long t.new_end_index) ts then Some (map t
 
 -- ---- notices
 
--- the changes that a notice on subscriptions tells; none of another message, or where an index or a point can't stand in a
--- channel
+-- the changes that a notice on subscriptions reports; none for another message, or if an index or a point can't be in a channel
 abbrev pub subscribe_changes : ChannelSubscribeMessage → Option (List ChangeMsg)
 subscribe_changes (subscribe.ChannelData x) = option_map (λ ps. map appended (runs ps)) (points_of x.payload)
 subscribe_changes (subscribe.RangeReplaced x) = range_changes x

@@ -6,6 +6,6 @@ use Rattle.etp_values.specs.declared.point.ChannelPoint.{ChannelPoint}
 use Rattle.etp_values.specs.declared.point.Point.{Point}
 use Rattle.client_parts.specs.Changes.{of_channel}
 
--- the points of a channel, where it is listed
+-- the points of a channel, if it is listed
 abbrev pub group : List ℤ → List ChannelPoint → ℤ → Option (List Point)
 group channels ps q = cond (list_any (λ c. int_eq c q) channels) (Some (of_channel q ps)) None

@@ -18,27 +18,27 @@ use Rattle.msg_store.specs.declared.store_messages.StoreMessage.TheVariants as s
 abbrev pub with_all : {A : Type 0} → List (List ℕ × A) → List (List ℕ × A) → List (List ℕ × A)
 with_all held xs = fold (λ held p. insert_entry (slice_cmp nat_cmp) held p.0 p.1) held xs
 
--- the values of both by their names; of a name that both have the later value stands
+-- the values of both by their names; for a name that both have, the later value is kept
 abbrev pub merged : {A : Type 0} → List (List ℕ × A) → List (List ℕ × A) → List (List ℕ × A)
 merged xs ys = with_all (with_all [] xs) ys
 
--- A further part of a message, put behind what there is of it. What is no further part stands alone: a client reads no other
--- message that comes in parts, and an exception takes the place of the answer that it ends.
+-- A further part of a message, appended to what there is of it. What is not a further part is kept alone: a client reads no other message
+-- that comes in parts, and an exception takes the place of the answer that it ends.
 abbrev pub core_joined : CoreMessage → CoreMessage → CoreMessage
 core_joined (core.ProtocolException x) (core.ProtocolException y) = core.ProtocolException (record x { errors = merged x.errors y.errors })
 core_joined x y = y
 
--- one part of a message on dataspaces behind another
+-- one part of a message on dataspaces after another
 abbrev pub dataspace_joined : DataspaceMessage → DataspaceMessage → DataspaceMessage
 dataspace_joined (dataspace.PutDataspacesResponse x) (dataspace.PutDataspacesResponse y) = dataspace.PutDataspacesResponse (record x { success = merged x.success y.success })
 dataspace_joined x y = y
 
--- one part of a message on objects behind another
+-- one part of a message on objects after another
 abbrev pub store_joined : StoreMessage → StoreMessage → StoreMessage
 store_joined (store.PutDataObjectsResponse x) (store.PutDataObjectsResponse y) = store.PutDataObjectsResponse (record x { success = merged x.success y.success })
 store_joined x y = y
 
--- one part of a message on subscriptions behind another
+-- one part of a message on subscriptions after another
 abbrev pub subscribe_joined : ChannelSubscribeMessage → ChannelSubscribeMessage → ChannelSubscribeMessage
 subscribe_joined (subscribe.GetChannelMetadataResponse x) (subscribe.GetChannelMetadataResponse y) = subscribe.GetChannelMetadataResponse (record x { metadata = merged x.metadata y.metadata })
 subscribe_joined (subscribe.SubscribeChannelsResponse x) (subscribe.SubscribeChannelsResponse y) = subscribe.SubscribeChannelsResponse (record x { success = merged x.success y.success })
@@ -48,7 +48,7 @@ subscribe_joined (subscribe.RangeReplaced x) (subscribe.RangeReplaced y) = subsc
 subscribe_joined (subscribe.ChannelsTruncated x) (subscribe.ChannelsTruncated y) = subscribe.ChannelsTruncated (record x { channels = x.channels ++ y.channels })
 subscribe_joined x y = y
 
--- one part of a message on the load behind another
+-- one part of a message on the load after another
 abbrev pub load_joined : ChannelDataLoadMessage → ChannelDataLoadMessage → ChannelDataLoadMessage
 load_joined (load.OpenChannelsResponse x) (load.OpenChannelsResponse y) = load.OpenChannelsResponse (record x { channels = merged x.channels y.channels })
 load_joined x y = y

@@ -1,4 +1,4 @@
-//! What a server tells unasked of channels that are subscribed.
+//! What a server sends, without being asked, about channels that are subscribed to.
 ghost use Rattle.std.specs.Prelude.{◌≡◌, ◌++◌, ◌∷◌, [], map, IfOk, OnOk, None, Some};
 ghost use Rattle.std.specs.BTreeMap.{get};
 ghost use Rattle.std.specs.List.{list_all};
@@ -18,7 +18,7 @@ use msg_channel::{
 use std::alloc::Global;
 use std::collections::BTreeMap;
 
-/// Points of one channel that stand side by side in a message.
+/// Consecutive points of one channel in a message.
 #[derive(Drop)]
 pub struct Run {
     pub channel: i64,
@@ -98,7 +98,7 @@ fn map_points(alloc: Global, items: List<DataItem>) -> Result<List<ChannelPoint>
     Ok(List::from_vec(points))
 }
 
-/// The points of items, where all of them are points.
+/// The points of items, if all of them are points.
 fn points_of(alloc: Global, items: List<DataItem>) -> Result<Option<List<ChannelPoint>>, NoMemory>
     ensures { IfOk result (λ ps. ps ≡ points_of items) }
 {
@@ -141,7 +141,7 @@ fn longer(run: Run, point: Point) -> Result<Run, NoMemory>
     })
 }
 
-/// Adds a point to the last run, or a run of its own where its channel is another.
+/// Adds a point to the last run, or starts a run of its own if its channel is another.
 #[tactic(auto, using(crate::proofs::RunLemmas::with_last))]
 fn add_point(alloc: Global, runs: &mut Vec<Run>, point: ChannelPoint) -> Result<(), NoMemory>
     ensures { OnOk result (runs.new.items ≡ with_point runs.old.items point) }
@@ -215,7 +215,7 @@ fn data_changes(alloc: Global, message: ChannelData) -> Result<Option<List<Chang
     Ok(Some(changes))
 }
 
-/// The change of a channel whose points stand in the groups.
+/// The change of a channel whose points are in the groups.
 fn replaced(
     alloc: Global,
     held: &mut BTreeMap<i64, Points>,
@@ -268,7 +268,7 @@ fn replacements(
     }
 }
 
-/// The changes of points, where each is of a channel that is listed.
+/// The changes of points, if each is of a channel that is listed.
 fn replacements_of(
     alloc: Global,
     channels: &[i64],
@@ -354,7 +354,7 @@ fn truncations(
     Ok(Some(changes))
 }
 
-/// No changes of a message that is no notice.
+/// No changes, for a message that is not a notice.
 fn no_changes<M: Drop>(message: M) -> Result<Option<List<ChangeMsg>>, NoMemory>
     ensures { IfOk result (λ cs. cs ≡ None) }
 {
@@ -362,7 +362,7 @@ fn no_changes<M: Drop>(message: M) -> Result<Option<List<ChangeMsg>>, NoMemory>
     Ok(None)
 }
 
-/// The changes that a message tells of, if it is a notice with long indexes.
+/// The changes that a message reports, if it is a notice with long indexes.
 pub fn subscribe_changes(
     alloc: Global,
     message: ChannelSubscribeMessage,

@@ -12,7 +12,7 @@ use etp_values::{ChannelPoint, Copied, List, NoMemory};
 use std::alloc::Global;
 use std::collections::BTreeMap;
 
-/// No points yet of each channel that is listed.
+/// An empty list of points for each channel that is listed.
 fn listed(alloc: Global, channels: &[i64]) -> Result<BTreeMap<i64, Points>, NoMemory>
     ensures { IfOk result (λ held. (q : _) → get int_cmp held q ≡ group channels.now [] q) }
 {
@@ -23,7 +23,7 @@ fn listed(alloc: Global, channels: &[i64]) -> Result<BTreeMap<i64, Points>, NoMe
     Ok(held)
 }
 
-/// Adds a point to those of its channel. Answers whether the channel is there.
+/// Adds a point to those of its channel. Returns whether the channel is listed.
 fn add(
     alloc: Global,
     held: &mut BTreeMap<i64, Points>,
@@ -41,7 +41,7 @@ fn add(
     Ok(true)
 }
 
-/// The points of each channel that is listed, or none where a point is of another channel.
+/// The points of each channel that is listed; `None` if a point is of another channel.
 pub(crate) fn grouped(
     alloc: Global,
     channels: &[i64],
@@ -59,7 +59,7 @@ pub(crate) fn grouped(
     Ok(Some(held))
 }
 
-/// The points of a channel. They stay where they are: the copy shares their memory.
+/// The points of a channel. They are not moved: the copy shares their memory.
 pub(crate) fn points_at(
     alloc: Global,
     held: &mut BTreeMap<i64, Points>,

@@ -29,7 +29,7 @@ fn is_below(first: &Text, second: &Text) -> bool
     *first < *second
 }
 
-/// Whether the names of the second list come behind those of the first. Each list is in order, so its end tells.
+/// Whether the names of the second list come after those of the first. Each list is in order, so comparing the ends suffices.
 #[tactic(auto, using(crate::proofs::MergeLemmas::entries_behind, crate::proofs::MergeLemmas::none_before, crate::proofs::MergeLemmas::none_behind))]
 fn comes_behind<T>(first: &[(Text, T)], more: &[(Text, T)]) -> bool
     requires first { IsStrictlySortedBy (slice_cmp nat_cmp) (keys_of first.now) }
@@ -45,7 +45,7 @@ fn comes_behind<T>(first: &[(Text, T)], more: &[(Text, T)]) -> bool
     is_below(&first[first.len() - 1].0, &more[0].0)
 }
 
-/// The entries of both, where those of the second come behind.
+/// The entries of both, if those of the second come after those of the first.
 fn behind<T: Drop>(
     mut first: Vec<(Text, T)>,
     mut more: Vec<(Text, T)>,
@@ -93,7 +93,7 @@ fn sorted<T: Drop>(
     named(alloc, held)
 }
 
-/// The values of both by their names; of a name that both have the later value stands.
+/// The values of both by their names; for a name that both have, the later value is kept.
 ///
 /// A server sends the names of a long answer in their order, and then a part costs no more than what is in it.
 #[tactic(auto, using(crate::proofs::MergeLemmas::merged_behind))]
@@ -118,7 +118,7 @@ fn appended<T: Drop>(first: List<T>, more: List<T>) -> Result<List<T>, NoMemory>
     Ok(List::from_vec(items))
 }
 
-/// The later of two messages that are not parts of one: nobody looks at the earlier one any more.
+/// The later of two messages that are not parts of one: the earlier one is not looked at any more.
 fn later<M: Drop>(earlier: M, later: M) -> M
     ensures { result ≡ later }
 {
@@ -144,7 +144,7 @@ fn protocol_exception(
     }
 }
 
-/// A further part of a message behind what there is of it.
+/// A further part of a message, appended to what there is of it.
 pub fn core_joined(
     alloc: Global,
     first: CoreMessage,
@@ -176,7 +176,7 @@ fn put_dataspaces_response(
     }
 }
 
-/// A further part of a message behind what there is of it.
+/// A further part of a message, appended to what there is of it.
 pub fn dataspace_joined(
     alloc: Global,
     first: DataspaceMessage,
@@ -210,7 +210,7 @@ fn put_data_objects_response(
     }
 }
 
-/// A further part of a message behind what there is of it.
+/// A further part of a message, appended to what there is of it.
 pub fn store_joined(
     alloc: Global,
     first: StoreMessage,
@@ -334,7 +334,7 @@ fn channels_truncated(
     }
 }
 
-/// A further part of a message behind what there is of it.
+/// A further part of a message, appended to what there is of it.
 pub fn subscribe_joined(
     alloc: Global,
     first: ChannelSubscribeMessage,
@@ -380,7 +380,7 @@ fn open_channels_response(
     }
 }
 
-/// A further part of a message behind what there is of it.
+/// A further part of a message, appended to what there is of it.
 pub fn load_joined(
     alloc: Global,
     first: ChannelDataLoadMessage,

@@ -1,6 +1,6 @@
-//! What a client makes of parts: the parts of a long message put together, and the changes of channels that a notice tells of.
+//! What a client makes of parts: the parts of a long message put together, and the changes of channels that a notice reports.
 //!
-//! It goes by the messages of each protocol; the machine of the client stands on it.
+//! It proceeds message by message for each protocol; the client's machine is built on it.
 #![tactic(auto)]
 
 mod changes;

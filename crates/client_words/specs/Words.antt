@@ -9,7 +9,7 @@ use Rattle.url.specs.Parts.{Parts}
 use Rattle.client_words.specs.Address.{address_in}
 
 -- what the client is asked to do with an object: to put it with the bytes of a file, to get it, to load the input's points into it, or to
--- watch so many of its changes
+-- watch this many of its changes
 pub data Command : Type 0 where
   Put : (uri : StoreUri) → (file : List ℕ) → Command
   Get : (uri : StoreUri) → Command
@@ -29,7 +29,7 @@ object_in text = only_object (uri_of text)
 abbrev pub on_object : List ℕ → StoreUri → Option Command
 on_object name u = if bytes_eq name (codes "get") then Some (Get u) else if bytes_eq name (codes "load") then Some (Load u) else None
 
--- the command to watch, where there is a number
+-- the command to watch, if there is a number
 abbrev pub watching : StoreUri → Option ℕ → Option Command
 watching u None = None
 watching u (Some n) = Some (Watch u n)
@@ -51,7 +51,7 @@ formed None command = None
 formed (Some address) None = None
 formed (Some address) (Some command) = Some (record { address = address; command = command })
 
--- the form of words of which none is an option
+-- the form of words without options
 abbrev pub form_of : List (List ℕ) → Option Form
 form_of (name ∷ url ∷ uri ∷ []) = formed (address_in url) (short_command name (object_in uri))
 form_of (name ∷ url ∷ uri ∷ word ∷ []) = formed (address_in url) (long_command name word (object_in uri))
@@ -61,6 +61,6 @@ abbrev pub form_in_plain : Option (List (List ℕ)) → Option Form
 form_in_plain None = None
 form_in_plain (Some words) = form_of words
 
--- the form of words, where they are in one
+-- the form of words, if they are well formed
 abbrev pub form_in : List (List ℕ) → Option Form
 form_in words = form_in_plain (plain_words words)

@@ -6,7 +6,7 @@ use etp_values::NoMemory;
 use std::alloc::Global;
 use url::{ParseError, Url};
 
-/// The greatest number of bytes of an address.
+/// The maximum length of an address, in bytes.
 const MAX_ADDRESS_LEN: usize = 2_048;
 
 /// Whether a URL is a server's: of the scheme `ws`, with a host, and without user, password, query and fragment.

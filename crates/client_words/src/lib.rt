@@ -1,7 +1,7 @@
 //! What the words of the client's command line ask for.
 //!
-//! `put URL URI FILE`, `get URL URI`, `load URL URI` and `watch URL URI COUNT`: URL is a server's address, URI names an object in its store.
-//! [`form_of`] reads words of which none is an option.
+//! `put URL URI FILE`, `get URL URI`, `load URL URI` and `watch URL URI COUNT`: URL is a server's address, URI names an object in its
+//! store. [`form_of`] reads words without options.
 #![tactic(auto)]
 
 mod address;

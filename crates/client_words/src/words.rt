@@ -10,7 +10,7 @@ use point_lines::positive_in;
 use std::alloc::Global;
 use url::Url;
 
-/// The most changes that the words may ask for.
+/// The greatest number of changes that the words may ask for.
 const MOST_CHANGES: u64 = 1_000_000;
 
 /// What the client is asked to do with an object.
@@ -22,7 +22,7 @@ pub enum Command<'a> {
     Get(StoreUri),
     /// To load the points of the input into it.
     Load(StoreUri),
-    /// To watch so many of its changes.
+    /// To watch this many of its changes.
     Watch { uri: StoreUri, count: u64 },
 }
 
@@ -33,7 +33,7 @@ pub struct Form<'a> {
     pub command: Command<'a>,
 }
 
-/// The form of these words, where they are in one.
+/// The form of these words, if they are well formed.
 pub fn form_of<'a>(alloc: Global, words: &[&'a str]) -> Result<Option<Form<'a>>, NoMemory>
     ensures { IfOk result (λ form. as_option form ≡ form_of (map (λ w. w.now) words.now)) }
 {
@@ -50,7 +50,7 @@ pub fn form_of<'a>(alloc: Global, words: &[&'a str]) -> Result<Option<Form<'a>>,
     }
 }
 
-/// The form of an address and a command, where there are both.
+/// The form of an address and a command, if both exist.
 fn formed<'a>(
     alloc: Global,
     url: &str,
@@ -115,7 +115,7 @@ fn long_command<'a>(
     }
 }
 
-/// The same of an object.
+/// The same for an object.
 fn with_word<'a>(name: &str, word: &'a str, uri: StoreUri) -> Option<Command<'a>>
     ensures { as_command_option result ≡ with_word name.now word.now uri }
 {
@@ -128,7 +128,7 @@ fn with_word<'a>(name: &str, word: &'a str, uri: StoreUri) -> Option<Command<'a>
     None
 }
 
-/// The command to watch so many changes, if there is a number.
+/// The command to watch this many changes, if there is a number.
 fn watching<'a>(uri: StoreUri, count: Option<u64>) -> Option<Command<'a>>
     ensures { as_command_option result ≡ watching uri count }
 {

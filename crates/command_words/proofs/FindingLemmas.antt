@@ -16,7 +16,7 @@ found : (words : List Text) → has_option words ≡ false → word_values (matc
 found [] plain = none_found
 found (w ∷ words) plain = some_found w words plain
 
--- the same of what `clap` says of its matches at this command
+-- the same for what `clap` says of its matches for this command
 pub read : {X : Type 0} (app : App) (words : List Text) (rows : List Row) → app ≡ word_app → has_option words ≡ false
     → (is_simple app ≡ true → (rows ≡ matches_of app words) × X) → word_values rows ≡ words
 read app words rows same plain gives =

@@ -1,4 +1,4 @@
--- Where `clap`'s walk over words without options leads: all of them are held for the one argument.
+-- Where `clap`'s walk over words without options leads: all of them are kept for the one argument.
 use Rattle.std.proofs.Common.{◌≡◌, List, [], ◌∷◌, ◌++◌, fold, Some, None, false, ◌==◌, codes, refl, append_assoc, append-nil}
 use Rattle.std.proofs.lemmas.Bool.{or_parts}
 use Rattle.clap.specs.Walk.{Text, Walk, positional, nothing_held, walk, walk_from, walked}
@@ -10,7 +10,7 @@ use Rattle.command_words.specs.Command.{word_app}
 abbrev pub top : Shape
 top = (built word_app).top
 
--- the walk once these words were met, of which there is at least one
+-- the walk after these words, of which there is at least one
 abbrev pub at : List Text → Walk
 at words = record {
   held = record { rows = []; pending = Some (codes "word", words); skip = 0 };

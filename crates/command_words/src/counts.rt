@@ -1,12 +1,11 @@
-//! A count that a word spells.
+//! A count written as a word.
 ghost use Rattle.std.specs.Prelude.{◌≡◌, ◌≤◌};
 ghost use Rattle.command_words.specs.Counts.{begins_none, number_on, from_least, count_in};
 
 /// The greatest count.
 const MOST: u32 = 1_000_000;
 
-/// The count that a word spells in decimal digits, of which the first is no zero: 1,000,000 at most, at least 1, and at least
-/// `least`.
+/// The count that a word denotes in decimal digits without a leading zero: at most 1,000,000, at least 1, and at least `least`.
 pub fn count_in(word: &str, least: u32) -> Option<u32>
     ensures { result ≡ count_in least word.now }
 {
@@ -32,7 +31,7 @@ fn from_least(least: u32, number: Option<u32>) -> Option<u32>
     }
 }
 
-/// Whether there is no first digit, or a zero.
+/// Whether there is no first digit, or it is a zero.
 fn begins_none(digits: &[u8]) -> bool
     ensures { result ≡ begins_none digits.now }
 {
@@ -42,7 +41,7 @@ fn begins_none(digits: &[u8]) -> bool
     }
 }
 
-/// The number that digits spell behind those of `count`, where it is no greater than it may be.
+/// The number that digits denote when they follow those of `count`, unless it is too large.
 #[tactic(auto, using(crate::proofs::CountLemmas::beyond))]
 fn number_on(count: u32, digits: &[u8]) -> Option<u32>
     requires { count ≤ 1000000 }

@@ -43,7 +43,7 @@ fn word_command<'a>(alloc: Global) -> Result<Command<'a>, AllocError>
         .arg(word_arg(alloc))
 }
 
-/// What the command makes of words among which is no option. `clap` fails for want of memory alone.
+/// What the command makes of words without options. `clap` fails only if memory runs out.
 fn parsed<'a>(command: Command<'a>, words: &'a [String]) -> Result<ArgMatches<'a>, Error>
     requires command { app_of command ≡ word_app }
     requires plain { has_option (map string_bytes words.now) ≡ false }
@@ -54,7 +54,7 @@ fn parsed<'a>(command: Command<'a>, words: &'a [String]) -> Result<ArgMatches<'a
     command.try_get_matches_from(words)
 }
 
-/// The values of `word`; where `clap` has none, there were no words.
+/// The values of `word`; if `clap` has none, there were no words.
 fn values_of<'a>(alloc: Global, matches: &ArgMatches<'a>) -> Result<Vec<&'a str>, NoMemory>
     ensures { IfOk result (λ found.
         map (λ word. word.now) found.items ≡ word_values (rows_of (found_of matches.now))) }

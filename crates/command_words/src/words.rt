@@ -7,7 +7,7 @@ use crate::parsing::read_plain;
 use etp_values::NoMemory;
 use std::alloc::Global;
 
-/// The words of a command line, unchanged; None where one begins with `-`.
+/// The words of a command line, unchanged; `None` if one begins with `-`.
 ///
 /// `words` are those after the program's name.
 pub fn words_of<'a>(alloc: Global, words: &'a [String]) -> Result<Option<Vec<&'a str>>, NoMemory>

@@ -1,4 +1,4 @@
--- What reading a configuration comes to.
+-- What comes of reading a configuration.
 use Rattle.std.specs.Prelude.{◌≡◌, ℕ, List, Option, IfSome, Result, Ok, Err}
 use Rattle.chan_defs.specs.Config.{defs}
 use Rattle.server_config.specs.declared.config.Config.{Config as Settings}
@@ -30,14 +30,14 @@ unread_status unread.NoMemory = NoMemory
 abbrev pub Refuses : Status → List ℕ → Type 0
 Refuses status bytes = (e : DefsError) × (defs bytes ≡ Err e) × (refusal_status e ≡ status)
 
--- why no run was begun: the configuration is refused, where its file is told, or it was not read
+-- why no run was begun: the configuration is refused, if its file is revealed, or it was not read
 abbrev pub IsNoConfig : Status → Option (List ℕ) → Type 0
 IsNoConfig (Config cause channel key) content = IfSome content (Refuses (Config cause channel key))
 IsNoConfig ReadFault content = Unit {0}
 IsNoConfig NoMemory content = Unit {0}
 IsNoConfig status content = ⊥
 
--- the configuration that a file has, or why there is none
+-- the configuration in a file, or why there is none
 abbrev pub IsConfig : Result Settings Status → Option (List ℕ) → Type 0
 IsConfig (Ok config) content = IfSome content (λ bytes. defs bytes ≡ Ok config)
 IsConfig (Err status) content = IsNoConfig status content

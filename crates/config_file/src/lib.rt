@@ -1,7 +1,7 @@
-//! A server's configuration out of a file.
+//! Reads a server's configuration from a file.
 //!
-//! [`read_config`] opens the file of a name, reads it, and answers its configuration or the status with which a program that
-//! can't go on without one ends.
+//! [`read_config`] opens the file of a name, reads it, and returns its configuration, or the status with which a program that can't
+//! continue without one ends.
 #![tactic(auto)]
 
 mod reading;

@@ -26,7 +26,7 @@ mod causes {
     pub const DOUBLE_URI: u8 = 7;
 }
 
-/// The configuration that a file of the host has, or the status that says why there is none. The file is closed again.
+/// The configuration in a file of the host, or the status that says why there is none. The file is closed again.
 pub fn read_config<H: Host>(alloc: Global, host: &mut H, name: &str) -> Result<Config, Status>
     ensures config { IsConfig result (H.content host.old name.now) }
     ensures same { (q : List ℕ) → H.content host.new q ≡ H.content host.old q }
@@ -57,7 +57,7 @@ fn unread_status(error: Unread) -> Status
     }
 }
 
-/// The configuration that bytes spell, or the status of its refusal.
+/// The configuration that bytes denote, or the status of its refusal.
 fn config_in(alloc: Global, bytes: &[u8]) -> Result<Config, Status>
     ensures config { IsConfig result (Some bytes.now) }
     ensures cause { result ≢ Err ReadFault }

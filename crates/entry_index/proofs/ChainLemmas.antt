@@ -84,7 +84,7 @@ slice-push [] x (suc n) y at = absurd cc
 slice-push (z ∷ zs) x zero y at = inl at
 slice-push (z ∷ zs) x (suc n) y at = ⊎_elim (λ h. inl h) (λ h. inr (ap suc h.0, h.1)) (slice-push zs x n y at)
 
--- what was begun before one more step is begun after it
+-- what was a prefix before one more step is one after it
 begins-kept : (steps more : List Step) (a b : ℕ) → ((m : ℕ) → m ≤ length steps → chain (chains_of more) m ≡ chain (chains_of steps) m) → b ≤ length steps → Begins steps a b → Begins more a b
 begins-kept steps more a b same within begins =
     let there : IsPrefix (chain (chains_of steps) a) (chain (chains_of more) b) = subst (IsPrefix (chain (chains_of steps) a)) (sym (same b within)) begins.1 in
@@ -114,7 +114,7 @@ chained-push steps s old before rises begins = record {
 
 -- ---- what is found in a chain
 
--- none from a place on where the last is before it
+-- none from a place on if the last is before it
 pub find-before : (from p : ℕ) (ps : List ℕ) → p < from → AllByRecursion (λ q. q ≤ p) ps → find (nat_le from) (ps ++ p ∷ []) ≡ None
 find-before from p [] h all = ap (λ b. cond b (Some p) None) (nat_le-false from p h)
 find-before from p (q ∷ qs) h all = ap (λ b. cond b (Some q) (find (nat_le from) (qs ++ p ∷ []))) (nat_le-false from q (omega (arith, h, all.0))) ∙ find-before from p qs h all.1
@@ -170,7 +170,7 @@ last-step steps n s is = ap last_of is.chain_is ∙ last-push (chain (chains_of 
 
 -- ---- jumps
 
--- where a step's jump leads begins its own chain
+-- the target of a step's jump is a prefix of its own chain
 pub jump-begins : (steps : List Step) (n : ℕ) (s : Step) → IsStepOf steps n s → Begins steps s.jump.to n
 jump-begins steps n s is =
     let xs = chain (chains_of steps) s.before in (

@@ -23,7 +23,7 @@ pub places-are : {K : Type 0} (same : K → K → Bool) (latest : List (K × ℕ
     → unwrap_or (lookup (same key) (places_in latest chains)) [] ≡ chain chains (number_in same latest key)
 places-are same latest chains key = ap (λ o. unwrap_or o []) (lookup-map_values (chain chains) (same key) latest) ∙ chain-or chains (lookup (same key) latest)
 
--- ---- what holds of all places in chains
+-- ---- what holds for all places in chains
 
 pub below-at : (P : ℕ → Type 0) (chains : List (List ℕ)) (n : ℕ) → AllByRecursion (AllByRecursion P) chains → AllByRecursion P (chain chains n)
 below-at P chains zero all = tt
@@ -159,7 +159,7 @@ module _ {K : Type 0} (same : K → K → Bool) where
 
 -- ---- the keys one after the other
 
--- what is left to note leads where all keys lead from the beginning
+-- noting what is left leads to where noting all keys leads from the beginning
 pub record Noting {K : Type 0} (same : K → K → Bool) (place : ℕ) (first : List (K × ℕ)) (chains : List (List ℕ)) (keys : List K) (latest : List (K × ℕ)) (now : List (List ℕ)) (rest : List K) : Type 0 where
   pub leads : (q : K) → noted_all same place q (chain now (number_in same latest q)) rest ≡ noted_all same place q (chain chains (number_in same first q)) keys
   pub keeps : KeepsChains same latest now place

@@ -34,7 +34,7 @@ at-nowhere : (q low : ℕ) (ps : List ℕ) → AllByRecursion (λ p. p < low) ps
 at-nowhere q low [] all h = refl
 at-nowhere q low (p ∷ ps) all h = ap (λ t. t || at q ps) (differs p q (omega (arith, all.0, h))) ∙ at-nowhere q low ps all.1 h
 
--- places that are the same where marks are set set the same marks
+-- places that are the same where marks are set produce the same marks
 marked-alike : (from first : ℕ) (ps qs : List ℕ) (ms : List Bool) → ((q : ℕ) → from ≤ q → first ≤ q → at q ps ≡ at q qs) → marked_places from first ps ms ≡ marked_places from first qs ms
 marked-alike from first ps qs [] same = refl
 marked-alike from first ps qs (b ∷ bs) same =

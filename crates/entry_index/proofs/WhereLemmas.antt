@@ -23,7 +23,7 @@ module _ {X : Type 0} (test : X → Bool) where
 
   -- ---- the first from a place on
 
-  -- where none is before the place
+  -- if none is before the place
   found-all : (from place : ℕ) (xs : List X) → from ≤ place → find (nat_le from) (places_where test place xs) ≡ first_where test place xs
   found-all from place [] h = refl
   found-all from place (x ∷ xs) h =

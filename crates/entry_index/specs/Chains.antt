@@ -2,7 +2,7 @@
 use Rattle.std.specs.Prelude.{ℕ, zero, suc, nat_le, Bool, false, List, [], Option, Some, None, get_or}
 use Rattle.std.specs.List.{last_or}
 
--- what a contract sees of chains: the chains in order, and how many more fit without memory
+-- what a contract sees of chains: the chains in order, and how many more fit without allocating
 pub record AllChains : Type 0 where
   pub chains : List (List ℕ)
   pub spare : ℕ

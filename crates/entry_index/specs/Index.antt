@@ -6,8 +6,8 @@ use Rattle.std.specs.Map.{lookup}
 use Rattle.std.specs.Option.{unwrap_or}
 use Rattle.entry_index.specs.Chains.{chain, last_of}
 
--- what a contract sees of an index: the places of each key in order, a place that is past all of them, and how many keys can be
--- noted without memory
+-- what a contract sees of an index: the places of each key in order, a place that is past all of them, and how many keys can be noted
+-- without allocating
 pub record Entries (K : Type 0) : Type 0 where
   pub places : List (K × List ℕ)
   pub past : ℕ
@@ -36,7 +36,7 @@ pub record KeepsChains {K : Type 0} (same : K → K → Bool) (latest : List (K 
   pub within : (key : K) → number_in same latest key ≤ length chains
   pub below : AllByRecursion (AllByRecursion (λ p. p ≤ place)) chains
 
--- the same of places before this one
+-- the same for places before this one
 pub record KeepsIndex {K : Type 0} (same : K → K → Bool) (latest : List (K × ℕ)) (chains : List (List ℕ)) (past : ℕ) : Type 0 where
   pub within : (key : K) → number_in same latest key ≤ length chains
   pub below : AllByRecursion (AllByRecursion (λ p. p < past)) chains

@@ -1,4 +1,4 @@
--- How chains are kept: each as its last place, the number of the chain that it goes on from, and a jump from there.
+-- How chains are kept: each as its last place, the number of the chain that it extends, and a jump from there.
 use Rattle.std.specs.Prelude.{ℕ, ◌≡◌, ◌≤◌, List, [], ◌∷◌, ◌++◌, Some, fold, slice_get}
 use Rattle.std.specs.List.{AllByRecursion}
 use mathlib.Core.List.{IsPrefix}
@@ -13,11 +13,11 @@ with_step chains s = chains ++ (chain chains s.before ++ s.place ∷ []) ∷ []
 abbrev pub chains_of : List Step → List (List ℕ)
 chains_of steps = fold with_step [] steps
 
--- the chain of the one number begins that of the other, which is no smaller
+-- the chain of the first number is a prefix of that of the second, which is no smaller
 abbrev pub Begins : List Step → ℕ → ℕ → Type 0
 Begins steps to number = (to ≤ number) × IsPrefix (chain (chains_of steps) to) (chain (chains_of steps) number)
 
--- each goes on from an earlier chain, none of whose places is past its own, and jumps to one with which that begins
+-- each extends an earlier chain, none of whose places is past its own, and jumps to one that is a prefix of it
 pub record IsChained (steps : List Step) : Type 0 where
   pub goes_on : (n : ℕ) (s : Step) → slice_get steps n ≡ Some s → (s.before ≤ n) × AllByRecursion (λ p. p ≤ s.place) (chain (chains_of steps) s.before)
   pub jumps : (n : ℕ) (s : Step) → slice_get steps n ≡ Some s → Begins steps s.jump.to s.before

@@ -1,7 +1,7 @@
 -- The entries of a journal that pass a test, by their places.
 use Rattle.std.specs.Prelude.{ℕ, ◌≡◌, ◌+◌, Bool, List, [], ◌∷◌, ◌++◌, Option, Some, None, if◌then◌else◌, drop, find, length, nat_le}
 
--- their places in order, where the first entry has this place
+-- their places in order, if the first entry has this place
 abbrev pub places_where : {X : Type 0} → (X → Bool) → ℕ → List X → List ℕ
 places_where test place [] = []
 places_where test place (x ∷ xs) = if test x then place ∷ places_where test (place + 1) xs else places_where test (place + 1) xs
@@ -13,7 +13,7 @@ first_where test place (x ∷ xs) = if test x then Some place else first_where t
 
 -- ---- laws
 
--- one more entry adds its place where it passes
+-- one more entry adds its place if it passes
 abbrev pub PlacesGoOn : Type 0 → Type 0
 PlacesGoOn X = (test : X → Bool) (xs : List X) (x : X)
     → places_where test 0 (xs ++ x ∷ []) ≡ (if test x then places_where test 0 xs ++ length xs ∷ [] else places_where test 0 xs)

@@ -9,15 +9,15 @@ use etp_values::NoMemory;
 use std::alloc::Global;
 use std::marker::Model;
 
-/// The number of a chain with which another one begins, and how many places that one has more. The lengths are those of skew
-/// binary numbers, so that from the end of a chain a few jumps lead near any of its places.
+/// The number of a chain that another one begins with, and how many places that one has in addition. The lengths are those of skew binary
+/// numbers, so that from the end of a chain a few jumps lead near any of its places.
 #[derive(Clone, Copy, Drop)]
 struct Jump {
     to: usize,
     length: usize,
 }
 
-/// The last place of a chain, the number of the chain that it goes on from, and the jump from there.
+/// The last place of a chain, the number of the chain that it extends, and the jump from there.
 #[derive(Clone, Copy, Drop)]
 struct Step {
     place: u64,
@@ -25,8 +25,8 @@ struct Step {
     jump: Jump,
 }
 
-/// Chains of places, each an earlier one and a further place. They are numbered from 1, and 0 is the empty chain. A contract
-/// sees them in order, and as `spare` how many more fit without memory.
+/// Chains of places, each an earlier one plus one more place. They are numbered from 1, and 0 is the empty chain. A contract sees them in
+/// order, and as `spare` how many more fit without allocating.
 #[derive(Drop)]
 pub(crate) struct Chains {
     steps: Vec<Step>,
@@ -55,7 +55,7 @@ impl Chains {
         }
     }
 
-    /// Makes room for so many more.
+    /// Makes room for this many more.
     pub(crate) fn reserve(&mut self, more: usize) -> Result<(), NoMemory>
         ensures chains { self.new.chains ≡ self.old.chains }
         ensures ok { OnOk result (more ≤ self.new.spare) }
@@ -65,7 +65,7 @@ impl Chains {
         Ok(())
     }
 
-    /// Adds the chain of a number with a further place, and says its number.
+    /// Adds the chain of a number with one more place, and returns its number.
     pub(crate) fn push(&mut self, before: usize, place: u64) -> usize
         requires room { 0 < self.old.spare }
         requires known { before ≤ length self.old.chains }
@@ -133,7 +133,7 @@ fn jump_of(steps: &[Step], number: usize) -> Jump
     step.jump
 }
 
-/// The jump of a step that goes on from a chain: over two jumps that are as long, or else over one place.
+/// The jump of a step that extends a chain: over two jumps of equal length, otherwise over one place.
 fn new_jump(steps: &[Step], before: usize) -> Jump
     requires chained { IsChained steps.now }
     requires known { before ≤ length steps.now }
@@ -163,8 +163,8 @@ fn is_reached(last: Option<u64>, from: u64) -> bool
     }
 }
 
-/// The number of the chain in which to search next, after a step that is at or past a place: that of the jump, if its last place
-/// is still at or past it, and else the one before.
+/// The number of the chain to search next, after a step that is at or past a place: that of the jump, if its last place is still at or past
+/// it, otherwise the previous one.
 fn next_chain(steps: &[Step], step: &Step, from: u64) -> usize
     requires chained { IsChained steps.now }
     requires known { step.now.before ≤ length steps.now }
@@ -179,8 +179,8 @@ fn next_chain(steps: &[Step], step: &Step, from: u64) -> usize
     step.before
 }
 
-/// The first place of a chain from a place on. It goes back from the last one by jumps, so that twice as long a chain costs it a
-/// few steps more.
+/// The first place of a chain from a place on. It goes back from the last one by jumps, so that a chain twice as long costs only a few
+/// steps more.
 fn first_place(steps: &[Step], number: usize, from: u64) -> Option<u64>
     requires chained { IsChained steps.now }
     requires known { number ≤ length steps.now }
@@ -217,7 +217,7 @@ fn mark_places(steps: &[Step], number: usize, from: u64, first: u64, marks: &mut
     }
 }
 
-/// Sets a mark, if there is one of this number.
+/// Sets a mark, if there is one with this number.
 fn set_mark(marks: &mut [bool], number: u64)
     ensures { marks.new ≡ slice_set marks.old number true }
 {

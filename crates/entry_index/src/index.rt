@@ -13,8 +13,8 @@ use std::alloc::Global;
 use std::hash::Hash;
 use std::marker::Model;
 
-/// By key the places of the entries that it was noted at. A contract sees these, as `past` a place that is past all of them, and
-/// as `spare` how many keys can be noted without memory.
+/// The places of the entries at which each key was noted. A contract sees these, as `past` a place past all of them, and as `spare` how
+/// many keys can be noted without allocating.
 #[derive(Drop)]
 pub struct EntryIndex<K: Eq + Hash> {
     /// The number of each key's latest chain.
@@ -56,7 +56,7 @@ fn is_place(last: Option<u64>, place: u64) -> bool
     }
 }
 
-/// Notes a key at a place, where it isn't noted there yet.
+/// Notes a key at a place, unless it is noted there already.
 fn note_key<K: Eq + Hash + Drop>(
     latest: &mut IndexMap<K, usize>,
     chains: &mut Chains,
@@ -114,7 +114,7 @@ impl<K: Eq + Hash> EntryIndex<K> {
         }
     }
 
-    /// Makes room for so many more keys to be noted.
+    /// Makes room for this many more keys to be noted.
     pub fn reserve(&mut self, more: usize) -> Result<(), NoMemory>
         ensures places { self.new.places ≡ self.old.places }
         ensures past { self.new.past ≡ self.old.past }

@@ -20,7 +20,7 @@ length_frame : (f : Frame) → length (frame_bytes f) ≡ 17 + length f.bytes
 length_frame f =
     length-append (head_bytes f.kind f.tag f.moment (length f.bytes)) f.bytes ∙ ap (λ n. n + length f.bytes) (length_head f.kind f.tag f.moment (length f.bytes))
 
--- the offset behind frames is that of the first and their bytes
+-- the offset after frames is that of the first plus their bytes
 end_is : (at : ℕ) (fs : List Frame) → end_at at fs ≡ at + length (frames_bytes fs)
 end_is at [] = omega arith
 end_is at (f ∷ fs) = omega (arith, end_is (at + (17 + length f.bytes)) fs, length_frame f, length-append (frame_bytes f) (frames_bytes fs))
@@ -28,11 +28,11 @@ end_is at (f ∷ fs) = omega (arith, end_is (at + (17 + length f.bytes)) fs, len
 end_least : (at : ℕ) (fs : List Frame) → at ≤ end_at at fs
 end_least at fs = omega (arith, end_is at fs)
 
--- what is no frame
+-- what is not a frame
 IsOther : Found → Type 0
 IsOther x = (f : Frame) (r : List ℕ) → x ≡ Whole f r → ⊥
 
--- of two lists of frames, each with no frame behind it, there is one
+-- there is only one list of frames that is followed by no frame
 unique : (at : ℕ) (fs gs : List Frame) (xs ys : List ℕ) → AreFrames fs → AreFrames gs → end_at at fs ≤ capture_limit → end_at at gs ≤ capture_limit
     → IsOther (found (end_at at fs) xs) → IsOther (found (end_at at gs) ys) → frames_bytes fs ++ xs ≡ frames_bytes gs ++ ys → (fs ≡ gs) × (xs ≡ ys)
 unfolding IsOther
@@ -75,7 +75,7 @@ bad_other x why e f r w = absurd_of (sym e ∙ w)
 capture_end : (bytes : List ℕ) (fs : List Frame) → IsCapture fs bytes → end_at 8 fs ≤ capture_limit
 capture_end bytes fs c = omega (arith, end_is 8 fs, ap length c.all ∙ length-append magic (frames_bytes fs), c.small)
 
--- what stands behind the magic, also for the crates above
+-- what follows the magic, also for the crates above
 pub behind_magic : (xs ys : List ℕ) → magic ++ xs ≡ magic ++ ys → xs ≡ ys
 behind_magic xs ys e = ap (drop 8) e
 
@@ -114,7 +114,7 @@ one_fault bytes why other (inr a) (inr b) =
     let one = unique 8 a.frames b.frames a.rest b.rest a.frames_are b.frames_are a.small b.small (bad_other _ why a.fault) (bad_other _ other b.fault) same in
     bad_same why other (sym a.fault ∙ ap₂ (λ (fs : List Frame) (r : List ℕ). found (end_at 8 fs) r) one.0 one.1 ∙ b.fault)
 
--- what stands at a place is nothing only where nothing is left
+-- what is found at an offset is nothing only if nothing is left
 stays : (b : Bool) (why : CaptureError) (x : Found) → (if b then Bad why else x) ≡ NoMore → x ≡ NoMore
 stays true why x e = absurd (no_more_bad why (sym e))
 stays false why x e = e

@@ -16,7 +16,7 @@ first_of_three : (a b c : Bool) → (a && b && c) ≡ true → a ≡ true
 first_of_three true b c h = refl
 first_of_three false b c h = h
 
--- a payload of a length that is allowed is short
+-- a payload of an allowed length is short
 payload_small : (kind n : ℕ) → is_length kind n ≡ true → n ≤ frame_limit
 payload_small kind n h =
     let least : nat_le n frame_limit ≡ true = first_of_three (nat_le n frame_limit) _ _ h in
@@ -54,7 +54,7 @@ whole_frame f g r s e = cc
 pub whole_rest : (f g : Frame) (r s : List ℕ) → Whole f r ≡ Whole g s → r ≡ s
 whole_rest f g r s e = cc
 
--- what is told of a frame that was found, by its head and what follows
+-- what is known about a frame that was found, by its head and what follows
 pub found_parts : (at k : ℕ) (ks : List ℕ) (f : Frame) (r : List ℕ) → found at (k ∷ ks) ≡ Whole f r
     → (is_kind k ≡ true) × (16 ≤ length ks) × (is_length k (length_in (take 17 (k ∷ ks))) ≡ true)
     × (length_in (take 17 (k ∷ ks)) ≤ length (drop 17 (k ∷ ks))) × (at + 17 + length_in (take 17 (k ∷ ks)) ≤ capture_limit)

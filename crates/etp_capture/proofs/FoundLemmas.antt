@@ -1,4 +1,4 @@
--- What is found at a frame's place, by the tests that lead there.
+-- What is found at a frame's offset, by the tests that lead there.
 use Rattle.std.proofs.Common.{◌≡◌, ℕ, zero, suc, ◌+◌, ◌-◌, ◌<◌, ◌≤◌, true, false, List, [], ◌∷◌, ◌++◌, length, get_or, take, drop, arith, ap, sym, ◌∙◌, subst, length-append, length-take, length-drop, take_all, take_at, drop_at, length-take-le, add-zero}
 use Rattle.std.proofs.lemmas.Bool.Decides.{nat_tests}
 use Rattle.etp_capture.specs.Frames.{is_kind, is_length, length_in, capture_limit, magic, frame_of}

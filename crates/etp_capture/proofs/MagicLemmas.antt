@@ -1,4 +1,4 @@
--- What stands at the beginning of a capture.
+-- What is at the beginning of a capture.
 use Rattle.std.proofs.Common.{◌≡◌, ℕ, ◌<◌, ◌≤◌, false, nat_eq, List, [], ◌++◌, length, take, drop, refl, ap, sym, ◌∙◌, take_at, arith}
 use Rattle.std.specs.List.{starts_with}
 use Rattle.std.specs.Str.{bytes_eq}
@@ -22,6 +22,6 @@ other_starts buf xs ys long is other =
     let same : buf ≡ magic = sym (take_at buf ys 8 long) ∙ ap (take 8) (sym is ∙ whole) in
     false≢true (sym other ∙ (bytes_eq-Decides buf magic).1 same))
 
--- behind the magic stands the first frame
+-- after the magic comes the first frame
 pub next_first : (at : ℕ) (ys : List ℕ) → at < 8 → next_found at (magic ++ ys) ≡ found 8 ys
 next_first at ys early = grind (arith, nat_tests)

@@ -1,4 +1,4 @@
--- What a read that failed took of the source: no whole frame, or no more than one.
+-- What a read that failed took from the source: no whole frame, or no more than one.
 use Rattle.std.proofs.Common.{◌≡◌, ◌≢◌, ℕ, zero, suc, ◌+◌, ◌<◌, ◌≤◌, ◌⊎◌, Bool, true, false, nat_eq, nat_lt, if◌then◌else◌, List, [], ◌∷◌, ◌++◌, length, take, drop, refl, ap, sym, ◌∙◌, subst, arith, take_all, append_assoc, append-nil, Result, Ok, Err, Option, Some, None}
 use Rattle.std.specs.List.{starts_with}
 use Rattle.std.proofs.lemmas.Bool.Decides.{nat_tests}
@@ -37,7 +37,7 @@ one_of true false d why other f r nil = tt
 one_of false c true why other f r nil = tt
 one_of false c false why other f r nil = nil
 
--- behind a head, in no more bytes than it states
+-- after a head, in no more bytes than it states
 body_most : (at : ℕ) (head taken : List ℕ) → length taken ≤ length_in head → IsOneAtMost (body_found at head taken)
 body_most at head taken most =
     one_of (nat_lt (length taken) (length_in head)) (nat_lt capture_limit (at + 17 + length taken)) (nat_lt capture_limit (at + 17 + length_in head)) Limit (Cut at)
@@ -51,7 +51,7 @@ head_unread at limit xs ys few h = (h.0, h.1, head_short at h.0 (omega (arith, h
 
 -- ---- bytes that were taken in front
 
--- what shows behind some bytes shows behind them by another function that finds the same there
+-- what shows after some bytes shows after them by another function that finds the same there
 pub shows_behind : (e : CaptureError) (front : List ℕ) (find other : List ℕ → Found) (xs ys zs : List ℕ) → ((rest : List ℕ) → other (front ++ rest) ≡ find rest)
     → xs ≡ front ++ ys → Shows e find ys zs → Shows e other xs zs
 shows_behind NoMemory front find other xs ys zs same is h =
@@ -70,7 +70,7 @@ answers_behind (Ok (Some frame)) front find other xs ys zs same is h = ap other 
 answers_behind (Ok None) front find other xs ys zs same is h = (ap other is ∙ same ys ∙ h.0, h.1)
 answers_behind (Err e) front find other xs ys zs same is h = shows_behind e front find other xs ys zs same is h
 
--- behind a head that was read stands its payload
+-- after a head that was read comes its payload
 pub head_behind : (at : ℕ) (head rest : List ℕ) → IsHead head → at + 17 ≤ capture_limit → found at (head ++ rest) ≡ body_found at head rest
 head_behind at head rest good within =
     let all : take 17 head ≡ head = take_all 17 head (omega (arith, good.long)) in
@@ -78,7 +78,7 @@ head_behind at head rest good within =
     ap (λ l. found at (l ++ rest)) (sym all) ∙ front_body head at rest good.long within good.kind good.payload
     ∙ ap (λ l. body_found at l (drop 17 (take 17 head ++ rest))) parts.0 ∙ ap (body_found at head) parts.1
 
--- behind the magic stands the first frame
+-- after the magic comes the first frame
 pub answers_first : (r : Result (Option Frame) CaptureError) (at : ℕ) (xs ys zs : List ℕ) → at < 8 → xs ≡ magic ++ ys → Answers r (found 8) ys zs → Answers r (next_found at) xs zs
 answers_first r at xs ys zs early is h = answers_behind r magic (found 8) (next_found at) xs ys zs (λ rest. next_first at rest early) is h
 
@@ -100,14 +100,14 @@ magic_shows (Length o) at xs ys early which h = absurd (grind arith)
 magic_shows (Cut o) at xs ys early which h = absurd (grind arith)
 magic_shows Limit at xs ys early which h = absurd (grind arith)
 
--- ---- what a source tells
+-- ---- what a source reveals
 
--- nothing was taken behind a head
+-- nothing was taken after a head
 pub told_unread : (a : Option (List ℕ)) (at : ℕ) (head : List ℕ) → Told a a (Shows NoMemory (body_found at head))
 told_unread None at head = tt
 told_unread (Some xs) at head = body_unread at head [] xs xs (omega arith) refl
 
--- an error of a head is neither a fault of the source nor want of memory
+-- an error of a head is neither a fault of the source nor running out of memory
 pub shows_bad : {U : Type 0} (r : Result U CaptureError) (e : CaptureError) (find : List ℕ → Found) (xs ys : List ℕ) → r ≡ Err e → (r ≢ Err ReadFault) × (r ≢ Err NoMemory) → find xs ≡ Bad e → Shows e find xs ys
 shows_bad r ReadFault find xs ys is never h = absurd (never.0 is)
 shows_bad r NoMemory find xs ys is never h = absurd (never.1 is)

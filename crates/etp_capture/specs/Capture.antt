@@ -17,7 +17,7 @@ abbrev pub AreFrames : List Frame → Type 0
 AreFrames [] = Unit {0}
 AreFrames (f ∷ fs) = IsFrame f × IsInRange f × AreFrames fs
 
--- the offset behind frames of which the first stands at an offset
+-- the offset after frames of which the first is at an offset
 abbrev pub end_at : ℕ → List Frame → ℕ
 end_at at [] = at
 end_at at (f ∷ fs) = end_at (at + (17 + length f.bytes)) fs
@@ -37,6 +37,6 @@ pub record FailsBehind (why : CaptureError) (bytes : List ℕ) : Type 0 where
   pub frames_are : AreFrames frames
   pub fault : found (end_at 8 frames) rest ≡ Bad why
 
--- these bytes are no capture, for this reason
+-- these bytes are not a capture, for this reason
 abbrev pub CaptureFails : CaptureError → List ℕ → Type 0
 CaptureFails why bytes = ((why ≡ Magic) × (starts_with nat_eq bytes magic ≡ false)) ⊎ FailsBehind why bytes

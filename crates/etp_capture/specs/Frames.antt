@@ -58,7 +58,7 @@ frame_of head payload = record {
   bytes = payload;
 }
 
--- a head with a kind of the table and a length that it may have
+-- a head with a known kind and a length that this kind may have
 pub record IsHead (head : List ℕ) : Type 0 where
   pub long : length head ≡ 17
   pub kind : is_kind (get_or head 0 0) ≡ true

@@ -1,4 +1,4 @@
--- The kinds of frames, by the numbers that stand in a capture.
+-- The kinds of frames, by the numbers that are in a capture.
 use Rattle.std.specs.Prelude.{ℕ}
 
 -- a message from the client

@@ -10,16 +10,16 @@ use Rattle.etp_capture.specs.declared.reader.CaptureError.{CaptureError}
 abbrev pub AreBytes : List ℕ → Type 0
 AreBytes xs = All (λ b. b < 256) xs
 
--- what was written of a frame is read as that frame, whatever follows it
+-- what was written for a frame is read as that frame, whatever follows it
 abbrev pub ReadsBack : Type 0
 ReadsBack = (f : Frame) (at : ℕ) (rest : List ℕ) → IsFrame f → IsInRange f → at + (17 + length f.bytes) ≤ capture_limit → found at (frame_bytes f ++ rest) ≡ Whole f rest
 
--- what is read as a frame is what is written of it
+-- what is read as a frame is what is written for it
 abbrev pub WritesBack : Type 0
 WritesBack = (at : ℕ) (bytes : List ℕ) (f : Frame) (rest : List ℕ) → AreBytes bytes → found at bytes ≡ Whole f rest
     → (bytes ≡ frame_bytes f ++ rest) × IsFrame f × IsInRange f × (at + (17 + length f.bytes) ≤ capture_limit)
 
--- bytes are the capture of one list of frames at most
+-- bytes are the capture of at most one list of frames
 abbrev pub OneCapture : Type 0
 OneCapture = (bytes : List ℕ) (fs gs : List Frame) → IsCapture fs bytes → IsCapture gs bytes → fs ≡ gs
 

@@ -14,7 +14,7 @@ IsNoFrame (Whole frame rest) = ⊥
 IsNoFrame NoMore = Unit {0}
 IsNoFrame (Bad why) = Unit {0}
 
--- no byte behind a whole frame
+-- no byte after a whole frame
 abbrev pub IsOneAtMost : Found → Type 0
 IsOneAtMost (Whole frame rest) = rest ≡ []
 IsOneAtMost NoMore = Unit {0}
@@ -32,13 +32,13 @@ TakesNoFrame find old new = (taken : List ℕ) × (old ≡ taken ++ new) × IsNo
 abbrev pub TakesOneAtMost : (List ℕ → Found) → List ℕ → List ℕ → Type 0
 TakesOneAtMost find old new = (taken : List ℕ) × (old ≡ taken ++ new) × IsOneAtMost (find taken)
 
--- an error that the bytes show; a fault of the source and want of memory show how little was taken
+-- an error that the bytes show; a fault of the source and running out of memory show how little was taken
 abbrev pub Shows : CaptureError → (List ℕ → Found) → List ℕ → List ℕ → Type 0
 Shows NoMemory find old new = TakesOneAtMost find old new
 Shows ReadFault find old new = TakesNoFrame find old new
 Shows e find old new = find old ≡ Bad e
 
--- what is answered is what is found, and with a frame just its bytes were taken
+-- what is answered is what is found, and with a frame exactly its bytes were taken
 abbrev pub Answers : Result (Option Frame) CaptureError → (List ℕ → Found) → List ℕ → List ℕ → Type 0
 Answers (Ok (Some frame)) find old new = find old ≡ Whole frame new
 Answers (Ok None) find old new = (find old ≡ NoMore) × (new ≡ [])
@@ -55,7 +55,7 @@ HeadOf (Ok (Some head)) at old new = (old ≡ head ++ new) × (found at old ≡ 
 HeadOf (Ok None) at old new = (old ≡ []) × (new ≡ [])
 HeadOf (Err e) at old new = Shows e (found at) old new
 
--- what the payload behind a head is
+-- what the payload after a head is
 abbrev pub BodyOf : Result (List ℕ) CaptureError → ℕ → List ℕ → List ℕ → List ℕ → Type 0
 BodyOf (Ok body) at head old new = body_found at head old ≡ Whole (frame_of head body) new
 BodyOf (Err e) at head old new = Shows e (body_found at head) old new
@@ -65,18 +65,18 @@ abbrev pub HeadFault : {U : Type 0} → Result U CaptureError → ℕ → List �
 HeadFault (Ok u) at old rest = found at old ≡ body_found at (take 17 old) rest
 HeadFault (Err e) at old rest = found at old ≡ Bad e
 
--- the magic does not stand in front, or fewer bytes than it has were taken
+-- the magic is not at the front, or fewer bytes than it has were taken
 abbrev pub MagicFault : CaptureError → List ℕ → List ℕ → Type 0
 MagicFault Magic old new = starts_with nat_eq old magic ≡ false
 MagicFault ReadFault old new = TakesBelow 8 old new
 MagicFault e old new = Unit {0}
 
--- the magic stands in front and was taken, or it was not read
+-- the magic is at the front and was taken, or it was not read
 abbrev pub MagicOf : {U : Type 0} → Result U CaptureError → List ℕ → List ℕ → Type 0
 MagicOf (Ok u) old new = old ≡ magic ++ new
 MagicOf (Err e) old new = MagicFault e old new
 
--- what of the magic a reader at a place has still to read
+-- what a reader at an offset has still to read of the magic
 abbrev pub magic_left : ℕ → List ℕ
 magic_left at = if nat_le 8 at then [] else magic
 
@@ -100,7 +100,7 @@ abbrev pub begun : {U : Type 0} → Reader → Result U CaptureError → Reader
 begun r (Ok u) = record { at = max r.at 8; failed = None }
 begun r (Err e) = record { at = r.at; failed = Some e }
 
--- a reader after a call: behind the frame, or failed
+-- a reader after a call: past the frame, or failed
 abbrev pub after : Reader → Result (Option Frame) CaptureError → Reader
 after r (Ok answer) = record { at = max r.at 8 + size_of answer; failed = None }
 after r (Err e) = record { at = r.at; failed = Some e }

@@ -9,7 +9,7 @@ use Rattle.etp_capture.specs.declared.frame.Frame.{Frame}
 use Rattle.etp_capture.specs.declared.writer.PutError.{PutError}
 use Rattle.etp_capture.specs.declared.writer.PutError.TheVariants.{WriteFault, NoMemory}
 
--- a frame that is written: a message is, however long it is
+-- a frame that is written: a message always is, however long
 pub record IsWritable (f : Frame) : Type 0 where
   pub kind : is_kind f.kind ≡ true
   pub payload : (f.kind == kind_in || f.kind == kind_out || is_length f.kind (length f.bytes)) ≡ true

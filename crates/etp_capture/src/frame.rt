@@ -11,7 +11,7 @@ use etp_values::{Blob, NoMemory};
 pub struct Frame {
     /// What the frame is, by a number of [`kinds`](crate::kinds).
     pub kind: u8,
-    /// The session that it belongs to, by a number of the capture's own.
+    /// The session that it belongs to, by a number that the capture assigns.
     pub tag: u32,
     /// When it happened, in microseconds since 1970-01-01 UTC.
     pub moment: i64,
@@ -34,8 +34,8 @@ pub fn push_magic(into: &mut Vec<u8>) -> Result<(), NoMemory>
     Ok(())
 }
 
-/// Appends the bytes of a frame. Of a payload of 2^32 bytes or more the stated length is what is left modulo 2^32. An
-/// error loses nothing of what was there.
+/// Appends the bytes of a frame. For a payload of 2^32 bytes or more the stated length is its length modulo 2^32. An error loses nothing of
+/// what was there.
 pub fn push_frame(into: &mut Vec<u8>, frame: &Frame) -> Result<(), NoMemory>
     ensures ok { OnOk result (into.new.items ≡ into.old.items ++ frame_bytes frame.now) }
     ensures err { OnErr result (StartsWith into.new.items into.old.items) }

@@ -18,7 +18,7 @@ const FRAME_LIMIT: u32 = 33_554_432;
 /// The length of an ending's payload: the number of the end.
 const END_LEN: u32 = 1;
 
-/// The length of an ending's payload where an error code follows the number.
+/// The length of an ending's payload if an error code follows the number.
 const END_WITH_CODE_LEN: u32 = 5;
 
 fn is_kind(kind: u8) -> bool
@@ -60,7 +60,7 @@ pub(crate) fn frame_with(head: &[u8; HEAD_LEN], bytes: Blob) -> Frame
     }
 }
 
-/// The first fault of a head of which `got` bytes were read, and no more than one past the limit.
+/// The first fault of a head of which `got` bytes were read, at most one byte past the limit.
 pub(crate) fn head_fault(head: &[u8; HEAD_LEN], at: u64, got: usize) -> Result<(), CaptureError>
     requires some { 0 < got }
     requires most { got ≤ 17 }

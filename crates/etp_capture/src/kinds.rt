@@ -1,4 +1,4 @@
-//! The kinds of frames. Each is named as a shown capture names it.
+//! The kinds of frames. Each is named as it is shown.
 
 /// A message from the client.
 pub const IN: u8 = 1;

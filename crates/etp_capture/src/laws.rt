@@ -1,8 +1,8 @@
-//! The laws of captures. Each stands on an empty function, so that it is proved with the crate.
+//! The laws of captures. Each is the contract of an empty function, so that it is proved with the crate.
 ghost use Rattle.etp_capture.specs.Laws.{ReadsBack, WritesBack, OneCapture, OneFault, NoFault, SomeAnswer};
 
-/// What was written of a frame is read as that frame within the limit, whatever follows it; and what is read as a frame is
-/// what is written of it.
+/// What was written for a frame is read as that frame within the limit, whatever follows it; and what is read as a frame is what is written
+/// for it.
 pub fn frame_is_read_back()
     ensures reads { ReadsBack }
     ensures writes { WritesBack }

@@ -12,9 +12,9 @@
 //! | 17 | a message from the server | its bytes, at most 33,554,432 |
 //! | 19 | the end of the session | 1 byte, and 4 more for a code |
 //!
-//! [`CaptureReader`] reads a capture frame by frame from a source, however the source cuts it, and leaves the source right
-//! behind what it answers. [`CaptureWriter`] writes frames to a sink, and [`push_frame`] appends one to a buffer. The laws
-//! at the end say that these two are each other's inverse: see [`frame_is_read_back`] and [`capture_has_one_reading`].
+//! [`CaptureReader`] reads a capture frame by frame from a source, however the source cuts it, and leaves the source just
+//! after what it returns. [`CaptureWriter`] writes frames to a sink, and [`push_frame`] appends one to a buffer. The laws
+//! at the end say that these two are inverse to each other: see [`frame_is_read_back`] and [`capture_has_one_reading`].
 #![tactic(auto)]
 
 mod frame;

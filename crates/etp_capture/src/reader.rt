@@ -19,7 +19,7 @@ use thiserror::Error;
 /// The greatest number of bytes of a capture.
 pub(crate) const CAPTURE_LIMIT: u64 = 1_073_741_824;
 
-/// The place of a capture's first frame, behind the magic.
+/// The offset of a capture's first frame, after the magic.
 const FIRST_PLACE: u64 = 8;
 
 /// Why no frame was read. An offset is that of the frame's first byte in the capture.
@@ -28,27 +28,27 @@ pub enum CaptureError {
     /// The input does not begin with the eight bytes of a capture.
     #[error("the input does not begin with ETPCAP01")]
     Magic,
-    /// The frame at this offset has no kind of the table.
+    /// The frame at this offset has a kind that does not exist.
     #[error("the frame at offset {0} has no known kind")]
     Kind(u64),
     /// The frame at this offset states a length that its kind can't have.
     #[error("the frame at offset {0} states a length that its kind can't have")]
     Length(u64),
-    /// The input ended in the frame at this offset.
+    /// The input ended within the frame at this offset.
     #[error("the input ended in the frame at offset {0}")]
     Cut(u64),
-    /// The input has more bytes than a capture may have, and its byte 1,073,741,825 was reached.
+    /// The input has more bytes than a capture may have: byte 1,073,741,825 was reached.
     #[error("the input has more than {CAPTURE_LIMIT} bytes")]
     Limit,
     /// The source failed.
     #[error("the source failed")]
     ReadFault,
-    /// Memory was refused.
-    #[error("memory was refused")]
+    /// Out of memory.
+    #[error("out of memory")]
     NoMemory,
 }
 
-/// Reads a capture. After an error it answers that error again at each further call, and reads no more.
+/// Reads a capture. After an error it returns that error again at each further call, and reads no more.
 #[derive(Debug, Drop)]
 pub struct CaptureReader {
     at: u64,
@@ -110,7 +110,7 @@ impl CaptureReader {
         }
     }
 
-    /// Keeps an error, to be answered again.
+    /// Keeps an error, to be returned again.
     fn fail(&mut self, e: CaptureError) -> CaptureError
         ensures error { result ≡ e }
         ensures state { self.new ≡ record { at = self.old.at; failed = Some e } }
@@ -119,8 +119,8 @@ impl CaptureReader {
         e
     }
 
-    /// The next frame, or `None` where the input ended behind the magic or a whole frame. It reads the magic first, unless
-    /// that was read before, and leaves the source right behind what it answers.
+    /// The next frame, or `None` if the input ended after the magic or a whole frame. It reads the magic first, unless that was read
+    /// before, and leaves the source just after what it returns.
     pub fn next<S: Source>(
         &mut self,
         alloc: Global,
@@ -153,7 +153,7 @@ impl CaptureReader {
     }
 }
 
-/// What comes next from the place `at`, behind the magic where that was not read yet.
+/// What comes next from the offset `at`, after the magic if that was not read yet.
 fn read_next<S: Source>(
     alloc: Global,
     source: &mut S,
@@ -195,7 +195,7 @@ fn read_magic<S: Source>(source: &mut S) -> Result<(), CaptureError>
     Ok(())
 }
 
-/// The frame at a place, or none at the end of the input.
+/// The frame at an offset; `None` at the end of the input.
 fn read_frame<S: Source>(
     alloc: Global,
     source: &mut S,
@@ -219,7 +219,7 @@ fn read_frame<S: Source>(
     }
 }
 
-/// The 17 bytes at a frame's place, or none where the input has ended.
+/// The 17 bytes at a frame's offset; `None` if the input has ended.
 fn read_head<S: Source>(source: &mut S, at: u64) -> Result<Option<[u8; HEAD_LEN]>, CaptureError>
     requires { at ≤ capture_limit }
     ensures bytes { Told (S.left source.old) (S.left source.new) (HeadOf result at) }
@@ -279,7 +279,7 @@ fn read_body<S: Source>(
     }
 }
 
-/// Fills the buffer, or as much of it as the input has; none where the source fails.
+/// Fills the buffer, or as much of it as the input has; `None` if the source fails.
 fn read_up<S: Source>(source: &mut S, buf: &mut [u8]) -> Option<usize>
     ensures bytes { Told (S.left source.old) (S.left source.new) (TakesUp result buf.new) }
     ensures within { IfSome result (λ got. got ≤ length buf.new) }

@@ -14,11 +14,11 @@ use thiserror::Error;
 /// Why a frame was not written.
 #[derive(Clone, Copy, Debug, PartialEq, Eq, Error)]
 pub enum PutError {
-    /// The sink failed. It took a part of the bytes' front, and not all.
+    /// The sink failed. It took some of the first bytes, but not all.
     #[error("the sink failed")]
     WriteFault,
-    /// Memory was refused, and nothing was written.
-    #[error("memory was refused")]
+    /// Out of memory; nothing was written.
+    #[error("out of memory")]
     NoMemory,
 }
 
@@ -33,7 +33,7 @@ impl From<NoMemory> for PutError {
     }
 }
 
-/// The longest payload that is copied behind its head, so that both go to the sink in one write.
+/// The longest payload that is copied after its head, so that both go to the sink in one write.
 const GATHERED: usize = 65_536;
 
 /// Writes a capture. Between two calls it keeps nothing but room for a frame.
@@ -58,7 +58,7 @@ impl CaptureWriter {
         }
     }
 
-    /// Writes the eight bytes that a capture begins with. It takes no memory.
+    /// Writes the eight bytes that a capture begins with. It does not allocate.
     pub fn begin<W: Sink>(&mut self, sink: &mut W) -> Result<(), PutError>
         ensures bytes { Puts result magic (W.held sink.old) (W.held sink.new) }
         ensures memory { result ≢ Err PutError.NoMemory }
@@ -68,8 +68,8 @@ impl CaptureWriter {
         put_piece(sink, &MAGIC)
     }
 
-    /// Writes a frame. A message is written also where its length is above what a reader takes; of 2^32 bytes and more the
-    /// frame states what is left modulo 2^32.
+    /// Writes a frame. A message is written even if its length is above what a reader accepts; for 2^32 bytes and more the frame states the
+    /// length modulo 2^32.
     pub fn put<W: Sink>(&mut self, sink: &mut W, frame: &Frame) -> Result<(), PutError>
         requires { IsWritable frame.now }
         ensures bytes { Puts result (frame_bytes frame.now) (W.held sink.old) (W.held sink.new) }

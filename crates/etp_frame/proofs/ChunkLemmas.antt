@@ -49,7 +49,7 @@ module _ (size : ℕ) (id bytes : List ℕ) (all : List Chunk) where
       let rest : slice_range bytes start (length bytes) ≡ drop start bytes = take_all (length bytes - start) (drop start bytes) (omega (arith, length-drop start bytes)) in
       push ∙ ap (λ (b : List ℕ). made ++ chunk id b true ∷ []) (is ∙ ap (λ (n : ℕ). slice_range bytes start n) same ∙ rest) ∙ ap (λ (n : ℕ). made ++ chunks_from size id n (drop start bytes)) e ∙ h
 
--- the room that so many chunks of one size take
+-- the room that this many chunks of one size take
 pub room_more : (left size start len : ℕ) → 0 < left → start + left * size ≤ len → start + size + (left - 1) * size ≤ len
 room_more zero size start len some h = absurd (omega arith)
 room_more (suc k) size start len some h = let e : suc k - 1 ≡ k = omega arith in subst (λ (n : ℕ). start + size + n * size ≤ len) (sym e) (omega (arith, h))

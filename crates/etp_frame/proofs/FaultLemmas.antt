@@ -1,4 +1,4 @@
--- What is refused for a fault is not refused for want of memory, for the crates above too.
+-- What is refused for a fault is not refused because memory ran out, for the crates above too.
 use Rattle.std.specs.Prelude.{◌≡◌}
 use Rattle.std.proofs.Common.{subst}
 use Rattle.etp_frame.specs.Joining.{IsJoinFault}

@@ -109,7 +109,7 @@ own_channel_data_load (load.ReplaceRangeResponse x) = refl
 own_channel_data_load (load.TruncateChannels x) = refl
 own_channel_data_load (load.TruncateChannelsResponse x) = refl
 
--- what is found behind the messages of every protocol
+-- what is found after the messages of every protocol
 reads_behind : {M : Type 0} (whole : M → Message) (ks : List (Kind M)) (written : M → Body) (x : M) → is_some (kind_in common_kinds (pos (written x).number)) ≡ false → IsFound ks written x → Reads (written x) (whole x) (kind_in (common_kinds ++ under whole ks) (pos (written x).number))
 reads_behind whole ks written x own f =
     subst (Reads (written x) (whole x)) (sym (kind_behind common_kinds (under whole ks) (pos (written x).number) own)) (reads_under whole ks written x f)

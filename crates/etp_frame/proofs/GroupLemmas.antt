@@ -17,7 +17,7 @@ use Rattle.etp_frame.proofs.LoopLemmas.{Sorted}
 -- ---- measures of items
 
 module _ {A : Type 0} (size : A → Amount) where
-  -- of items and one more
+  -- for items and one more
   bytes_more : (xs : List A) (x : A) → (total size (xs ++ x ∷ [])).bytes ≡ (total size xs).bytes + (size x).bytes
   bytes_more [] x = omega arith
   bytes_more (y ∷ ys) x = let e = bytes_more ys x in omega (arith, e)
@@ -38,7 +38,7 @@ module _ {A : Type 0} (size : A → Amount) where
       let k : (size x).nodes ≡ (size x).nodes + 0 = omega arith in
       one ∙ (λ i. record { bytes = min (b i) most; nodes = min (k i) most })
 
--- what stops at the greatest number has room where the exact numbers have
+-- what stops at the greatest number fits if the exact numbers fit
 le_min : (n top limit : ℕ) → limit < top → nat_le (min n top) limit ≡ nat_le n limit
 le_min n top limit h = grind (arith, nat_tests)
 
@@ -48,7 +48,7 @@ fits_capped limit a small =
     let k : nat_le (min a.nodes most) item_nodes ≡ nat_le a.nodes item_nodes = le_min a.nodes most item_nodes (omega arith) in
     (λ i. b i && k i)
 
--- ---- one item more
+-- ---- one more item
 
 module _ {A : Type 0} (size : A → Amount) (limit : ℕ) where
   -- whether an item goes in, by the measure of the group with it
@@ -82,10 +82,10 @@ module _ {A : Type 0} (size : A → Amount) (limit : ℕ) where
       ∙ append_assoc closed (held ∷ []) (groups_from size limit (x ∷ []) rest)
       ∙ ap (λ (l : List (List A)). closed ++ l) (sym (leads_if held x rest false goes))
 
--- ---- items that have room together
+-- ---- items that fit together
 
 module _ {A : Type 0} (size : A → Amount) where
-  -- a measure behind which no item is left
+  -- a measure after which no item is left
   pub joined_all : (s all : Measure) (n : ℕ) (xs : List A) → length xs ≤ n → s.bytes ≤ most → s.nodes ≤ most → adds s (capped (total size (drop n xs))) ≡ all → s ≡ all
   joined_all s all n xs past bytes nodes is =
       let b : s.bytes ≡ min (s.bytes + min 0 most) most = omega (arith, bytes) in
@@ -112,7 +112,7 @@ module _ {A : Type 0} (size : A → Amount) (limit : ℕ) where
       less_fits (total size front).bytes (total size (front ++ xs)).bytes (limit - frame_room) (total size front).nodes (total size (front ++ xs)).nodes item_nodes (bytes_front size front xs) (nodes_front size front xs)
       (subst (λ (l : List A). fits limit (total size l) ≡ true) (sym (append_assoc (h ∷ hs) (x ∷ []) xs)) room)
 
-  -- so they are one group
+  -- hence they are one group
   one_group : (held xs : List A) → fits limit (total size (held ++ xs)) ≡ true → groups_from size limit held xs ≡ (held ++ xs) ∷ []
   one_group held [] room = ap (λ (l : List A). l ∷ []) (sym (append-nil held))
   one_group held (x ∷ xs) room =
@@ -123,10 +123,10 @@ module _ {A : Type 0} (size : A → Amount) (limit : ℕ) where
   pub all_together : (xs : List A) (m : Measure) → limit < 2 ^ 64 → m ≡ capped (total size xs) → fits limit (amount m) ≡ true → groups size limit xs ≡ xs ∷ []
   all_together xs m small is room = one_group [] xs (sym (fits_capped limit (total size xs) small) ∙ ap (λ (m : Measure). fits limit (amount m)) (sym is) ∙ room)
 
--- ---- facts of all groups
+-- ---- facts about all groups
 
 module _ {A : Type 0} (size : A → Amount) (limit : ℕ) where
-  -- a fact of the groups, by whether an item goes into the open group
+  -- a fact about the groups, by whether an item goes into the open group
   pub by_room : (P : List (List A) → Type 0) (held : List A) (x : A) (xs : List A) → P (groups_from size limit (held ++ x ∷ []) xs) → P (held ∷ groups_from size limit (x ∷ []) xs) → P (groups_from size limit held (x ∷ xs))
   by_room P held x xs more closed = at (goes_in size limit held x)
     where
@@ -134,12 +134,12 @@ module _ {A : Type 0} (size : A → Amount) (limit : ℕ) where
       at true = more
       at false = closed
 
-  -- a fact of each list of one group or more
+  -- a fact about each list of one group or more
   pub of_groups : (P : List (List A) → Type 0) → ((g : List A) (gs : List (List A)) → P (g ∷ gs)) → (held xs : List A) → P (groups_from size limit held xs)
   of_groups P each held [] = each held []
   of_groups P each held (x ∷ xs) = by_room P held x xs (of_groups P each (held ++ x ∷ []) xs) (each held (groups_from size limit (x ∷ []) xs))
 
--- ---- groups of items in the order of their keys are so
+-- ---- groups of items in the order of their keys are in that order
 
 module _ {A : Type 0} (key : A → List ℕ) where
   below_front : (P : List ℕ → Type 0) (a b : List A) → AllByRecursion P (map key (a ++ b)) → AllByRecursion P (map key a)

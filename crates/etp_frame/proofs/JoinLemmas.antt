@@ -1,4 +1,4 @@
--- A joiner puts a message together of its parts.
+-- A joiner puts a message together from its parts.
 use Rattle.std.proofs.Common.{◌≡◌, ◌∙◌, ◌++◌, ℤ, Bool, true, false, cond, ◌||◌, List, [], ◌∷◌, Option, Some, None, Result, Ok, Err, is_some, nat_lt, refl, sym, ap, subst}
 use Rattle.std.proofs.lemmas.Bool.{false≢true, or_parts}
 use Rattle.std.specs.List.{list_any}
@@ -30,7 +30,7 @@ pub carried_joined : (by : Carrier) (xs : Objects) (c : Chunk) → joined (carri
 carried_joined (carrier.Put prune) xs c = refl
 carried_joined carrier.Reply xs c = refl
 
--- ---- what an answer says of the message so far: it is the one that is whole, or the one that is awaited
+-- ---- what an answer says about the message so far: it is the one that is whole, or the one that is awaited
 
 abbrev IsWhole : Message → Answer → Type 0
 IsWhole x (Ok (j.Whole y, w)) = (y ≡ x) × (w ≡ None)
@@ -98,7 +98,7 @@ no_last k c x left xs h last = err_ok e.NoBlob (j.Whole x, left) (subst (Last k 
 whole_is : (x y : Message) (left : Option Awaited) (r : Answer) → IsWhole y r → r ≡ Ok (j.Whole x, left) → x ≡ y
 whole_is x y left r w h = (subst (IsWhole y) h w).0
 
--- what holds behind each message that may be awaited then
+-- what holds after each message that may be awaited then
 abbrev Runs : Header → Chunk → Message → Option Awaited → List (Header × Message) → Type 0
 Runs k c x left xs = (w : Awaited) → Last k c x left (awaited_after (Some w) xs) → x ≡ whole_from (so_far w) (chunks_among xs ++ m.Store (s.Chunk c) ∷ [])
 

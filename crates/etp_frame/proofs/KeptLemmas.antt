@@ -1,4 +1,4 @@
--- What a joiner keeps behind a piece.
+-- What a joiner keeps after a piece.
 use Rattle.std.proofs.Common.{◌≡◌, ◌∙◌, ◌++◌, ◌+◌, ◌-◌, ◌<◌, ◌≤◌, ℕ, ℤ, Bool, true, false, cond, not, ◌&&◌, List, [], length, Option, Some, None, nat_lt, int_eq, refl, sym, ap, subst, arith}
 use Rattle.std.proofs.lemmas.Bool.{false≢true}
 use Rattle.std.proofs.lemmas.Bool.Decides.{nat_tests}
@@ -99,7 +99,7 @@ grows_whole w h = sym (ap (λ (t : Bool). cond t (j.More, Some w) (j.Whole (carr
 pub more_awaited : (correlation : ℤ) (carrier : Carrier) (xs : Objects) → 0 < awaiting xs → (j.More, Some (record { correlation = correlation; carrier = carrier; objects = xs; begun = None })) ≡ grows (record { correlation = correlation; carrier = carrier; objects = xs; begun = None })
 more_awaited correlation carrier xs h = grows_more (record { correlation = correlation; carrier = carrier; objects = xs; begun = None }) (one_awaits xs h)
 
--- the same where correlation and objects went another way
+-- the same if correlation and objects are reached another way
 pub opened_more : (same correlation : ℤ) (carrier : Carrier) (ys xs : Objects) → same ≡ correlation → ys ≡ xs → 0 < awaiting xs
     → (j.More, Some (record { correlation = same; carrier = carrier; objects = ys; begun = None })) ≡ grows (record { correlation = correlation; carrier = carrier; objects = xs; begun = None })
 opened_more same correlation carrier ys xs is are h =
@@ -112,7 +112,7 @@ module _ (correlation : ℤ) (carrier : Carrier) (begun : Option (List ℕ)) (pi
   abbrev pub old : Awaited
   old = record { correlation = correlation; carrier = carrier; objects = gathered begun pieces xs; begun = begun }
 
-  -- what is seen behind the piece
+  -- what is seen after the piece
   seen : (ys : Objects) (now : Option (List ℕ)) → fed xs (with_pieces pieces c) ≡ ys → cond c.last None (Some c.blob_id) ≡ now → with_piece old c ≡ record { correlation = correlation; carrier = carrier; objects = ys; begun = now }
   seen ys now objects begun' =
       let all = gathered_more begun pieces xs c is_begun same ∙ objects in

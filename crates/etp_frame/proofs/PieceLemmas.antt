@@ -30,7 +30,7 @@ module _ (c : Chunk) (x : Object) (xs : Objects) where
   pub fed_later : awaits c.blob_id x ≡ false → fed (x ∷ xs) c ≡ x ∷ fed xs c
   fed_later h = ap (λ (t : Bool). cond t (with_data x c ∷ xs) (x ∷ fed xs c)) h
 
--- ---- two pieces of one blob are one
+-- ---- two pieces of one blob act as one
 
 module _ (id a b : List ℕ) (last : Bool) where
   abbrev second : Chunk
@@ -154,7 +154,7 @@ pub one_awaits : (xs : Objects) → 0 < awaiting xs → list_any awaits_any xs �
 one_awaits [] h = absurd (omega arith)
 one_awaits (x ∷ xs) h = one_at x.1.blob_id (awaiting xs) (list_any awaits_any xs) h (one_awaits xs)
 
--- ---- an object that awaits a blob has no data beside it
+-- ---- an object that awaits a blob has no data besides
 
 single_at : (id b : List ℕ) (x : Object) (xs : Objects) (t : Bool) → awaits id x ≡ t → list_any is_double (x ∷ xs) ≡ false
     → (list_any is_double xs ≡ false → list_any is_double (fed xs (last_piece id b)) ≡ false) → list_any is_double (fed (x ∷ xs) (last_piece id b)) ≡ false

@@ -1,4 +1,4 @@
--- Where the objects stand that await blobs.
+-- The indexes of the objects that await blobs.
 use Rattle.std.proofs.Common.{◌≡◌, ◌∙◌, ◌++◌, ◌+◌, ◌-◌, ◌<◌, ◌≤◌, ℕ, zero, suc, Bool, true, false, cond, ◌||◌, List, [], ◌∷◌, length, get_or, drop, drop-cons, slice_set, Option, Some, None, is_some, is_none, refl, sym, ap, subst, arith}
 use Rattle.std.proofs.lemmas.Bool.{false≢true, or_parts, or_right}
 use Rattle.std.proofs.lemmas.Map.Text.{is_eq-slice_cmp}
@@ -13,13 +13,13 @@ use Rattle.etp_frame.specs.Joining.{Objects, is_blob, awaits, is_double, is_awai
 use Rattle.etp_frame.specs.Kept.{last_piece, place_from, any_but, awaits_at, filled_at, Finds, FindsEach, AddsPlace, place_at}
 use Rattle.etp_frame.proofs.PieceLemmas.{Object, fed_here, fed_later, length_fed, no_data}
 
--- ---- one place
+-- ---- one index
 
 or_false : (a b : Bool) → b ≡ false → (a || b) ≡ a
 or_false true b h = refl
 or_false false b h = h
 
--- only the object at the place can await the blob
+-- only the object at the index can await the blob
 pub any_at_place : (k : ℕ) (id : List ℕ) (xs : Objects) → any_but k id xs ≡ false → list_any (awaits id) xs ≡ awaits_at k id xs
 any_at_place k id [] h = refl
 any_at_place zero id (x ∷ xs) h = or_false (awaits id x) (list_any (awaits id) xs) h
@@ -27,7 +27,7 @@ any_at_place (suc k) id (x ∷ xs) h =
     let p = or_parts (awaits id x) (any_but k id xs) h in
     ap (λ (t : Bool). t || list_any (awaits id) xs) p.0 ∙ any_at_place k id xs p.1
 
--- the last piece goes to the object at the place
+-- the last piece goes to the object at the index
 pub fed_filled : (k : ℕ) (id bytes : List ℕ) (xs : Objects) → any_but k id xs ≡ false → awaits_at k id xs ≡ true → list_any is_double xs ≡ false → fed xs (last_piece id bytes) ≡ filled_at k bytes xs
 fed_filled k id bytes [] h at none = refl
 fed_filled zero id bytes (x ∷ xs) h at none =
@@ -39,7 +39,7 @@ fed_filled (suc k) id bytes (x ∷ xs) h at none =
     let d = or_parts (is_double x) (list_any is_double xs) none in
     fed_later (last_piece id bytes) x xs p.0 ∙ ap (λ (l : Objects). x ∷ l) (fed_filled k id bytes xs p.1 at d.1)
 
--- ---- a table of places serves on behind a piece
+-- ---- a table of indexes remains valid after a piece
 
 grown_less : (last : Bool) (own : Option (List ℕ)) (q : List ℕ) → is_blob own q ≡ false → is_blob (cond last None own) q ≡ false
 grown_less true own q h = refl
@@ -82,7 +82,7 @@ finds_fed c (Some k) q xs h = (omega (arith, length_fed c xs, h.0), but_fed c k 
 pub finds_each_fed : (c : Chunk) (entries : List (List ℕ × ℕ)) (xs : Objects) → FindsEach entries xs → FindsEach entries (fed xs c)
 finds_each_fed c entries xs h q = finds_fed c (place_at entries q) q xs (h q)
 
--- ---- how a table of places is made
+-- ---- how a table of indexes is built
 
 some_place : (k : ℕ) (id : List ℕ) (xs : Objects) → is_some (place_from k id xs) ≡ list_any (awaits id) xs
 some_place k id [] = refl
@@ -92,7 +92,7 @@ some_place k id (x ∷ xs) = at (awaits id x) (place_from (suc k) id xs) (list_a
     at true later any h = refl
     at false later any h = h
 
--- what the table finds is the place of the first object that awaits the blob, and no two await the same
+-- what the table finds is the index of the first object that awaits the blob, and no two await the same
 pub record Places (k : ℕ) (entries : List (List ℕ × ℕ)) (xs : Objects) : Type 0 where
   pub exact : (q : List ℕ) → place_at entries q ≡ place_from k q xs
   pub apart : shares_blob xs ≡ false
@@ -128,13 +128,13 @@ shares_drop zero xs h = h
 shares_drop (suc k) [] h = h
 shares_drop (suc k) (x ∷ xs) h = or_right (is_awaited x.1.blob_id xs) (shares_blob xs) (shares_drop k xs h)
 
--- ---- where no two objects await one blob, a place leaves no other object
+-- ---- if no two objects await one blob, an index leaves no other object
 
 same_blob : (own : Option (List ℕ)) (id : List ℕ) (xs : Objects) → is_blob own id ≡ true → is_awaited own xs ≡ false → list_any (awaits id) xs ≡ false
 same_blob None id xs h none = absurd (false≢true h)
 same_blob (Some own) id xs h none = subst (λ (i : List ℕ). list_any (awaits i) xs ≡ false) ((bytes_eq-Decides own id).0 h) none
 
--- the place of an object in a list whose first place is k
+-- the index of an object in a list whose first index is k
 abbrev Behind : ℕ → Option ℕ → List ℕ → Objects → Type 0
 Behind k None id xs = list_any (awaits id) xs ≡ false
 Behind k (Some n) id xs = (d : ℕ) × (n ≡ k + d) × (d < length xs) × (any_but d id xs ≡ false)
@@ -164,12 +164,12 @@ finds_each entries xs p q = subst (λ (found : Option ℕ). Finds found q xs) (s
 pub place_added : (id q : List ℕ) (k : ℕ) (old : Option ℕ) → cond (is_at (slice_cmp nat_cmp id) q) (Some k) old ≡ cond (bytes_eq id q) (Some k) old
 place_added id q k old = ap (λ (t : Bool). cond t (Some k) old) (is_eq-slice_cmp id q)
 
--- what a table finds behind an insertion
+-- what a table finds after an insertion
 pub adds_place : (added : Bool) (own : Option (List ℕ)) (id : List ℕ) (k : ℕ) (old with_it : List (List ℕ × ℕ)) → own ≡ Some id → added ≡ is_none (place_at old id)
     → ((q : List ℕ) → place_at with_it q ≡ cond (is_at (slice_cmp nat_cmp id) q) (Some k) (place_at old q)) → AddsPlace added own k old with_it
 adds_place added own id k old with_it is new each = subst (λ (o : Option (List ℕ)). AddsPlace added o k old with_it) (sym is) (new, λ q. each q ∙ place_added id q k (place_at old q))
 
--- ---- reading and writing at a place
+-- ---- reading and writing at an index
 
 pub awaits_read : (k : ℕ) (id : List ℕ) (xs : Objects) (d : Object) → k < length xs → awaits_at k id xs ≡ awaits id (get_or xs k d)
 awaits_read k id [] d h = absurd (omega arith)
@@ -194,7 +194,7 @@ fed_none c (x ∷ xs) h =
     let p = or_parts (awaits c.blob_id x) (list_any (awaits c.blob_id) xs) h in
     fed_later c x xs p.0 ∙ ap (λ (l : Objects). x ∷ l) (fed_none c xs p.1)
 
--- ---- a table is made from the last object on
+-- ---- a table is built from the last object on
 
 module _ (xs : Objects) (x : Object) (added : Bool) (old with_it : List (List ℕ × ℕ)) where
   at_suc : (k : ℕ) → k < length xs → x ≡ get_or xs k x → drop k xs ≡ x ∷ drop (suc k) xs

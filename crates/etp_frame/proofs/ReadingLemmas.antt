@@ -19,7 +19,7 @@ use Rattle.etp_frame.proofs.RowLemmas.{row_kind}
 abbrev pub Read : Type 0
 Read = Header × (ℕ × Value)
 
--- the steps of reading a tree behind the header
+-- the steps of reading a tree after the header
 abbrev pub with_value : Header → ℕ → Value → Result Read FrameError
 with_value h place value = Ok (h, (place, value))
 
@@ -46,7 +46,7 @@ not_admitted side bytes front e h a =
     ap (λ (r : Result (Header × ℕ) FrameError). r >>= with_header side bytes) h
     ∙ ap (λ (r : Result (Unit {0}) FrameError). r >>= with_leave side bytes front) a
 
--- where the header is read and admitted, what stands behind it decides
+-- if the header is read and admitted, what follows it decides
 behind : (side : Side) (bytes : List ℕ) (front : Header × ℕ) (o : Option ℕ) → header_in bytes ≡ Ok front → admitted front.0 ≡ Ok tt → body_place front.0.protocol front.0.kind side ≡ o → tree_of side bytes ≡ (known_place front.0 o >>= with_place bytes front)
 unfolding tree_of
 behind side bytes front o h a p =

@@ -28,7 +28,7 @@ module _ (F : BodyRow → Option (Kind Message) → Type 0) where
         | false ↦ λ t h. row_has ks rows kind side r a.1 h
       ] refl e
 
-  -- so it is in each protocol
+  -- the same in each protocol
   abbrev pub Agree : List ProtocolRow → List Protocol → Type 0
   Agree [] [] = Unit {0}
   Agree [] (q ∷ qs) = ⊥

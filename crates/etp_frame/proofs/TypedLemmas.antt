@@ -1,4 +1,4 @@
--- What reading a body as a message says of reading it.
+-- What reading a body as a message says about reading it.
 use Rattle.std.proofs.Common.{◌≡◌, ◌≢◌, ◌∙◌, ◌⊎◌, inl, inr, ℕ, ℤ, pos, ◌+◌, ◌-◌, List, [], ◌∷◌, ◌++◌, Option, Some, None, Result, Ok, Err, Bool, true, false, if◌then◌else◌, is_some, length, drop, refl, sym, ap, subst}
 use Rattle.std.specs.Prelude.{◌==◌}
 use Rattle.std.proofs.lemmas.Option.{same_Some}
@@ -88,7 +88,7 @@ module _ {M : Type 0} (whole : M → Message) (ks : List (Kind M)) (z : ℤ) (n 
       let moved = ap (λ (j : ℤ). kind_in (common_kinds ++ under whole ks) j) same in
       subst (λ (q : Read (Option Message × ℕ)). Reads q result at) (ap (λ (o : Option (Kind Message)). kind_at o n bytes) (sym front ∙ moved)) h
 
-  -- what no other protocol has is read of the enum
+  -- what no other protocol has is read from the enum
   at_behind : is_some (kind_in common_kinds i) ≡ false → kind_at (kind_in (common_kinds ++ under whole ks) z) n bytes ≡ kind_at (kind_in (under whole ks) z) n bytes
   at_behind none = ap (λ (o : Option (Kind Message)). kind_at o n bytes) (kind_behind common_kinds (under whole ks) z (ap (λ (j : ℤ). is_some (kind_in common_kinds j)) (sym same) ∙ none))
 
@@ -129,7 +129,7 @@ core_read z n bytes {i = i} same result at found h =
     let moved = ap (λ (j : ℤ). kind_in common_kinds j) same in
     subst (λ (q : Read (Option Message × ℕ)). Reads q result at) (ap (λ (o : Option (Kind Message)). kind_at o n bytes) (core ∙ moved)) h
 
--- where no message has the number, nothing is read
+-- if no message has the number, nothing is read
 pub none_read : (o : Option (Kind Message)) (n : ℕ) (bytes : List ℕ) → is_some o ≡ false → kind_at o n bytes ≡ Ok ((None, n), bytes)
 none_read None n bytes h = refl
 none_read (Some k) n bytes h = absurd (let no : true ≡ false = h in cc)
@@ -141,7 +141,7 @@ front_kind side h size place bytes is =
     let k = row_kind h.protocol h.kind side row.0 row.1 in
     (k.0, k.1, k.2 ∙ row.2)
 
--- what was read behind a front, of the bytes behind it
+-- what was read after a front, from the bytes after it
 module _ (side : Side) (h : Header) (size place : ℕ) (bytes : List ℕ) (is : IsFront side h size place bytes) (k : Kind Message) (typed : typed_kind h.protocol h.kind ≡ Some k) (own : k.schema ≡ shape_at place) {behind : List ℕ} (all : behind ≡ drop size bytes) where
   -- as what a body is read there
   body_is : body_in h (shape_at place) size bytes ≡ as_body h size (length behind) (read_value k.schema node_limit behind)
@@ -174,17 +174,17 @@ error_is h front why.BlockSize offset = refl
 error_is h front why.DoubleKey offset = refl
 error_is h front why.Limit offset = refl
 
--- what is answered of a body of the kind k that is to stand in these bytes behind so many others
+-- what is answered for a body of kind k that is expected in these bytes after a given number of others
 abbrev Expected : Header → Kind Message → ℕ → List ℕ → Result Message FrameError → Type 0
 Expected h k front bytes result = GivesMessage k result (as_body h front (length bytes) (read_value k.schema node_limit bytes))
 
--- The body of a message of the kind k that was read of bytes behind so many others. A call got the header's numbers as p and q,
--- and what it read from as n and from.
+-- The body of a message of kind k that was read from bytes after a given number of others. A call got the header's numbers as p and q, and
+-- what it read from as n and from.
 module _ (h : Header) (k : Kind Message) (front : ℕ) (bytes : List ℕ) {p q : ℤ} (protocol : p ≡ h.protocol) (number : q ≡ h.kind) {n : ℕ} (limit : n ≡ node_limit) {from : List ℕ} (all : from ≡ bytes) (typed : typed_kind h.protocol h.kind ≡ Some k) where
   kind_is : kind_at (Some k) node_limit bytes ≡ kind_at (typed_kind p q) n from
   kind_is = ap (λ (o : Option (Kind Message)). kind_at o node_limit bytes) (sym typed) ∙ (λ i. kind_at (typed_kind (sym protocol i) (sym number i)) (sym limit i) (sym all i))
 
-  -- a message was read, and the body ends where it is to end
+  -- a message was read, and the body ends where it is supposed to
   pub ended_gives : (x : Message) {y : Option Message} (left : ℕ) (rest : List ℕ) (len : ℕ) (result : Result Message FrameError) → y ≡ Some x → kind_at (typed_kind p q) n from ≡ Ok ((y, left), rest) → len ≡ length bytes - length rest
       → result ≡ (if len == length bytes then Ok x else Err (f.Rest h (front + len))) → Expected h k front bytes result
   ended_gives x left rest len result is read at ended =

@@ -45,7 +45,7 @@ fed_by xs (c ∷ cs) = fed_by (fed xs c) cs
 abbrev as_message : Chunk → Message
 as_message c = m.Store (s.Chunk c)
 
--- an object of which so many bytes came
+-- an object of which this many bytes came
 abbrev partly : Object → List ℕ → List ℕ → Object
 partly x id bytes = (x.0, record x.1 { blob_id = Some id; payload = bytes })
 
@@ -60,7 +60,7 @@ chunks_fed size id (suc k) front x later so_far bytes free =
     ∙ chunks_fed size id k front x later (so_far ++ take size bytes) (drop size bytes) free
     ∙ ap (λ (b : List ℕ). front ++ wholly x b ∷ later) (append_assoc so_far (take size bytes) (drop size bytes) ∙ ap (λ (b : List ℕ). so_far ++ b) (take-append-drop size bytes))
 
--- an object as it is sent becomes this one with its chunks, which awaits nothing
+-- an object as it is sent becomes this one with its chunks, and awaits nothing
 pub record Restores (x : Sent) (y : Object) : Type 0 where
   pub back : (front later : Objects) → list_any awaits_any front ≡ false → fed_by (front ++ x.object ∷ later) x.chunks ≡ front ++ y ∷ later
   pub done : awaits_any y ≡ false
@@ -113,7 +113,7 @@ none_all (x ∷ xs) [] front r free = absurd r
 none_all (x ∷ xs) (y ∷ ys) front r free =
     ap (list_any awaits_any) (sym (append_assoc front (y ∷ []) ys)) ∙ none_all xs ys (front ++ y ∷ []) r.1 (none_more front y free r.0.done)
 
--- the message that brings objects takes chunks of their data
+-- the message that carries objects takes chunks of their data
 module _ (again : Objects → Message) (takes : (xs : Objects) (c : Chunk) → joined (again xs) (m.Store (s.Chunk c)) ≡ again (fed xs c)) where
   whole_fed : (xs : Objects) (cs : List Chunk) (rest : List Message) → whole_from (again xs) (map as_message cs ++ rest) ≡ whole_from (again (fed_by xs cs)) rest
   whole_fed xs [] rest = refl
@@ -131,7 +131,7 @@ module _ (again : Objects → Message) (takes : (xs : Objects) (c : Chunk) → j
       ∙ all_fed xs ys (front ++ y ∷ []) rest r.1 (none_more front y free r.0.done)
       ∙ ap (λ (l : Objects). whole_from (again l) rest) (append_assoc front (y ∷ []) ys)
 
-  -- a message with its chunks behind it
+  -- a message followed by its chunks
   pub with_chunks_whole : (xs : List Sent) (ys : Objects) → RestoresAll xs ys → whole (with_chunks again xs) ≡ Some (again ys)
   with_chunks_whole xs ys r = ap (λ (l : List Message). Some (whole_from (again (objects_of xs)) l)) (sym (append-nil (chunk_messages xs))) ∙ ap (λ (z : Message). Some z) (all_fed xs ys [] [] r refl)
 

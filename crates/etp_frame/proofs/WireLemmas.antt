@@ -1,4 +1,4 @@
--- The wire form is what reading answers, and what is written is of it.
+-- The wire form is what reading answers, and what is written has it.
 use Rattle.std.proofs.Common.{◌≡◌, ℕ, pos, ◌+◌, ◌-◌, ◌<◌, ◌≤◌, Bool, true, false, List, [], ◌++◌, Option, Some, None, Result, Ok, Err, length, take, drop, refl, sym, ap, subst, ◌∙◌, arith, if◌then◌else◌}
 use Rattle.std.specs.Prelude.{◌==◌}
 use Rattle.std.proofs.lemmas.Bool.{eqb-true, eq-eqb}
@@ -60,7 +60,7 @@ body_read h s v front bytes back e spelled few =
     ∙ ap (as_body h front (length back)) r
     ∙ ap (λ (b : Bool). if b then Ok v else Err (f.Rest h (front + length back))) (eq-eqb (length back) (length back) refl)
 
--- what a kind reads, where there is one
+-- what a kind reads, if there is one
 found_some : (b : Body) (x : Message) (o : Option (Kind Message)) → Reads b x o → (k : Kind Message) × (o ≡ Some k) × (HasSchema b.schema b.value → k.read b.value ≡ x)
 found_some b x None r = absurd r
 found_some b x (Some k) r = (k, refl, r.1)
@@ -172,7 +172,7 @@ reads_whole side h x bytes fits = (read_is_message side h x bytes fits, message_
 pub one_message : OneReading
 one_message side h k x y bytes v w = ok_pair h k x y (sym (message_read side h x bytes v) ∙ message_read side k y bytes w)
 
--- what is written is of the wire form
+-- what is written has the wire form
 pub written_form : (side : Side) (h : Header) (x : Message) → IsPlain h → Names h x → Sends side h x → Fits h x → IsMessage side h x (message_bytes h x)
 written_form side h x plainly named sent fits = record {
   front = plain (header_form.as_value h);

@@ -12,7 +12,7 @@ use Rattle.etp_frame.specs.declared.message.Message.TheVariants as m
 use Rattle.etp_frame.specs.Grouping.{Amount, entry_amount}
 use Rattle.etp_frame.specs.declared.sending.Sent.{Sent}
 
--- how many bytes a chunk has that is not the last
+-- how many bytes each chunk but the last has
 abbrev pub chunk_size : ℕ → ℕ
 chunk_size limit = max (limit / 2) 1
 
@@ -24,14 +24,14 @@ is_long limit bytes = nat_lt (limit / 2) (length bytes)
 abbrev pub blob_id : ℕ → ℕ → List ℕ
 blob_id number k = to_be_bytes w64 number ++ to_be_bytes w64 k
 
--- the count of blobs behind one more; it stands still at the greatest number of 64 bits
+-- the count of blobs after one more; it stops at the greatest 64-bit number
 abbrev pub next_blob : ℕ → ℕ
 next_blob k = min (k + 1) (2 ^ 64 - 1)
 
 abbrev pub chunk : List ℕ → List ℕ → Bool → Chunk
 chunk id bytes last = record { blob_id = id; payload = bytes; last = last }
 
--- bytes in chunks of one size, with so many in front of the last, which has the rest
+-- bytes in chunks of one size, with this many before the last, which has the rest
 abbrev pub chunks_from : ℕ → List ℕ → ℕ → List ℕ → List Chunk
 chunks_from size id zero bytes = chunk id bytes true ∷ []
 chunks_from size id (suc k) bytes = chunk id (take size bytes) false ∷ chunks_from size id k (drop size bytes)
@@ -48,7 +48,7 @@ in_place x = record { object = x; chunks = [] }
 abbrev pub in_chunks : ℕ → List ℕ → (List ℕ × DataObject) → Sent
 in_chunks size id x = record { object = (x.0, record x.1 { blob_id = Some id; payload = [] }); chunks = chunks_of size id x.1.payload }
 
--- objects as they are sent, where so many blobs were sent in the session before
+-- objects as they are sent, if this many blobs were sent in the session before
 abbrev pub as_sent : ℕ → ℕ → ℕ → Objects → List Sent
 as_sent limit number k [] = []
 as_sent limit number k (x ∷ xs) =
@@ -67,6 +67,6 @@ sent_amount x = entry_amount data_object_form x.object
 abbrev pub chunk_messages : List Sent → List Message
 chunk_messages xs = flat_map (λ x. map (λ c. m.Store (s.Chunk c)) x.chunks) xs
 
--- a message with objects, and behind it the chunks of their data in the order of the objects
+-- a message with objects, followed by the chunks of their data in the order of the objects
 abbrev pub with_chunks : (Objects → Message) → List Sent → List Message
 with_chunks again xs = again (map (λ x. x.object) xs) ∷ chunk_messages xs

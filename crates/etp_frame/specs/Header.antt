@@ -24,7 +24,7 @@ compressed = pos 8
 abbrev pub acknowledge : ℤ
 acknowledge = pos 16
 
--- the bit of a header extension that stands before the body
+-- the bit of a header extension before the body
 abbrev pub extended : ℤ
 extended = pos 32
 

@@ -13,17 +13,17 @@ use Rattle.etp_frame.specs.declared.joining.JoinError.{JoinError}
 use Rattle.etp_frame.specs.declared.message.Message.{Message}
 use Rattle.etp_frame.specs.declared.message.Message.TheVariants as m
 
--- what a joiner awaits behind its answer: nothing, behind a refusal
+-- what a joiner awaits after its answer: nothing, after a refusal
 abbrev pub awaited_behind : Result (Joined × Option Awaited) JoinError → Option Awaited
 awaited_behind (Ok r) = r.1
 awaited_behind (Err e) = None
 
--- what a joiner awaits behind messages
+-- what a joiner awaits after messages
 abbrev pub awaited_after : Option Awaited → List (Header × Message) → Option Awaited
 awaited_after w [] = w
 awaited_after w (x ∷ xs) = awaited_after (awaited_behind (joins w x.0 x.1)) xs
 
--- a message brings objects
+-- a message carries objects
 abbrev pub store_brings : StoreMessage → Bool
 store_brings (s.PutDataObjects x) = true
 store_brings (s.GetDataObjectsResponse x) = true
@@ -47,8 +47,8 @@ abbrev pub chunks_among : List (Header × Message) → List Message
 chunks_among [] = []
 chunks_among (x ∷ xs) = chunk_of x.1 ++ chunks_among xs
 
--- A message that is whole with a chunk is put together of the message with objects that the joiner took first, all chunks
--- that it took since, and this one, whatever other messages came between them.
+-- A message that is whole with a chunk is composed of the message with objects that the joiner took first, all chunks that it took since,
+-- and this one, whatever other messages came between them.
 abbrev pub JoinsWhole : Type 0
 JoinsWhole =
     (h k : Header) (first : Message) (between : List (Header × Message)) (c : Chunk) (x : Message) (left : Option Awaited) → brings_objects first ≡ true → list_any (λ y. brings_objects y.1) between ≡ false

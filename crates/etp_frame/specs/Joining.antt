@@ -1,4 +1,4 @@
--- Objects and the chunks of their data, put together.
+-- Objects and the chunks of their data, joined.
 use Rattle.std.specs.Prelude.{ℕ, ℤ, Bool, false, not, ◌&&◌, ◌||◌, ◌+◌, List, [], ◌∷◌, ◌++◌, length, Option, Some, None, is_some, Result, Ok, Err, nat_lt, if◌then◌else◌}
 use Rattle.std.specs.List.{list_any}
 use Rattle.std.specs.Ordering.{int_eq}
@@ -17,7 +17,7 @@ use Rattle.etp_frame.specs.declared.joining.JoinError.TheVariants as e
 use Rattle.etp_frame.specs.declared.message.Message.{Message}
 use Rattle.etp_frame.specs.declared.message.Message.TheVariants as m
 
--- objects by their keys, as a message brings them
+-- objects by their keys, as a message carries them
 abbrev pub Objects : Type 0
 Objects = List (List ℕ × DataObject)
 
@@ -36,7 +36,7 @@ awaits id x = is_blob x.1.blob_id id
 abbrev pub awaits_any : (List ℕ × DataObject) → Bool
 awaits_any x = is_some x.1.blob_id
 
--- an object awaits a blob though it has data
+-- an object awaits a blob although it has data
 abbrev pub is_double : (List ℕ × DataObject) → Bool
 is_double x = awaits_any x && nat_lt 0 (length x.1.payload)
 
@@ -55,7 +55,7 @@ abbrev pub data_size : Objects → ℕ
 data_size [] = 0
 data_size (x ∷ xs) = length x.1.payload + data_size xs
 
--- how many bytes of data the objects of one message have at most
+-- the maximum total size of the data of one message's objects, in bytes
 abbrev pub data_limit : ℕ
 data_limit = 67108864
 
@@ -65,7 +65,7 @@ data_limit = 67108864
 abbrev pub grown : DataObject → Chunk → DataObject
 grown o c = record o { blob_id = if c.last then None else o.blob_id; payload = o.payload ++ c.payload }
 
--- the first object that awaits a piece's blob has the piece
+-- the first object that awaits a piece's blob gets the piece
 abbrev pub fed : Objects → Chunk → Objects
 fed [] c = []
 fed (x ∷ xs) c = if awaits c.blob_id x then (x.0, grown x.1 c) ∷ xs else x ∷ fed xs c
@@ -77,15 +77,15 @@ carried carrier.Reply xs = m.Store (s.GetDataObjectsResponse (record { data_obje
 
 -- ---- the joiner
 
--- A message that awaits data: the correlation of its chunks, what brings its objects, the objects with the data that came
--- so far, and the blob of which a piece came and the last did not.
+-- A message that awaits data: the correlation of its chunks, what carries its objects, the objects with the data that have come so far, and
+-- the blob of which a piece has come and the last has not.
 pub record Awaited : Type 0 where
   pub correlation : ℤ
   pub carrier : Carrier
   pub objects : Objects
   pub begun : Option (List ℕ)
 
--- what there is of a message: all of it, where no object awaits data
+-- what there is of a message: all of it, if no object awaits data
 abbrev pub grows : Awaited → Joined × Option Awaited
 grows w = if list_any awaits_any w.objects then (j.More, Some w) else (j.Whole (carried w.carrier w.objects), None)
 
@@ -97,7 +97,7 @@ came w correlation carrier xs =
     else if nat_lt data_limit (data_size xs) then Err e.TooLong
     else Ok (grows (record { correlation = correlation; carrier = carrier; objects = xs; begun = None }))
 
--- another blob than this one is begun
+-- a blob other than this one has begun
 abbrev pub is_other : Option (List ℕ) → List ℕ → Bool
 is_other None id = false
 is_other (Some begun) id = not (bytes_eq begun id)
@@ -130,8 +130,8 @@ store_came w h (s.GetDataObjectsResponse x) = came w h.correlation carrier.Reply
 store_came w h (s.Chunk c) = chunk_came w h.correlation c
 store_came w h x = Ok (j.Whole (m.Store x), w)
 
--- What a joiner answers to a message, and what it awaits then, from what it awaited; or why it refuses the message. It
--- awaits nothing behind a refusal.
+-- What a joiner answers to a message, and what it awaits then, from what it awaited; or why it refuses the message. After a refusal it
+-- awaits nothing.
 abbrev pub joins : Option Awaited → Header → Message → Result (Joined × Option Awaited) JoinError
 joins w h (m.Store x) = store_came w h x
 joins w h x = Ok (j.Whole x, w)

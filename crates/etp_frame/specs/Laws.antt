@@ -14,7 +14,7 @@ use Rattle.etp_frame.specs.declared.header.Header.{Header}
 use Rattle.etp_frame.specs.declared.message.Message.{Message}
 use Rattle.etp_frame.specs.declared.error.FrameError.{FrameError}
 
--- bytes are read as a header and message exactly where they are of the wire form
+-- bytes are read as a header and message exactly if they are of the wire form
 abbrev pub ReadsExactly : Type 0
 ReadsExactly = (side : Side) (h : Header) (x : Message) (bytes : List ℕ) → IsBytes bytes → (read_of side bytes ≡ Ok (h, x)) ↔ IsMessage side h x bytes
 
@@ -22,7 +22,7 @@ ReadsExactly = (side : Side) (h : Header) (x : Message) (bytes : List ℕ) → I
 abbrev pub OneReading : Type 0
 OneReading = (side : Side) (h k : Header) (x y : Message) (bytes : List ℕ) → IsMessage side h x bytes → IsMessage side k y bytes → (h ≡ k) × (x ≡ y)
 
--- bytes are refused as a header and message exactly where they are refused as a header and tree, by the same cause
+-- bytes are refused as a header and message exactly if they are refused as a header and tree, for the same reason
 abbrev pub SameRefusals : Type 0
 SameRefusals = (side : Side) (bytes : List ℕ) (e : FrameError) → (read_of side bytes ≡ Err e) ↔ (tree_of side bytes ≡ Err e)
 
@@ -34,14 +34,14 @@ TreeIsBody = (side : Side) (h : Header) (x : Message) (bytes : List ℕ) → IsM
 abbrev pub RowsAreTyped : Type 0
 RowsAreTyped = (protocol kind : ℤ) (side : Side) (row : BodyRow) → row_of protocol kind side ≡ Some row → (k : Kind Message) × (typed_kind protocol kind ≡ Some k) × (k.schema ≡ row.schema)
 
--- such as the types of a message hold: numbers in their ranges, texts of UTF-8, identifiers of sixteen bytes, few enough nodes
+-- a message's types can hold it: numbers in their ranges, texts of UTF-8, identifiers of sixteen bytes, few enough nodes
 pub record Fits (h : Header) (x : Message) : Type 0 where
   pub header : FitsTree (header_form.as_value h)
   pub typed : HasSchema (message_body x).schema (message_body x).value
   pub body : FitsTree (message_body x).value
   pub few : nodes (message_body x).value ≤ node_limit
 
--- what is written of a header and the message that it names is of the wire form, and is read as they are
+-- what is written for a header and the message that it names is of the wire form, and reads back as they are
 abbrev pub WrittenIsRead : Type 0
 WrittenIsRead = (side : Side) (h : Header) (x : Message) → IsPlain h → Names h x → Sends side h x → Fits h x
     → IsMessage side h x (message_bytes h x) × (read_of side (message_bytes h x) ≡ Ok (h, x))

@@ -53,7 +53,7 @@ channel_subscribe_number = 21
 abbrev pub channel_data_load_number : ℕ
 channel_data_load_number = 22
 
--- the protocol in whose enum a message stands
+-- the protocol whose enum has a message
 abbrev pub protocol_of : Message → ℕ
 protocol_of (m.Core x) = core_number
 protocol_of (m.Transaction x) = transaction_number
@@ -117,7 +117,7 @@ protocols =
     protocol channel_subscribe_number (common_kinds ++ under m.ChannelSubscribe channel_subscribe_kinds) ∷
     protocol channel_data_load_number (common_kinds ++ under m.ChannelDataLoad channel_data_load_kinds) ∷ []
 
--- the messages of a protocol; none of a number that no protocol has
+-- the messages of a protocol; none for a number that no protocol has
 abbrev pub kinds_in : List Protocol → ℤ → List (Kind Message)
 kinds_in [] number = []
 kinds_in (p ∷ ps) number = if is_number p.number number then p.kinds else kinds_in ps number

@@ -28,12 +28,12 @@ offset_in (r.DoubleKey offset) = offset
 offset_in (r.Limit offset) = offset
 offset_in r.NoMemory = 0
 
--- what a refusal of the header is answered as
+-- the error for a refusal of the header
 abbrev pub as_header_error : Refusal → FrameError
 as_header_error r.NoMemory = f.NoMemory
 as_header_error e = f.Header e
 
--- what a refusal of the body behind so many bytes is answered as
+-- the error for a refusal of the body, from this offset on
 abbrev pub as_body_error : Header → ℕ → Refusal → FrameError
 as_body_error h front r.NoMemory = f.NoMemory
 as_body_error h front e = f.Body h (shifted front e)
@@ -48,8 +48,8 @@ abbrev pub GivesTree : Result (Header × ℕ × Tree) FrameError → Result (Hea
 GivesTree (Ok r) expected = expected ≡ Ok (r.0, (r.1, value_of r.2))
 GivesTree (Err e) expected = e ≢ f.NoMemory → expected ≡ Err e
 
--- what stands in front of a body: the header of so many bytes, which refuses nothing, and the place of the schema of the body that
--- the side sends with it
+-- what comes before a body: a header of this length, which refuses nothing, and the place of the schema of the body that the side sends
+-- with it
 pub record IsFront (side : Side) (h : Header) (size place : ℕ) (bytes : List ℕ) : Type 0 where
   pub header : header_in bytes ≡ Ok (h, size)
   pub plain : admitted h ≡ Ok tt

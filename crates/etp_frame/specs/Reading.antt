@@ -21,7 +21,7 @@ abbrev pub ◌>>=◌ : {A B : Type 0} → Result A FrameError → (A → Result 
 (Ok x) >>= next = next x
 (Err e) >>= next = Err e
 
--- the header that was read, where one was
+-- the header that was read, if one was
 abbrev pub header_of_error : FrameError → Option Header
 header_of_error (f.Header e) = None
 header_of_error (f.Extension h) = Some h
@@ -32,12 +32,12 @@ header_of_error (f.Body h e) = Some h
 header_of_error (f.Rest h offset) = Some h
 header_of_error f.NoMemory = None
 
--- the bytes are at fault, and not the memory
+-- the cause is in the bytes, and not in the memory
 abbrev pub IsFault : FrameError → Type 0
 IsFault f.NoMemory = ⊥
 IsFault e = Unit {0}
 
--- a refusal so many bytes further on
+-- a refusal this many bytes further on
 abbrev pub shifted : ℕ → Refusal → Refusal
 shifted by (r.Short offset) = r.Short (by + offset)
 shifted by (r.Number offset) = r.Number (by + offset)
@@ -55,11 +55,11 @@ abbrev pub as_header : Result (Value × ℕ) Refusal → Result (Header × ℕ) 
 as_header (Ok x) = Ok (header_form.from_value x.0, x.1)
 as_header (Err e) = Err (f.Header e)
 
--- the header at the front of the bytes, and how many of them spell it
+-- the header at the front of the bytes, and the length of its spelling
 abbrev pub header_in : List ℕ → Result (Header × ℕ) FrameError
 header_in bytes = as_header (read_value header_form.schema node_limit bytes)
 
--- nothing, where a header has neither an extension nor a compressed body, and a protocol has its number
+-- nothing, if a header has neither an extension nor a compressed body, and a protocol has its number
 abbrev pub admitted : Header → Result (Unit {0}) FrameError
 admitted h =
     if has_flag h.flags extended then Err (f.Extension h)
@@ -67,17 +67,17 @@ admitted h =
     else if is_protocol h.protocol then Ok tt
     else Err (f.UnknownProtocol h)
 
--- the place of the schema of a body, where there is such a message
+-- the place of the schema of a body, if there is such a message
 abbrev pub known_place : Header → Option ℕ → Result ℕ FrameError
 known_place h (Some place) = Ok place
 known_place h None = Err (f.UnknownKind h)
 
--- the value of a body of so many bytes that stands behind so many bytes, if it ends with them
+-- the value of a body of a given length at a given offset, if it ends with the bytes
 abbrev pub as_body : Header → ℕ → ℕ → Result (Value × ℕ) Refusal → Result Value FrameError
 as_body h front size (Ok x) = if x.1 == size then Ok x.0 else Err (f.Rest h (front + x.1))
 as_body h front size (Err e) = Err (f.Body h (shifted front e))
 
--- the body's value behind so many bytes
+-- the value of the body from this offset on
 abbrev pub body_in : Header → Schema → ℕ → List ℕ → Result Value FrameError
 body_in h s front bytes = as_body h front (length (drop front bytes)) (read_value s node_limit (drop front bytes))
 

@@ -40,8 +40,8 @@ dataspace_parts limit (d.PutDataspacesResponse x) = map (λ g. m.Dataspace (d.Pu
 dataspace_parts limit (d.DeleteDataspacesResponse x) = map (λ g. m.Dataspace (d.DeleteDataspacesResponse (record x { success = g }))) (groups (entry_amount text_form) limit x.success)
 dataspace_parts limit x = m.Dataspace x ∷ []
 
--- A put is one message, whatever its size, with the chunks of its objects behind it. A reply with objects has its parts, each
--- with the chunks of its own objects.
+-- A put is one message, whatever its size, followed by the chunks of its objects. A reply with objects has its parts, each with the chunks
+-- of its own objects.
 abbrev pub put_parts : ℕ → ℕ → ℕ → PutDataObjects → List Message
 put_parts limit number k x = with_chunks (λ g. m.Store (s.PutDataObjects (record x { data_objects = g }))) (as_sent limit number k x.data_objects)
 
@@ -83,8 +83,8 @@ channel_data_load_parts limit (load.ChannelsClosed x) = map (λ g. m.ChannelData
 channel_data_load_parts limit (load.TruncateChannelsResponse x) = map (λ g. m.ChannelDataLoad (load.TruncateChannelsResponse (record x { channels_truncated_time = g }))) (groups (entry_amount long_form) limit x.channels_truncated_time)
 channel_data_load_parts limit x = m.ChannelDataLoad x ∷ []
 
--- The parts of a message that is sent where messages have at most `limit` bytes, in the session of a number, in which so many
--- blobs were sent before.
+-- The parts of a message that is sent if messages have at most `limit` bytes, in the session of a number, in which this many blobs were
+-- sent before.
 abbrev pub parts : ℕ → ℕ → ℕ → Message → List Message
 parts limit number k (m.Core x) = core_parts limit x
 parts limit number k (m.Transaction x) = m.Transaction x ∷ []
@@ -100,19 +100,19 @@ store_blobs limit (s.PutDataObjects x) = long_objects limit x.data_objects
 store_blobs limit (s.GetDataObjectsResponse x) = long_objects limit x.data_objects
 store_blobs limit x = 0
 
--- how many objects of a message have their data sent in chunks, where messages have at most so many bytes
+-- how many objects of a message have their data sent in chunks, if messages have at most this many bytes
 abbrev pub blobs_in : ℕ → Message → ℕ
 blobs_in limit (m.Store x) = store_blobs limit x
 blobs_in limit x = 0
 
--- a message that was not split: no chunk, and without an object that awaits data
+-- a message that was not split: not a chunk, and without an object that awaits data
 abbrev pub store_unsent : StoreMessage → Bool
 store_unsent (s.PutDataObjects x) = not (list_any awaits_any x.data_objects)
 store_unsent (s.GetDataObjectsResponse x) = not (list_any awaits_any x.data_objects)
 store_unsent (s.Chunk x) = false
 store_unsent x = true
 
--- the same of a message of any protocol
+-- the same for a message of any protocol
 abbrev pub is_unsent : Message → Bool
 is_unsent (m.Store x) = store_unsent x
 is_unsent x = true

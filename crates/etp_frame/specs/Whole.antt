@@ -1,5 +1,5 @@
--- A message put together of its parts and chunks: the items of the one field that grows are appended, and chunks go to the
--- objects that await them.
+-- A message put together from its parts and chunks: the items of the one field that grows are appended, and chunks go to the objects that
+-- await them.
 use Rattle.std.specs.Prelude.{◌++◌, List, [], ◌∷◌, Option, Some, None}
 use Rattle.msg_channel.specs.declared.channel_data_load_messages.ChannelDataLoadMessage.{ChannelDataLoadMessage}
 use Rattle.msg_channel.specs.declared.channel_data_load_messages.ChannelDataLoadMessage.TheVariants as load

@@ -32,6 +32,6 @@ pub record IsMessage (side : Side) (h : Header) (x : Message) (bytes : List ℕ)
   pub body : Spells (message_body x).schema (message_body x).value back
   pub few_in_body : nodes (message_body x).value ≤ node_limit
 
--- the bytes that are written of a header and a message
+-- the bytes that are written for a header and a message
 abbrev pub message_bytes : Header → Message → List ℕ
 message_bytes h x = plain (header_form.as_value h) ++ plain (message_body x).value

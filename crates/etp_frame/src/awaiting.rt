@@ -15,17 +15,17 @@ use std::alloc::Global;
 use std::collections::BTreeMap;
 use std::marker::Model;
 
-/// Which message brings objects.
+/// Which message carries objects.
 #[derive(Clone, Copy, Debug, PartialEq, Eq, Drop)]
 pub enum Carrier {
-    /// A PutDataObjects, with its order about contained objects.
+    /// A PutDataObjects, with its flag for contained objects.
     Put(bool),
     /// A GetDataObjectsResponse.
     Reply,
 }
 
-/// A message that awaits data. A table finds the object that awaits a blob, since one message can have very many; and the pieces
-/// of the blob that is begun are gathered in one vector, which becomes the object's data with the last of them.
+/// A message that awaits data. A table finds the object that awaits a blob, since one message can have very many; and the pieces of the
+/// current blob are gathered in one vector, which becomes the object's data with the last of them.
 #[derive(Drop)]
 pub(crate) struct Awaiting {
     correlation: i64,
@@ -49,7 +49,7 @@ impl Model for Awaiting {
     ghost invariant = { λ a. IsKept a.places.entries a.left a.size a.begun a.pieces.items a.objects.items };
 }
 
-/// The most bytes of data that the objects of one message have together.
+/// The maximum total size of the data of one message's objects, in bytes.
 const DATA_LIMIT: u64 = 67_108_864;
 
 impl Awaiting {
@@ -147,7 +147,7 @@ fn is_awaited(places: &BTreeMap<Id16, usize>, objects: &[(Text, DataObject)], id
     }
 }
 
-/// The place of the object that awaits a blob, if one does.
+/// The index of the object that awaits a blob, if one does.
 fn place_of(
     places: &BTreeMap<Id16, usize>,
     objects: &[(Text, DataObject)],
@@ -176,7 +176,7 @@ fn has_blob(object: &DataObject, id: Id16) -> bool
     }
 }
 
-/// Whether another blob than this one is begun.
+/// Whether a blob other than this one has begun.
 fn is_other(begun: Option<Id16>, id: Id16) -> bool
     ensures { result ≡ is_other begun id }
 {
@@ -186,7 +186,7 @@ fn is_other(begun: Option<Id16>, id: Id16) -> bool
     }
 }
 
-/// The pieces with one more behind them.
+/// The pieces followed by one more.
 fn appended(mut pieces: Vec<u8>, piece: &[u8]) -> Result<Vec<u8>, NoMemory>
     ensures { IfOk result (λ v. v.items ≡ pieces.items ++ piece.now) }
 {
@@ -194,7 +194,7 @@ fn appended(mut pieces: Vec<u8>, piece: &[u8]) -> Result<Vec<u8>, NoMemory>
     Ok(pieces)
 }
 
-/// The objects, where the one that awaits this blob has these data.
+/// The objects, with these data for the one that awaits this blob.
 fn finished(
     places: &BTreeMap<Id16, usize>,
     objects: Vec<(Text, DataObject)>,
@@ -212,7 +212,7 @@ fn finished(
     }
 }
 
-/// The objects, where the one at a place has these data.
+/// The objects, with these data for the one at an index.
 fn filled(
     mut objects: Vec<(Text, DataObject)>,
     place: usize,
@@ -227,7 +227,7 @@ fn filled(
     objects
 }
 
-/// The message that brings these objects.
+/// The message that carries these objects.
 fn carried(alloc: Global, carrier: Carrier, objects: Named<DataObject>) -> Result<Message, NoMemory>
     ensures { IfOk result (λ message. message ≡ carried carrier objects) }
 {
@@ -243,7 +243,7 @@ fn carried(alloc: Global, carrier: Carrier, objects: Named<DataObject>) -> Resul
     Ok(Message::Store(Boxed::new(alloc, message)?))
 }
 
-/// The whole message that brings these objects; nothing is awaited then.
+/// The whole message that carries these objects; then nothing is awaited.
 fn brought(
     alloc: Global,
     carrier: Carrier,
@@ -304,7 +304,7 @@ pub(crate) fn came(
     opened(alloc, correlation, carrier, objects, places, size)
 }
 
-/// What a message with such objects makes, where nothing is awaited.
+/// What comes of a message with such objects if nothing is awaited.
 fn opened(
     alloc: Global,
     correlation: i64,
@@ -349,7 +349,7 @@ fn count_awaiting(objects: &[(Text, DataObject)]) -> u64
     count
 }
 
-/// Whether an object awaits a blob though it has data.
+/// Whether an object awaits a blob although it has data.
 fn has_double(objects: &[(Text, DataObject)]) -> bool
     ensures { result ≡ list_any is_double objects.now }
 {
@@ -361,7 +361,7 @@ fn has_double(objects: &[(Text, DataObject)]) -> bool
     false
 }
 
-/// How many bytes of data the objects have together, or none where they are too many.
+/// How many bytes of data the objects have together; `None` if that is too many.
 fn sum_data(objects: &[(Text, DataObject)]) -> Option<u64>
     ensures { result ≡ (if nat_lt data_limit (data_size objects.now) then None else Some (data_size objects.now)) }
 {
@@ -375,7 +375,7 @@ fn sum_data(objects: &[(Text, DataObject)]) -> Option<u64>
     Some(size)
 }
 
-/// Where the objects stand that await a blob, by the blobs; none, where two await the same.
+/// The indexes of the objects that await a blob, by blob; `None` if two await the same.
 fn blob_places(
     alloc: Global,
     objects: &[(Text, DataObject)],
@@ -393,7 +393,7 @@ fn blob_places(
     Ok(Some(places))
 }
 
-/// Adds the place of an object, if it awaits a blob. Answers false where the blob has a place already.
+/// Adds the index of an object, if it awaits a blob. Returns false if the blob has an index already.
 fn add_place(
     places: &mut BTreeMap<Id16, usize>,
     object: &DataObject,

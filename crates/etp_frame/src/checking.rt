@@ -1,4 +1,4 @@
-//! Checking whole messages, of whose bodies no value is made.
+//! Checking whole messages without building a value of their bodies.
 ghost use Rattle.std.specs.Prelude.{◌<◌, ◌≤◌, length};
 ghost use Rattle.etp_schema.specs.Shapes.{shape_at, table_size};
 ghost use Rattle.etp_frame.specs.Reading.{tree_of, body_in};
@@ -11,8 +11,8 @@ use avro_bin::span;
 use etp_schema::{Side, schema_table};
 use std::alloc::Global;
 
-/// The header of these bytes, which `sender` sent, where they have a body behind it and nothing else. They are refused where
-/// [`read_message`](crate::read_message) refuses them, by the same cause. Of the body only the names of maps take memory.
+/// The header of these bytes, which `sender` sent, if they are a header, a body and nothing else. They are refused if
+/// [`read_message`](crate::read_message) refuses them, for the same reason. Only the names of maps in the body are allocated.
 pub fn check_message(alloc: Global, bytes: &[u8], sender: Side) -> Result<Header, FrameError>
     ensures { ChecksMessage result (tree_of sender bytes.now) }
 {
@@ -26,7 +26,7 @@ pub fn check_message(alloc: Global, bytes: &[u8], sender: Side) -> Result<Header
     }
 }
 
-/// Nothing, where the bytes behind so many are a body.
+/// Succeeds if the bytes from this offset on are a body.
 fn check_body(
     alloc: Global,
     header: Header,

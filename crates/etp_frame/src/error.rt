@@ -7,8 +7,8 @@ use avro_bin::Refusal;
 use etp_values::NoMemory;
 use thiserror::Error;
 
-/// The first cause in the order of the variants. Offsets count from the message's first byte. A cause that comes after the
-/// header carries it, so that the refusal can name the message.
+/// The first cause in the order of the variants. Offsets count from the message's first byte. A cause that is found after the header
+/// carries the header, so that the refusal can name the message.
 #[derive(Clone, Copy, Debug, PartialEq, Eq, Drop, Error)]
 pub enum FrameError {
     /// The header can't be read.
@@ -23,7 +23,7 @@ pub enum FrameError {
     /// No protocol has the header's number.
     #[error("no protocol has the number {}", .0.protocol)]
     UnknownProtocol(Header),
-    /// The protocol has no message of the header's number that the sender sends.
+    /// The protocol has no message of the header's number that the sender may send.
     #[error("the sender sends no message {} of protocol {}", .0.kind, .0.protocol)]
     UnknownKind(Header),
     /// The body can't be read.
@@ -32,13 +32,13 @@ pub enum FrameError {
     /// Bytes follow the body, from this offset on.
     #[error("bytes follow the body, from byte {1} on")]
     Rest(Header, usize),
-    /// Memory was refused.
-    #[error("memory was refused")]
+    /// Out of memory.
+    #[error("out of memory")]
     NoMemory,
 }
 
 impl FrameError {
-    /// The header of the refused message, where it was read.
+    /// The header of the refused message, if it was read.
     pub fn header(&self) -> Option<Header>
         ensures { result ≡ header_of_error self.now }
     {

@@ -6,5 +6,5 @@ pub const FINAL_PART: i32 = 0x02;
 pub const COMPRESSED: i32 = 0x08;
 /// The sender wants an Acknowledge.
 pub const ACKNOWLEDGE: i32 = 0x10;
-/// A header extension stands before the body. Such messages are refused.
+/// There is a header extension before the body. Such messages are refused.
 pub const EXTENSION: i32 = 0x20;

@@ -1,4 +1,4 @@
-//! Items in groups that have room in one message each.
+//! Items in groups, each of which fits in one message.
 ghost use Rattle.std.specs.Prelude.{◌≡◌, ◌++◌, ◌∷◌, ◌||◌, [], IfOk, List as Items};
 ghost use Rattle.etp_frame.specs.Grouping.{Amount, entry_amount, item_amount, total, fits, groups};
 ghost use Rattle.etp_frame.specs.Grouped.{amount, capped, leads, AreMade};
@@ -7,10 +7,10 @@ use etp_schema::{Measure, OnWire, measure_of};
 use etp_values::{List, Named, NoMemory, Text};
 use std::alloc::Global;
 
-/// The bytes of a message that are kept for all but its items.
+/// The bytes of a message that are reserved for everything but its items.
 const FRAME_ROOM: u64 = 4_096;
 
-/// The most nodes that the items of one message have.
+/// The greatest number of nodes that the items of one message have.
 const ITEM_NODES: u64 = 8_388_544;
 
 /// How items are measured.
@@ -48,7 +48,7 @@ impl<T: OnWire> Measuring<T> for Elements {
     }
 }
 
-/// Groups in the making: those that are closed, and the one that is open with the measure of its items.
+/// Groups under construction: those that are closed, and the one that is open with the measure of its items.
 #[derive(Drop)]
 struct Grouped<T> {
     closed: Vec<List<T>>,
@@ -56,21 +56,21 @@ struct Grouped<T> {
     measure: Measure,
 }
 
-/// Whether items of this measure have room in one message.
+/// Whether items of this measure fit in one message.
 fn has_room(measure: Measure, limit: u64) -> bool
     ensures { result ≡ fits limit (amount measure) }
 {
     measure.bytes <= limit.saturating_sub(FRAME_ROOM) && measure.nodes <= ITEM_NODES
 }
 
-/// Whether an item goes into a group that has items of this measure with it, or is the first of the group.
+/// Whether an item goes into a group whose items, including it, have this measure, or is the first of the group.
 fn goes_in(is_first: bool, measure: Measure, limit: u64) -> bool
     ensures { result ≡ (is_first || fits limit (amount measure)) }
 {
     is_first || has_room(measure, limit)
 }
 
-/// The open group has one item more.
+/// The open group has one more item.
 fn keep<T: Drop>(grouped: Grouped<T>, item: T, measure: Measure) -> Result<Grouped<T>, NoMemory>
     ensures { IfOk result (λ g. AreMade g.closed.items g.held.items g.measure grouped.closed.items (grouped.held.items ++ item ∷ []) measure) }
 {
@@ -111,7 +111,7 @@ fn close<T: Drop>(
     })
 }
 
-/// The groups with one item more.
+/// The groups with one more item.
 fn place<T: Drop, M: Measuring<T>>(
     alloc: Global,
     grouped: Grouped<T>,
@@ -176,7 +176,7 @@ fn in_groups<T: Drop, M: Measuring<T>>(
     Ok(closed)
 }
 
-/// The items in groups. Nothing is copied, and where all have room together, nothing is moved.
+/// The items in groups. Nothing is copied, and if all fit in one group, nothing is moved.
 pub(crate) fn groups<T: Drop, M: Measuring<T>>(
     alloc: Global,
     items: Vec<T>,

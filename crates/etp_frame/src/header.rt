@@ -8,7 +8,7 @@ use avro_bin::Fault;
 use etp_schema::{Measure, OnWire, Reader, Typed, measure_fields, write_fields};
 use etp_values::NoMemory;
 
-/// What stands in front of each body.
+/// What comes before each body.
 #[derive(Clone, Copy, Debug, PartialEq, Eq, Drop)]
 pub struct Header {
     /// The number of the message's protocol.

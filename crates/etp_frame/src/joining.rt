@@ -1,4 +1,4 @@
-//! Putting objects and the chunks of their data together.
+//! Joining objects with the chunks of their data.
 ghost use Rattle.std.specs.Prelude.{◌≡◌, ◌≢◌, Ok, Err, None, MatchResult, OnErr, option_map};
 ghost use Rattle.etp_values.specs.Gives.{Gives};
 ghost use Rattle.etp_frame.specs.Joining.{joins, store_came};
@@ -14,17 +14,17 @@ use std::alloc::Global;
 use std::marker::Model;
 use thiserror::Error;
 
-/// What a message made.
+/// What came of a message.
 #[derive(Debug, Drop)]
 pub enum Joined {
-    /// Chunks are awaited before a message is whole.
+    /// More chunks are needed before a message is whole.
     More,
     /// This message is whole.
     Whole(Message),
 }
 
-/// Why a message is refused. Of a message with objects `WrongBlob`, `Interleaved` and `TooLong` are tested in this order, of a
-/// chunk `NoBlob`, `WrongBlob`, `Interleaved` and `TooLong`.
+/// Why a message is refused. For a message with objects `WrongBlob`, `Interleaved` and `TooLong` are tested in this order, for a chunk
+/// `NoBlob`, `WrongBlob`, `Interleaved` and `TooLong`.
 #[derive(Clone, Copy, Debug, PartialEq, Eq, Drop, Error)]
 pub enum JoinError {
     /// A chunk that no message waits for.
@@ -34,19 +34,19 @@ pub enum JoinError {
     /// an awaited one.
     #[error("the blob is not an awaited one, or not of one object alone")]
     WrongBlob,
-    /// A chunk of another blob comes before the last one of the blob that was begun, or a message with objects comes while
-    /// another awaits its chunks.
+    /// A chunk of another blob comes before the last one of the current blob, or a message with objects comes while another awaits its
+    /// chunks.
     #[error("another blob or message is not whole yet")]
     Interleaved,
-    /// The data of the message's objects pass 67,108,864 bytes together.
+    /// The data of the message's objects exceed 67,108,864 bytes together.
     #[error("the data pass the limit")]
     TooLong,
-    /// Memory was refused.
-    #[error("memory was refused")]
+    /// Out of memory.
+    #[error("out of memory")]
     NoMemory,
 }
 
-/// Puts the chunks of objects' data in the objects' place. At most one message awaits its chunks at a time.
+/// Puts the chunks of objects' data into the objects. At most one message awaits its chunks at a time.
 #[derive(Drop)]
 pub struct Joiner {
     awaited: Option<Awaiting>,
@@ -69,7 +69,7 @@ impl Joiner {
         Joiner { awaited: None }
     }
 
-    /// Takes a message. One without objects, and a chunk apart from its message, is whole at once.
+    /// Takes a message. One without objects, and a chunk that belongs to no message, is whole at once.
     pub fn add(
         &mut self,
         alloc: Global,
@@ -146,7 +146,7 @@ fn store_came(
     }
 }
 
-/// For proofs alone: what a joiner makes whole is put together of the messages that it took.
+/// For proofs only: what a joiner completes is composed of the messages that it took.
 pub fn joins_whole()
     ensures of_chunks { JoinsWhole }
     ensures at_once { WholeAtOnce }

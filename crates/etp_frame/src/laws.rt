@@ -1,7 +1,7 @@
 //! The laws of messages. Each function does nothing: its contract is the law.
 ghost use Rattle.etp_frame.specs.Laws.{ReadsExactly, OneReading, SameRefusals, TreeIsBody, RowsAreTyped, WrittenIsRead};
 
-/// Bytes are read as a header and message exactly where they are their wire form.
+/// Bytes are read as a header and message exactly if they are their wire form.
 pub fn wire_form_is_read()
     ensures { ReadsExactly }
 {}
@@ -11,7 +11,7 @@ pub fn one_reading()
     ensures { OneReading }
 {}
 
-/// Bytes are refused as a header and message exactly where they are refused as a header and tree, by the same cause.
+/// Bytes are refused as a header and message exactly if they are refused as a header and tree, for the same reason.
 pub fn same_refusals()
     ensures { SameRefusals }
 {}
@@ -26,8 +26,8 @@ pub fn rows_are_typed()
     ensures { RowsAreTyped }
 {}
 
-/// What is written of a header and the message that it names is their wire form, for each side that sends such messages, and
-/// is read as that header and message.
+/// What is written for a header and the message that it names is their wire form, for each side that sends such messages, and reads back as
+/// that header and message.
 pub fn written_is_read()
     ensures { WrittenIsRead }
 {}

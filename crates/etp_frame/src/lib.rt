@@ -2,25 +2,25 @@
 //!
 //! [`read_message`] reads the bytes of one message: a [`Header`], and then the body that the header's protocol and number
 //! name for the side that sends it, as a [`Message`] of the protocol's own enum. It accepts exactly the wire form,
-//! `IsMessage` of `specs/Wire`, and else answers the one [`FrameError`] that `read_of` of `specs/Reading` names.
-//! [`read_tree`] stops before the message and answers the body's tree, for whoever shows a body of any kind, and
-//! [`check_message`] answers the header alone and makes no value of the body; both refuse the same bytes by the same causes
+//! `IsMessage` of `specs/Wire`, and otherwise returns the one [`FrameError`] that `read_of` of `specs/Reading` names.
+//! [`read_tree`] stops before the message and returns the body's tree, for whoever shows a body of any kind, and
+//! [`check_message`] returns only the header and builds no value of the body; both refuse the same bytes for the same reasons
 //! ([`same_refusals`]).
-//! [`write_message`] writes the one spelling that is written, `message_bytes`. The laws between them stand on
+//! [`write_message`] writes the one written spelling, `message_bytes`. The laws between them depend on
 //! [`wire_form_is_read`], [`one_reading`], [`tree_is_body`], [`rows_are_typed`] and [`written_is_read`].
 //!
-//! [`Joiner`] puts the chunks of objects' data in the objects' place, as `joins` of `specs/Joining` says, so that a message with
-//! objects is whole before anybody looks at it ([`joins_whole`]).
+//! [`Joiner`] puts the chunks of objects' data into the objects, as `joins` of `specs/Joining` says, so that a message with
+//! objects is whole before it is looked at ([`joins_whole`]).
 //!
-//! A peer takes messages up to a size. [`split`] cuts a message into the parts in which it is sent: the items of its one list or
+//! A peer accepts messages up to a size. [`split`] cuts a message into the parts in which it is sent: the items of its one list or
 //! map that can grow go into groups, and each part has one group and repeats the other fields. A part has at most 4,096 bytes less
-//! than the limit and 8,388,544 nodes of items, unless one item alone has more. The data of an object that are longer than half of the
-//! limit are sent in the chunks of a blob behind the part that has the object; [`blobs_in`] counts these blobs. What comes out
+//! than the limit and 8,388,544 nodes of items, unless one item alone has more. Data of an object that are longer than half of the
+//! limit are sent in the chunks of a blob after the part that has the object; [`blobs_in`] counts these blobs. The result
 //! is `parts` of `specs/Splitting`, and `whole` of `specs/Whole` puts it together again. Items are measured by
 //! [`OnWire`](etp_schema::OnWire), so nothing is encoded, and moved, so nothing is copied; chunks share the bytes of the object's data.
 //!
-//! ProtocolException and Acknowledge are messages of every protocol and stand in Core's enum for all of them, so that the
-//! header says under which protocol such a message goes.
+//! ProtocolException and Acknowledge are messages of every protocol and are in Core's enum for all of them, so that the
+//! header says under which protocol such a message is sent.
 #![tactic(auto)]
 
 mod awaiting;

@@ -22,8 +22,8 @@ use msg_channel::{ChannelDataLoadMessage, ChannelSubscribeMessage};
 use msg_core::{CoreMessage, DataspaceMessage, TransactionMessage};
 use msg_store::{DataArrayMessage, StoreMessage};
 
-/// A message of any protocol, behind one pointer: moving it moves that alone. ProtocolException and Acknowledge stand in Core's enum
-/// under every protocol.
+/// A message of any protocol, boxed: moving it moves only a pointer. ProtocolException and Acknowledge are in Core's enum under every
+/// protocol.
 #[derive(Debug, Drop)]
 pub enum Message {
     Core(Boxed<CoreMessage>),
@@ -51,7 +51,7 @@ impl Message {
         }
     }
 
-    /// The number of the protocol in whose enum the message stands.
+    /// The number of the protocol whose enum has the message.
     pub fn protocol(&self) -> i32
         ensures { result ≡ pos (protocol_of self.now) }
     {
@@ -81,7 +81,7 @@ impl Message {
         }
     }
 
-    /// The message of this protocol and number whose body stands at the front of what is left, where the protocol has one.
+    /// The message of this protocol and number whose body is at the front of the rest, if the protocol has one.
     pub(crate) fn read(
         from: &mut Reader<'_>,
         protocol: i32,
@@ -101,7 +101,7 @@ impl Message {
         }
     }
 
-    /// Appends the written spelling of the message's body. After `NoMemory` what was there still stands in front.
+    /// Appends the written spelling of the message's body. After `NoMemory` what was there is still at the front.
     pub(crate) fn write(&self, into: &mut Vec<u8>) -> Result<(), NoMemory>
         ensures written { Writes (plain (message_body self.now).value) into.old.items into.new.items result }
         ensures typed { OnOk result (HasSchema (message_body self.now).schema (message_body self.now).value) }
@@ -156,7 +156,7 @@ fn is_common(kind: i32) -> bool
     }
 }
 
-/// A message of a protocol that was read, on the heap.
+/// A boxed message of a protocol.
 fn boxed<T: Drop>(from: &Reader<'_>, message: T) -> Result<Boxed<T>, Fault>
     ensures value { IfOk result (λ b. b ≡ message) }
     ensures cause { IfErr result (λ e. e ≡ Fault.Memory) }

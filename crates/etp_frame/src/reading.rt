@@ -24,8 +24,8 @@ use avro_bin::{Fault, NODE_LIMIT, Refusal, Tree, Why, decode, refusal_at};
 use etp_schema::{Reader, Side, body_of, is_protocol, read_body, schema_table};
 use std::alloc::Global;
 
-/// The header and the message of these bytes, which `sender` sent. Where several causes refuse them, the first in the order of
-/// [`FrameError`] is answered. Flags other than those of a compressed body and of an extension refuse nothing.
+/// The header and the message of these bytes, which `sender` sent. If several causes refuse them, the first in the order of [`FrameError`]
+/// is returned. Flags other than those of a compressed body and of an extension refuse nothing.
 pub fn read_message(
     alloc: Global,
     bytes: &[u8],
@@ -44,7 +44,7 @@ pub fn read_message(
     }
 }
 
-/// The message of the body that stands behind so many bytes, where it ends with the rest of them.
+/// The message of the body from this offset on, if it ends with the bytes.
 fn read_typed(
     alloc: Global,
     header: Header,
@@ -67,7 +67,7 @@ fn read_typed(
     }
 }
 
-/// Why a body of `size` bytes, which stands behind `front` others, is refused: the refused item begins with `left` of them left.
+/// Why a body of `size` bytes, which follows `front` others, is refused: the refused item begins with `left` of them left.
 fn fault_error(header: Header, front: usize, size: usize, why: Why, left: usize) -> FrameError
     requires { front + size < 2 ^ 64 }
     ensures { result ≡ as_body_error header front (refusal why (size - left)) }
@@ -75,7 +75,7 @@ fn fault_error(header: Header, front: usize, size: usize, why: Why, left: usize)
     body_error(header, front, refusal_at(why, size.saturating_sub(left)))
 }
 
-/// The message, where its body behind so many bytes is as long as what stands there.
+/// The message, if its body from this offset on is as long as the rest of the bytes.
 fn ended(
     header: Header,
     message: Message,
@@ -93,8 +93,8 @@ fn ended(
     Ok(message)
 }
 
-/// The header of these bytes, which `sender` sent, the place of their body's schema in [`TABLE`](etp_schema::TABLE), and the
-/// body's tree. They are refused where [`read_message`] refuses them, by the same cause.
+/// The header of these bytes, which `sender` sent, the place of their body's schema in [`TABLE`](etp_schema::TABLE), and the body's tree.
+/// They are refused if [`read_message`] refuses them, for the same reason.
 pub fn read_tree(
     alloc: Global,
     bytes: &[u8],
@@ -115,7 +115,7 @@ pub fn read_tree(
     }
 }
 
-/// What is read in front of a body: the header, how many of the bytes spell it, and the place of the body's schema.
+/// What is read before a body: the header, the length of its spelling, and the place of the body's schema.
 pub(crate) fn read_front(
     alloc: Global,
     bytes: &[u8],
@@ -139,7 +139,7 @@ pub(crate) fn read_front(
     Ok((header, length, place))
 }
 
-/// The header at the front of the bytes, and how many of them spell it.
+/// The header at the front of the bytes, and the length of its spelling.
 fn read_header(alloc: Global, bytes: &[u8]) -> Result<(Header, usize), FrameError>
     ensures gives { Gives f.NoMemory result (header_in bytes.now) }
     ensures within { IfOk result (λ r. r.1 ≤ length bytes.now) }
@@ -175,14 +175,14 @@ fn admit(header: &Header) -> Result<(), FrameError>
     Ok(())
 }
 
-/// The place of the body's schema, where the sender sends such messages.
+/// The place of the body's schema, if the sender sends such messages.
 fn body_place(header: &Header, sender: Side) -> Option<u32>
     ensures { result ≡ body_place header.now.protocol header.now.kind sender }
 {
     body_of(header.protocol, header.kind, sender)
 }
 
-/// The body's tree behind so many bytes, where it ends with them.
+/// The body's tree from this offset on, if it ends with the bytes.
 fn read_body_tree(
     alloc: Global,
     header: Header,
@@ -208,7 +208,7 @@ fn read_body_tree(
     }
 }
 
-/// Why the body behind so many bytes is refused.
+/// Why the body from this offset on is refused.
 pub(crate) fn body_error(header: Header, front: usize, refusal: Refusal) -> FrameError
     requires { front + offset_in refusal < 2 ^ 64 }
     ensures { result ≡ as_body_error header front refusal }

@@ -45,7 +45,7 @@ fn blob_id(number: u64, k: u64) -> Id16
     Id16::from_bytes([a, b, c, d, e, f, g, h, i, j, l, m, n, o, p, q])
 }
 
-/// How many bytes a chunk has that is not the last.
+/// How many bytes each chunk but the last has.
 fn chunk_size(limit: u64) -> usize
     ensures size { result ≡ chunk_size limit }
     ensures some { 0 < result }
@@ -61,7 +61,7 @@ fn with_last(mut chunks: Vec<Chunk>, id: Id16, payload: Blob) -> Result<List<Chu
     Ok(List::from_vec(chunks))
 }
 
-/// How many chunks of this size stand in front of the last one of so many bytes.
+/// How many chunks of this size come before the last one, for data of this length.
 fn full_chunks(len: usize, size: usize) -> usize
     requires { 0 < size }
     ensures { result ≡ (len - 1) / size }
@@ -128,7 +128,7 @@ fn in_chunks(
     })
 }
 
-/// The object as it is sent, with the next blob's identity where its data are long.
+/// The object as it is sent, with the next blob's identity if its data are long.
 fn send(
     alloc: Global,
     limit: u64,
@@ -147,7 +147,7 @@ fn send(
     })
 }
 
-/// The count of blobs behind an object.
+/// The number of blobs after an object.
 fn count_behind(limit: u64, count: u64, object: &(Text, DataObject)) -> u64
     ensures { result ≡ (if is_long limit object.now.1.payload then next_blob count else count) }
 {
@@ -157,14 +157,14 @@ fn count_behind(limit: u64, count: u64, object: &(Text, DataObject)) -> u64
     count
 }
 
-/// Objects as they are sent, and the count of blobs behind them.
+/// Objects as they are sent, and the number of blobs after them.
 #[derive(Drop)]
 struct Sending {
     sent: Vec<Sent>,
     count: u64,
 }
 
-/// One object more.
+/// One more object.
 fn send_next(
     alloc: Global,
     sending: Sending,
@@ -187,7 +187,7 @@ fn send_next(
     })
 }
 
-/// The objects as they are sent, where so many blobs were sent in the session before.
+/// The objects as they are sent, if this many blobs were sent in the session before.
 pub(crate) fn as_sent(
     alloc: Global,
     limit: u64,
@@ -243,7 +243,7 @@ fn unpack(alloc: Global, sent: Vec<Sent>) -> Result<Unpacked, NoMemory>
     Ok(Unpacked { objects, chunks })
 }
 
-/// Adds a message with objects, and behind it the chunks of their data.
+/// Adds a message with objects, followed by the chunks of their data.
 pub(crate) fn push_with_chunks<W: WithEntries<DataObject>>(
     alloc: Global,
     into: &mut Vec<Message>,

@@ -43,8 +43,8 @@ fn parts_of(
     }
 }
 
-/// The parts in which a message is sent where messages have at most `limit` bytes, with the chunks of long data: by the session of
-/// this number, which sent so many blobs before. Data longer than half of the limit are long.
+/// The parts in which a message is sent if messages have at most `limit` bytes, with the chunks of long data: by the session of this
+/// number, which sent `blobs` blobs before. Data longer than half of the limit are long.
 pub fn split(
     alloc: Global,
     message: Message,
@@ -53,7 +53,7 @@ pub fn split(
     blobs: u64,
 ) -> Result<List<Message>, NoMemory>
     ensures parts { IfOk result (λ l. l ≡ parts limit number blobs message) }
-    // Put together they are the message, where it was not split already.
+    // Put together they are the message, if it was not split already.
     ensures whole { is_unsent message ≡ true → IfOk result (λ l. whole l ≡ Some message) }
 {
     parts_of(alloc, message, limit, number, blobs)

@@ -24,7 +24,7 @@ pub fn write_message(alloc: Global, header: &Header, message: &Message) -> Resul
     write_in_room(alloc, size as usize, header, message)
 }
 
-/// The same bytes, in memory that has room for so many of them. More is taken where they are more.
+/// The same bytes, in memory with room for this many of them. If there are more, more is allocated.
 pub fn write_in_room(
     alloc: Global,
     room: usize,

@@ -23,7 +23,7 @@ IsDecimal_decimal n h ds d =
     let below : read_on 0 ds < 2 ^ 64 = omega arith in
     sym (decimal-digits_value own ds d.digits d.some d.first below) ∙ ap decimal value
 
--- further digits never make a number less
+-- further digits never make a number smaller
 pub read_on_grows : (n : ℕ) (digits : List ℕ) → n ≤ read_on n digits
 read_on_grows n [] = omega arith
 read_on_grows n (d ∷ ds) = let more = read_on_grows (10 * n + (d - 48)) ds in omega (arith, more)

@@ -12,7 +12,7 @@ take_item [] i x at = absurd (cc at)
 take_item (y ∷ ys) zero x at = cc at
 take_item (y ∷ ys) (suc i) x at = ap (λ l. y ∷ l) (take_item ys i x at)
 
--- what a link in memory tells at a place of its items
+-- what a link in memory reveals at an index of its items
 abbrev pub talk_at : List Item → ℕ → List (List ℕ) → Option Address → Talk
 talk_at items at sent to = record { coming = drop at items; taken = take at items; sent = sent; to = to }
 

@@ -1,4 +1,4 @@
--- Facts on a told content follow each other; for the crates above too.
+-- Facts about a revealed content compose; for the crates above too.
 use Rattle.std.proofs.Common.{None, Some}
 use Rattle.std.specs.declared.option.Option.{Option}
 use Rattle.etp_outside.specs.Told.{Told}

@@ -4,7 +4,7 @@ use Rattle.std.specs.List.{list_any}
 use Rattle.etp_outside.specs.Faults.{next_count}
 use Rattle.etp_outside.specs.declared.script.Script.{Script}
 
--- the script of an object that had no call
+-- the script of an object before any call
 abbrev pub new_script : List ℕ → Script
 new_script fails = record { fails = fails; made = 0; faults = 0 }
 

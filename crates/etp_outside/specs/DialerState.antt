@@ -3,8 +3,8 @@ use Rattle.std.specs.Prelude.{ℕ, Bool, List}
 use Rattle.etp_outside.specs.declared.script.Script.{Script}
 use Rattle.etp_outside.specs.Line.{Line}
 
--- the links that are to be given, those that came back, how many of these it keeps, whether the peer of one had ended it, and
--- which calls of `dial` fail
+-- the links still to be given out, those that came back, how many of these it keeps, whether the peer had ended one of them, and which
+-- calls of `dial` fail
 pub record DialerState : Type 0 where
   pub waiting : List Line
   pub back : List Line

@@ -1,4 +1,4 @@
--- What a dialer gives and takes back.
+-- What a dialer gives out and takes back.
 use Rattle.std.specs.Prelude.{◌≡◌, ℕ, Bool, List, [], ◌∷◌, ◌++◌, Some, IfSome}
 use Rattle.std.specs.declared.option.Option.{Option}
 use Rattle.etp_outside.specs.declared.dialer.Dialed.{Dialed}
@@ -11,7 +11,7 @@ use Rattle.etp_outside.specs.Talk.{Talk}
 abbrev pub address_of : List ℕ → ℕ → List ℕ → Address
 address_of host port path = record { host = host; port = port; path = path }
 
--- a link over which nothing came or went yet, and which was dialed to this address
+-- a link over which nothing has come or gone yet, and which was dialed to this address
 pub record IsDialed (address : Address) (talk : Option Talk) (faults : ℕ) (ended : Bool) : Type 0 where
   pub fresh : IsNew talk faults ended
   pub to : IfSome talk (λ t. t.to ≡ Some address)
@@ -22,6 +22,6 @@ IfDialed (Link l) P = P l
 IfDialed Failed P = Unit {0}
 IfDialed NoMemory P = Unit {0}
 
--- a link that tells this came back
+-- a link that reveals this came back
 abbrev pub HangsUp : Option Talk → List (Option Talk) → List (Option Talk) → Type 0
 HangsUp talk before after = after ≡ before ++ talk ∷ []

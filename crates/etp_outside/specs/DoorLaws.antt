@@ -1,4 +1,4 @@
--- A listener in memory took back no more links than it gave.
+-- A listener in memory took back no more links than it gave out.
 use Rattle.std.proofs.Common.{◌≤◌, length, arith}
 use Rattle.std.proofs.lemmas.List.{length-map}
 use Rattle.etp_outside.specs.Porch.{Porch}

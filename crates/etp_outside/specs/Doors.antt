@@ -1,11 +1,11 @@
--- What a listener gives and takes back.
+-- What a listener gives out and takes back.
 use Rattle.std.specs.Prelude.{◌≡◌, ℕ, ◌<◌, Bool, true, false, List, [], ◌∷◌, ◌++◌, length, None, IfSome}
 use Rattle.std.specs.declared.option.Option.{Option}
 use Rattle.etp_outside.specs.declared.listener.Next.{Next}
 use Rattle.etp_outside.specs.declared.listener.Next.TheVariants.{Link, Stop, Failed, NoMemory}
 use Rattle.etp_outside.specs.Talk.{Talk}
 
--- a link over which nothing came or went yet
+-- a link over which nothing has come or gone yet
 pub record IsNew (talk : Option Talk) (faults : ℕ) (ended : Bool) : Type 0 where
   pub faultless : faults ≡ 0
   pub going : ended ≡ false
@@ -38,7 +38,7 @@ is_stop Stop = true
 is_stop Failed = false
 is_stop NoMemory = false
 
--- a link that was taken back: the number of its session, how that ended, and what the link tells
+-- a link that was taken back: the number of its session, how that ended, and what the link reveals
 pub record Back : Type 0 where
   pub number : ℕ
   pub end : ℕ
@@ -50,6 +50,6 @@ pub record Back : Type 0 where
 abbrev pub back_of : ℕ → ℕ → ℕ → Bool → Option Talk → Back
 back_of number end faults ended talk = record { number = number; end = end; faults = faults; ended = ended; talk = talk }
 
--- a link came back, where fewer had than were given
+-- a link came back, if fewer had come back than were given out
 abbrev pub TakesBack : ℕ → Back → List Back → List Back → Type 0
 TakesBack given back x y = length x < given → y ≡ x ++ back ∷ []

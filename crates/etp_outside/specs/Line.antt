@@ -3,7 +3,7 @@ use Rattle.std.specs.Prelude.{Bool}
 use Rattle.etp_outside.specs.declared.script.Script.{Script}
 use Rattle.etp_outside.specs.Talk.{Talk}
 
--- what it tells, whether its end was told, and which calls fail
+-- what it reveals, whether its end was reported, and which calls fail
 pub record Line : Type 0 where
   pub talk : Talk
   pub ended : Bool

@@ -17,11 +17,11 @@ use Rattle.etp_outside.specs.declared.link.Address.{Address}
 abbrev pub new_dialer : List Line → List ℕ → DialerState
 new_dialer lines fails = record { waiting = lines; back = []; room = length lines; ended = false; script = new_script fails }
 
--- what the links that came back tell
+-- what the links that came back reveal
 abbrev pub all_told : List Line → List (Option Talk)
 all_told ls = map (λ l. Some l.talk) ls
 
--- a call that is not listed gives the next link as before its first call, with its address, and fails where none is left
+-- a call that is not listed gives out the next link in its state before its first call, with its address, and fails if none is left
 abbrev pub IsDialAnswer : DialerState → Address → Dialed Line → Type 0
 IsDialAnswer d address (Link l) = (fails_next d.script ≡ false) × (option_map (dialed_to address) (slice_get d.waiting 0) ≡ Some l)
 IsDialAnswer d address Failed = (fails_next d.script ≡ true) ⊎ (d.waiting ≡ [])
@@ -32,7 +32,7 @@ after_dial d (Link l) = record d { waiting = drop 1 d.waiting; script = after_ca
 after_dial d Failed = record d { script = after_call d.script true }
 after_dial d NoMemory = record d { script = after_call d.script false }
 
--- a link comes back; where it had failed a fault is counted, and where its peer had ended it that is noted
+-- a link comes back; if it had failed a fault is counted, and if its peer had ended it that is noted
 abbrev pub after_hang_up : DialerState → Line → DialerState
 after_hang_up d link = record d {
   back = d.back ++ link ∷ [];
@@ -40,6 +40,6 @@ after_hang_up d link = record d {
   script = record d.script { faults = (if nat_lt 0 link.script.faults then next_count d.script.faults else d.script.faults) };
 }
 
--- one link more, where fewer than so many are kept
+-- one more link, if fewer than the dialer's room are kept
 abbrev pub kept_within : ℕ → List Line → Line → List Line
 kept_within room kept link = if nat_lt (length kept) room then kept ++ link ∷ [] else kept

@@ -17,18 +17,18 @@ use Rattle.etp_outside.specs.declared.mem_door.Returned.{Returned}
 abbrev pub first_porch : List Line → List ℕ → Porch
 first_porch lines fails = record { waiting = lines; back = []; out = 0; stopped = false; script = new_script fails }
 
--- how many links it gave
+-- how many links it has given out
 abbrev pub given_by : Porch → ℕ
 given_by d = length d.back + d.out
 
--- what is told of a link that came back
+-- what is revealed of a link that came back
 abbrev pub told_back : Returned → Back
 told_back r = back_of r.number r.end r.link.script.faults r.link.ended (Some r.link.talk)
 
 abbrev pub all_back : List Returned → List Back
 all_back rs = map told_back rs
 
--- listening fails where the call is listed
+-- listening fails if the call is listed
 abbrev pub IsListenAnswer : Porch → Listened → Type 0
 IsListenAnswer d Listen.Done = fails_next d.script ≡ false
 IsListenAnswer d Listen.Failed = fails_next d.script ≡ true
@@ -37,7 +37,7 @@ abbrev pub after_listen : Porch → Listened → Porch
 after_listen d Listen.Done = record d { script = after_call d.script false }
 after_listen d Listen.Failed = record d { script = after_call d.script true }
 
--- a call that is not listed gives the next link as before its first call, or stops where none is left
+-- a call that is not listed gives out the next link in its state before its first call, or stops if none is left
 abbrev pub IsNextAnswer : Porch → Next Line → Type 0
 IsNextAnswer d (Link l) = (fails_next d.script ≡ false) × (option_map renewed (slice_get d.waiting 0) ≡ Some l)
 IsNextAnswer d Stop = (fails_next d.script ≡ false) × (d.waiting ≡ [])
@@ -50,6 +50,6 @@ after_next d Stop = record d { stopped = true; script = after_call d.script fals
 after_next d Failed = record d { script = after_call d.script true }
 after_next d NoMemory = d
 
--- a link comes back, where one is out
+-- a link comes back, if one is out
 abbrev pub after_back : Porch → Line → ℕ → ℕ → Porch
 after_back d link number end = if d.out == 0 then d else record d { back = d.back ++ record { link = link; number = number; end = end } ∷ []; out = d.out - 1 }

@@ -12,7 +12,7 @@ use Rattle.etp_outside.specs.declared.link.Recv.TheVariants.{Got, Idle as NoneYe
 use Rattle.etp_outside.specs.declared.link.Sent.{Sent}
 use Rattle.etp_outside.specs.declared.link.Sent.TheVariants.{Done, Failed as SendFailed, NoMemory as NoRoom}
 
--- what a link tells before its first call
+-- what a link reveals before its first call
 abbrev pub first_talk : List Item → Talk
 first_talk items = record { coming = items; taken = []; sent = []; to = None }
 
@@ -20,7 +20,7 @@ first_talk items = record { coming = items; taken = []; sent = []; to = None }
 abbrev pub renewed : Line → Line
 renewed l = record { talk = first_talk (l.talk.taken ++ l.talk.coming); ended = false; script = new_script l.script.fails }
 
--- the link before its first call, where it was dialed to this address
+-- the link before its first call, if it was dialed to this address
 abbrev pub dialed_to : Address → Line → Line
 dialed_to address l = record {
   talk = record { coming = l.talk.taken ++ l.talk.coming; taken = []; sent = []; to = Some address };
@@ -28,7 +28,7 @@ dialed_to address l = record {
   script = new_script l.script.fails;
 }
 
--- the item at a place, as it is received
+-- the item at an index, as it is received
 abbrev pub IsItemAt : List Item → ℕ → Recv → Type 0
 IsItemAt items at (Got bytes) = slice_get items at ≡ Some (Message bytes)
 IsItemAt items at NoneYet = slice_get items at ≡ Some Idle
@@ -36,7 +36,7 @@ IsItemAt items at End = length items ≤ at
 IsItemAt items at Failed = ⊥
 IsItemAt items at NoMemory = Unit {0}
 
--- receiving fails where the call is listed, and tells the end where nothing is to come
+-- receiving fails if the call is listed, and reports the end if nothing is to come
 abbrev pub IsRecvAnswer : Line → Recv → Type 0
 IsRecvAnswer l (Got bytes) = fails_next l.script ≡ false
 IsRecvAnswer l NoneYet = fails_next l.script ≡ false
@@ -44,7 +44,7 @@ IsRecvAnswer l End = (fails_next l.script ≡ false) × (l.talk.coming ≡ [])
 IsRecvAnswer l Failed = fails_next l.script ≡ true
 IsRecvAnswer l NoMemory = fails_next l.script ≡ false
 
--- sending fails where the call is listed
+-- sending fails if the call is listed
 abbrev pub IsSendAnswer : Line → Sent → Type 0
 IsSendAnswer l Done = fails_next l.script ≡ false
 IsSendAnswer l SendFailed = fails_next l.script ≡ true

@@ -1,4 +1,4 @@
--- What the forms in memory answer, and how they are afterwards.
+-- What the implementations in memory answer, and how they are afterwards.
 use Rattle.std.specs.Prelude.{ℕ, ◌≡◌, ◌+◌, ◌-◌, ◌^◌, ◌<◌, ◌≤◌, ◌⊎◌, min, Bool, true, false, List, [], ◌∷◌, length, drop, None, Some, IsSome, nat_lt, ◌==◌, if◌then◌else◌}
 use Rattle.std.specs.declared.option.Option.{Option}
 use Rattle.std.specs.Option.{option_map}
@@ -16,7 +16,7 @@ use Rattle.etp_outside.specs.declared.sink.WriteOutcome.TheVariants as Wrote
 use Rattle.etp_outside.specs.declared.host.Opened.{Opened}
 use Rattle.etp_outside.specs.declared.host.Opened.TheVariants as Open
 
--- how many bytes a read that does not fail gives into so much room
+-- how many bytes a read that does not fail puts into a buffer of this size
 abbrev pub read_count : Input → ℕ → ℕ
 read_count s room = min (min room s.most) (length s.left)
 
@@ -32,7 +32,7 @@ after_read s room = record {
   script = after_call s.script (fails_next s.script);
 }
 
--- a write of so many bytes fails where the call is listed, or where they don't fit and memory was refused
+-- a write of this many bytes fails if the call is listed, or if they don't fit and memory runs out
 abbrev pub IsWriteAnswer : Output → ℕ → WriteOutcome → Type 0
 IsWriteAnswer s len (Wrote.Took n) = (fails_next s.script ≡ false) × (n ≡ min len s.most)
 IsWriteAnswer s len Wrote.Failed = (fails_next s.script ≡ true) ⊎ (s.room < length s.held + min len s.most)
@@ -42,7 +42,7 @@ abbrev pub is_failed : WriteOutcome → Bool
 is_failed (Wrote.Took n) = false
 is_failed Wrote.Failed = true
 
--- what a write leaves beside the bytes that are held
+-- what a write leaves apart from the bytes that are held
 pub record AfterWrite (old : Output) (answer : WriteOutcome) (new : Output) : Type 0 where
   pub room : old.room ≤ new.room
   pub most : new.most ≡ old.most
@@ -53,7 +53,7 @@ abbrev pub find_file : List MemFile → List ℕ → Option MemFile
 find_file [] name = None
 find_file (f ∷ fs) name = if bytes_eq f.name name then Some f else find_file fs name
 
--- what a file has
+-- what a file contains
 abbrev pub file_content : MemFile → List ℕ
 file_content f = f.content
 
@@ -61,7 +61,7 @@ file_content f = f.content
 abbrev pub opened_file : MemFile → Input
 opened_file f = record { left = f.content; most = 2 ^ 64 - 1; script = new_script f.fails }
 
--- opening fails where the call is listed or no file has the name, and else gives the first file of that name
+-- opening fails if the call is listed or no file has the name, and otherwise gives the first file of that name
 abbrev pub IsOpenAnswer : Folder → List ℕ → Opened Input → Type 0
 IsOpenAnswer h name (Open.File s) = (fails_next h.script ≡ false) × (option_map opened_file (find_file h.files name) ≡ Some s)
 IsOpenAnswer h name Open.Failed = (fails_next h.script ≡ true) ⊎ (find_file h.files name ≡ None)

@@ -1,4 +1,4 @@
--- Lists that proofs alone can read.
+-- Lists that only proofs can read.
 use Rattle.std.specs.Prelude.{List, [], ◌∷◌, ◌++◌}
 use Rattle.etp_outside.specs.Line.{Line}
 use Rattle.etp_outside.specs.declared.roll.Added.{Added}

@@ -5,7 +5,7 @@ use Rattle.std.specs.declared.option.Option.{Option}
 use Rattle.etp_outside.specs.declared.sink.WriteOutcome.{WriteOutcome}
 use Rattle.etp_outside.specs.declared.sink.WriteOutcome.TheVariants.{Took, Failed}
 
--- a write takes no more than there is, and something where there is something
+-- a write takes no more than there is, and something if there is something
 abbrev pub IsTaken : WriteOutcome → ℕ → Type 0
 IsTaken (Took n) len = (n ≤ len) × (0 < len → 0 < n)
 IsTaken Failed len = Unit {0}

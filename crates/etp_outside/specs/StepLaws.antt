@@ -10,7 +10,7 @@ length-moments start step zero = refl
 length-moments start step (suc n) =
     length-append (moments start step n) (moment_at start step n ∷ []) ∙ ap (λ k. k + 1) (length-moments start step n) ∙ add-one n
 
--- what such a clock told passes its test
+-- what such a clock returned passes its test
 pub told_passes : (c : Steps) → is_stepping c.start c.step (moments c.start c.step c.count) ≡ true
 told_passes c =
     let ms = moments c.start c.step c.count in

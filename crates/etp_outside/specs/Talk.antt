@@ -1,4 +1,4 @@
--- What a link tells.
+-- What a link reveals.
 use Rattle.std.specs.Prelude.{◌≡◌, ℕ, Bool, true, false, List, [], ◌∷◌, ◌++◌}
 use Rattle.std.specs.declared.option.Option.{Option}
 use Rattle.etp_outside.specs.declared.link.Address.{Address}
@@ -9,14 +9,14 @@ use Rattle.etp_outside.specs.declared.link.Recv.TheVariants.{Got, Idle as NoneYe
 use Rattle.etp_outside.specs.declared.link.Sent.{Sent}
 use Rattle.etp_outside.specs.declared.link.Sent.TheVariants.{Done, Failed as SendFailed, NoMemory as NoRoom}
 
--- what a link tells of itself
+-- what a link reveals of itself
 pub record Talk : Type 0 where
-  -- the items that are still to come, and those that were taken, in their order
+  -- the items that are still to come, and those that were taken, in order
   pub coming : List Item
   pub taken : List Item
   -- the messages that were sent whole
   pub sent : List (List ℕ)
-  -- where it was dialed to; none for a link that was accepted
+  -- the address that it was dialed to; none for a link that was accepted
   pub to : Option Address
 
 -- the first item was taken

@@ -1,4 +1,4 @@
--- Counts that proofs alone can read.
+-- Counts that only proofs can read.
 use Rattle.std.specs.Prelude.{ℕ, suc}
 use Rattle.etp_outside.specs.declared.tally.Before.{Before}
 use Rattle.etp_outside.specs.declared.tally.Before.TheVariants.{Nothing, Call}

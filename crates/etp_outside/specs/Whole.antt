@@ -9,7 +9,7 @@ use Rattle.etp_outside.specs.declared.whole.Written.TheVariants.{Done, Failed as
 use Rattle.etp_outside.specs.declared.whole.Unread.{Unread}
 use Rattle.etp_outside.specs.declared.whole.Unread.TheVariants.{TooLong, Failed as ReadFailed, NoMemory}
 
--- the input loses some bytes of its front, fewer than so many
+-- the input loses fewer than this number of bytes from its front
 abbrev pub ConsumesBelow : ℕ → Option (List ℕ) → Option (List ℕ) → Type 0
 ConsumesBelow limit old new = (bytes : List ℕ) × (length bytes < limit) × Consumes old new bytes
 
@@ -19,7 +19,7 @@ Fills Full buf old new = Consumes old new buf
 Fills (Short n) buf old new = (n < length buf) × Consumes old new (take n buf) × IsAtEnd new
 Fills FillFailed buf old new = ConsumesBelow (length buf) old new
 
--- the output grows by a front of the piece that is not all of it
+-- a proper prefix of the piece is appended to the output
 abbrev pub AppendsFront : Option (List ℕ) → Option (List ℕ) → List ℕ → Type 0
 AppendsFront old new piece = (n : ℕ) × (n < length piece) × Appends old new (take n piece)
 
@@ -28,11 +28,11 @@ abbrev pub WritesAll : Written → List ℕ → Option (List ℕ) → Option (Li
 WritesAll Done piece old new = Appends old new piece
 WritesAll WriteFailed piece old new = AppendsFront old new piece
 
--- these are all the bytes that were left, at most so many
+-- these are all the bytes that were left, at most this many
 abbrev pub ReadsAll : List ℕ → ℕ → Option (List ℕ) → Option (List ℕ) → Type 0
 ReadsAll bytes limit old new = (length bytes ≤ limit) × Consumes old new bytes × IsAtEnd new
 
--- what reading an input does where it ends with an error
+-- what reading an input does if it ends with an error
 abbrev pub ReadsPart : Unread → ℕ → Option (List ℕ) → Option (List ℕ) → Type 0
 ReadsPart TooLong limit old new = (bytes : List ℕ) × (limit < length bytes) × Consumes old new bytes
 ReadsPart ReadFailed limit old new = (bytes : List ℕ) × (length bytes ≤ limit) × Consumes old new bytes

@@ -1,5 +1,4 @@
-//! The system's files, streams and clock. They are the trusted edge: what a file or a stream has, and what time it is, no
-//! clause says.
+//! The system's files, streams and clock. They are the trusted edge: no clause says what a file or a stream contains, or what time it is.
 ghost use Rattle.std.specs.Prelude.{◌≡◌, None, true, refl};
 
 use crate::clock::Clock;
@@ -11,10 +10,10 @@ use std::io::{ErrorKind, Read, Write};
 use std::rt::Files;
 use std::{fs, time};
 
-/// How often a call that a signal interrupts is made, before the interruption counts as a fault.
+/// How often a call that a signal interrupts is tried before the interruption counts as a fault.
 const TRIES: u32 = 64;
 
-/// A source over a reader of the system or of memory. It tells what the reader tells.
+/// A source over a reader of the system or of memory. It reveals what the reader reveals.
 #[derive(Drop)]
 pub struct StdSource<R: Read> {
     reader: R,
@@ -53,7 +52,7 @@ impl<R: Read> Source for StdSource<R> {
     }
 }
 
-/// A sink over a writer of the system or of memory. It tells what the writer tells.
+/// A sink over a writer of the system or of memory. It reveals what the writer reveals.
 #[derive(Drop)]
 pub struct StdSink<W: Write> {
     writer: W,
@@ -95,7 +94,7 @@ impl<W: Write> Sink for StdSink<W> {
     }
 }
 
-/// The files of the folder that the program runs in, and those of absolute names.
+/// The files of the working directory, and those with absolute names.
 #[derive(Drop)]
 pub struct DirHost<'a, R: Files> {
     rt: &'a R,
@@ -138,7 +137,7 @@ impl<'a, R: Files> Host for DirHost<'a, R> {
     }
 }
 
-/// The system's clock. It tells proofs nothing.
+/// The system's clock. It reveals nothing to proofs.
 #[derive(Drop)]
 pub struct WallClock<'a, R> {
     rt: &'a R,
@@ -146,7 +145,7 @@ pub struct WallClock<'a, R> {
 }
 
 impl<'a, R: time::Clock> WallClock<'a, R> {
-    /// A clock that told nothing yet. Until the system's clock can be read it tells the moment 0.
+    /// A clock that has not been read yet. Until the system's clock can be read it returns the moment 0.
     pub fn new(rt: &'a R) -> WallClock<'a, R> {
         WallClock { rt, last: 0 }
     }

@@ -12,30 +12,30 @@ use std::alloc::Global;
 /// What dialing gave.
 #[derive(Debug, Drop)]
 pub enum Dialed<L> {
-    /// A link over which nothing came or went yet.
+    /// A link over which nothing has come or gone yet.
     Link(L),
-    /// The dialer failed, or there is no peer that answers there.
+    /// The dialer failed, or no peer answers there.
     Failed,
-    /// Memory was refused.
+    /// Out of memory.
     NoMemory,
 }
 
-/// What makes links to peers. Whoever dials a link hands it back when it is done with.
+/// What makes links to peers. Whoever dials a link hands it back when done with it.
 pub trait Dialer {
     /// A link that was dialed.
     type Link: Link;
 
-    /// How often it failed, or took back a link that had failed. The count ends at `u64::MAX`.
+    /// How often it failed, or took back a link that had failed. The count stops at `u64::MAX`.
     ghost faults: { Self → ℕ };
 
     /// Whether it took back a link whose peer had ended it.
     ghost ended: { Self → Bool };
 
-    /// What the links that it took back tell, where it tells them.
+    /// What the links that it took back reveal, if they reveal it.
     ghost backs: { Self → Option (List (Option Talk)) };
 
-    /// Makes a link to a host's port. The path is what a WebSocket's request asks for there. A host that is an IPv6 address
-    /// stands in brackets.
+    /// Makes a link to a port of a host. The path is the one that the WebSocket request asks for. A host that is an IPv6 address is in
+    /// brackets.
     fn dial(&mut self, alloc: Global, host: &str, port: u16, path: &str) -> Dialed<Self::Link>
         ensures link { IfDialed result (λ l. IsDialed (address_of host.now port path.now) (Self.Link.talk l) (Self.Link.faults l) (Self.Link.ended l)) }
         ensures tells { IfDialed result (λ l. IsSome (backs self.new) → IsSome (Self.Link.talk l)) }

@@ -1,8 +1,8 @@
-//! Where a test holds a session up.
+//! Where a test makes a session wait.
 
-/// What each session passes before each of its turns. Tests alone make it wait.
+/// What each session passes before each of its turns. Only tests make it wait.
 pub trait Gate: Sync {
-    /// Before the turn of this number of the session of that number. Turns count from 0.
+    /// Called before the turn of this number of the session of that number. Turns count from 0.
     fn before(&self, session: u64, turn: u64);
 }
 

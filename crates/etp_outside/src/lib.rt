@@ -1,16 +1,14 @@
-//! What a program meets outside itself: bytes that come, bytes that go, files by name, peers, the time, and the status it
-//! ends with.
+//! What a program meets outside itself: bytes that come, bytes that go, files by name, peers, the time, and its exit status.
 //!
-//! [`Source`], [`Sink`], [`Host`], [`Link`], [`Listener`] and [`Dialer`] are traits, so that everything above them is proved over any
-//! outside. Each has a content in ghost form, which the forms in memory tell and the system's files, streams and sockets do
-//! not, and a count of its faults. The count never falls, and an answer `Failed` comes only in a call in which it rose: code
-//! that is generic over these traits cannot make up a fault. A [`Clock`] may tell its moments, and a [`Gate`] is where a test
-//! holds a session up.
+//! [`Source`], [`Sink`], [`Host`], [`Link`], [`Listener`] and [`Dialer`] are traits, so that everything above them is proved for any
+//! implementation. Each has a content in ghost form, which the implementations in memory reveal and the system's files, streams and sockets
+//! do not, and a count of its faults. The count never falls, and `Failed` is returned only by a call in which it rose: code that is generic
+//! over these traits cannot make up a fault. A [`Clock`] may reveal its moments, and a [`Gate`] is where a test makes a session wait.
 //!
-//! [`MemSource`], [`MemSink`], [`MemHost`], [`MemLink`], [`MemDoor`] and [`MemDial`] are the forms in memory, which fail at the calls that a
-//! list names; [`StepClock`] tells moments one step apart, and [`NoGate`] is always open. [`StdSource`], [`StdSink`],
-//! [`DirHost`] and [`WallClock`] are the adapters over the system, the trusted edge. [`fill`], [`write_all`] and [`read_all`]
-//! make whole buffers and files of single reads and writes. [`Status`] is what a program ends with.
+//! [`MemSource`], [`MemSink`], [`MemHost`], [`MemLink`], [`MemDoor`] and [`MemDial`] are the implementations in memory, which fail at the
+//! calls that a list names; [`StepClock`] returns moments one step apart, and [`NoGate`] is always open. [`StdSource`], [`StdSink`],
+//! [`DirHost`] and [`WallClock`] are the adapters over the system, the trusted edge. [`fill`], [`write_all`] and [`read_all`] make whole
+//! buffers and files of single reads and writes. [`Status`] is what a program ends with.
 #![tactic(auto)]
 
 mod adapters;

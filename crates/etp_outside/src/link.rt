@@ -11,13 +11,13 @@ use std::alloc::Global;
 /// What comes over a link, item by item.
 #[derive(Debug, Drop)]
 pub enum Item {
-    /// A message of the peer's.
+    /// A message from the peer.
     Message(Blob),
     /// A turn in which no message came.
     Idle,
 }
 
-/// What receiving gave.
+/// What receiving returned.
 #[derive(Debug, Drop)]
 pub enum Recv {
     /// The peer's next message.
@@ -26,24 +26,24 @@ pub enum Recv {
     Idle,
     /// The peer has ended the link, and nothing more comes.
     End,
-    /// The link failed, and took nothing.
+    /// The link failed, and nothing was taken.
     Failed,
-    /// Memory was refused, and nothing was taken.
+    /// Out of memory; nothing was taken.
     NoMemory,
 }
 
-/// What sending a message gave.
+/// What sending a message returned.
 #[derive(Clone, Copy, Debug, PartialEq, Eq)]
 pub enum Sent {
     /// The whole message was sent.
     Done,
-    /// The link failed. The message is not to be tried again.
+    /// The link failed. The message is not to be sent again.
     Failed,
-    /// Memory was refused, and the message was not sent.
+    /// Out of memory; the message was not sent.
     NoMemory,
 }
 
-/// Where a link was dialed to.
+/// The address that a link was dialed to.
 #[derive(Debug, Drop)]
 pub struct Address {
     pub host: Text,
@@ -53,16 +53,16 @@ pub struct Address {
 
 /// A connection to a peer, over which whole messages come and go. It can cross threads.
 pub trait Link: Drop + Send {
-    /// What is to come, and what was taken and sent so far, where the link tells it.
+    /// What is still to come, and what was taken and sent so far, if the link reveals it.
     ghost talk: { Self → Option Talk };
 
-    /// How often it failed. The count ends at `u64::MAX`.
+    /// How often it failed. The count stops at `u64::MAX`.
     ghost faults: { Self → ℕ };
 
-    /// Whether it has said that the peer ended it.
+    /// Whether it has reported that the peer ended it.
     ghost ended: { Self → Bool };
 
-    /// Takes the next item: a message, or the news that none came yet.
+    /// Takes the next item: a message, or the report that none has come yet.
     fn recv(&mut self, alloc: Global) -> Recv
         ensures talk { Told (talk self.old) (talk self.new) (Received result) }
         ensures kept { faults self.old ≤ faults self.new }
@@ -76,7 +76,7 @@ pub trait Link: Drop + Send {
         ensures cause { result ≡ Sent.Failed → Rose (faults self.old) (faults self.new) }
         ensures ended { ended self.new ≡ ended self.old };
 
-    /// Says goodbye to the peer: on this side all is done.
+    /// Says goodbye to the peer: this side is done.
     fn close(&mut self)
         ensures talk { talk self.new ≡ talk self.old }
         ensures faults { faults self.new ≡ faults self.old }

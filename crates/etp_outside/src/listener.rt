@@ -8,43 +8,43 @@ ghost use Rattle.etp_outside.specs.Doors.{Back, IfLink, IsAccepted, TakesBack, b
 use crate::link::Link;
 use std::alloc::Global;
 
-/// What listening gave.
+/// What listening returned.
 #[derive(Clone, Copy, Debug, PartialEq, Eq)]
 pub enum Listened {
     /// Links can come.
     Done,
-    /// The listener failed, or the address is none that it can listen at.
+    /// The listener failed, or can't listen at the address.
     Failed,
 }
 
-/// What waiting for a link gave.
+/// What waiting for a link returned.
 #[derive(Debug, Drop)]
 pub enum Next<L> {
-    /// A link over which nothing came or went yet.
+    /// A link over which nothing has come or gone yet.
     Link(L),
     /// No further link comes.
     Stop,
     /// The listener failed.
     Failed,
-    /// Memory was refused.
+    /// Out of memory.
     NoMemory,
 }
 
-/// Where peers connect. Whoever takes a link from it hands it back when it is done with.
+/// Where peers connect. Whoever takes a link from it hands it back when done with it.
 pub trait Listener {
     /// A link that was accepted.
     type Link: Link;
 
-    /// How often it failed. The count ends at `u64::MAX`.
+    /// How often it failed. The count stops at `u64::MAX`.
     ghost faults: { Self → ℕ };
 
-    /// How many links it gave.
+    /// How many links it has given out.
     ghost given: { Self → ℕ };
 
-    /// Whether it has said that no further link comes.
+    /// Whether it has reported that no further link comes.
     ghost stopped: { Self → Bool };
 
-    /// The links that it took back, where it tells them.
+    /// The links that it took back, if it reveals them.
     ghost backs: { Self → Option (List Back) };
 
     /// Begins to listen at an address.
@@ -55,7 +55,7 @@ pub trait Listener {
         ensures kept { faults self.old ≤ faults self.new }
         ensures cause { result ≡ Listened.Failed → Rose (faults self.old) (faults self.new) };
 
-    /// The next link. It stops before it has given more than a `u64` counts.
+    /// The next link. It stops before it has given out more links than a `u64` counts.
     fn next(&mut self, alloc: Global) -> Next<Self::Link>
         ensures link { IfLink result (λ l. IsAccepted (Self.Link.talk l) (Self.Link.faults l) (Self.Link.ended l)) }
         ensures tells { IfLink result (λ l. IsSome (backs self.new) → IsSome (Self.Link.talk l)) }
@@ -65,8 +65,8 @@ pub trait Listener {
         ensures kept { faults self.old ≤ faults self.new }
         ensures cause { result ≡ Next.Failed → Rose (faults self.old) (faults self.new) };
 
-    /// Takes a link back, with the number of its session and how that ended. Where as many came back as it gave, a
-    /// further one is none of its own.
+    /// Takes a link back, with the number of its session and how that ended. Once as many came back as were given out, a further one is not
+    /// one of its own.
     fn back(&mut self, link: Self::Link, number: u64, end: u8)
         ensures back { Told (backs self.old) (backs self.new) (TakesBack (given self.old)
             (back_of number end (Self.Link.faults link) (Self.Link.ended link) (Self.Link.talk link))) }
@@ -74,6 +74,6 @@ pub trait Listener {
         ensures stopped { stopped self.new ≡ stopped self.old }
         ensures kept { faults self.old ≤ faults self.new };
 
-    /// No more links came back than it gave.
+    /// No more links came back than were given out.
     ghost few: { (d : Self) → IfSome (backs d) (λ bs. length bs ≤ given d) };
 }

@@ -14,8 +14,8 @@ use std::alloc::Global;
 use std::collections::VecDeque;
 use std::marker::Model;
 
-/// A dialer that gives the links of a list, each as before its first call, whatever is dialed, and then fails. It keeps those
-/// that come back, as many as it was made with, and fails at the calls of `dial` that another list names.
+/// A dialer that gives out the links of a list, each in its state before its first call, whatever is dialed, and then fails. It keeps those
+/// that come back, up to the number that it was made with, and fails at the calls of `dial` that another list names.
 #[derive(Drop)]
 pub struct MemDial {
     waiting: VecDeque<MemLink>,
@@ -39,8 +39,8 @@ impl Model for MemDial {
 }
 
 impl MemDial {
-    /// A dialer that gives these links, with the room to take them back. The calls of `dial` of the numbers in `fails` fail,
-    /// the first call being number 1.
+    /// A dialer that gives out these links, with room to take them back. The calls of `dial` whose numbers are in `fails` fail; the first
+    /// call is number 1.
     pub fn new(alloc: Global, links: List<MemLink>, fails: List<u64>) -> Result<MemDial, NoMemory>
         ensures { IfOk result (λ d. d ≡ new_dialer links fails) }
     {
@@ -57,7 +57,7 @@ impl MemDial {
         })
     }
 
-    /// The links that came back, in the order in which they did, to be read: the first of them, as many as it was made with.
+    /// The links that came back, in that order: the first of them, up to the number that the dialer was made with.
     pub fn returned(&self) -> &[MemLink]
         ensures { result.now ≡ take self.now.room self.now.back }
     {
@@ -82,7 +82,7 @@ fn address(alloc: Global, host: &str, port: u16, path: &str) -> Result<Address, 
     })
 }
 
-/// Keeps a link behind the others, where fewer than so many are kept.
+/// Keeps a link after the others, if fewer than `room` are kept.
 fn keep(kept: &mut Vec<MemLink>, room: usize, link: MemLink)
     requires { room ≤ vec_capacity kept.old }
     ensures items { kept.new.items ≡ kept_within room kept.old.items link }

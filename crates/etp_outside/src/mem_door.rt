@@ -18,13 +18,13 @@ use std::marker::Model;
 #[derive(Debug, Drop)]
 pub struct Returned {
     pub link: MemLink,
-    /// The number of its session, 0 where none was entered.
+    /// The number of its session, 0 if none was entered.
     pub number: u64,
     /// How that session ended.
     pub end: u8,
 }
 
-/// A listener that gives the links of a list, each as before its first call, and then stops. It keeps those that come back,
+/// A listener that gives out the links of a list, each in its state before its first call, and then stops. It keeps those that come back,
 /// and fails at the calls of `listen` and `next` that another list names, both counted together.
 #[derive(Debug, Drop)]
 pub struct MemDoor {
@@ -48,8 +48,8 @@ impl Model for MemDoor {
 }
 
 impl MemDoor {
-    /// A listener that gives these links, with the room to take them back. The calls of the numbers in `fails` fail, the
-    /// first call being number 1.
+    /// A listener that gives out these links, with room to take them back. The calls whose numbers are in `fails` fail; the first call is
+    /// number 1.
     pub fn new(alloc: Global, links: List<MemLink>, fails: List<u64>) -> Result<MemDoor, NoMemory>
         ensures { IfOk result (λ d. d ≡ first_porch links fails) }
     {
@@ -64,7 +64,7 @@ impl MemDoor {
         })
     }
 
-    /// The links that came back, in the order in which they did, to be read.
+    /// The links that came back, in that order.
     pub fn returned(&self) -> &[Returned]
         ensures { result.now ≡ self.now.back }
     {

@@ -16,16 +16,16 @@ use std::marker::Model;
 /// A file of a [`MemHost`].
 #[derive(Debug, Drop)]
 pub struct MemFile {
-    /// What it is opened by.
+    /// The name that opens it.
     pub name: Text,
-    /// What it has.
+    /// What it contains.
     pub content: Blob,
-    /// The numbers, from 1, of the reads that fail each time that the file was opened.
+    /// The numbers, from 1, of the reads that fail, each time that the file is opened.
     pub fails: List<u64>,
 }
 
-/// A host that has the files of a list, and fails at the openings that another list names. Of two files with one name it
-/// opens the first.
+/// A host that has the files of a list, and fails at the openings that another list names. If two files have the same name it opens the
+/// first.
 #[derive(Debug, Drop)]
 pub struct MemHost {
     files: List<MemFile>,
@@ -41,7 +41,7 @@ impl Model for MemHost {
 }
 
 impl MemHost {
-    /// A host with these files. The openings of the numbers in `fails` fail, the first one being number 1.
+    /// A host with these files. The openings whose numbers are in `fails` fail; the first one is number 1.
     pub fn new(files: List<MemFile>, fails: List<u64>) -> MemHost
         ensures { result ≡ record { files = files; script = new_script fails } }
     {

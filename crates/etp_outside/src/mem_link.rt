@@ -40,7 +40,7 @@ impl Model for MemLink {
 }
 
 impl MemLink {
-    /// A link over which these items come. The calls of the numbers in `fails` fail, the first call being number 1.
+    /// A link over which these items come. The calls whose numbers are in `fails` fail; the first call is number 1.
     pub fn new(alloc: Global, coming: List<Item>, fails: List<u64>) -> MemLink
         ensures { result ≡ record { talk = first_talk coming; ended = false; script = new_script fails } }
     {
@@ -54,14 +54,14 @@ impl MemLink {
         }
     }
 
-    /// The messages that were sent whole, to be read.
+    /// The messages that were sent whole.
     pub fn sent(&self) -> &[Blob]
         ensures { result.now ≡ self.now.talk.sent }
     {
         self.sent.as_slice()
     }
 
-    /// Where it was dialed to, if it was.
+    /// The address that it was dialed to, if it was.
     pub fn to(&self) -> Option<&Address>
         ensures { option_copied result ≡ self.now.talk.to }
     {
@@ -75,14 +75,14 @@ impl MemLink {
         self.script.faults
     }
 
-    /// Whether it has said that the peer ended it.
+    /// Whether it has reported that the peer ended it.
     pub fn has_ended(&self) -> bool
         ensures { result ≡ self.now.ended }
     {
         self.ended
     }
 
-    /// Begins anew: as when no call was made over it.
+    /// Resets the link to its state before any call.
     pub(crate) fn renew(&mut self)
         ensures { self.new ≡ renewed self.old }
     {
@@ -93,7 +93,7 @@ impl MemLink {
         self.script.renew();
     }
 
-    /// Begins anew, as a link that was dialed to this address.
+    /// Resets the link, as one that was dialed to this address.
     pub(crate) fn dialed(&mut self, to: Address)
         ensures { self.new ≡ dialed_to to self.old }
     {
@@ -102,7 +102,7 @@ impl MemLink {
     }
 }
 
-/// What the item at a place gives, or the end where there is none.
+/// What the item at an index gives, or the end if there is none.
 fn item_at(items: &[Item], at: usize) -> Recv
     ensures { IsItemAt items.now at result }
 {

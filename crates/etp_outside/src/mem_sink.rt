@@ -10,8 +10,8 @@ use crate::sink::{Sink, WriteOutcome};
 use etp_values::List;
 use std::marker::Model;
 
-/// A sink that keeps what it takes, and fails at the writes that a list names. Beyond the capacity of the `Vec` that it
-/// was made with it takes memory, and want of it is a fault.
+/// A sink that keeps what is written to it, and fails at the writes that a list names. It allocates beyond the capacity of the `Vec` that
+/// it was made with; running out of memory is then a fault.
 #[derive(Debug, Drop)]
 pub struct MemSink {
     bytes: Vec<u8>,
@@ -31,7 +31,7 @@ impl Model for MemSink {
 }
 
 impl MemSink {
-    /// A sink that holds these bytes. The writes of the numbers in `fails` fail, the first write being number 1.
+    /// A sink that holds these bytes. The writes whose numbers are in `fails` fail; the first write is number 1.
     pub fn new(contents: Vec<u8>, fails: List<u64>) -> MemSink
         ensures { result ≡ record {
           held = contents.items;
@@ -43,7 +43,7 @@ impl MemSink {
         MemSink::in_pieces(contents, fails, usize::MAX)
     }
 
-    /// The same, which takes at most `most` bytes of a piece.
+    /// Like `new`, but takes at most `most` bytes per write.
     pub fn in_pieces(contents: Vec<u8>, fails: List<u64>, most: usize) -> MemSink
         requires { 0 < most }
         ensures { result ≡ record {
@@ -60,7 +60,7 @@ impl MemSink {
         }
     }
 
-    /// The bytes that it holds, to be read.
+    /// Borrows the bytes that it holds.
     pub fn as_bytes(&self) -> &[u8]
         ensures { result.now ≡ self.now.held }
     {

@@ -31,14 +31,14 @@ impl Model for MemSource {
 }
 
 impl MemSource {
-    /// A source of these bytes. The reads of the numbers in `fails` fail, the first read being number 1.
+    /// A source of these bytes. The reads whose numbers are in `fails` fail; the first read is number 1.
     pub fn new(contents: Blob, fails: List<u64>) -> MemSource
         ensures { result ≡ record { left = contents; most = 2 ^ 64 - 1; script = new_script fails } }
     {
         MemSource::in_pieces(contents, fails, usize::MAX)
     }
 
-    /// The same, which gives at most `most` bytes to a read.
+    /// Like `new`, but gives at most `most` bytes per read.
     pub fn in_pieces(contents: Blob, fails: List<u64>, most: usize) -> MemSource
         requires { 0 < most }
         ensures { result ≡ record { left = contents; most = most; script = new_script fails } }

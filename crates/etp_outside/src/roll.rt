@@ -1,12 +1,11 @@
-//! A list of links that proofs alone can read.
+//! A list of links that only proofs can read.
 ghost use Rattle.std.specs.Prelude.{◌≡◌, ◌∷◌, ◌++◌, []};
 
 use crate::mem_link::MemLink;
 use std::marker::Model;
 use std::snapshot::Snapshot;
 
-/// Links as they were when they were added, in that order. At run time nothing of them is kept, so that adding one takes no
-/// memory.
+/// Links as they were when they were added, in that order. At run time nothing of them is kept, so adding one does not allocate.
 #[derive(Drop)]
 #[cycle(roll)]
 pub(crate) struct Roll {
@@ -48,7 +47,7 @@ impl Roll {
         }
     }
 
-    /// The same links, and this one behind them.
+    /// The same links, followed by this one.
     pub(crate) fn with(&self, link: &MemLink) -> Roll
         ensures { result ≡ self.now ++ link.now ∷ [] }
     {

@@ -5,8 +5,7 @@ ghost use Rattle.etp_outside.specs.Faults.{next_count};
 
 use etp_values::List;
 
-/// The numbers of the calls that fail, counted from 1, with the calls made and the faults so far. Both counts stay at the
-/// greatest `u64`.
+/// The numbers of the calls that fail, counted from 1, with the calls made and the faults so far. Both counts stop at `u64::MAX`.
 #[derive(Debug, Drop)]
 pub struct Script {
     pub fails: List<u64>,
@@ -15,7 +14,7 @@ pub struct Script {
 }
 
 impl Script {
-    /// The script of an object that had no call.
+    /// The script of an object before any call.
     pub(crate) fn new(fails: List<u64>) -> Script
         ensures { result ≡ new_script fails }
     {
@@ -26,7 +25,7 @@ impl Script {
         }
     }
 
-    /// Begins anew: as when no call was made.
+    /// Resets the script to its state before any call.
     pub(crate) fn renew(&mut self)
         ensures { self.new ≡ new_script self.old.fails }
     {

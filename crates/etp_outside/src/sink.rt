@@ -4,10 +4,10 @@ ghost use Rattle.std.specs.declared.option.Option.{Option};
 ghost use Rattle.etp_outside.specs.Faults.{Rose};
 ghost use Rattle.etp_outside.specs.Sink.{IsTaken, Writes};
 
-/// What one write took.
+/// What one write returned.
 #[derive(Clone, Copy, Debug, PartialEq, Eq)]
 pub enum WriteOutcome {
-    /// So many bytes, from the front of the piece.
+    /// The number of bytes taken, from the front of the piece.
     Took(usize),
     /// The sink failed, and took no byte.
     Failed,
@@ -15,10 +15,10 @@ pub enum WriteOutcome {
 
 /// Where bytes go: an output.
 pub trait Sink {
-    /// The bytes that it holds, where it tells them.
+    /// The bytes that it holds, if it reveals them.
     ghost held: { Self → Option (List ℕ) };
 
-    /// How often it failed. The count ends at `u64::MAX`.
+    /// How often it failed. The count stops at `u64::MAX`.
     ghost faults: { Self → ℕ };
 
     /// Takes some of the first bytes of `piece`, at least one unless it is empty. A sink that can take none has failed.

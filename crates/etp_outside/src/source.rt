@@ -4,23 +4,23 @@ ghost use Rattle.std.specs.declared.option.Option.{Option};
 ghost use Rattle.etp_outside.specs.Faults.{Rose};
 ghost use Rattle.etp_outside.specs.Source.{IsCount, Reads};
 
-/// What one read gave.
+/// What one read returned.
 #[derive(Clone, Copy, Debug, PartialEq, Eq)]
 pub enum ReadOutcome {
-    /// So many bytes, at the front of the buffer.
+    /// The number of bytes read, to the front of the buffer.
     Got(usize),
     /// The input has ended, and stays ended.
     End,
-    /// The source failed, and took no byte.
+    /// The source failed, and no byte was taken from it.
     Failed,
 }
 
-/// Where bytes come from: an input, or a file that was opened.
+/// Where bytes come from: an input, or an open file.
 pub trait Source {
-    /// The bytes that are left to be read, where the source tells them.
+    /// The bytes that are left to be read, if the source reveals them.
     ghost left: { Self → Option (List ℕ) };
 
-    /// How often it failed. The count ends at `u64::MAX`.
+    /// How often it failed. The count stops at `u64::MAX`.
     ghost faults: { Self → ℕ };
 
     /// Reads some of the next bytes to the front of `buf`, at least one unless the input has ended.

@@ -12,32 +12,32 @@ use std::alloc::{AllocError, Global};
 pub enum Status {
     /// The command was done.
     Done,
-    /// The words are in no form.
+    /// The command line is malformed.
     Usage,
-    /// The configuration was refused. The causes, by their numbers: 1 it is too long, 2 it is no TOML, 3 a key is missing or
-    /// has no value that it may have, 4 it has too many channels, 5 a channel's URI names no object, 6 a channel's kind is
-    /// none, 7 a channel has the URI of an earlier one. `channel` counts from 1, and is 0 for a key outside the channels;
-    /// `channel` and `key` are read for the causes that name them.
+    /// The configuration was refused. The causes, by number: 1 it is too long, 2 it is not TOML, 3 a key is missing or has a value that it
+    /// may not have, 4 it has too many channels, 5 a channel's URI does not name an object, 6 a channel's kind is not one of the seven, 7 a
+    /// channel has the URI of an earlier one. `channel` counts from 1, and is 0 for a key outside the channels; `channel` and `key` are
+    /// used for the causes that name them.
     Config { cause: u8, channel: u64, key: u8 },
-    /// The capture was refused at this offset in bytes.
+    /// The capture was refused at this offset, in bytes.
     Capture(u64),
     /// The input or a file could not be read.
     ReadFault,
     /// The output could not be written.
     WriteFault,
-    /// Memory was refused.
+    /// Out of memory.
     NoMemory,
-    /// No more connections could be taken.
+    /// No more connections could be accepted.
     ListenFault,
-    /// A limit was passed.
+    /// A limit was exceeded.
     Limit,
-    /// A peer refused with this code, or so many messages of a capture were refused.
+    /// A peer refused with this code, or this number of a capture's messages were refused.
     Refused(i64),
     /// The connection failed.
     LinkFault,
-    /// The peer broke the protocol, or went before the command was done.
+    /// The peer broke the protocol, or left before the command was done.
     Peer,
-    /// This line of the input, counted from 1, is not in its form.
+    /// This line of the input, counted from 1, is malformed.
     Input(u64),
     /// The peer ended the subscription.
     Stopped,
@@ -102,7 +102,7 @@ impl Status {
     }
 }
 
-/// The line of a configuration that was refused.
+/// The line for a configuration that was refused.
 fn config_text(alloc: Global, cause: u8, channel: u64, key: u8) -> Result<String, AllocError>
     ensures { IfOk result (λ t. string_bytes t ≡ refusal_of cause channel key) }
 {

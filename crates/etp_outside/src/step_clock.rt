@@ -8,8 +8,7 @@ use crate::clock::Clock;
 use crate::tally::Tally;
 use std::marker::Model;
 
-/// A clock that tells a start, and then each time the moment before and a step more, modulo 2^64. Proofs know each of its
-/// moments.
+/// A clock that returns a start, and then each time the previous moment plus a step, modulo 2^64. Proofs know each of its moments.
 #[derive(Drop)]
 pub struct StepClock {
     start: u64,
@@ -30,7 +29,7 @@ impl Model for StepClock {
 }
 
 impl StepClock {
-    /// A clock that told nothing yet.
+    /// A clock that has not been read yet.
     pub fn new(start: i64, step: i64) -> StepClock
         ensures { result ≡ record { start = cast_unsigned w64 start; step = cast_unsigned w64 step; count = 0 } }
     {

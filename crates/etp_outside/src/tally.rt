@@ -1,10 +1,10 @@
-//! A count that proofs alone can read.
+//! A count that only proofs can read.
 ghost use Rattle.std.specs.Prelude.{◌≡◌, suc};
 
 use std::marker::Model;
 use std::snapshot::Snapshot;
 
-/// A count without a greatest number. At run time nothing of it is kept.
+/// A count without an upper limit. At run time nothing of it is kept.
 #[derive(Drop)]
 #[cycle(tally)]
 pub(crate) struct Tally {
@@ -45,7 +45,7 @@ impl Tally {
         }
     }
 
-    /// One call more.
+    /// One more call.
     pub(crate) fn more(&self) -> Tally
         ensures { result ≡ suc self.now }
     {

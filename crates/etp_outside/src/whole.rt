@@ -1,4 +1,4 @@
-//! Whole buffers, pieces and files, over calls that move a part.
+//! Whole buffers, pieces and files, by calls that move a part at a time.
 ghost use Rattle.std.specs.Prelude.{◌≡◌, ◌≤◌, IfOk, IfErr};
 ghost use Rattle.etp_outside.specs.Faults.{Rose};
 ghost use Rattle.etp_outside.specs.Whole.{Fills, WritesAll, ReadsAll, ReadsPart};
@@ -8,14 +8,14 @@ use crate::source::{ReadOutcome, Source};
 use std::alloc::Global;
 use thiserror::Error;
 
-/// What filling a buffer gave.
+/// What filling a buffer returned.
 #[derive(Clone, Copy, Debug, PartialEq, Eq)]
 pub enum Filled {
     /// The buffer is full.
     Full,
-    /// The input ended after so many bytes, fewer than the buffer has.
+    /// The input ended after this number of bytes, fewer than the buffer has.
     Short(usize),
-    /// The source failed, after fewer bytes than the buffer has.
+    /// The source failed before the buffer was full.
     Failed,
 }
 
@@ -36,12 +36,12 @@ pub fn fill<S: Source>(source: &mut S, buf: &mut [u8]) -> Filled
     Filled::Full
 }
 
-/// What writing a whole piece gave.
+/// What writing a whole piece returned.
 #[derive(Clone, Copy, Debug, PartialEq, Eq)]
 pub enum Written {
     /// All of it was taken.
     Done,
-    /// The sink failed. It took some of the piece's first bytes, and not all.
+    /// The sink failed. It took some of the piece's first bytes, but not all.
     Failed,
 }
 
@@ -70,12 +70,12 @@ pub enum Unread {
     /// The source failed.
     #[error("the input could not be read")]
     Failed,
-    /// Memory was refused.
+    /// Out of memory.
     #[error("out of memory")]
     NoMemory,
 }
 
-/// Reads all that is left, where that is at most `limit` bytes.
+/// Reads all that is left, if that is at most `limit` bytes.
 pub fn read_all<S: Source>(alloc: Global, source: &mut S, limit: usize) -> Result<Vec<u8>, Unread>
     ensures ok { IfOk result (λ v. ReadsAll v.items limit (S.left source.old) (S.left source.new)) }
     ensures err { IfErr result (λ e. ReadsPart e limit (S.left source.old) (S.left source.new)) }

@@ -34,7 +34,7 @@ module _ {A : Type 0} (value : ℕ → List ℕ → Read (A × ℕ)) (vs : List 
 
 -- ---- blocks that state their size
 
--- a count below zero, and a size that is none
+-- a negative count, and a size that is not one
 block_sized : {S : Type 0} (item : S → List ℕ → Read S) (s : S) (z size : ℤ) (k : ℕ) (bytes after : List ℕ) (r : Read S)
     → le_z (pos 0) z ≡ false → lt_z size (pos 0) ≡ false → k ≡ unsigned_abs z → number_at bytes ≡ Ok (size, after) → items_at item k s after ≡ r
     → block_at item s z bytes ≡ sized (length bytes) (pos (unsigned_abs size)) (length after) r

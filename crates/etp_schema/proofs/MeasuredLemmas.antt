@@ -1,4 +1,4 @@
--- A measure, part by part, is that of the whole.
+-- The measure of the parts, added up, is that of the whole.
 use Rattle.std.proofs.Common.{◌≡◌, ◌∙◌, ◌+◌, ◌*◌, ◌/◌, ◌^◌, ◌<◌, ◌≤◌, ◌++◌, ℕ, zero, suc, pos, min, length, refl, sym, ap, arith}
 use Rattle.std.proofs.lemmas.Bool.{le-ltb}
 use Rattle.std.proofs.lemmas.List.{length-append}

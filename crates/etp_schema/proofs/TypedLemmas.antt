@@ -1,4 +1,4 @@
--- What typed reading says of reading. For the crates above too.
+-- What typed reading says about reading. For the crates above too.
 use Rattle.std.proofs.Common.{◌≡◌, ◌∙◌, ℕ, ◌-◌, List, Ok, Err, length, sym, ap}
 use Rattle.avro_bin.specs.declared.fault.Why.{Why}
 use Rattle.avro_bin.specs.Value.{Value}
@@ -20,7 +20,7 @@ some_err : {A : Type 0} (f : Value → A) (len : ℕ) (r : Read Got) (w : Why) (
 some_err f len (Ok x) w left h = absurd cc
 some_err f len (Err e) w left h = let same : e ≡ (w, left) = cc in ap (λ (d : Why × ℕ). Err (refusal d.0 (len - d.1))) same
 
--- of a schema's values, seen by a function
+-- for a schema's values, seen through a function
 pub seen_ok : {A : Type 0} (f : Value → A) (s : Schema) (limit : ℕ) (bytes : List ℕ) (x : A) (left : ℕ) (rest : List ℕ) → along (seen f) (value_at s limit bytes) ≡ Ok ((x, left), rest) → (v : Value) × (read_value s limit bytes ≡ Ok (v, length bytes - length rest)) × (x ≡ f v)
 unfolding read_value
 seen_ok f s limit bytes x left rest h = some_ok f (length bytes) (value_at s limit bytes) x left rest h
@@ -29,7 +29,7 @@ pub seen_err : {A : Type 0} (f : Value → A) (s : Schema) (limit : ℕ) (bytes 
 unfolding read_value
 seen_err f s limit bytes w left h = some_err f (length bytes) (value_at s limit bytes) w left h
 
--- of a form's values
+-- for a form's values
 pub typed_ok : {A : Type 0} (f : Form A) (limit : ℕ) (bytes : List ℕ) (x : A) (left : ℕ) (rest : List ℕ) → f.at limit bytes ≡ Ok ((x, left), rest) → (v : Value) × (read_value f.schema limit bytes ≡ Ok (v, length bytes - length rest)) × (x ≡ f.from_value v)
 typed_ok f limit bytes x left rest h = seen_ok f.from_value f.schema limit bytes x left rest (sym (f.at_is limit bytes) ∙ h)
 

@@ -140,12 +140,12 @@ abbrev pub is_number : ℕ → ℤ → Bool
 is_number n (pos m) = n == m
 is_number n (negsuc m) = false
 
--- the message of a number that a side sends
+-- the message of this number that a side sends
 abbrev pub row_in : List BodyRow → ℤ → Side → Option BodyRow
 row_in [] kind side = None
 row_in (r ∷ rows) kind side = if is_number r.kind kind && r.by side then Some r else row_in rows kind side
 
--- the messages of a protocol; none of a number that no protocol has
+-- the messages of a protocol; none for a number that no protocol has
 abbrev pub messages_in : List ProtocolRow → ℤ → List BodyRow
 messages_in [] protocol = []
 messages_in (p ∷ ps) protocol = if is_number p.number protocol then p.messages else messages_in ps protocol

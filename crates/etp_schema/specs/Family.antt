@@ -24,7 +24,7 @@ abbrev pub read_as : {M : Type 0} → Value → Option (Kind M) → Option M
 read_as v None = None
 read_as v (Some k) = Some (k.read v)
 
--- what a body is read as, where there is a message of that number
+-- what a body is read as, if there is a message of that number
 abbrev pub read_kind : {M : Type 0} → List (Kind M) → ℤ → Value → Option M
 read_kind ks number v = read_as v (kind_in ks number)
 
@@ -37,7 +37,7 @@ pub record Body : Type 0 where
 abbrev pub body : {A : Type 0} → ℕ → Form A → A → Body
 body number f x = record { number = number; schema = f.schema; value = f.as_value x }
 
--- a message stands under its number, with its body's schema, and its body is read as that message
+-- a message is found under its number, with its body's schema, and its body is read as that message
 abbrev pub IsFound : {M : Type 0} → List (Kind M) → (M → Body) → M → Type 0
 IsFound {M} kinds written x =
     (k : Kind M)

@@ -1,4 +1,4 @@
--- How the values of a type stand in a schema, one to one, and the forms of what a field can hold.
+-- How the values of a type correspond to those of a schema, one to one, and the forms of what a field can hold.
 use Rattle.std.proofs.Common.{◌∙◌, ap, sym, subst, inl, inr, zero-add}
 use Rattle.std.proofs.Math.ListN.{get_or-map}
 use Rattle.std.proofs.lemmas.List.FromFn.{get_or-range_with_len}
@@ -20,9 +20,9 @@ use Rattle.avro_bin.specs.Reading.{Read, Got, Row as Values_so_far, Names, ◌>>
 use Rattle.avro_bin.specs.Along.{along, seen, push_at, put_at}
 use Rattle.avro_bin.proofs.AlongLemmas.{along_twice, along_same, then_along, blocks_along, push_along, put_along, listed_is, mapped_is, in_branch_is, fields_front}
 
--- The values of a type as the values of a schema, and what a value of any schema is read as. They are one to one: what
--- was written is read again, and where a value has the schema, what was read of it is written as it was. They are read from
--- the front of bytes too, of at most so many nodes: as the value there is read.
+-- The values of a type as the values of a schema, and what a value of any schema is read as. They correspond one to one: what was written
+-- reads back, and if the value has the schema, what was read from it is written as it was. They are also read from the front of bytes, with
+-- at most a given number of nodes: as the value there is read.
 pub record Form (A : Type 0) : Type 0 where
   pub schema : Schema
   pub as_value : A → Value
@@ -36,7 +36,7 @@ pub record Form (A : Type 0) : Type 0 where
 unfoldable pub Holds : {A : Type 0} → Form A → A → Type 0
 Holds f x = HasSchema f.schema (f.as_value x)
 
--- what a value is read as where a boolean, an int and so on is wanted: itself, or for another kind a default
+-- what a value is read as if a boolean, an int and so on is expected: itself, or a default for another kind
 abbrev pub boolean_in : Value → Bool
 boolean_in (VBoolean b) = b
 boolean_in _ = false
@@ -65,7 +65,7 @@ abbrev pub text_in : Value → List ℕ
 text_in (VText b) = b
 text_in _ = []
 
--- sixteen bytes, or sixteen zeros in place of any other number
+-- sixteen bytes, or sixteen zeros instead of any other number of bytes
 abbrev pub id_of : List ℕ → List ℕ
 id_of b = if length b == 16 then b else replicate 16 0
 
@@ -73,7 +73,7 @@ abbrev pub id_in : Value → List ℕ
 id_in (VFixed b) = id_of b
 id_in _ = replicate 16 0
 
--- the place of an enum's symbol; 0 of any other value
+-- the place of an enum's symbol; 0 for any other value
 abbrev pub symbol_in : Value → ℕ
 symbol_in (VEnum p) = p
 symbol_in _ = 0
@@ -86,37 +86,37 @@ abbrev pub named_in : Value → List (List ℕ × Value)
 named_in (VMap es) = pairs es
 named_in _ = []
 
--- the values of a record's fields; none of any other value
+-- the values of a record's fields; none for any other value
 abbrev pub fields_in : Value → List Value
 fields_in (VFields vs) = list vs
 fields_in _ = []
 
--- the place of a union's branch; 0 of any other value
+-- the place of a union's branch; 0 for any other value
 abbrev pub branch_in : Value → ℕ
 branch_in (VUnion p x) = p
 branch_in _ = 0
 
--- the value in a union's branch; null of any other value
+-- the value in a union's branch; null for any other value
 abbrev pub chosen_in : Value → Value
 chosen_in (VUnion p x) = x
 chosen_in _ = VNull
 
--- the first value, and null where there is none
+-- the first value, and null if there is none
 abbrev pub first : List Value → Value
 first [] = VNull
 first (x ∷ xs) = x
 
--- the values behind the first
+-- the values after the first
 abbrev pub rest : List Value → List Value
 rest [] = []
 rest (x ∷ xs) = xs
 
--- a value's node: one fewer is allowed behind it
+-- a value's node: one fewer is allowed after it
 abbrev pub node_at : {A : Type 0} → (ℕ → List ℕ → Read (A × ℕ)) → ℕ → List ℕ → Read (A × ℕ)
 node_at inside zero bytes = Err (why.Limit, length bytes)
 node_at inside (suc n) bytes = inside n bytes
 
--- what stands in one node, seen by f, and the nodes that are still allowed
+-- what one node holds, seen through f, and the nodes that are still allowed
 abbrev pub leaf_at : {A B : Type 0} → (B → A) → (List ℕ → Read B) → ℕ → List ℕ → Read (A × ℕ)
 leaf_at f leaf n bytes = along (λ x. (f x, n)) (leaf bytes)
 
@@ -252,7 +252,7 @@ unfolding value_at
 symbol_at_is all past zero bytes = refl
 symbol_at_is all past (suc n) bytes = leaf_seen (λ p. get_or all p past) (λ x. get_or all (symbol_in x) past) VEnum n (place_at (length all) bytes) (λ p. refl)
 
--- an enumeration: its symbols in order, which of them stands for a place past them, and the place of each
+-- an enumeration: its symbols in order, which of them is used for a place beyond the last, and the place of each
 abbrev pub symbols : {A : Type 0} (all : List A) (past : A) (place : A → ℕ) → ((x : A) → get_or all (place x) past ≡ x) → map place all ≡ range_with_len 0 (length all) → places (length all) ≡ length all → Form A
 symbols all past place again order few = record {
   schema = SEnum (length all);
@@ -344,7 +344,7 @@ named_form f = record {
   at_is = named_at_is f;
 }
 
--- The forms of a record's fields, one behind the other.
+-- The forms of a record's fields, one after the other.
 pub record Row (A : Type 0) : Type 0 where
   pub schemas : Schemas
   pub as_values : A → List Value
@@ -365,7 +365,7 @@ pub done_at_is : (n : ℕ) (bytes : List ℕ) → done_at n bytes ≡ along (see
 unfolding value_at
 done_at_is n bytes = refl
 
--- no field more
+-- no more fields
 abbrev pub done : Row (Unit {0})
 done = record { schemas = s.none; as_values = λ x. []; from_values = λ vs. tt; back = λ x h. refl; there = done_there; at = done_at; at_is = done_at_is }
 
@@ -373,7 +373,7 @@ pub and_there : {A B : Type 0} (f : Form A) (r : Row B) (vs : List Value) → Fi
 and_there f r [] h = absurd h
 and_there f r (x ∷ xs) h = λ i. f.there x h.0 i ∷ r.there xs h.1 i
 
--- a field's value in front of the others
+-- a field's value before the others
 abbrev pub joined : {A B : Type 0} → A → B × ℕ → (A × B) × ℕ
 joined x y = ((x, y.0), y.1)
 
@@ -397,7 +397,7 @@ unfolding value_at element_at
 and_at_is {A} {B} f r n bytes =
     ap (λ (g : Read (A × ℕ)). g >>= λ x. along (joined x.0.0) (r.at x.0.1 x.1)) (f.at_is n bytes) ∙ and_seen f r (value_at f.schema n bytes)
 
--- a field, and further ones
+-- a field, and more fields
 infixr 5 ◌&◌
 abbrev pub ◌&◌ : {A B : Type 0} → Form A → Row B → Row (A × B)
 f & r = record {
@@ -444,11 +444,11 @@ fields r parts whole again same = record {
   at_is = fields_at_is r whole;
 }
 
--- a record with one field, which stands for the field's value
+-- a record with one field, which represents the field's value
 abbrev pub wrapped : {A : Type 0} → Form A → Form A
 wrapped f = fields (f & done) (λ x. (x, tt)) (λ p. p.0) (λ x. refl) (λ p. refl)
 
--- The forms of a union's branches, one behind the other.
+-- The forms of a union's branches, one after the other.
 pub record Choice (A : Type 0) : Type 0 where
   pub schemas : Schemas
   pub place : A → ℕ
@@ -514,7 +514,7 @@ unfolding value_at
 or_at_is f c zero n bytes = ap (along (seen inl)) (f.at_is n bytes) ∙ along_twice (seen inl) (seen f.from_value) (value_at f.schema n bytes)
 or_at_is f c (suc p) n bytes = ap (along (seen inr)) (c.at_is p n bytes) ∙ along_twice (seen inr) (seen (c.from_branch p)) (branch_at c.schemas p n bytes)
 
--- a branch, and further ones
+-- a branch, and more branches
 infixr 5 ◌or◌
 abbrev pub ◌or◌ : {A B : Type 0} → Form A → Choice B → Choice (A ⊎ B)
 f or c = record {

@@ -1,4 +1,4 @@
--- Which items stand so.
+-- Which items are held this way.
 use Rattle.std.specs.Prelude.{List}
 use Rattle.etp_schema.specs.declared.few.Held.{Held}
 use Rattle.etp_schema.specs.declared.few.Held.TheVariants.{One, Many}

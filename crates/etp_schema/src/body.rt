@@ -28,8 +28,8 @@ pub fn is_protocol(number: i32) -> bool
     }
 }
 
-/// The place in [`TABLE`](crate::TABLE) of the body of the message with the number `kind` of `protocol`, where `sender`
-/// sends that message. ProtocolException and Acknowledge are messages of every protocol.
+/// The place in [`TABLE`](crate::TABLE) of the body of message number `kind` of `protocol`, if `sender` sends that message.
+/// ProtocolException and Acknowledge are messages of every protocol.
 pub fn body_of(protocol: i32, kind: i32, sender: Side) -> Option<u32>
     ensures { result ≡ body_place protocol kind sender }
 {

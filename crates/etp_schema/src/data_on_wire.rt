@@ -1,4 +1,4 @@
-//! Data values and arrays of any kind from and to bytes.
+//! Data values and arrays of any kind, from and to bytes.
 ghost use Rattle.std.specs.Prelude.{OnOk, [], ◌∷◌};
 ghost use Rattle.avro_bin.specs.Plain.{plain, Writes};
 ghost use Rattle.avro_bin.specs.Shape.{FitsTree};
@@ -39,7 +39,7 @@ pub fn write_branch<T: OnWire>(place: u32, value: &T, into: &mut Vec<u8>) -> Res
     Ok(())
 }
 
-/// Appends the same where the branch is a record with one field.
+/// Appends the same if the branch is a record with one field.
 fn write_wrapped<T: OnWire>(place: u32, value: &T, into: &mut Vec<u8>) -> Result<(), NoMemory>
     ensures written { Writes (plain (VFields (row (VUnion place (VFields (row (T.form.as_value value.now ∷ []))) ∷ [])))) into.old.items into.new.items result }
     ensures typed { OnOk result (Holds T.form value.now) }

@@ -1,17 +1,17 @@
-//! A list that is most often of one item.
+//! A list that usually has one item.
 ghost use Rattle.std.specs.Prelude.{◌≡◌, ◌∷◌, []};
 
 use etp_values::List;
 use std::marker::Model;
 
-/// A list of a few items, of which a single one stands in the value itself and takes no memory of its own. A contract sees the
-/// items in order, as it does those of a [`List`].
+/// A list of a few items; a single one is stored in the value itself, without allocation. A contract sees the items in order, as it does
+/// those of a [`List`].
 #[derive(Debug, Drop)]
 pub struct Few<T> {
     held: Held<T>,
 }
 
-/// Where the items stand.
+/// Where the items are stored.
 #[derive(Debug, Drop)]
 enum Held<T> {
     One([T; 1]),
@@ -41,7 +41,7 @@ impl<T> Few<T> {
         }
     }
 
-    /// The items of a list, which are moved and not copied.
+    /// The items of a list, moved and not copied.
     pub fn of_list(list: List<T>) -> Few<T>
         ensures { result ≡ list }
     {
@@ -50,7 +50,7 @@ impl<T> Few<T> {
         }
     }
 
-    /// The items, to be read.
+    /// Borrows the items.
     pub fn as_slice(&self) -> &[T]
         ensures { result.now ≡ self.now }
     {

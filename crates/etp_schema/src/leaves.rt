@@ -203,7 +203,7 @@ pub fn id_from(bytes: &[u8]) -> Id16
     Id16::from_bytes(id)
 }
 
-/// Reads the symbol of an enumeration with these symbols in order.
+/// Reads a symbol of an enumeration whose symbols these are, in order.
 pub fn read_symbol<T: Copy>(from: &mut Reader<'_>, symbols: &[T], past: T) -> Result<T, Fault>
     ensures { Reads (node_at (leaf_at (λ p. get_or symbols.now p past) (place_at (length symbols.now))) from.old.left from.old.rest.now) result from.new }
 {
@@ -212,7 +212,7 @@ pub fn read_symbol<T: Copy>(from: &mut Reader<'_>, symbols: &[T], past: T) -> Re
     Ok(symbol_at(place, symbols, past))
 }
 
-/// The symbol at a place, `past` for a place past them.
+/// The symbol at a place, `past` for a place beyond the last.
 pub fn symbol_at<T: Copy>(place: u32, symbols: &[T], past: T) -> T
     ensures { result ≡ get_or symbols.now place past }
 {

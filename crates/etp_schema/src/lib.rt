@@ -1,13 +1,13 @@
 //! The profile's schema, and typed values of it.
 //!
 //! [`TABLE`] has the schema of every record, enumeration and message of the Energistics Transfer Protocol 1.2 as this
-//! product speaks it, each at its place of [`places`]; [`schema_table`] says what the table is. [`body_of`] answers the
+//! product speaks it, each at its place in [`places`]; [`schema_table`] says what the table is. [`body_of`] returns the
 //! place of a message's body.
 //!
-//! [`Typed`] is a type whose values are, one to one, the values of a schema. Its ghost member `form` says which schema,
-//! and carries both laws. [`OnWire`] reads and writes the same values straight from and to bytes, and measures them; the form
-//! says how they are read, too (`at`, with the law `at_is`: as the value at the front of the bytes is read). The form of a
-//! record is put together of its fields' forms by `fields`, `◌&◌` and `done` of `specs/Form`:
+//! [`Typed`] is a type whose values correspond one to one to the values of a schema. Its ghost member `form` says to which
+//! schema, and carries both laws. [`OnWire`] reads and writes the same values directly from and to bytes, and measures them;
+//! the form says how they are read, too (`at`, with the law `at_is`: as the value at the front of the bytes is read). The form
+//! of a record is composed of its fields' forms by `fields`, `◌&◌` and `done` of `specs/Form`:
 //!
 //! ```text
 //! abbrev pub truncate_info_form : Form TruncateInfo
@@ -18,7 +18,7 @@
 //!         (λ x. refl) (λ p. refl)
 //! ```
 //!
-//! and its methods go by its fields, first to last, as a pair of the first and the others ([`ReadFields`], [`WriteFields`]),
+//! and its methods read and write its fields as nested pairs, first field, then the rest ([`ReadFields`], [`WriteFields`]),
 //! so that no record needs a proof:
 //!
 //! ```text
@@ -40,10 +40,10 @@
 //! }
 //! ```
 //!
-//! [`read_body`] and [`write_body`] are the whole calls; [`measure_of`] counts the bytes and nodes of a value. `message_trees` has the
+//! [`read_body`] and [`write_body`] are the complete calls; [`measure_of`] counts the bytes and nodes of a value. `message_trees` has the
 //! same values as trees.
 //!
-//! Unions go by `union`, `◌or◌` and `last` in the same way, enumerations by `symbols`. The messages of a protocol are an
+//! Unions are composed by `union`, `◌or◌` and `last` in the same way, enumerations by `symbols`. The messages of a protocol are an
 //! enum, with `specs/Family` for its numbers.
 #![tactic(auto)]
 

@@ -23,7 +23,7 @@ use etp_values::{Boxed, List, Named, NoMemory, Shared, Text};
 use std::alloc::Global;
 use std::collections::BTreeMap;
 
-/// How many items get their room before they are read: a count alone asks for no more than this.
+/// How many items get room before they are read: a count alone allocates no more than this.
 const ROOM: u64 = 4096;
 
 impl<T: OnWire> OnWire for List<T> {
@@ -56,7 +56,7 @@ impl<T: OnWire> OnWire for Few<T> {
     }
 }
 
-/// The items of blocks, up to a count of 0, of which a single one is usual.
+/// The items of blocks, up to a count of 0; a single item is the usual case.
 fn read_few<T: OnWire>(from: &mut Reader<'_>) -> Result<Few<T>, Fault>
     ensures { Reads (list_at T.form from.old.left from.old.rest.now) result from.new }
 {
@@ -69,7 +69,7 @@ fn read_few<T: OnWire>(from: &mut Reader<'_>) -> Result<Few<T>, Fault>
     Ok(Few::of_list(items))
 }
 
-/// The item of a list that is spelled as one block of one item and the end, and nothing of any other.
+/// The item of a list that is spelled as one block of one item and the end; `None` for any other list.
 fn read_single<T: OnWire>(from: &mut Reader<'_>) -> Option<T>
     ensures { IfSome result (λ x. list_at T.form from.old.left from.old.rest.now ≡ Ok ((x ∷ [], from.new.left), from.new.rest.now)) }
 {
@@ -95,11 +95,11 @@ fn read_list<T: OnWire>(from: &mut Reader<'_>) -> Result<List<T>, Fault>
         }
         read_block(from, count, &mut items)?;
     }
-    // Not reached: each block takes a byte.
+    // Unreachable: each block takes a byte.
     Err(Fault::At(Why::Limit, from.rest().len()))
 }
 
-/// The items of a block whose count is read, behind those that are there.
+/// The items of a block whose count is read, after those already read.
 fn read_block<T: OnWire>(from: &mut Reader<'_>, count: i64, items: &mut Vec<T>) -> Result<(), Fault>
     ensures { ReadsOn (block_at (push_at T.form.at) (items.old.items, from.old.left) count from.old.rest.now) (items.new.items, from.new.left) from.new result }
 {
@@ -119,8 +119,8 @@ fn read_block<T: OnWire>(from: &mut Reader<'_>, count: i64, items: &mut Vec<T>) 
     Ok(())
 }
 
-/// Room for the items of a block. Those of the first one get no more than they take: a list of one item is the usual one. Each later block
-/// at least doubles the room that there is, so that a list of many blocks is not moved at each of them.
+/// Makes room for the items of a block. Those of the first one get no more than they need: a list of one item is the usual one. Each later
+/// block at least doubles the room, so that a list of many blocks is not moved at each of them.
 fn make_room<T>(items: &mut Vec<T>, room: usize) -> Result<(), NoMemory>
     ensures { items.new.items ≡ items.old.items }
 {
@@ -132,7 +132,7 @@ fn make_room<T>(items: &mut Vec<T>, room: usize) -> Result<(), NoMemory>
     Ok(())
 }
 
-/// So many items, behind those that are there.
+/// `count` items, after those already read.
 fn read_items<T: OnWire>(from: &mut Reader<'_>, count: u64, items: &mut Vec<T>) -> Result<(), Fault>
     ensures { ReadsOn (items_at (push_at T.form.at) count (items.old.items, from.old.left) from.old.rest.now) (items.new.items, from.new.left) from.new result }
 {
@@ -161,7 +161,7 @@ fn write_list<T: OnWire>(items: &[T], into: &mut Vec<u8>) -> Result<(), NoMemory
     Ok(())
 }
 
-/// Appends the count of a block. More than 63 bits of it are want of memory: no list of so many trees could be made.
+/// Appends the count of a block. A count of more than 63 bits answers `NoMemory`: no list of that many trees could exist.
 fn put_count(into: &mut Vec<u8>, count: usize) -> Result<(), NoMemory>
     ensures written { Writes (plain_number (pos count)) into.old.items into.new.items result }
     ensures small { OnOk result (count < 2 ^ 63) }
@@ -229,11 +229,11 @@ fn read_named<T: OnWire>(from: &mut Reader<'_>) -> Result<Named<T>, Fault>
         }
         read_entry_block(from, count, &mut held)?;
     }
-    // Not reached: each block takes a byte.
+    // Unreachable: each block takes a byte.
     Err(Fault::At(Why::Limit, from.rest().len()))
 }
 
-/// The entries of a block whose count is read, among those that are there.
+/// The entries of a block whose count is read, added to those already read.
 fn read_entry_block<T: OnWire>(
     from: &mut Reader<'_>,
     count: i64,
@@ -257,7 +257,7 @@ fn read_entry_block<T: OnWire>(
     Ok(())
 }
 
-/// So many entries, among those that are there.
+/// `count` entries, added to those already read.
 fn read_entries<T: OnWire>(
     from: &mut Reader<'_>,
     count: u64,
@@ -271,7 +271,7 @@ fn read_entries<T: OnWire>(
     Ok(())
 }
 
-/// One entry: a name that is not there yet, and its value.
+/// One entry: a name that has not occurred yet, and its value.
 fn read_entry<T: OnWire>(from: &mut Reader<'_>, held: &mut BTreeMap<Text, T>) -> Result<(), Fault>
     ensures { ReadsOn (put_at T.form.at (held.old.entries, from.old.left) from.old.rest.now) (held.new.entries, from.new.left) from.new result }
 {

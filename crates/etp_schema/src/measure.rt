@@ -8,7 +8,7 @@ ghost use Rattle.etp_schema.specs.Measure.{adds, takes, counts, measured};
 use crate::on_wire::OnWire;
 use avro_bin::{blob_size, number_size};
 
-/// The bytes of a written spelling and the nodes of a value. Both stop at the greatest `u64`.
+/// The length of a written spelling in bytes, and the number of a value's nodes. Both stop at `u64::MAX`.
 #[derive(Clone, Copy, Debug, PartialEq, Eq, Drop)]
 pub struct Measure {
     pub bytes: u64,
@@ -23,7 +23,7 @@ impl Measure {
         Measure { bytes: 0, nodes: 1 }
     }
 
-    /// So many bytes in one node.
+    /// This many bytes in one node.
     pub fn of_bytes(bytes: u64) -> Measure
         ensures { result ≡ takes bytes 1 }
     {
@@ -40,7 +40,7 @@ impl Measure {
         }
     }
 
-    /// Bytes or a text, with the length in front.
+    /// Bytes or a text, with the length before it.
     pub fn of_blob(bytes: &[u8]) -> Measure
         ensures { result ≡ takes (length (plain_blob bytes.now)) 1 }
     {
@@ -50,7 +50,7 @@ impl Measure {
         }
     }
 
-    /// The name of an entry, which is no node.
+    /// The name of an entry, which is not a node.
     pub fn of_name(bytes: &[u8]) -> Measure
         ensures { result ≡ takes (length (plain_blob bytes.now)) 0 }
     {
@@ -60,7 +60,7 @@ impl Measure {
         }
     }
 
-    /// A list or a map of so many items, without them.
+    /// A list or a map of this many items, without them.
     pub fn of_count(count: usize) -> Measure
         ensures { result ≡ counts count }
     {
@@ -83,7 +83,7 @@ impl Measure {
         }
     }
 
-    /// This and a value's.
+    /// This plus a value's.
     pub fn with<T: OnWire>(self, value: &T) -> Measure
         ensures { result ≡ adds self (measured (T.form.as_value value.now)) }
     {
@@ -106,7 +106,7 @@ impl Measure {
         Measure::of_record().plus(union)
     }
 
-    /// The same where the branch is a record with one field.
+    /// The same if the branch is a record with one field.
     pub(crate) fn of_wrapped<T: OnWire>(place: u32, value: &T) -> Measure
         ensures { result ≡ measured (VFields (row (VUnion place (VFields (row (T.form.as_value value.now ∷ []))) ∷ []))) }
     {
@@ -116,7 +116,7 @@ impl Measure {
     }
 }
 
-/// How many bytes a count has: ten, where it has more than 63 bits.
+/// How many bytes a count takes: ten, if it has more than 63 bits.
 #[tactic(auto, using(crate::proofs::MeasuredLemmas::longest))]
 fn count_size(count: usize) -> u64
     ensures size { result ≡ length (plain_number (pos count)) }

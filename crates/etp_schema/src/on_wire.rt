@@ -1,4 +1,4 @@
-//! Typed values straight from and to bytes.
+//! Typed values, directly from and to bytes.
 ghost use Rattle.std.specs.Prelude.{◌≡◌, ◌++◌, ◌≤◌, OnOk, OnErr, length, IfOk};
 ghost use Rattle.avro_bin.specs.Laws.{read_value, node_limit};
 ghost use Rattle.avro_bin.specs.Plain.{plain, Writes};
@@ -16,25 +16,25 @@ use std::alloc::Global;
 
 /// A type whose values are read from bytes and written to bytes without a tree.
 ///
-/// `form.at` is what the value at the front of the bytes is read as, which by the law `at_is` of a form is to read a value of the
-/// schema and to see it as one of the type; what is written is the spelling of `form.as_value`.
+/// `form.at` is what the value at the front of the bytes is read as. By the law `at_is` of a form that is the same as reading a value of
+/// the schema and seeing it as one of the type; what is written is the spelling of `form.as_value`.
 pub trait OnWire: Typed {
-    /// The value at the front of what is left.
+    /// Reads the value at the front of the rest.
     fn read(from: &mut Reader<'_>) -> Result<Self, Fault>
         ensures { Reads (Self.form.at from.old.left from.old.rest.now) result from.new };
 
-    /// Appends the written spelling. After `NoMemory` what was there still stands in front.
+    /// Appends the written spelling. After `NoMemory` what was there is still at the front.
     fn write(&self, into: &mut Vec<u8>) -> Result<(), NoMemory>
         ensures written { Writes (plain (Self.form.as_value self.now)) into.old.items into.new.items result }
         ensures typed { OnOk result (Holds Self.form self.now) }
         ensures fits { OnOk result (FitsTree (Self.form.as_value self.now)) };
 
-    /// How much of a message the value takes. It takes no memory.
+    /// How much of a message the value takes. It does not allocate.
     fn measure(&self) -> Measure
         ensures { result ≡ measured (Self.form.as_value self.now) };
 }
 
-/// The value at the front of the bytes, and how many of them spell it: what `decode` gives, seen by the form.
+/// The value at the front of the bytes, and the length of its spelling: what `decode` gives, seen through the form.
 pub fn read_body<T: OnWire>(alloc: Global, bytes: &[u8]) -> Result<(T, usize), Refusal>
     ensures reads { ReadsAs T.form.from_value (read_value T.form.schema node_limit bytes.now) result }
     ensures within { IfOk result (λ r. r.1 ≤ length bytes.now) }
@@ -47,7 +47,7 @@ pub fn read_body<T: OnWire>(alloc: Global, bytes: &[u8]) -> Result<(T, usize), R
     }
 }
 
-/// Appends the written spelling of the value, as `encode` does that of its tree. After `NoMemory` the bytes are as before.
+/// Appends the written spelling of the value, as `encode` does that of its tree. After `NoMemory` the bytes are unchanged.
 pub fn write_body<T: OnWire>(value: &T, into: &mut Vec<u8>) -> Result<(), NoMemory>
     ensures written { OnOk result (into.new.items ≡ into.old.items ++ plain (T.form.as_value value.now)) }
     ensures kept { OnErr result (into.new.items ≡ into.old.items) }

@@ -1,4 +1,4 @@
-//! Reading typed values from the front of bytes, without a tree between.
+//! Reading typed values from the front of bytes, without building a tree.
 ghost use Rattle.std.specs.Prelude.{◌≡◌, ◌<◌, IfOk, Ok};
 ghost use Rattle.std.specs.Bool.{OnTrue};
 ghost use Rattle.std.specs.Int.{w32, w64};
@@ -13,7 +13,7 @@ use avro_bin::{Fault, Why, leaves, numbers};
 use etp_values::{Bits32, Bits64, Blob, Id16, Text};
 use std::alloc::Global;
 
-/// What is left of a message's bytes, and of the nodes that are still allowed.
+/// The rest of a message's bytes, and the number of nodes that are still allowed.
 #[derive(Drop)]
 pub struct Reader<'a> {
     rest: &'a [u8],
@@ -22,7 +22,7 @@ pub struct Reader<'a> {
 }
 
 impl<'a> Reader<'a> {
-    /// All of these bytes, of at most so many nodes.
+    /// All of these bytes, allowing at most this many nodes.
     pub fn new(alloc: Global, bytes: &'a [u8], nodes: u32) -> Reader<'a>
         ensures rest { result.rest.now ≡ bytes.entry.now }
         ensures left { result.left ≡ nodes }
@@ -34,19 +34,19 @@ impl<'a> Reader<'a> {
         }
     }
 
-    /// What is left of the bytes.
+    /// The rest of the bytes.
     pub fn rest(&self) -> &'a [u8]
         ensures { result.now ≡ self.now.rest.now }
     {
         self.rest
     }
 
-    /// Where values that are read get their memory.
+    /// The allocator for the values that are read.
     pub fn alloc(&self) -> Global {
         self.alloc
     }
 
-    /// One more reader of the same bytes, which stands where this one does.
+    /// Another reader of the same bytes, at the same position.
     pub(crate) fn again(&self) -> Reader<'a>
         ensures rest { result.rest.now ≡ self.now.rest.now }
         ensures left { result.left ≡ self.now.left }
@@ -58,7 +58,7 @@ impl<'a> Reader<'a> {
         }
     }
 
-    /// Goes on where another reader of the same bytes stands.
+    /// Moves to the position of another reader of the same bytes.
     pub(crate) fn go_on(&mut self, ahead: &Reader<'a>)
         ensures rest { self.new.rest.now ≡ ahead.now.rest.now }
         ensures left { self.new.left ≡ ahead.now.left }
@@ -67,7 +67,7 @@ impl<'a> Reader<'a> {
         self.left = ahead.left;
     }
 
-    /// Whether a number stands next that is this one. After any other answer nothing is said of where the reader stands.
+    /// Reads a number, and answers whether it is this one. If it is not, the position of the reader is unspecified.
     pub(crate) fn passes(&mut self, wanted: i64) -> bool
         ensures read { OnTrue result (number_at self.old.rest.now ≡ Ok (wanted, self.new.rest.now)) }
         ensures left { OnTrue result (self.new.left ≡ self.old.left) }
@@ -96,7 +96,7 @@ impl<'a> Reader<'a> {
         T::read(self)
     }
 
-    /// Reads the fields of a record, behind the record's node.
+    /// Reads the fields of a record, after the record's node.
     pub fn fields<R: ReadFields>(&mut self) -> Result<R, Fault>
         ensures { Reads (node_at R.forms.at self.old.left self.old.rest.now) result self.new }
     {
@@ -149,7 +149,7 @@ impl<'a> Reader<'a> {
         Ok(Bits64(x))
     }
 
-    /// A length, and so many bytes.
+    /// A length, and that many bytes.
     pub(crate) fn bytes(&mut self) -> Result<Blob, Fault>
         ensures { ReadsLeaf (blob_at self.old.rest.now) self.old result self.new }
     {
@@ -159,7 +159,7 @@ impl<'a> Reader<'a> {
         Ok(copy)
     }
 
-    /// A length, and so many bytes of UTF-8.
+    /// A length, and that many bytes of UTF-8.
     pub(crate) fn text(&mut self) -> Result<Text, Fault>
         ensures { ReadsLeaf (text_at self.old.rest.now) self.old result self.new }
     {
@@ -179,7 +179,7 @@ impl<'a> Reader<'a> {
         Ok(id)
     }
 
-    /// The place of one of so many symbols or branches.
+    /// A place below the number of symbols or branches.
     pub fn place(&mut self, count: usize) -> Result<u32, Fault>
         ensures read { ReadsLeaf (place_at count self.old.rest.now) self.old result self.new }
         ensures below { IfOk result (λ place. place < count) }

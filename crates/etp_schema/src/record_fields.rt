@@ -1,4 +1,4 @@
-//! The fields of a record, first to last: each is read, written and measured behind the one before.
+//! The fields of a record, first to last: each is read, written and measured after the one before.
 ghost use Rattle.std.specs.Prelude.{◌≡◌, ◌∷◌, [], OnOk, List as Items};
 ghost use Rattle.avro_bin.specs.Plain.{plain, plain_all, Writes};
 ghost use Rattle.avro_bin.specs.Schema.{SFields, Schemas, none, more};
@@ -14,11 +14,11 @@ use crate::reader::Reader;
 use avro_bin::Fault;
 use etp_values::NoMemory;
 
-/// The fields of a record that are read: a pair of the first and the others, and `()` behind the last.
+/// The fields of a record that are read: a pair of the first and the others, and `()` after the last.
 pub trait ReadFields: Drop {
     ghost forms: { Row Self };
 
-    /// The fields at the front of what is left.
+    /// Reads the fields at the front of the rest.
     fn read(from: &mut Reader<'_>) -> Result<Self, Fault>
         ensures { Reads (forms.at from.old.left from.old.rest.now) result from.new };
 }
@@ -41,19 +41,19 @@ impl<A: OnWire, B: ReadFields> ReadFields for (A, B) {
     }
 }
 
-/// The fields of a record that are written: a pair of the first and the others, and `()` behind the last.
+/// The fields of a record that are written: a pair of the first and the others, and `()` after the last.
 pub trait WriteFields: Drop {
     ghost schemas: { Schemas };
 
     ghost values: { Self → Items Value };
 
-    /// Appends each field's written spelling. After `NoMemory` what was there still stands in front.
+    /// Appends each field's written spelling. After `NoMemory` what was there is still at the front.
     fn write(self, into: &mut Vec<u8>) -> Result<(), NoMemory>
         ensures written { Writes (plain_all (row (values self))) into.old.items into.new.items result }
         ensures typed { OnOk result (FieldsHave schemas (list (row (values self)))) }
         ensures fits { OnOk result (AllFit (row (values self))) };
 
-    /// How much the fields take, with what stands before them.
+    /// How much the fields take, together with what comes before them.
     fn measure(self, before: Measure) -> Measure
         ensures { result ≡ measured_behind before (row (values self)) };
 }
@@ -91,7 +91,7 @@ impl<'a, A: OnWire, B: WriteFields> WriteFields for (&'a A, B) {
     }
 }
 
-/// Appends the written spelling of a record of these fields. After `NoMemory` what was there still stands in front.
+/// Appends the written spelling of a record of these fields. After `NoMemory` what was there is still at the front.
 pub fn write_fields<W: WriteFields>(fields: W, into: &mut Vec<u8>) -> Result<(), NoMemory>
     ensures written { Writes (plain (VFields (row (W.values fields)))) into.old.items into.new.items result }
     ensures typed { OnOk result (HasSchema (SFields W.schemas) (VFields (row (W.values fields)))) }

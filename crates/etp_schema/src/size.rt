@@ -10,7 +10,7 @@ use avro_bin::SIZE_LIMIT;
 use etp_values::NoMemory;
 use std::alloc::Global;
 
-/// How many bytes the written spelling of the value has, and how many nodes. It takes no memory.
+/// How many bytes the written spelling of the value has, and how many nodes the value has. It does not allocate.
 #[tactic(auto, using(crate::proofs::MeasuredLemmas::measured_is))]
 pub fn measure_of<T: OnWire>(value: &T) -> Measure
     ensures { result ≡ size_of (T.form.as_value value.now) }
@@ -18,7 +18,7 @@ pub fn measure_of<T: OnWire>(value: &T) -> Measure
     value.measure()
 }
 
-/// How many bytes the written spelling of the value has; `u64::MAX` stands for each length above 2^40.
+/// How many bytes the written spelling of the value has; `u64::MAX` if that is more than 2^40.
 pub fn encoded_size<T: OnWire>(_alloc: Global, value: &T) -> Result<u64, NoMemory>
     ensures { IfOk result (λ n. n ≡ capped (length (plain (T.form.as_value value.now)))) }
 {

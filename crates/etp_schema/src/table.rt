@@ -9,8 +9,8 @@ ghost use Rattle.etp_schema.specs.declared.body.Side.{Side};
 use crate::places::*;
 use avro_bin::{Node, Table};
 
-/// The schema of every record, enumeration and message of the profile, each at its place of [`places`](crate::places).
-/// Children stand before the nodes that hold them.
+/// The schema of every record, enumeration and message of the profile, each at its place in [`places`](crate::places). Children come before
+/// the nodes that hold them.
 pub static TABLE: Table = Table {
     nodes: &[
         Node::Null,
@@ -293,8 +293,8 @@ pub static TABLE: Table = Table {
     ],
 };
 
-/// The table, with what its clauses say of it: children have smaller places, each place has its schema, and so has the
-/// place that `body_of` answers.
+/// The table, and what its clauses say about it: children have smaller places, each place has its schema, and so has the place that
+/// `body_of` answers.
 pub fn schema_table() -> &'static Table
     ensures order { IsTable (nodes_of result.now) }
     ensures size { length (nodes_of result.now) ≡ table_size }

@@ -1,10 +1,10 @@
 //! Typed values.
 ghost use Rattle.etp_schema.specs.Form.{Form};
 
-/// A type whose values are, one to one, those of a schema.
+/// A type whose values correspond one to one to those of a schema.
 ///
-/// `form` says of which schema, as which value of it a value of the type is written, and what a value is read as. Its
-/// laws `back` and `there` are part of it, so an `impl` can't be had without them.
+/// `form` says to which schema, as which value a value of the type is written, and what a value is read as. Its laws `back` and `there` are
+/// part of it, so every `impl` has them.
 pub trait Typed: Drop {
     ghost form: { Form Self };
 }

@@ -46,7 +46,7 @@ use Rattle.etp_serve.proofs.RansLemmas.{within_all}
 use Rattle.etp_serve.proofs.RunLemmas.{is_cut, is_serial, is_streamed, is_told_at_idle}
 use Rattle.etp_serve.proofs.TurnLemmas.{sent_all}
 
--- ---- a session that was served over a history was served so over a longer one
+-- ---- a session that was served over a history was served the same way over a longer one
 
 within_front : (high : ℕ) (ps qs : List ℕ) → AllWithin high (ps ++ qs) → AllWithin high ps
 within_front high [] qs all = tt
@@ -154,7 +154,7 @@ links_more cs c back (Some x) (Some y) (Some z) given0 given left count few is t
     let now : z ≡ y ++ back ∷ [] = took room in
     (new ++ back ∷ [], now ∙ (ap (λ l. l ++ back ∷ []) told.1 ∙ append_assoc x new (back ∷ [])), backs_snoc cs new c back told.2 (is refl))
 
--- ---- what is settled stays so
+-- ---- what is settled stays settled
 
 abbrev pub IsStillFull : Config → List Entry → Came → Type 0
 IsStillFull config h (AsSession s) = Unit {0}
@@ -179,7 +179,7 @@ settled_now config h (OnLack ∷ cs) full each = (tt, settled_now config h cs fu
 
 -- ---- a session
 
--- what a new link was sent, and what it tells of it
+-- what a new link was sent, and what it reveals of it
 sent_of : (end : Ended) (taken : List Item) (said : List Outgoing) (a0 a : Option Talk) → IfSome a0 (λ t. t.taken ≡ []) → IfSome a0 (λ t. t.sent ≡ []) → Told a0 a (Serving end taken said)
     → (sent : List (List ℕ)) × IsSent end (map bytes_of said) sent × (IsSome a0 → (t : Talk) × (a ≡ Some t) × (t.taken ≡ taken) × (t.sent ≡ sent))
 sent_of end taken said None a none_taken none_sent told = (map bytes_of said, sent_all end (map bytes_of said), λ is. absurd (cc is))
@@ -260,7 +260,7 @@ module _ (room : FullStaysFull) (test : List ℤ → Bool) (config : Config) (v0
         (λ is. let t = talk_of a0 (tells is) fresh.fresh.taken fresh.fresh.sent in record { number_is = refl; end_is = refl; talk = t.0; told = t.1; taken_is = t.2; sent_is = t.3 })
         took (memory_more Stopped acc.came OnFull tt acc.memory)
 
-    -- memory was refused
+    -- memory ran out
     pub accepts_lack : Told b b' (TakesBack given (back_of 0 7 f0 e0 a0)) → Accepts NoMemory test config v0 u given0 given left b0 b'
     accepts_lack took =
         came_back Stopped NoMemory v u given left b b' OnLack (back_of 0 7 f0 e0 a0) acc away_before away_met more.sound.fits.met tt tt
@@ -332,7 +332,7 @@ done_of end config n v a0 a c0 c test now f0 f over s cause number alone anew fi
   cause = cause;
 }
 
--- what the link tells once it was closed
+-- what the link reveals once it was closed
 pub done_closed : (test : List ℤ → Bool) (config : Config) (n : ℕ) (v : Known) (end : Ended) (a0 a a' : Option Talk) (f0 f f' : ℕ) (over over' : Bool)
     → IsDone test config n v end a0 a f0 f over → a' ≡ a → f' ≡ f → over' ≡ over → IsDone test config n v end a0 a' f0 f' over'
 done_closed test config n v end a0 a a' f0 f f' over over' d talk faults ended =
@@ -372,7 +372,7 @@ begun_as {L} talk faults over tests hub test low b0 p link n hub_is test_is numb
   tells = subst (λ (l : L). IsSome b0 → IsSome (talk l)) (sym link_is) tells;
 }
 
--- ---- a child that is put behind the others
+-- ---- a child that is put after the others
 
 pub pushed : {X : Type 0} (P : X → Type 0) (old new : List X) (x : X) → new ≡ old ++ x ∷ [] → AllByRecursion P old → P x → AllByRecursion P new
 pushed P old new x is all p = subst (AllByRecursion P) (sym is) (all-append P old (x ∷ []) all (p, tt))

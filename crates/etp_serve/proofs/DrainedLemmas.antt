@@ -24,7 +24,7 @@ pub record Draining (s t : State) (a b : Option Talk) : Type 0 where
 pub drain_start : (s : State) (a : Option Talk) → Draining s s a a
 drain_start s a = record { done = []; state = refl; talk = told_none a }
 
--- the next message, and those behind it
+-- the next message, and those after it
 first_is : (out : List Outgoing) (m : List ℕ) → next_bytes out ≡ Some m → (o : Outgoing) × (out ≡ o ∷ rest_of out) × (m ≡ bytes_of o)
 first_is [] m is = absurd (cc is)
 first_is (o ∷ os) m is = (o, refl, cc is)

@@ -22,11 +22,11 @@ use Rattle.etp_serve.specs.declared.served.Served.TheVariants.{Stopped}
 
 -- ---- places of entries that let a session in
 
--- at this place stands an entry that lets a session in
+-- the entry at this place lets a session in
 abbrev pub IsEnterAt : List Entry → ℕ → Type 0
 IsEnterAt h n = (e : Entry) × (slice_get h n ≡ Some e) × (enters_of e ≡ true)
 
--- an own entry stands at its place
+-- an own entry is at its place
 first_if : (b : Bool) (n k : ℕ) (x : Entry) (log : List Entry) (p : ℕ) (e : Entry) (rest : List (ℕ × Entry)) → (if b then (k, x) ∷ own_from by_of n (k + 1) log else own_from by_of n (k + 1) log) ≡ (p, e) ∷ rest
     → (own_from by_of n (k + 1) log ≡ (p, e) ∷ rest → (at : ℕ) × (p ≡ k + 1 + at) × (slice_get log at ≡ Some e)) → (at : ℕ) × (p ≡ k + at) × (slice_get (x ∷ log) at ≡ Some e)
 first_if true n k x log p e rest is more =
@@ -113,7 +113,7 @@ spread_all k (n ∷ ns) es all =
     let rest = spread_all k ns es all.1 in
     omega (arith, sum, one, rest)
 
--- where a place is among the numbers its entry lets a session in
+-- if a place is among the numbers its entry lets a session in
 abbrev pub AllEnter : ℕ → List ℕ → List Entry → Type 0
 AllEnter k ns [] = Unit {0}
 AllEnter k ns (e ∷ es) = (0 < occurrences k ns → enters_of e ≡ true) × AllEnter (k + 1) ns es
@@ -174,7 +174,7 @@ only_enter : (low : ℕ) (h : List Entry) (ns : List ℕ) → AllByRecursion (λ
 only_enter low h [] all = tt
 only_enter low h (n ∷ ns) all = (all.0.1, only_enter low h ns all.1)
 
--- as many numbers as there are, each at most once, are so many entries
+-- as many numbers as there are, each at most once, are that many entries
 numbers_few : (low : ℕ) (h : List Entry) (ns : List ℕ) → ((n : ℕ) → occurrences n ns ≤ 1) → AllByRecursion (λ n. (low ≤ n) × IsEnterAt h n) ns → length ns ≤ entered (drop low h)
 numbers_few low h ns few all =
     let sum = spread_all low ns (drop low h) (all_within low h ns all) in

@@ -1,4 +1,4 @@
--- A session's run goes on by an event, whole or cut.
+-- A session's run continues by an event, whole or cut.
 use Rattle.std.proofs.Common.{◌≡◌, ◌≤◌, ◌<◌, ◌+◌, ◌==◌, ℕ, ℤ, pos, Bool, true, false, List, [], ◌∷◌, ◌++◌, length, take, None, Some, IfSome, if◌then◌else◌, refl, ap, sym, ◌∙◌, subst, inl, inr, arith, length-append}
 use Rattle.std.proofs.lemmas.List.{append-nil, take_at}
 use Rattle.std.specs.declared.option.Option.{Option}
@@ -38,7 +38,7 @@ pub within_all : (low : ℕ) (ps : List ℕ) (high : ℕ) → Rises low ps high 
 within_all low [] high r = (r, tt)
 within_all low (p ∷ ps) high r = let more = within_all p ps high r.1 in ((let x = more.0 in let y = r.0 in omega arith), (more.0, more.1))
 
--- the entries up to a history's beginning
+-- the entries up to a prefix of a history
 take_log : (log new : List Entry) → IsPrefix log new → take (length log) new ≡ log
 take_log log new pre = ap (take (length log)) (sym pre.1) ∙ take_at log pre.0 (length log) refl
 
@@ -52,7 +52,7 @@ noted_heard : (log es : List Entry) (v : Known) → (noted log es v).heard ≡ v
 noted_heard log [] v = refl
 noted_heard log (e ∷ es) v = refl
 
--- an answer finds no length of the journal for a poll
+-- an answer does not count as a length of the journal for a poll
 pub settles_heard : (config : Config) (n nth : ℕ) (at : ℤ) (o : Option StoreCall) (v w : Known) (s t : State) → Settles config n nth at o v w s t → w.heard ≡ v.heard
 settles_heard config n nth at None v w s t done = ap (λ (x : Known). x.heard) done.0
 settles_heard config n nth at (Some call) v w s t done =
@@ -88,7 +88,7 @@ added_mine mine config h by nth at call is = all_by by nth at (entries_of config
 own_count : (n nth : ℕ) (mine made : List (ℕ × Entry)) → IsEnterAnd n mine made → length mine ≡ nth → nth ≡ own_number made
 own_count n nth mine made is count = let long : length mine ≡ length ((n, is.entry) ∷ made) = ap length is.all in omega (arith, long, count)
 
--- the first own entry stands in the history
+-- the first own entry is in the history
 own_test : (n k : ℕ) (x : Entry) (es : List Entry) (p : ℕ) (e : Entry) (rest : List (ℕ × Entry)) (b : Bool)
     → (own_from by_of n (k + 1) es ≡ (p, e) ∷ rest → p < k + 1 + length es)
     → (if b then (k, x) ∷ own_from by_of n (k + 1) es else own_from by_of n (k + 1) es) ≡ (p, e) ∷ rest → p < k + length (x ∷ es)
@@ -105,9 +105,9 @@ lacks_last n mine made places p [] one is = inl (subst (IsEnterAnd n mine) (sym 
 lacks_last n mine made places p (e ∷ []) one is = inr record { kept = made; lost = e; place = p; before = places; made_are = refl; places_are = refl; rest = is }
 lacks_last n mine made places p (e ∷ d ∷ es) one is = absurd one
 
--- ---- a run that memory was refused to go on with
+-- ---- a run that memory did not suffice to continue
 
--- what was said was said by the run
+-- what was sent was sent by the run
 pub record Cut (config : Config) (n : ℕ) (v : Known) (es : List Event) (said : List Outgoing) : Type 0 where
   pub places : List ℕ
   pub places_are : v.places ≡ n ∷ places
@@ -266,7 +266,7 @@ module _ (laws : Laws) (config : Config) (n : ℕ) where
         subst (λ (x : State). Ran config n w (es ++ e ∷ []) (drained x) (said ++ x.out)) (sym done.2)
         (ran_called w call nth done.0 is calls entries (subst (λ (m : ℤ). Answers config n nth m call v done.0 w) now done.1))
 
-    -- ---- an event that memory was refused for
+    -- ---- an event for which memory ran out
 
     -- to begin it
     pub cut_begun : Cut config n v (es ++ e ∷ []) said
@@ -308,7 +308,7 @@ module _ (laws : Laws) (config : Config) (n : ℕ) where
           ids = r.ids;
         }
 
-  -- what was said by the first of the events is said
+  -- what was sent by the first of the events is sent
   cut_ran : (v : Known) (es : List Event) (s : State) (part said : List Outgoing) → Ran config n v es s said → IsPrefix part said → Cut config n v es part
   cut_ran v es s part said r pre = record {
     places = r.places;

@@ -1,4 +1,4 @@
--- What holds of a session's own run by the laws on runs.
+-- What holds for a session's own run by the laws on runs.
 use Rattle.std.proofs.Common.{◌≡◌, ◌≤◌, ◌<◌, ◌+◌, ◌^◌, ℕ, List, [], ◌∷◌, length, map, refl, subst, ◌∙◌, arith}
 use mathlib.Core.List.{IsPrefix}
 use Rattle.server_config.specs.declared.config.ChannelDef.{ChannelDef}

@@ -31,7 +31,7 @@ told_none a = told_self a (Talked [] []) talked_none
 pub told_both : (i j : List Item) (m k : List (List ℕ)) (a b c : Option Talk) → Told a b (Talked i m) → Told b c (Talked j k) → Told a c (Talked (i ++ j) (m ++ k))
 told_both i j m k a b c p q = told_trans a b c (Talked i m) (Talked j k) (Talked (i ++ j) (m ++ k)) (λ x y z f g. talked_both i j m k x y z f g) p q
 
--- the link told nothing new
+-- the link reveals nothing new
 pub told_same : (i : List Item) (m : List (List ℕ)) (a b c : Option Talk) → Told a b (Talked i m) → Told b c (λ x y. y ≡ x) → Told a c (Talked i m)
 told_same i m a b c p q = told_trans a b c (Talked i m) (λ x y. y ≡ x) (Talked i m) (λ x y z f g. record {
   coming = f.coming ∙ ap (λ (k : Talk). i ++ k.coming) (sym g);
@@ -54,10 +54,10 @@ told_sends i m k a b c p q =
     (λ x y t. record { coming = t.coming ∙ ap (λ l. l ++ y.coming) (append-nil i); taken = t.taken ∙ ap (λ l. x.taken ++ l) (append-nil i); sent = t.sent; to = t.to })
     (told_both i [] m k a b c p q)
 
--- one message more
+-- one more message
 pub told_says : (m : List (List ℕ)) (message : List ℕ) (a b c : Option Talk) → Told a b (Talked [] m) → Told b c (Says message) → Told a c (Talked [] (m ++ message ∷ []))
 told_says m message a b c p q = told_sends [] m (message ∷ []) a b c p (told_weaker b c (Says message) (Talked [] (message ∷ [])) (talked_says message) q)
 
--- one moment more
+-- one more moment
 pub told_ticks : (ms : List ℤ) (m : ℤ) (a b c : Option (List ℤ)) → Told a b (λ x y. y ≡ x ++ ms) → Told b c (λ x y. y ≡ x ++ m ∷ []) → Told a c (λ x y. y ≡ x ++ (ms ++ m ∷ []))
 told_ticks ms m a b c p q = told_trans a b c (λ x y. y ≡ x ++ ms) (λ x y. y ≡ x ++ m ∷ []) (λ x y. y ≡ x ++ (ms ++ m ∷ [])) (λ x y z f g. g ∙ (ap (λ l. l ++ m ∷ []) f ∙ append_assoc x ms (m ∷ []))) p q

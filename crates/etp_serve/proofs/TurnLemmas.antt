@@ -1,4 +1,4 @@
--- A turn goes on or is the last.
+-- A turn continues or is the last.
 use Rattle.std.proofs.Common.{◌≡◌, ◌≤◌, ◌⊎◌, ℕ, ℤ, pos, true, false, List, [], ◌∷◌, ◌++◌, length, map, None, Some, IfSome, refl, ap, sym, ◌∙◌, subst, inl, inr, arith, append_assoc}
 use Rattle.std.proofs.lemmas.List.{append-nil}
 use Rattle.std.specs.declared.option.Option.{Option}
@@ -37,7 +37,7 @@ use Rattle.etp_serve.proofs.RansLemmas.{Cut, ran_start, ran_hears, ran_settled, 
 use Rattle.etp_serve.proofs.RunLemmas.{is_cut, is_serial, is_streamed, is_told_at_idle}
 use Rattle.etp_serve.proofs.TalkLemmas.{told_none, told_same, told_takes, told_sends, told_ticks}
 
--- ---- what holds of each end alike
+-- ---- what holds for each end alike
 
 owns_all : (end : Ended) (n : ℕ) (mine : List (ℕ × Entry)) (places : List ℕ) (made : List (ℕ × Entry)) → IsEnterAnd n mine made → Owns end n mine places made
 owns_all Closed n mine places made is = is
@@ -63,11 +63,11 @@ turned_whole PeerEnd items ms fs is = is
 turned_whole LinkFault items ms fs is = inl is
 turned_whole NoMemory items ms fs is = inl is
 
--- all that was said was sent
+-- all that was queued was sent
 serving_all : (end : Ended) (taken : List Item) (said : List Outgoing) (a0 a : Option Talk) → Told a0 a (Talked taken (map bytes_of said)) → Told a0 a (Serving end taken said)
 serving_all end taken said a0 a talk = told_weaker a0 a (Talked taken (map bytes_of said)) (Serving end taken said) (λ x y t. (map bytes_of said, t, sent_all end (map bytes_of said))) talk
 
--- a front of what was said was sent
+-- a front of what was queued was sent
 front_prefix : (said front rest out : List Outgoing) → front ++ rest ≡ out → IsPrefix (map bytes_of said ++ map bytes_of front) (map bytes_of (said ++ out))
 front_prefix said front rest out whole = (
   map bytes_of rest,
@@ -156,7 +156,7 @@ module _ (laws : Laws) (config : Config) (n : ℕ) (a0 : Option Talk) (c0 : Opti
   module _ (v : Known) (s : State) (b : Option Talk) (d : Option (List ℤ)) (taken : List Item) (moments : List ℤ) (es : List Event) (e : Event) (said : List Outgoing)
       (are : es ++ e ∷ [] ≡ events taken moments v.heard) (turns : Matched taken moments v.heard ⊎ Lacks taken moments v.heard) (r : Ran config n v es s said) (going : end_of s.phase ≡ None) (heeded : IsHeeded r.reach e)
       (talk : Told a0 b (Talked taken (map bytes_of said))) (clock : Told c0 d (λ x y. y ≡ x ++ moments)) where
-    -- memory was refused to begin it
+    -- memory ran out at its beginning
     event_fails : Serves NoMemory config n v a0 b c0 d
     event_fails = serves_cut v b d taken moments (es ++ e ∷ []) said are turns (cut_begun laws config n v es e s said r going heeded) talk clock
 

@@ -1,4 +1,4 @@
--- What became of the links that a listener gave.
+-- What became of the links that a listener gave out.
 use Rattle.std.specs.Prelude.{◌≡◌, ◌≤◌, ◌<◌, ◌+◌, ◌-◌, ℕ, ℤ, Bool, true, false, List, [], ◌∷◌, ◌++◌, length, map, Option, Some, None, IfSome, IsSome}
 use Rattle.std.specs.List.{AllByRecursion}
 use mathlib.Core.List.{IsPrefix}
@@ -38,8 +38,8 @@ end_number NoMemory = 7
 
 -- ---- one session, by the thread that served it
 
--- The session of this number was served over a link and to an end, with what its pass knows then, what its link told before
--- and after, and how often that failed. The moments that its clock told pass this test, and its pass met nobody
+-- The session of this number was served over a link to an end, with what its pass knows then, what its link reveals before and after, and
+-- how often that failed. The moments that its clock returned pass this test, and its pass met nobody
 pub record IsDone (test : List ℤ → Bool) (config : Config) (n : ℕ) (v : Known) (end : Ended) (a0 a : Option Talk) (f0 f : ℕ) (over : Bool) : Type 0 where
   pub taken : List Item
   pub moments : List ℤ
@@ -54,8 +54,8 @@ pub record IsDone (test : List ℤ → Bool) (config : Config) (n : ℕ) (v : Kn
 
 -- ---- what became of each link
 
--- a session that was served to its end: what its pass knew when it was met, how it ended, what its link gave and its clock
--- told, and the messages that it was sent
+-- a session that was served to its end: what its pass knew when it was met, how it ended, what its link gave and its clock returned, and
+-- the messages that it was sent
 pub record Session : Type 0 where
   pub met : Met Entry
   pub end : Ended
@@ -63,7 +63,7 @@ pub record Session : Type 0 where
   pub moments : List ℤ
   pub sent : List (List ℕ)
 
--- it was served so over this history
+-- it was served this way over this history
 pub record WasServed (test : List ℤ → Bool) (config : Config) (h : List Entry) (s : Session) : Type 0 where
   pub places : List ℕ
   pub places_are : s.met.places ≡ s.met.number ∷ places
@@ -71,7 +71,7 @@ pub record WasServed (test : List ℤ → Bool) (config : Config) (h : List Entr
   pub served : IsServed s.end config s.met.number h places s.moments s.met.heard s.taken
   pub all_sent : IsSent s.end (map bytes_of (run config s.met.number h places (events s.taken s.moments s.met.heard)).sent) s.sent
 
--- a link had a session, or none was let in: the journal was full, or memory was refused
+-- a link had a session, or none was let in: the journal was full, or memory ran out
 pub data Came : Type 0 where
   AsSession : Session → Came
   OnFull : Came
@@ -131,15 +131,15 @@ HadMemory (AsSession s) = Unit {0}
 HadMemory OnFull = Unit {0}
 HadMemory OnLack = ⊥
 
--- memory to let a session in was refused only where the serving ended for want of memory
+-- memory to let a session in ran out only if the serving ended for that reason
 abbrev pub HadMemoryBut : Served → List Came → Type 0
 HadMemoryBut all_ended.Stopped cs = AllByRecursion HadMemory cs
 HadMemoryBut all_ended.ListenFault cs = AllByRecursion HadMemory cs
 HadMemoryBut all_ended.NoMemory cs = Unit {0}
 
--- Links were served until this end, with what the accepting pass knew before and after, and how many links the listener
--- gave and which it took back. There is an answer for each link that was given: the sessions among them were met, in this order,
--- each was served over the one history that the pass has seen in the end, and each link came back
+-- Links were served until this end, with what the accepting pass knew before and after, and how many links the listener gave out and which
+-- it took back. There is an answer for each link that was given out: the sessions among them were met, in this order, each was served over
+-- the one history that the pass has seen in the end, and each link came back
 pub record ServesAll (end : Served) (test : List ℤ → Bool) (config : Config) (v0 v : Known) (given0 given : ℕ) (b0 b : Option (List Back)) : Type 0 where
   pub came : List Came
   pub met : v.met ≡ v0.met ++ mets came
@@ -162,13 +162,13 @@ IsOfItsOwn test config low (AsSession s) = (low ≤ s.met.number) × WasServed t
 IsOfItsOwn test config low OnFull = Unit {0}
 IsOfItsOwn test config low OnLack = Unit {0}
 
--- that history begins this one, which has no further entry of the session; or this is a full journal
+-- that history is a prefix of this one, which has no further entry of the session; or this is a full journal
 abbrev pub IsSettledIn : Config → List Entry → Came → Type 0
 IsSettledIn config h (AsSession s) = IsPrefix s.met.seen h × (own by_of s.met.number h ≡ own by_of s.met.number s.met.seen)
 IsSettledIn config h OnFull = has_room_for config h Enter ≡ false
 IsSettledIn config h OnLack = Unit {0}
 
--- links were served so far, and for so many that were given there is no answer yet
+-- links were served so far, and this many that were given out have no answer yet
 pub record Accepts (end : Served) (test : List ℤ → Bool) (config : Config) (v0 v : Known) (given0 given left : ℕ) (b0 b : Option (List Back)) : Type 0 where
   pub came : List Came
   pub met : v.met ≡ v0.met ++ mets came
@@ -180,8 +180,8 @@ pub record Accepts (end : Served) (test : List ℤ → Bool) (config : Config) (
   pub links : Told b0 b (λ x y. (new : List Back) × (y ≡ x ++ new) × Backs came new)
   pub memory : HadMemoryBut end came
 
--- a session's thread was given this hub, a clock with this test, a number that is at least this one, and a new link, which
--- tells what goes over it where the listener tells what it takes back
+-- a session's thread was given this hub, a clock with this test, a number that is at least this one, and a new link, which reveals what
+-- goes over it if the listener reveals what it takes back
 pub record IsBegun {L C : Type 0} (talk : L → Option Talk) (faults : L → ℕ) (over : L → Bool) (tests : C → List ℤ → Bool) (hub : Hub) (test : List ℤ → Bool) (low : ℕ) (b0 : Option (List Back)) (p : Started L C) : Type 0 where
   pub hub_is : p.hub.value ≡ hub
   pub test_is : tests p.clock.value ≡ test
@@ -189,7 +189,7 @@ pub record IsBegun {L C : Type 0} (talk : L → Option Talk) (faults : L → ℕ
   pub fresh : IsAccepted (talk p.link.value) (faults p.link.value) (over p.link.value)
   pub tells : IsSome b0 → IsSome (talk p.link.value)
 
--- so many more links may be given
+-- this many more links may be given out
 abbrev pub IsLeft : Option ℕ → Option ℕ → ℕ → ℕ → Type 0
 IsLeft None left given0 given = left ≡ None
 IsLeft (Some most) left given0 given = (n : ℕ) × (left ≡ Some n) × (given + n ≡ given0 + most)

@@ -1,4 +1,4 @@
--- What became of the links that a listener gave, over the journal that the store had in the end.
+-- What became of the links that a listener gave out, over the journal that the store had in the end.
 use Rattle.std.specs.Prelude.{◌≡◌, ◌≤◌, ◌⊎◌, ◌+◌, ℕ, ℤ, Bool, false, List, [], ◌∷◌, ◌++◌, drop, length, map, Option, if◌then◌else◌}
 use Rattle.std.specs.List.{AllByRecursion}
 use Rattle.server_config.specs.declared.config.Config.{Config}
@@ -18,8 +18,8 @@ use Rattle.etp_serve.specs.declared.served.Served.TheVariants.{Stopped}
 abbrev pub numbers_of : List Came → List ℕ
 numbers_of cs = map (λ m. m.number) (mets cs)
 
--- There is an answer for each link that was given: the sessions among them were served over this history, none with a number
--- below that one and no two with the same, and each link came back
+-- There is an answer for each link that was given out: the sessions among them were served over this history, none with a number below that
+-- one and no two with the same, and each link came back
 pub record ServedOver (end : Served) (test : List ℤ → Bool) (config : Config) (low : ℕ) (h : List Entry) (given0 given : ℕ) (b0 b : Option (List Back)) : Type 0 where
   pub came : List Came
   pub each : AllByRecursion (IsCame test config low h) came
@@ -28,7 +28,7 @@ pub record ServedOver (end : Served) (test : List ℤ → Bool) (config : Config
   pub links : Told b0 b (λ x y. (new : List Back) × (y ≡ x ++ new) × Backs came new)
   pub memory : HadMemoryBut end came
 
--- what became of links is so over each journal of which the accepting pass, which had met nobody before, is one
+-- what became of links holds over each journal that agrees with what the accepting pass knows, which had met nobody before
 abbrev pub ServedInTheEnd : Type 0
 ServedInTheEnd = (end : Served) (test : List ℤ → Bool) (config : Config) (v0 v : Known) (given0 given : ℕ) (b0 b : Option (List Back)) (h : List Entry)
     → v0.met ≡ [] → Knows by_of enters_of h v → ServesAll end test config v0 v given0 given b0 b → ServedOver end test config (length v0.seen) h given0 given b0 b
@@ -38,7 +38,7 @@ abbrev pub entered : List Entry → ℕ
 entered [] = 0
 entered (e ∷ es) = (if enters_of e then 1 else 0) + entered es
 
--- where the serving just stopped, at least as many sessions were let in from a place on as links were given, or the journal is full
+-- if the serving just stopped, at least as many sessions were let in from a place on as links were given out, or the journal is full
 abbrev pub EachEntered : Type 0
 EachEntered = (test : List ℤ → Bool) (config : Config) (low : ℕ) (h : List Entry) (given0 given : ℕ) (b0 b : Option (List Back))
     → ServedOver Stopped test config low h given0 given b0 b → (given ≤ given0 + entered (drop low h)) ⊎ (has_room_for config h Enter ≡ false)

@@ -14,8 +14,8 @@ ended_of end.Closed = Closed
 ended_of (end.Refused code) = Refused code
 ended_of end.IdsSpent = IdsSpent
 
--- the run ended so, and each of its calls had a place. Where the peer ended the link, the session had not ended; where the
--- link failed, it may have; and where memory was refused, the last call may have no place
+-- the run ended this way, and each of its calls had a place. If the peer ended the link, the session had not ended; if the link failed, it
+-- may have; and if memory ran out, the last call may have no place
 abbrev pub EndsAs : Ended → Course → Type 0
 EndsAs Closed r = (end_of r.state.phase ≡ Some end.Closed) × (r.short ≡ false)
 EndsAs (Refused code) r = (end_of r.state.phase ≡ Some (end.Refused code)) × (r.short ≡ false)
@@ -24,7 +24,7 @@ EndsAs PeerEnd r = (end_of r.state.phase ≡ None) × (r.short ≡ false)
 EndsAs LinkFault r = r.short ≡ false
 EndsAs NoMemory r = Unit {0}
 
--- what the link shows of an end: its count of faults before and after, and whether it has said that the peer ended it
+-- what the link shows of an end: its count of faults before and after, and whether it has reported that the peer ended it
 abbrev pub HasCause : Ended → ℕ → ℕ → Bool → Type 0
 HasCause Closed old new ended = Unit {0}
 HasCause (Refused code) old new ended = Unit {0}

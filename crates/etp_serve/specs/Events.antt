@@ -40,7 +40,7 @@ pub record Lacks (items : List Item) (moments : List ℤ) (fronts : List ℕ) : 
   pub moments_are : moments ≡ before ++ moment ∷ []
   pub matched : Matched first before fronts
 
--- where the peer ended the link, each turn has its front; else the last turn has none where its message was the last event
+-- if the peer ended the link, each turn has its front; otherwise the last turn has none if its message was the last event
 abbrev pub Turned : Ended → List Item → List ℤ → List ℕ → Type 0
 Turned PeerEnd items moments fronts = Matched items moments fronts
 Turned Closed items moments fronts = Matched items moments fronts ⊎ Lacks items moments fronts

@@ -1,4 +1,4 @@
--- The laws of the crates below that the proofs of this one rest on.
+-- The laws of the crates below that the proofs of this one rely on.
 use Rattle.session_core.specs.Run.{RunIsSame, RunGoesOn}
 use Rattle.session_core.specs.Serial.{RunIsSerial}
 use Rattle.session_core.specs.Streams.{FrontIsStreamed, RunIsStreamed, RunIsToldAtIdle}

@@ -40,7 +40,7 @@ pub record LacksLast (n : ℕ) (mine : List (ℕ × Entry)) (places : List ℕ) 
   pub places_are : places ≡ before ++ place ∷ []
   pub rest : IsEnterAnd n mine kept
 
--- where memory was refused, the last entry may be missing
+-- if memory ran out, the last entry may be missing
 abbrev pub Owns : Ended → ℕ → List (ℕ × Entry) → List ℕ → List (ℕ × Entry) → Type 0
 Owns Closed n mine places made = IsEnterAnd n mine made
 Owns (Refused code) n mine places made = IsEnterAnd n mine made
@@ -51,27 +51,26 @@ Owns NoMemory n mine places made = IsEnterAnd n mine made ⊎ LacksLast n mine p
 
 -- ---- a link that failed
 
--- these messages are a front of what the run of these events sends, and end within what one event sends: of each channel they tell a beginning of
--- what that event owes
+-- these messages are a front of what the run of these events sends, and end within what one event sends: of each channel they send a prefix
+-- of what that event owes
 pub record EndsInEvent (config : Config) (n : ℕ) (h : List Entry) (places : List ℕ) (es : List Event) (messages : List (List ℕ)) : Type 0 where
   pub front : List Outgoing
   pub messages_are : messages ≡ map bytes_of front
   pub within : HasFront config n h places es front
 
--- whatever first messages of the run's a link was given, they are so
+-- this holds for whatever first messages of the run a link was given
 abbrev pub IsCutInEvent : Config → ℕ → List Entry → List ℕ → List Event → Type 0
 IsCutInEvent config n h places es = (messages : List (List ℕ)) → IsPrefix messages (map bytes_of (run config n h places es).sent)
     → EndsInEvent config n h places es messages
 
 -- ---- the session as a whole
 
--- The session of this number was served over a history: these are the places where its calls were answered, the moments that
--- its clock told, the lengths of the journal that its polls found, and the items that its link gave. The history has for the
--- session's own entries those of the run; the run ended so, and used all places, which never fall; no poll found less than
--- was seen before; and behind the session's end there was no event. Whatever other sessions did between these places, each
--- transaction that it committed was answered as if it had stood alone at the place of its commit, and of each channel it was
--- told the stream of its subscription in this history, which at a poll that asked nothing is all that there was. Where its link
--- failed, what the link was given ends within what one event sends
+-- The session of this number was served over a history: these are the places where its calls were answered, the moments that its clock
+-- returned, the lengths of the journal that its polls found, and the items that its link gave. The session's own entries in the history are
+-- those of the run; the run ended this way, and used all places, which never fall; no poll found less than was seen before; and after the
+-- session's end there was no event. Whatever other sessions did between these places, each transaction that it committed was answered as if
+-- it had been alone at the place of its commit, and of each channel it was sent the stream of its subscription in this history, which at a
+-- poll that asked nothing is all that there was. If its link failed, what the link was given ends within what one event sends
 pub record IsServed (end : Ended) (config : Config) (n : ℕ) (h : List Entry) (places : List ℕ) (moments : List ℤ) (fronts : List ℕ) (taken : List Item) : Type 0 where
   pub own : Owns end n (own by_of n h) places (run config n h places (events taken moments fronts)).made
   pub ends : EndsAs end (run config n h places (events taken moments fronts))
@@ -86,12 +85,11 @@ pub record IsServed (end : Ended) (config : Config) (n : ℕ) (h : List Entry) (
   pub idle : IsToldAtIdle config n h places (events taken moments fronts)
   pub cut : IsCutInEvent config n h places (events taken moments fronts)
 
--- what the link was told to do: the items were taken, and the messages of the run sent, all or a part of them
+-- what the link was asked to do: the items were taken, and the messages of the run sent, all or a part of them
 abbrev pub Serving : Ended → List Item → List Outgoing → Talk → Talk → Type 0
 Serving end taken said x y = (messages : List (List ℕ)) × Talked taken messages x y × IsSent end (map bytes_of said) messages
 
--- A session of this number, with what its pass knows then, and what its link and its clock told before and after, was
--- served so
+-- A session of this number, with what its pass knows then, and what its link and its clock reveal before and after, was served this way
 pub record Serves (end : Ended) (config : Config) (n : ℕ) (v : Known) (a0 a : Option Talk) (c0 c : Option (List ℤ)) : Type 0 where
   pub taken : List Item
   pub moments : List ℤ
@@ -103,7 +101,7 @@ pub record Serves (end : Ended) (config : Config) (n : ℕ) (v : Known) (a0 a : 
 
 -- ---- up to a turn
 
--- these events were all run before the session's end, with a place for each call and no place besides
+-- these events were all run before the session's end, with a place for each call and no other places
 pub record Ran (config : Config) (n : ℕ) (v : Known) (es : List Event) (s : State) (said : List Outgoing) : Type 0 where
   pub places : List ℕ
   pub made : List (ℕ × Entry)

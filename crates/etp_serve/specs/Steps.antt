@@ -51,7 +51,7 @@ Drains send.NoMemory s t a b = SendsFront s.out a b
 -- ---- a whole event
 
 module _ (config : Config) (n nth : ℕ) (asked : Asked) (v w : Known) (s t : State) (a b : Option Talk) where
-  -- the call was answered, and all that the session says was sent
+  -- the call was answered, and all that the session had to send was sent
   pub record Does : Type 0 where
     pub mid : State
     pub settles : Settles config n nth asked.at asked.call v w s mid
@@ -59,13 +59,13 @@ module _ (config : Config) (n nth : ℕ) (asked : Asked) (v w : Known) (s t : St
     pub talk : Told a b (Talked [] (map bytes_of mid.out))
 
 module _ (config : Config) (n nth : ℕ) (asked : Asked) (v w : Known) (s : State) (a b : Option Talk) where
-  -- the call was answered, and a part of what the session says was sent
+  -- the call was answered, and a part of what the session had to send was sent
   pub record Cuts : Type 0 where
     pub mid : State
     pub settles : Settles config n nth asked.at asked.call v w s mid
     pub talk : SendsFront mid.out a b
 
-  -- the event was done, and the session has ended so
+  -- the event was done, and the session has ended this way
   pub record Finishes (end : End) : Type 0 where
     pub after : State
     pub does : Does config n nth asked v w s after a b

@@ -13,7 +13,7 @@ pub record Talked (items : List Item) (messages : List (List ℕ)) (a b : Talk) 
   pub sent : b.sent ≡ a.sent ++ messages
   pub to : b.to ≡ a.to
 
--- all messages were sent, or some of the first ones where the link failed or memory was refused
+-- all messages were sent, or some of the first ones if the link failed or memory ran out
 abbrev pub IsSent : Ended → List (List ℕ) → List (List ℕ) → Type 0
 IsSent Closed all sent = sent ≡ all
 IsSent (Refused code) all sent = sent ≡ all

@@ -25,16 +25,16 @@ use std::thread::{Scope, Threads};
 use store_hub::{EnterError, Hub, Pass};
 use store_machine::room_laws;
 
-/// The most sessions that are served at the same time.
+/// The greatest number of sessions that are served at the same time.
 const MOST: usize = 64;
 
 /// The end of a link for which no session was let in, as the journal is full.
 const JOURNAL_FULL: u8 = 5;
 
-/// The same for want of memory.
+/// The same if memory ran out.
 const NO_MEMORY: u8 = 7;
 
-/// A bit that none of the children has, or 0 where they have all.
+/// A bit that none of the children has, or 0 if all are taken.
 fn free_bit<H>(children: &VecDeque<Child<H>>) -> u64 {
     let mut used: u64 = 0;
     for child in children {
@@ -70,7 +70,7 @@ fn turn_away<A: Listener>(door: &mut A, link: A::Link, end: u8)
     door.back(link, 0, end);
 }
 
-/// Serves a session that was let in, in a thread of the scope, or here where none can be started.
+/// Serves a session that was let in, in a thread of the scope, or in this one if none can be started.
 fn begin<'s, 'e, A: Listener, C: Clock, G: Gate, R: Threads + Wait + Sync>(
     rt: &'s R,
     alloc: Global,
@@ -115,7 +115,7 @@ where
     ensures stopped { A.stopped door.new ≡ A.stopped door.old }
     ensures kept { A.faults door.old ≤ A.faults door.new }
 {
-    // For the proof alone: a full journal stays full.
+    // For the proof only: a full journal stays full.
     room_laws();
     let bit = claim_bit(children, endings);
     let own = clock.another();
@@ -144,7 +144,7 @@ where
     }
 }
 
-/// Lets a session in for a link, and serves it. None where further links are served.
+/// Lets a session in for a link, and serves it. `None` if more links are served.
 fn let_in<'s, 'e, A: Listener, C: Clock, G: Gate, R: Threads + Wait + Sync>(
     rt: &'s R,
     alloc: Global,
@@ -187,7 +187,7 @@ where
     ensures stopped { A.stopped door.new ≡ A.stopped door.old }
     ensures kept { A.faults door.old ≤ A.faults door.new }
 {
-    // For the proof alone: a full journal stays full.
+    // For the proof only: a full journal stays full.
     room_laws();
     match hub.enter(rt, alloc, pass, entering(clock)) {
         Ok(entered) => {
@@ -208,7 +208,7 @@ where
     }
 }
 
-/// Waits for a link, and serves it. None where further links are served.
+/// Waits for a link, and serves it. `None` if more links are served.
 fn welcome<'s, 'e, A: Listener, C: Clock, G: Gate, R: Threads + Wait + Sync>(
     rt: &'s R,
     alloc: Global,
@@ -260,7 +260,7 @@ where
     }
 }
 
-/// How many links may come after a further one, where the number is limited. None where no further one may.
+/// How many links may come after one more, if the number is limited. `None` if no more may come.
 fn one_less(left: Option<u64>) -> Option<Option<u64>>
     ensures none { IfNone result (left ≡ Some 0) }
     ensures some { IfSome result (λ after. IsOneLess left after) }
@@ -275,7 +275,7 @@ fn one_less(left: Option<u64>) -> Option<Option<u64>>
     }
 }
 
-/// Serves links until no further one is to be served.
+/// Serves links until no more are to be served.
 fn serve_links<'s, 'e, A: Listener, C: Clock, G: Gate, R: Threads + Wait + Sync>(
     rt: &'s R,
     alloc: Global,
@@ -330,7 +330,7 @@ where
     unreachable!()
 }
 
-/// Takes in the children that have ended. Where there is no room for a further one, it waits until one ends, whichever that is.
+/// Takes in the children that have ended. If there is no room for another, it waits until one ends, whichever that is.
 fn make_room<A: Listener, C: Clock, R: Threads + Wait>(
     rt: &R,
     hub: &Hub,
@@ -398,7 +398,7 @@ where
     ensures kept { A.faults door.old ≤ A.faults door.new }
     ensures cause { result ≡ Served.ListenFault → Rose (A.faults door.old) (A.faults door.new) }
 {
-    // For the proof alone: what holds of runs over a longer history.
+    // For the proof only: what holds for runs over a longer history.
     laws();
     let opened = Snapshot::of(door);
     let first = Snapshot::of(pass);
@@ -430,13 +430,13 @@ fn take_back<T>(x: &mut T)
     ensures { x.new ≡ x.old }
 {}
 
-/// Serves the links that a listener gives, each in a thread of its own, until it stops, `most` links came, it fails, or memory
-/// is refused. At most 64 sessions are served at the same time; a further link waits at the listener until any of them has ended.
-/// Then it waits until each session has ended, and hands each link back with its session's number and end:
+/// Serves the links that a listener gives out, each in a thread of its own, until it stops, `most` links came, it fails, or memory runs
+/// out. At most 64 sessions are served at the same time; another link waits at the listener until any of them has ended. Then it waits
+/// until each session has ended, and hands each link back with its session's number and end:
 ///
-/// - 1 the client closed it, 2 the session was refused, 3 its message ids were spent, 4 the peer ended the link, 6 the link
-///   failed, 7 memory was refused;
-/// - 5 with the number 0: no session was let in, as the journal was full; 7 with the number 0: the same, for want of memory.
+/// - 1 the client closed it, 2 the session was refused, 3 its message ids ran out, 4 the peer ended the link, 6 the link failed, 7 memory
+///   ran out;
+/// - 5 with the number 0: no session was let in, as the journal was full; 7 with the number 0: the same, as memory ran out.
 pub fn serve_all<A: Listener, C: Clock, G: Gate, R: Threads + Wait + Sync>(
     rt: &R,
     alloc: Global,

@@ -30,7 +30,7 @@ pub(crate) struct Child<H> {
     pub(crate) bit: u64,
 }
 
-/// The number of an end: those of captures, and 6 and 7 for the ends that no capture has.
+/// The number of an end: those of captures, plus 6 and 7 for the ends that no capture has.
 fn end_number_of(end: Ended) -> u8
     ensures { result ≡ end_number end }
 {
@@ -91,13 +91,13 @@ pub(crate) fn join_child<A: Listener, C: Clock, R: Threads>(
     ensures stopped { A.stopped door.new ≡ A.stopped door.old }
     ensures kept { A.faults door.old ≤ A.faults door.new }
 {
-    // For the proof alone: a full journal stays full.
+    // For the proof only: a full journal stays full.
     room_laws();
     let finished = child.handle.join(rt);
     take_in(hub, door, pass, finished);
 }
 
-/// Puts a child behind the others, where there is room.
+/// Puts a child after the others, if there is room.
 pub(crate) fn put_last<T: Drop>(children: &mut VecDeque<T>, child: T)
     requires room { deque_len children.old < deque_capacity children.old }
     ensures items { children.new.items ≡ children.old.items ++ child ∷ [] }
@@ -109,7 +109,7 @@ pub(crate) fn put_last<T: Drop>(children: &mut VecDeque<T>, child: T)
     };
 }
 
-/// Takes in the first of the children, where its bit is one of these, and else puts it behind the others.
+/// Takes in the first of the children, if its bit is one of these, and otherwise puts it after the others.
 fn settle_first<A: Listener, C: Clock, R: Threads>(
     rt: &R,
     hub: &Hub,

@@ -20,11 +20,11 @@ pub enum Ended {
     PeerEnd,
     /// The link failed.
     LinkFault,
-    /// Memory was refused.
+    /// Out of memory.
     NoMemory,
 }
 
-/// How the session has ended of its own, if it has.
+/// The session's own end, if it has ended.
 pub(crate) fn own_end(session: &Session) -> Option<Ended>
     ensures { result ≡ option_map ended_of (end_of session.now.phase) }
 {

@@ -3,7 +3,7 @@ use std::sync::Wait;
 use std::sync::atomic::{AtomicU64, Ordering};
 use std::thread::Parker;
 
-/// The threads that have ended since the accepting thread last asked, by a bit for each. It waits for a further one here.
+/// The threads that have ended since the accepting thread last asked, by a bit for each. It waits here for another one.
 #[derive(Drop)]
 pub(crate) struct Endings {
     bits: AtomicU64,
@@ -19,7 +19,7 @@ impl Endings {
         }
     }
 
-    /// Notes that the thread with a bit has ended, and wakes the one that waits.
+    /// Notes that the thread with a bit has ended, and wakes the thread that waits.
     pub(crate) fn note(&self, bit: u64) {
         self.bits.fetch_or(bit, Ordering::SeqCst);
         self.parker.unpark();

@@ -1,11 +1,11 @@
-//! The laws of the crates below that the proofs of this one rest on.
+//! The laws of the crates below that the proofs of this one rely on.
 ghost use Rattle.etp_serve.specs.Closing.{EachEntered, ServedInTheEnd};
 ghost use Rattle.etp_serve.specs.Laws.{Laws};
 
 use session_core::{run_streams, runs, serial};
 use store_machine::{number_laws, room_laws};
 
-/// What holds of runs, and of the entries of a session's calls.
+/// What holds for runs, and for the entries of a session's calls.
 pub(crate) fn laws()
     ensures { Laws }
 {
@@ -15,8 +15,8 @@ pub(crate) fn laws()
     number_laws();
 }
 
-/// What became of links holds over the journal of the closed store too, and each link that was given is an entry of it that
-/// lets a session in, unless the journal is full.
+/// What became of links also holds over the journal of the closed store, and each link that was given out is an entry of it that lets a
+/// session in, unless the journal is full.
 pub fn closing_laws()
     ensures served { ServedInTheEnd }
     ensures entered { EachEntered }

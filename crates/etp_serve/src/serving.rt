@@ -18,7 +18,7 @@ use std::alloc::Global;
 use std::sync::Wait;
 use store_hub::{Hub, Pass, pass_laws};
 
-/// Takes an item from the link, and serves its message, if it is one. None where the session goes on.
+/// Takes an item from the link, and serves its message, if it is one. `None` if the session continues.
 fn receive<L: Link, C: Clock, R: Wait>(
     rt: &R,
     alloc: Global,
@@ -42,7 +42,7 @@ fn receive<L: Link, C: Clock, R: Wait>(
     ensures ended { result ≡ Some Ended.PeerEnd → L.ended link.new ≡ true }
     ensures test { C.passes clock.new ≡ C.passes clock.old }
 {
-    // For the proof alone: what holds of a run that goes on by an event.
+    // For the proof only: what holds for a run that continues by an event.
     laws();
     let bytes = match link.recv(alloc) {
         Recv::Got(bytes) => bytes,
@@ -58,7 +58,7 @@ fn receive<L: Link, C: Clock, R: Wait>(
     carry_out(rt, alloc, link, hub, pass, session, Asked { at: now, call })
 }
 
-/// The poll that ends a turn. None where the session goes on.
+/// The poll that ends a turn. `None` if the session continues.
 fn poll<L: Link, R: Wait>(
     rt: &R,
     alloc: Global,
@@ -80,7 +80,7 @@ fn poll<L: Link, R: Wait>(
     ensures cause { result ≡ Some Ended.LinkFault → Rose (L.faults link.old) (L.faults link.new) }
     ensures ended { result ≡ Some Ended.PeerEnd → ⊥ }
 {
-    // For the proof alone: what holds of a run that goes on by an event.
+    // For the proof only: what holds for a run that continues by an event.
     laws();
     let front = hub.front(pass);
     let Ok(call) = session.poll(alloc, front) else {
@@ -97,13 +97,13 @@ fn begin(alloc: Global, conf: &Config, number: u64) -> Result<Session, NoMemory>
     Session::new(alloc, config, number, 1)
 }
 
-/// A list in memory is not so long that a channel of it has no id of 64 bits.
+/// A list in memory is not so long that one of its channels has no 64-bit id.
 fn each_has_id(channels: &[ChannelDef])
     ensures { length channels.now < 2 ^ 63 }
 {}
 
-/// Serves a session that was just let in, until it ends, its link does, or memory is refused. Each turn passes the gate,
-/// receives once, serves the message, if one came, and polls. It waits for the store's turn and for the link.
+/// Serves a session that was just let in, until it ends, its link does, or memory runs out. Each turn passes the gate, receives once,
+/// serves the message, if one came, and polls. It waits for the store's turn and for the link.
 pub fn serve_session<L: Link, C: Clock, G: Gate, R: Wait>(
     rt: &R,
     alloc: Global,
@@ -125,7 +125,7 @@ pub fn serve_session<L: Link, C: Clock, G: Gate, R: Wait>(
     ensures cause { HasCause result (L.faults link.old) (L.faults link.new) (L.ended link.new) }
     ensures test { C.passes clock.new ≡ C.passes clock.old }
 {
-    // For the proof alone: what a fresh pass has entered, what holds of a run, and that each channel has an id.
+    // For the proof only: what a fresh pass has entered, what holds for a run, and that each channel has an id.
     pass_laws();
     laws();
     each_has_id(conf.channels.get().as_slice());

@@ -1,4 +1,4 @@
-//! One event of a session: its call to the store, and what it says.
+//! One event of a session: its call to the store, and what it sends.
 ghost use Rattle.std.specs.Prelude.{◌≡◌, ◌≤◌, IfNone, IfSome, OnErr, OnOk, Some, None};
 ghost use Rattle.etp_outside.specs.Faults.{Rose};
 ghost use Rattle.session_core.specs.Session.{end_of};
@@ -15,7 +15,7 @@ use std::sync::Wait;
 use store_hub::{Hub, Pass};
 use store_machine::StoreCall;
 
-/// What an event asks of the store: the session's call, if it has one, and the moment of the event, at which an entry stands.
+/// What an event asks of the store: the session's call, if it has one, and the moment of the event, which its entry has.
 #[derive(Drop)]
 pub(crate) struct Asked {
     pub(crate) at: i64,
@@ -50,7 +50,7 @@ fn settle<R: Wait>(
     }
 }
 
-/// Sends what the session says.
+/// Sends what the session has to send.
 fn drain<L: Link>(alloc: Global, link: &mut L, session: &mut Session) -> Sent
     ensures talk { Drains result session.old session.new (L.talk link.old) (L.talk link.new) }
     ensures kept { L.faults link.old ≤ L.faults link.new }
@@ -70,7 +70,7 @@ fn drain<L: Link>(alloc: Global, link: &mut L, session: &mut Session) -> Sent
     }
 }
 
-/// Has the store answer the call of an event, and sends what the session says. None where the session goes on.
+/// Has the store answer the call of an event, and sends what the session has to send. `None` if the session continues.
 pub(crate) fn carry_out<L: Link, R: Wait>(
     rt: &R,
     alloc: Global,

@@ -15,7 +15,7 @@ use std::sync::Wait;
 use std::thread::Promise;
 use store_hub::{Hub, Pass};
 
-/// What a session's thread answers: its link and its pass, and how it ended.
+/// What a session's thread returns: its link and its pass, and how it ended.
 #[derive(Drop)]
 pub(crate) struct Finished<L> {
     pub(crate) link: L,
@@ -42,7 +42,7 @@ impl<L: Link, C: Clock> Promise<Finished<L>> for Started<L, C> {
         (L.talk p.link.value) (L.talk r.link) (L.faults p.link.value) (L.faults r.link) (L.ended r.link) };
 }
 
-/// For proofs alone: the moments that a clock told pass its test.
+/// For proofs only: the moments that a clock returned pass its test.
 fn moments_pass<C: Clock>(clock: &C)
     ensures { Tests (C.told clock.now) (C.passes clock.now) }
 {

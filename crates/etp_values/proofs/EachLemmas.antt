@@ -1,4 +1,4 @@
--- What holds of each item of a list: for the crates above.
+-- What holds for each item of a list: for the crates above.
 use Rattle.std.proofs.Common.{List, [], ◌∷◌, ◌++◌}
 use Rattle.std.specs.List.{AllByRecursion}
 
@@ -10,7 +10,7 @@ pub all-push : {X : Type 0} (P : X → Type 0) (xs : List X) (x : X) → AllByRe
 all-push P [] x all h = (h, tt)
 all-push P (y ∷ ys) x all h = (all.0, all-push P ys x all.1 h)
 
--- what holds of all of two lists holds of those in front, and of those behind
+-- what holds for all of two joined lists holds for all of the first, and all of the second
 pub all-front : {X : Type 0} (P : X → Type 0) (xs ys : List X) → AllByRecursion P (xs ++ ys) → AllByRecursion P xs
 all-front P [] ys all = tt
 all-front P (x ∷ xs) ys all = (all.0, all-front P xs ys all.1)

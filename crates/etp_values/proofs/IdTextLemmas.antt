@@ -15,7 +15,7 @@ at_36 s len = rw len refl
 not_36 : (s : List ℕ) → length s ≢ 36 → parsed_hyphenated s ≡ None
 not_36 s len = let other : nat_eq (length s) 36 ≡ false = grind (arith, nat_tests) in rw other refl
 
--- another length
+-- text of another length
 pub id_of_other : (s : List ℕ) → length s ≢ 36 → None ≡ id_of s
 unfolding id_of
 id_of_other s len = sym (not_36 s len)
@@ -41,12 +41,12 @@ pub id_of-id_text : (id : List ℕ) → IsId id → id_of (id_text id) ≡ Some 
 unfolding id_of id_text
 id_of-id_text id h = sym (parses_hyphenated_text lower id (inl refl) h.long h.small)
 
--- a value behind a test
+-- a value after a test
 pub if_some : {A : Type 0} (b : Bool) (o : Option A) (u : A) → (if b then o else None) ≡ Some u → (b ≡ true) × (o ≡ Some u)
 if_some true o u e = (refl, e)
 if_some false o u e = cc
 
--- what the text of an identifier is like
+-- what the text of an identifier looks like
 record IsHyphenated (s u : List ℕ) : Type 0 where
   long : length s ≡ 36
   hyphens : has_hyphens s ≡ true
@@ -72,7 +72,7 @@ hex_digit_at xs i all below =
       | inr fails ↦ absurd (true≢false (sym all ∙ list_all_at is_hex_digit xs i 0 below fails))
     ]
 
--- the value of a digit fits four bits
+-- the value of a digit fits in four bits
 digit_small : (c : ℕ) → is_hex_digit c ≡ true → value_of c < 16
 digit_small c e = grind (arith, nat_tests)
 
@@ -96,7 +96,7 @@ either_true : (a b : Bool) → (a || b) ≡ true → (a ≡ true) ⊎ (b ≡ tru
 either_true true b e = inl refl
 either_true false b e = inr e
 
--- the hyphens are no closing parentheses
+-- the hyphens are not closing parentheses
 hyphen_at : (s : List ℕ) (k : ℕ) → has_hyphens s ≡ true → is_hyphen_place k ≡ true → get_or s k 0 ≡ 45
 hyphen_at s k h place =
     let last = and_parts _ (slice_index s 23 == 45) h in
@@ -113,7 +113,7 @@ hyphen_at s k h place =
       ]
     ]
 
--- where the digit of a place stands
+-- the index of the digit of a place
 place_back : (k : ℕ) → k < 36 → is_hyphen_place k ≡ false → hyphen_place (digit_place k) ≡ k
 place_back k below other = grind (arith, nat_tests)
 

@@ -1,24 +1,24 @@
--- A list before one of its items, the place of an item, a slice by its length, and two lists together by their end: for the crates above.
+-- A list up to one of its items, the index of an item, a slice by its length, and two joined lists by their end: for the crates above.
 use Rattle.std.proofs.Common.{◌≡◌, ◌<◌, ◌+◌, ◌-◌, ℕ, zero, suc, List, [], ◌∷◌, ◌++◌, take, drop, slice_range, length, Some, IsSomeAnd, refl, arith, ap, sym, length-append}
 use Rattle.std.specs.List.{slice_get}
 
--- the item at a place stands before the rest
+-- the item at an index comes before the rest
 pub drop_item : {X : Type 0} (xs : List X) (i : ℕ) (x : X) → slice_get xs i ≡ Some x → drop i xs ≡ x ∷ drop (suc i) xs
 drop_item [] i x at = absurd (cc at)
 drop_item (y ∷ ys) zero x at = cc at
 drop_item (y ∷ ys) (suc i) x at = drop_item ys i x at
 
--- a place at which something stands is below the length
+-- an index at which there is an item is below the length
 pub below_length : {X : Type 0} (P : X → Type 0) (xs : List X) (k : ℕ) → IsSomeAnd (slice_get xs k) P → k < length xs
 below_length P [] k h = absurd h
 below_length P (x ∷ xs) zero h = omega arith
 below_length P (x ∷ xs) (suc k) h = let rest = below_length P xs k h in omega (arith, rest)
 
--- so many items from a place on
+-- a slice of this length from an index on
 pub range_taken : {X : Type 0} (xs : List X) (start n : ℕ) → slice_range xs start (start + n) ≡ take n (drop start xs)
 range_taken xs start n = let e : (start + n) - start ≡ n = omega arith in ap (λ (k : ℕ). take k (drop start xs)) e
 
--- the item at the end of two lists together, where the second has one
+-- the last item of two joined lists, if the second has one
 pub record EndsIn {X : Type 0} (left front rest : List X) (x : X) : Type 0 where
   pub shorter : List X
   pub split : front ≡ shorter ++ x ∷ []

@@ -1,4 +1,4 @@
--- What a look-up finds after values were put in or taken out: for this crate and those above it.
+-- What a look-up finds after values were inserted or removed: for this crate and those above it.
 use Rattle.std.specs.Prelude.{Bool, true, false, cond, not, List, [], ◌∷◌, ◌≡◌, Option, Some, None, filter, refl}
 use Rattle.std.specs.Cmp.{IsEquivalence}
 use Rattle.std.specs.Map.{lookup}
@@ -16,7 +16,7 @@ lookup-cond : {K V : Type 0} (p : K → Bool) (a : Bool) (xs ys : List (K × V))
 lookup-cond p true xs ys = refl
 lookup-cond p false xs ys = refl
 
--- one entry, by the tests on it: whether the key asked for goes, whether the entry goes, whether it is the one asked for
+-- one entry, by the tests on it: whether the key looked up is removed, whether the entry is removed, whether it is the one looked up
 pub one_entry : {V : Type 0} (out gone here : Bool) (v : V) (kept rest : Option V) → (here ≡ true → out ≡ gone) → kept ≡ cond out None rest
     → cond (not gone) (cond here (Some v) kept) kept ≡ cond out None (cond here (Some v) rest)
 one_entry true true here v kept rest e h = h
@@ -27,7 +27,7 @@ one_entry false true false v kept rest e h = h
 one_entry false false true v kept rest e h = refl
 one_entry false false false v kept rest e h = h
 
--- the keys that go are taken out, and the others have what they had; no two keys that are the same are treated apart
+-- some keys are removed, and the others keep what they had; no two keys that are the same are treated differently
 pub lookup-filter : {K V : Type 0} (same : K → K → Bool) (goes : K → Bool) → ((x y : K) → same x y ≡ true → goes x ≡ goes y) → (q : K) (es : List (K × V))
     → lookup (same q) (filter (λ e. not (goes e.0)) es) ≡ cond (goes q) None (lookup (same q) es)
 lookup-filter same goes respects q [] = none_either (goes q) None refl
@@ -36,7 +36,7 @@ lookup-filter {K} {V} same goes respects q (e ∷ es) =
     lookup-cond (same q) (kept e) (e ∷ filter kept es) (filter kept es)
     ∙ one_entry (goes q) (goes e.0) (same q e.0) e.1 _ (lookup (same q) es) (respects q e.0) (lookup-filter same goes respects q es)
 
--- ---- in a table that tests the stored key against the one asked for, the other way round
+-- ---- in a table that tests the stored key against the one looked up, the other way round
 
 module _ {K R : Type 0} (same : K → K → Bool) (laws : IsEquivalence same) where
   -- after a key is taken out

@@ -1,4 +1,4 @@
--- Values under names that look alike to every name: for this crate and those above it.
+-- Values under names that look the same for every name: for this crate and those above it.
 use Rattle.std.proofs.Common.{ℕ, ◌≡◌, List, [], ◌∷◌, Some, cond, refl, ap, sym, ◌∙◌}
 use Rattle.std.specs.declared.cmp.Ordering.TheVariants.{Equal}
 use Rattle.std.specs.Ordering.{nat_cmp, is_eq}

@@ -1,4 +1,4 @@
--- Beginnings of one list: for this crate and those above it.
+-- Prefixes of one list: for this crate and those above it.
 use Rattle.std.proofs.Common.{◌≡◌, ℕ, zero, suc, ◌≤◌, List, [], ◌∷◌, ◌++◌, length, Some, slice_get, refl, ap, sym, ◌∙◌, arith, append_assoc, length-append}
 use Rattle.std.proofs.lemmas.List.{append-nil}
 use mathlib.Core.List.{IsPrefix, prefix-append}
@@ -20,14 +20,14 @@ prefix_snoc xs ys y p = prefix_trans xs ys (ys ++ y ∷ []) p (prefix_grown ys y
 pub prefix_length : {X : Type 0} (xs ys : List X) → IsPrefix xs ys → length xs ≤ length ys
 prefix_length xs ys p = let sizes : length ys ≡ length (xs ++ p.0) = ap length (sym p.1) in omega (arith, sizes, length-append xs p.0)
 
--- what stands in a beginning stands in the whole
+-- what is in a prefix is in the whole
 pub prefix_get : {X : Type 0} (xs ys : List X) (k : ℕ) (x : X) → IsPrefix xs ys → slice_get xs k ≡ Some x → slice_get ys k ≡ Some x
 prefix_get [] ys k x p at = absurd cc
 prefix_get (a ∷ xs) [] k x p at = absurd (cc (p.1))
 prefix_get (a ∷ xs) (b ∷ ys) zero x p at = cc (p.1, at)
 prefix_get (a ∷ xs) (b ∷ ys) (suc k) x p at = prefix_get xs ys k x (p.0, cc (p.1)) at
 
--- of two beginnings of one list the shorter begins the longer
+-- of two prefixes of one list the shorter is a prefix of the longer
 pub prefix_shorter : {X : Type 0} (xs ys zs : List X) → IsPrefix xs zs → IsPrefix ys zs → length xs ≤ length ys → IsPrefix xs ys
 prefix_shorter [] ys zs p q short = (ys, refl)
 prefix_shorter (a ∷ xs) [] zs p q short = absurd (omega arith)

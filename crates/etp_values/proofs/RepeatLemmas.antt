@@ -1,4 +1,4 @@
--- A name that comes twice stands beside itself once the names are in order.
+-- A name that occurs twice is next to itself once the names are in order.
 use Rattle.std.proofs.Common.{ℕ, ◌≡◌, ◌+◌, ◌<◌, List, [], ◌∷◌, true, false, zero, suc, length, get_or, sym, ◌∙◌, ap, arith, refl, add-one}
 use Rattle.std.specs.declared.cmp.Ordering.{Ordering}
 use Rattle.std.specs.declared.cmp.Ordering.TheVariants.{Less, Equal, Greater}

@@ -1,4 +1,4 @@
--- Names that rise from place to place, and numbers that never fall; for the crates above too.
+-- Names that rise from index to index, and numbers that never fall; for the crates above too.
 use Rattle.std.proofs.Common.{refl, ℕ, ◌≡◌, ◌<◌, ◌≤◌, ◌+◌, ◌-◌, List, [], ◌∷◌, ◌++◌, true, false, length, get_or, ap, sym, subst, ◌∙◌, arith, inl, inr}
 use Rattle.std.specs.declared.cmp.Ordering.{Ordering}
 use Rattle.std.specs.declared.cmp.Ordering.TheVariants.{Less, Equal, Greater}
@@ -21,7 +21,7 @@ less_from Greater h = absurd (false≢true h)
 abbrev pub RisesBelow : List (List ℕ) → ℕ → Type 0
 RisesBelow ks i = (k : ℕ) → k + 1 < i → slice_cmp nat_cmp (get_or ks k []) (get_or ks (k + 1) []) ≡ Less
 
--- the names of two neighbours
+-- two neighbouring names
 name_before : {T : Type 0} (xs : List (List ℕ × T)) (i : ℕ) (x : List ℕ × T) → 1 ≤ i → i < length xs → x ≡ get_or xs (i - 1) x → get_or (keys_of xs) (i - 1) [] ≡ x.0
 name_before xs i x low within at = get_or-map (λ e. e.0) xs (i - 1) x [] (omega arith) ∙ ap (λ e. e.0) (sym at)
 
@@ -62,12 +62,12 @@ pub rises_bound : (low : ℕ) (ns : List ℕ) (high : ℕ) → Rises low ns high
 rises_bound low [] high r = r
 rises_bound low (n ∷ ns) high r = let f = r.0 in let g = rises_bound n ns high r.1 in omega (arith, f, g)
 
--- a number that is at least the last one, behind the others
+-- a number that is at least the last one, appended
 pub rises_snoc : (low : ℕ) (xs : List ℕ) (high n top : ℕ) → Rises low xs high → high ≤ n → n ≤ top → Rises low (xs ++ n ∷ []) top
 rises_snoc low [] high n top r a b = (omega arith, b)
 rises_snoc low (x ∷ xs) high n top r a b = (r.0, rises_snoc x xs high n top r.1 a b)
 
--- the upper bound may be a greater one
+-- the upper bound may be increased
 pub rises_wider : (low : ℕ) (xs : List ℕ) (high top : ℕ) → Rises low xs high → high ≤ top → Rises low xs top
 rises_wider low [] high top r a = omega arith
 rises_wider low (x ∷ xs) high top r a = (r.0, rises_wider x xs high top r.1 a)

@@ -1,4 +1,4 @@
--- Lists in the order of their keys are told apart by look-ups.
+-- Lists in the order of their keys differ in some look-up.
 use Rattle.std.proofs.Common.{◌≡◌, List, [], ◌∷◌, cond, Option, None, Some, refl, sym, ap, ◌∙◌, subst}
 use Rattle.std.specs.declared.cmp.Ordering.{Ordering}
 use Rattle.std.specs.declared.cmp.Ordering.TheVariants.{Less, Equal, Greater}
@@ -16,7 +16,7 @@ module _ {K : Type 0} (cmp : K → K → Ordering) (total : IsTotalOrder cmp) wh
   lower q k [] l h = tt
   lower q k (x ∷ xs) l h = (total.trans q k x l h.0, lower q k xs l h.1)
 
-  -- what is found at a name that is below the first of a list in order: nothing
+  -- what is found under a name that is below the first of a list in order: nothing
   turned_round : (a b : K) → cmp a b ≡ Greater → cmp b a ≡ Less
   turned_round a b g = by (cmp b a) (total.antisymm a b)
     where
@@ -38,7 +38,7 @@ module _ {K V : Type 0} (cmp : K → K → Ordering) (total : IsTotalOrder cmp) 
   first_found : (x : K × V) (xs : List (K × V)) → at x.0 (x ∷ xs) ≡ Some x.1
   first_found x xs = ap (λ o. cond (is_eq o) (Some x.1) (at x.0 xs)) (tied_itself total x.0)
 
-  -- a name below the first is not there
+  -- a name below the first is absent
   before_first : (q : K) (y : K × V) (ys : List (K × V)) → IsStrictlySortedBy cmp (keys_of (y ∷ ys)) → cmp q y.0 ≡ Less → at q (y ∷ ys) ≡ None
   before_first q y ys t l = below-none q (y ∷ ys) (l, lower cmp total q y.0 (keys_of ys) l (sorted_head cmp y.0 (keys_of ys) t))
 

@@ -1,4 +1,4 @@
--- A text says a URI exactly where it is one of the URI's texts.
+-- A text reads as a URI exactly if it is one of the URI's texts.
 use Rattle.std.proofs.Common.{◌≡◌, ◌≢◌, ◌≤◌, ◌<◌, ◌-◌, ℕ, List, [], ◌∷◌, ◌++◌, length, get_or, take, drop, append_assoc, append-nil, length-append, codes, Bool, true, false, ◌&&◌, nat_eq, nat_lt, nat_le, Option, Some, None, IfSome, IfOk, not, lit≤, option_map, option_and_then, unwrap_or, Result, Ok, Err, if◌then◌else◌, refl, sym, ap, subst, ◌∙◌, inl, inr, arith, true≢false, ◌⊎◌}
 use Rattle.std.proofs.lemmas.Bool.{cases_Bool, eqb-true, and_parts}
 use Rattle.std.proofs.lemmas.Bool.Decides.{nat_tests}
@@ -19,7 +19,7 @@ use Rattle.etp_values.proofs.UriPartLemmas.{Lacks, Lacks-from_places, after_foun
 ok_is : {A : Type 0} (r : Result A UriError) (x y : A) → r ≡ Ok x → r ≡ Ok y → x ≡ y
 ok_is r x y e f = ap (λ q. result_unwrap_or q x) (sym e ∙ f)
 
--- ---- marks that a form lacks
+-- ---- marks that a form does not contain
 
 Lacks-from_test : (test : ℕ → Bool) (mark : ℕ) (s : List ℕ) → test mark ≡ false → list_all test s ≡ true → Lacks mark s
 Lacks-from_test test mark [] fails all = tt
@@ -131,7 +131,7 @@ pub object_found : (whole : ℕ) (n : ObjectName) (digits : List ℕ) → is_dom
 object_found whole n digits domain name said =
     rw (part_is n digits) (rw (type_at_found n (digits ++ 41 ∷ []) domain name) (rw (id_at_found digits [] n.id said) refl))
 
--- what a read object says of its part
+-- what a read object says about its part
 pub record IsObjectPart (n : ObjectName) (s : List ℕ) : Type 0 where
   digits : List ℕ
   said : id_of digits ≡ Some n.id
@@ -195,7 +195,7 @@ path_of_says s p e = go (after (codes "'") s) refl e
     go None at e = cc
     go (Some t) at e = quoted t (after_says (codes "'") s t at) (unquoted false t) refl e
 
--- a prefix with a parenthesis and no dot stands at no object's part
+-- a prefix with a parenthesis and no dot does not begin an object's part
 abbrev HasOpen : List ℕ → Type 0
 HasOpen ps = list_any (λ c. nat_eq c 40) ps ≡ true
 
@@ -217,7 +217,7 @@ not_at_object (p ∷ ps) (x ∷ d) rest no_dot no_open h =
 
 -- ---- a whole text
 
--- a value's names and the limits of its parts
+-- a value's names are well formed and its parts within their limits
 pub record IsFormed (u : StoreUri) : Type 0 where
   pub path : length u.space ≤ 256
   pub object : IfSome u.object IsObjectName
@@ -358,12 +358,12 @@ short_enough s h = grind (arith, nat_tests)
 short_from : (s : List ℕ) → nat_lt 2048 (length s) ≡ false → length s ≤ 2048
 short_from s e = grind (arith, nat_tests)
 
--- what stands behind the prefix
+-- what follows the prefix
 prefix_is : (space : List ℕ) (object : Option ObjectName) (text : List ℕ) → IsTextIn space object text → (s : List ℕ) × (text ≡ codes "eml:///" ++ s)
 prefix_is space None text h = (space_part space, h)
 prefix_is space (Some n) text h = (space_part space ++ behind space (object_part n h.0), h.2)
 
--- each text of a URI is read as that URI
+-- each text of a URI reads as that URI
 pub uri_of-text : (u : StoreUri) (text : List ℕ) → IsUri u → IsTextOf u text → uri_of text ≡ Ok u
 unfolding uri_of
 uri_of-text u text form is_text =
@@ -396,11 +396,11 @@ uri_of-says u text e =
 pub uri_of-plain_uri : (u : StoreUri) → IsUri u → uri_of (plain_uri u) ≡ Ok u
 uri_of-plain_uri u form = uri_of-text u (plain_uri u) form (plain_is_text u.space u.object form.object)
 
--- URIs with one canonical text are one
+-- two URIs with one canonical text are the same
 pub plain_uri-once : (u v : StoreUri) → IsUri u → IsUri v → plain_uri u ≡ plain_uri v → u ≡ v
 plain_uri-once u v h k e = ok_is (uri_of (plain_uri u)) u v (uri_of-plain_uri u h) (ap uri_of e ∙ uri_of-plain_uri v k)
 
--- ---- the answers of a reader
+-- ---- what a reader answers
 
 pub uri_of-long : (text : List ℕ) → 2048 < length text → uri_of text ≡ Err TooLong
 unfolding uri_of

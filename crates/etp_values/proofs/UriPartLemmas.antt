@@ -38,7 +38,7 @@ after_gives p s (Some x) h =
 
 -- ---- marks
 
--- a byte that stands nowhere in a list
+-- a byte that does not occur in a list
 abbrev pub Lacks : ℕ → List ℕ → Type 0
 Lacks mark [] = Unit {0}
 Lacks mark (c ∷ cs) = (nat_eq c mark ≡ false) × Lacks mark cs
@@ -58,11 +58,11 @@ pub parted_at : (mark : ℕ) (xs ys : List ℕ) → Lacks mark xs → parted mar
 parted_at mark [] ys h = rw (eq-eqb mark mark refl) refl
 parted_at mark (c ∷ xs) ys h = rw (h.0, parted_at mark xs ys h.1) refl
 
--- two parts that are there
+-- two parts that are both present
 abbrev both : List ℕ → List ℕ → Option (List ℕ × List ℕ)
 both x y = Some (x, y)
 
--- what was pushed before the parts of the rest
+-- what was prepended to the parts of the rest
 pub pushed_parts : (c : ℕ) (o : Option (List ℕ × List ℕ)) (x y : List ℕ) → option_map (put_before c) o ≡ Some (x, y)
     → (x' : List ℕ) × (o ≡ Some (x', y)) × (x ≡ c ∷ x')
 pushed_parts c None x y e = cc
@@ -97,7 +97,7 @@ parted_gives mark s (Some x) h small =
 
 -- ---- quotes
 
--- parts behind a piece that has no quote
+-- parts after a piece that has no quote
 abbrev pub behind_piece : List ℕ → List ℕ × List ℕ → List ℕ × List ℕ
 behind_piece piece p = (piece ++ p.0, p.1)
 
@@ -121,7 +121,7 @@ pub unquoted_piece : (piece rest : List ℕ) → Lacks 39 piece → unquoted fal
 unquoted_piece [] rest h = sym (map_behind_nothing (unquoted true rest))
 unquoted_piece (c ∷ piece) rest h = rw (h.0, unquoted_piece piece rest h.1) (map_behind_more c piece (unquoted true rest))
 
--- a quote that no other follows
+-- a quote that is not followed by another
 pub unquoted_end : (s : List ℕ) → ((rest : List ℕ) → s ≢ 39 ∷ rest) → unquoted true s ≡ Some ([], s)
 unquoted_end [] h = refl
 unquoted_end (c ∷ cs) h = rw (ne-eqb c 39 (λ e. h cs (ap (λ z. z ∷ cs) e))) refl
@@ -153,7 +153,7 @@ unquoted_doubled (c ∷ cs) rest h =
           ∙ unquoted_other c (doubled cs ++ 39 ∷ rest) other ∙ ap (option_map (put_before c)) (unquoted_doubled cs rest h)
     ]
 
--- a text from its quote on, where it was read past that quote
+-- a text from its quote on, if it was read past that quote
 abbrev from_quote : Bool → List ℕ → List ℕ
 from_quote false s = s
 from_quote true s = 39 ∷ s
@@ -194,7 +194,7 @@ quoted_says true (c ∷ cs) path rest e =
 pub unquoted_says : (s path rest : List ℕ) → unquoted false s ≡ Some (path, rest) → s ≡ doubled path ++ 39 ∷ rest
 unquoted_says s path rest e = quoted_says false s path rest e
 
--- ---- one step of reading what stands in quotes
+-- ---- one step of reading a quoted text
 
 -- the parts of a text round its first mark
 pub record IsParted (mark : ℕ) (s front back : List ℕ) : Type 0 where
@@ -210,7 +210,7 @@ parts_round mark s x h small =
 pub no_parts : (mark : ℕ) (s : List ℕ) → FindsChar mark s None → mark < 128 → Lacks mark s
 no_parts mark s h small = Lacks-from_places mark s (split_parts mark s None h small)
 
--- a piece more was read
+-- one more piece was read
 quoted_piece : (path piece back s text : List ℕ) → option_map (behind_piece path) (unquoted false s) ≡ unquoted false text
     → IsParted 39 s piece back → option_map (behind_piece (path ++ piece)) (unquoted true back) ≡ unquoted false text
 quoted_piece path piece back s text said parts =
@@ -237,7 +237,7 @@ quoted_more path piece back more s text path' said parts double e =
     map_put None = refl
     map_put (Some p) = refl
 
--- the same of what is put
+-- the same for what is written
 pub put_piece : (out piece back s out' : List ℕ) → IsParted 39 s piece back → out' ≡ (out ++ piece) ++ 39 ∷ 39 ∷ []
     → out' ++ doubled back ≡ out ++ doubled s
 put_piece out piece back s out' parts e =

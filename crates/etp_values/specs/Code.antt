@@ -1,4 +1,4 @@
--- The table of the codes by which a request is refused: number and text.
+-- The table of the codes with which a request is refused: number and text.
 use Rattle.std.specs.Prelude.{ℕ, ℤ, pos, List, codes}
 use Rattle.etp_values.specs.declared.code.ErrorCode.{ErrorCode}
 use Rattle.etp_values.specs.declared.code.ErrorCode.TheVariants.{NoSupportedProtocols, InvalidMessageType, UnsupportedProtocol, InvalidArgument, RequestDenied, InvalidState, InvalidUri, NotFound, LimitExceeded, CompressionNotSupported, TooManyTransactions, DataObjectTypeNotSupported, SizeExceeded, InvalidMessage, InvalidIndexKind, NoSupportedFormats, InvalidAppend}

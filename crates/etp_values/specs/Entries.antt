@@ -1,5 +1,5 @@
--- How a list of named values splits into the names, which stay, and the values, which a recursive type may hold:
--- what `formers/named/Named` rests on, and for the crates above too.
+-- How a list of named values splits into the names, which stay, and the values, which a recursive type may hold: `formers/named/Named`
+-- depends on it, and so do the crates above.
 use Rattle.std.specs.Prelude.{◌≡◌, ℕ, max, List, [], ◌∷◌, map}
 use Rattle.std.specs.Map.{keys_of, values_of}
 use mathlib.Core.Path.{refl, sym, ap, ◌∙◌}

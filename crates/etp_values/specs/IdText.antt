@@ -7,7 +7,7 @@ pub record IsId (id : List ℕ) : Type 0 where
   pub long : length id ≡ 16
   pub small : All (λ b. b < 256) id
 
--- the identifier that a text of 8-4-4-4-12 hexadecimal digits stands for, the digits in either case
+-- the identifier that a text of 8-4-4-4-12 hexadecimal digits denotes, the digits in either case
 unfoldable pub id_of : List ℕ → Option (List ℕ)
 id_of text = parsed_hyphenated text
 

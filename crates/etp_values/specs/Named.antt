@@ -6,7 +6,7 @@ use Rattle.std.specs.Str.{bytes_eq}
 use Rattle.std.specs.List.{IsDistinct}
 use Rattle.std.specs.Map.{keys_of}
 
--- the same pairs in the order of their names, or none where a name comes twice
+-- the same pairs in the order of their names, or none if a name occurs twice
 abbrev pub OrdersPairs : {T : Type 0} → List (List ℕ × T) → Option (List (List ℕ × T)) → Type 0
 OrdersPairs items (Some named) = IsPermutation items named
 OrdersPairs items None = ¬ IsDistinct bytes_eq (keys_of items)

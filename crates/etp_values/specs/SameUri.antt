@@ -1,5 +1,5 @@
--- Which URIs are the same; for the crates above too. The derived comparisons compute to these tests, so a table with URIs for
--- keys finds by them.
+-- Which URIs are the same; for the crates above too. The derived comparisons compute to these tests, so a table with URIs as keys looks up
+-- by them.
 use Rattle.std.specs.Prelude.{ℕ, Bool, true, List, ◌≡◌, ◌&&◌, Option, Some, None, refl}
 use Rattle.std.proofs.Common.{ap}
 use Rattle.std.proofs.lemmas.Bool.{false≢true, and_parts}

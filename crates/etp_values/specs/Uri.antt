@@ -1,4 +1,4 @@
--- The URIs of dataspaces and objects: which texts they have, what a text says, and where a text is refused.
+-- The URIs of dataspaces and objects: which texts they have, what a text reads as, and where a text is refused.
 use Rattle.std.specs.Prelude.{ℕ, List, [], ◌∷◌, ◌++◌, length, take, drop, codes, ◌≡◌, ◌-◌, ◌≤◌, ◌==◌, nat_eq, nat_lt, nat_le, Bool, true, false, ◌&&◌, ◌||◌, IsTrue, Option, Some, None, is_some, option_map, option_and_then, IfSome, Result, Ok, Err, if◌then◌else◌}
 use Rattle.std.specs.List.{list_all, flat_map, common_prefix_len}
 use Rattle.std.specs.Str.{bytes_eq}
@@ -10,20 +10,20 @@ use Rattle.etp_values.specs.declared.uri.UriError.TheVariants.{TooLong, Prefix, 
 
 -- ---- the texts of a URI
 
--- a path as it stands between quotes: each quote of its own is doubled
+-- a path as it is written between quotes: each quote of its own is doubled
 abbrev pub doubled : List ℕ → List ℕ
 doubled path = flat_map (λ c. if c == 39 then codes "''" else c ∷ []) path
 
--- the part that names a dataspace, which the default one has not
+-- the part that names a dataspace, which the default one does not have
 abbrev pub space_part : List ℕ → List ℕ
 space_part [] = []
 space_part (c ∷ cs) = codes "dataspace('" ++ doubled (c ∷ cs) ++ codes "')"
 
--- the part that names an object, its identifier in these digits
+-- the part that names an object, with these digits for its identifier
 abbrev pub object_part : ObjectName → List ℕ → List ℕ
 object_part name digits = name.domain ++ codes "." ++ name.name ++ codes "(" ++ digits ++ codes ")"
 
--- an object's part stands behind a slash where a dataspace's part comes first
+-- an object's part has a slash before it if a dataspace's part comes first
 abbrev pub behind : List ℕ → List ℕ → List ℕ
 behind [] part = part
 behind (c ∷ cs) part = codes "/" ++ part
@@ -32,7 +32,7 @@ behind (c ∷ cs) part = codes "/" ++ part
 abbrev pub space_text : List ℕ → List ℕ
 space_text space = codes "eml:///" ++ space_part space
 
--- the text of an object in a dataspace, its identifier in these digits
+-- the text of an object in a dataspace, with these digits for its identifier
 abbrev pub object_text : List ℕ → ObjectName → List ℕ → List ℕ
 object_text space name digits = space_text space ++ behind space (object_part name digits)
 
@@ -78,19 +78,19 @@ abbrev pub is_type_name : List ℕ → Bool
 is_type_name [] = false
 is_type_name (c ∷ cs) = is_letter c && list_all is_word cs
 
--- the names of an object are in their forms
+-- the names of an object are well formed
 pub record IsObjectName (n : ObjectName) : Type 0 where
   pub domain : IsTrue (is_domain n.domain)
   pub name : IsTrue (is_type_name n.name)
   pub id : IsId n.id
 
--- a value is a URI: its path and its text are within their limits, and its names in their forms
+-- a value is a URI: its path and its text are within their limits, and its names well formed
 pub record IsUri (u : StoreUri) : Type 0 where
   pub path : length u.space ≤ 256
   pub object : IfSome u.object IsObjectName
   pub text : length (plain_uri u) ≤ 2048
 
--- ---- what a text says
+-- ---- what a text reads as
 
 -- what follows a prefix
 abbrev pub after : List ℕ → List ℕ → Option (List ℕ)
@@ -102,16 +102,16 @@ after (p ∷ ps) (c ∷ cs) = if c == p then after ps cs else None
 abbrev pub put_before : ℕ → List ℕ × List ℕ → List ℕ × List ℕ
 put_before c p = (c ∷ p.0, p.1)
 
--- what stands before the first mark, and what follows it
+-- the list before the first mark, and after it
 abbrev pub parted : ℕ → List ℕ → Option (List ℕ × List ℕ)
 parted mark [] = None
 parted mark (c ∷ cs) = if c == mark then Some ([], cs) else option_map (put_before c) (parted mark cs)
 
--- what stands before the first mark, where it is in its form, and what follows
+-- the list before the first mark, if it is well formed, and what follows
 abbrev pub up_to : ℕ → (List ℕ → Bool) → List ℕ → Option (List ℕ × List ℕ)
 up_to mark form s = option_and_then (λ p. if form p.0 then Some p else None) (parted mark s)
 
--- what a quoted text says up to its closing quote, and what follows that; `quote` says that the byte before was a quote
+-- a quoted text up to its closing quote, and what follows it; `quote` says whether the byte before was a quote
 abbrev pub unquoted : Bool → List ℕ → Option (List ℕ × List ℕ)
 unquoted false [] = None
 unquoted false (c ∷ cs) = if c == 39 then unquoted true cs else option_map (put_before c) (unquoted false cs)
@@ -122,14 +122,14 @@ unquoted true (c ∷ cs) = if c == 39 then option_map (put_before 39) (unquoted 
 abbrev pub is_path : List ℕ → Bool
 is_path path = nat_le 1 (length path) && nat_le (length path) 256
 
--- what `'P')` says at the front of a text, and what follows it
+-- what `'P')` reads as at the front of a text, and what follows it
 abbrev pub closed : List ℕ × List ℕ → Option (List ℕ × List ℕ)
 closed p = if is_path p.0 then option_map (λ rest. (p.0, rest)) (after (codes ")") p.1) else None
 
 abbrev pub path_of : List ℕ → Option (List ℕ × List ℕ)
 path_of s = option_and_then (λ t. option_and_then closed (unquoted false t)) (after (codes "'") s)
 
--- the place in a text of so many bytes where what is left of it begins
+-- the offset, in a text of this length, at which the rest of it begins
 abbrev pub place : ℕ → List ℕ → ℕ
 place whole rest = whole - length rest
 
@@ -154,7 +154,7 @@ abbrev pub with_type : ℕ → List ℕ → Option (List ℕ × (List ℕ × Lis
 with_type whole s None = Err (TypeName (place whole s))
 with_type whole s (Some p) = with_id whole p.0 p.1.0 p.1.1 (id_at p.1.1)
 
--- the object that a part names which ends a text of so many bytes, or its refusal
+-- the object named by a part that ends a text of this length, or its refusal
 abbrev pub object_of : ℕ → List ℕ → Result ObjectName UriError
 object_of whole s = with_type whole s (type_at s)
 
@@ -181,7 +181,7 @@ abbrev pub in_default : ℕ → List ℕ → Result StoreUri UriError
 in_default whole [] = Ok (record { space = []; object = None })
 in_default whole (c ∷ cs) = in_space [] (object_of whole (c ∷ cs))
 
--- the URI behind `eml:///`, by what follows `dataspace(` there, if it begins so
+-- the URI after `eml:///`, by what follows `dataspace(` there, if it begins with that
 abbrev pub with_space : ℕ → List ℕ → Option (List ℕ) → Result StoreUri UriError
 with_space whole s None = in_default whole s
 with_space whole s (Some quoted) = with_path whole (path_of quoted)
@@ -191,18 +191,18 @@ abbrev pub with_body : List ℕ → Option (List ℕ) → Result StoreUri UriErr
 with_body text None = Err (Prefix (common_prefix_len nat_eq (codes "eml:///") text))
 with_body text (Some s) = with_space (length text) s (after (codes "dataspace(") s)
 
--- the URI that a text says, or the first refusal with its place
+-- the URI that a text reads as, or the first refusal with its offset
 unfoldable pub uri_of : List ℕ → Result StoreUri UriError
 uri_of text = if nat_lt 2048 (length text) then Err TooLong else with_body text (after (codes "eml:///") text)
 
--- the URI of an object, where one was read
+-- the URI of an object, if one was read
 abbrev pub only_object : Result StoreUri UriError → Option StoreUri
 only_object (Ok u) = if is_some u.object then Some u else None
 only_object (Err e) = None
 
 -- ---- types of objects
 
--- a type's name, or a star for each of a domain
+-- a type's name, or a star for all of a domain
 abbrev pub is_type_or_star : List ℕ → Bool
 is_type_or_star s = bytes_eq s (codes "*") || is_type_name s
 
@@ -211,6 +211,6 @@ abbrev pub is_filter : Option (List ℕ × List ℕ) → Bool
 is_filter None = false
 is_filter (Some p) = is_domain p.0 && is_type_or_star p.1
 
--- the same of a text, parted at its first dot
+-- the same for a text, split at its first dot
 abbrev pub is_type_filter : List ℕ → Bool
 is_type_filter s = is_filter (parted 46 s)

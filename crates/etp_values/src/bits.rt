@@ -1,5 +1,4 @@
-//! Floating values as their bits: nothing in this product computes with them, and two values are equal where their
-//! bits are.
+//! Floating-point values as their bits: nothing in this product computes with them, and two values are equal exactly if their bits are.
 
 /// The 32 bits of an IEEE 754 single.
 #[derive(Clone, Copy, Debug, PartialEq, Eq, Drop)]

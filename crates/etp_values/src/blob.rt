@@ -1,4 +1,4 @@
-//! Bytes that several owners share without a copy: the payloads of objects and messages.
+//! Bytes that several owners share without copying: the payloads of objects and messages.
 ghost use Rattle.std.specs.Prelude.{◌≡◌, ◌==◌, ◌≤◌, ◌^◌, ◌<◌, IfOk, [], length, slice_range};
 ghost use Rattle.std.specs.Bool.{nat_eq};
 ghost use Rattle.std.specs.Cmp.{partial_equiv_from_equiv};
@@ -15,7 +15,7 @@ pub struct Blob {
     bytes: Bytes,
 }
 
-/// Written out, so that whoever holds one drops it by one call.
+/// Written out, so that whatever holds one drops it by a single call.
 impl Drop for Blob {
     fn drop(self) {
         let Blob { bytes } = self;
@@ -50,7 +50,7 @@ impl Blob {
         })
     }
 
-    /// These bytes, moved and not copied. Memory is taken for the count of owners alone.
+    /// These bytes, moved and not copied. Only the count of owners is allocated.
     pub fn from_vec(bytes: Vec<u8>) -> Result<Blob, NoMemory>
         ensures { IfOk result (λ b. b ≡ bytes.items) }
     {
@@ -59,14 +59,14 @@ impl Blob {
         })
     }
 
-    /// These bytes, with the owners that they have.
+    /// These bytes, with their present owners.
     pub fn from_bytes(bytes: Bytes) -> Blob
         ensures { result ≡ bytes }
     {
         Blob { bytes }
     }
 
-    /// The bytes, with the owners that they have.
+    /// The bytes, with their present owners.
     pub fn into_bytes(self) -> Bytes
         ensures { result ≡ self }
     {
@@ -74,7 +74,7 @@ impl Blob {
         bytes
     }
 
-    /// One more owner of the same bytes, which are not copied.
+    /// Another owner of the same bytes, which are not copied.
     pub fn share(&self) -> Result<Blob, NoMemory>
         ensures { IfOk result (λ b. b ≡ self.now) }
     {
@@ -83,7 +83,7 @@ impl Blob {
         })
     }
 
-    /// An owner of the bytes from `start` to before `end`, which are not copied.
+    /// An owner of the bytes from `start` up to but not including `end`, which are not copied.
     pub fn part(&self, start: usize, end: usize) -> Result<Blob, NoMemory>
         requires order { start ≤ end }
         requires bound { end ≤ length self.now }
@@ -94,7 +94,7 @@ impl Blob {
         })
     }
 
-    /// The bytes, to be read.
+    /// Borrows the bytes.
     pub fn as_bytes(&self) -> &[u8]
         ensures { result.now ≡ self.now }
     {

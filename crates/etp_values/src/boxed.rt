@@ -6,13 +6,13 @@ use crate::memory::NoMemory;
 use std::alloc::Global;
 use std::marker::Model;
 
-/// A value on the heap, which takes the room of one pointer where it stands. A contract sees the value.
+/// A value on the heap, which takes the room of one pointer in whatever holds it. A contract sees the value.
 #[derive(Debug)]
 pub struct Boxed<T> {
     inner: Box<T>,
 }
 
-/// Written out, so that whoever holds one drops it by one call.
+/// Written out, so that whatever holds one drops it by a single call.
 impl<T: Drop> Drop for Boxed<T> {
     fn drop(self) {
         let Boxed { inner } = self;
@@ -33,14 +33,14 @@ impl<T> Boxed<T> {
     ghost use Rattle.std.specs.Borrow.{Lends, sem};
     ghost use Rattle.etp_values.specs.contracts.boxed.Boxed.{the_row};
 
-    /// The value, to be read.
+    /// Borrows the value.
     pub fn get(&self) -> &T
         ensures { result.now ≡ self.now }
     {
         &self.inner
     }
 
-    /// The value, to be changed where it stands.
+    /// Borrows the value mutably.
     pub fn get_mut(&mut self) -> &mut T
         ensures value { result.now ≡ self.old }
         ensures* writes_back { sem 𝓛 (Lends (the_row T.row) T.row self.entry result (λ w. w)) }
@@ -48,7 +48,7 @@ impl<T> Boxed<T> {
         &mut self.inner
     }
 
-    /// The value, which is moved out and not copied.
+    /// The value, moved out and not copied.
     pub fn into_inner(self) -> T
         ensures { result ≡ self }
     {
@@ -58,7 +58,7 @@ impl<T> Boxed<T> {
 }
 
 impl<T: Drop> Boxed<T> {
-    /// Moves a value to the heap. Where memory is refused, the value is dropped.
+    /// Moves a value to the heap. If allocation fails, the value is dropped.
     pub fn new(alloc: Global, value: T) -> Result<Boxed<T>, NoMemory>
         ensures { IfOk result (λ b. b ≡ value) }
     {

@@ -1,27 +1,27 @@
-//! The codes by which a request is refused, with their texts.
+//! The codes with which a request is refused, and their texts.
 ghost use Rattle.std.specs.Prelude.{◌≡◌};
 ghost use Rattle.etp_values.specs.Code.{number_of, text_of};
 
-/// Why a request is refused. A ProtocolException carries the number and exactly the text.
+/// Why a request is refused. A ProtocolException carries the number and exactly this text.
 #[derive(Clone, Copy, Debug, PartialEq, Eq, Drop)]
 pub enum ErrorCode {
     /// The client and the server have no protocol in common.
     NoSupportedProtocols,
-    /// The protocol has no message of this number, or none that this side takes.
+    /// The protocol has no message of this number, or none that this side accepts.
     InvalidMessageType,
     /// The session didn't accept the message's protocol.
     UnsupportedProtocol,
     /// A field has a value that its message doesn't allow.
     InvalidArgument,
-    /// The request is not allowed, as a change of the default dataspace.
+    /// The request is not allowed, such as a change to the default dataspace.
     RequestDenied,
-    /// The message isn't taken in the session's present state.
+    /// The message isn't accepted in the session's present state.
     InvalidState,
-    /// A text isn't a URI of the kind that stands there.
+    /// A text isn't a URI of the required kind.
     InvalidUri,
     /// There is nothing of this name.
     NotFound,
-    /// A limit on numbers of keys, items or entries would be passed.
+    /// A limit on the number of keys, items or entries would be exceeded.
     LimitExceeded,
     /// The message's body is compressed.
     CompressionNotSupported,
@@ -29,15 +29,15 @@ pub enum ErrorCode {
     TooManyTransactions,
     /// The server isn't configured to keep objects of this type.
     DataObjectTypeNotSupported,
-    /// A limit on bytes or elements would be passed.
+    /// A limit on bytes or elements would be exceeded.
     SizeExceeded,
-    /// The message can't be read, or its id isn't above the last one.
+    /// The message can't be read, or its id isn't greater than the previous one.
     InvalidMessage,
-    /// An index of another kind stands where a time does.
+    /// An index of another kind was given where a time is required.
     InvalidIndexKind,
     /// The client and the server have no format in common.
     NoSupportedFormats,
-    /// A point doesn't lie past its channel's last one.
+    /// A point isn't later than its channel's last one.
     InvalidAppend,
 }
 

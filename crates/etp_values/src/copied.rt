@@ -1,4 +1,4 @@
-//! Copies that are equal to what they were made of.
+//! Copies that are equal to the original.
 ghost use Rattle.std.specs.Prelude.{◌≡◌, IfOk};
 
 use crate::bits::{Bits32, Bits64};
@@ -10,7 +10,7 @@ use crate::named::Named;
 use crate::text::Text;
 use std::alloc::Global;
 
-/// A type whose values can be copied, where memory allows. Bytes are shared and not copied.
+/// A type whose values can be copied, if memory allows. Bytes are shared and not copied.
 pub trait Copied: Drop {
     /// An equal value.
     fn copy(&self, alloc: Global) -> Result<Self, NoMemory>

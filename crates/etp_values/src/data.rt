@@ -1,4 +1,4 @@
-//! Values of any of the schema's kinds, as custom data, array elements and channel data have them.
+//! Values of all the schema's kinds, as used in custom data, array elements and channel data.
 use crate::bits::{Bits32, Bits64};
 use crate::blob::Blob;
 use crate::boxed::Boxed;
@@ -20,15 +20,15 @@ pub enum AnyArray {
     Bytes(Blob),
 }
 
-/// A run of elements in a sparse array, from the place `start` on.
+/// A run of elements in a sparse array, starting at index `start`.
 #[derive(Debug, Drop, PartialEq, Eq)]
 pub struct AnySubarray {
     pub start: i64,
     pub slice: AnyArray,
 }
 
-/// A value of one of nineteen kinds. The variants stand in the order of the schema's union. What has
-/// memory of its own stands behind a box, so that a number takes 16 bytes.
+/// A value of one of nineteen kinds. The variants are in the order of the schema's union. Those that own memory are boxed, so that a number
+/// takes 16 bytes.
 #[derive(Debug, Drop, PartialEq, Eq)]
 pub enum DataValue {
     Null,

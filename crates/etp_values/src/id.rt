@@ -37,8 +37,8 @@ impl Id16 {
         &self.bytes
     }
 
-    /// The identifier of `name` in the name space `space`: version 5 of RFC 9562, section 5.5, over SHA-1. The same
-    /// space and name always give the same identifier.
+    /// The identifier of `name` in the name space `space`: version 5 of RFC 9562, section 5.5, over SHA-1. The same name space and name
+    /// always give the same identifier.
     pub fn named(space: Id16, name: &str) -> Id16
         ensures { result ≡ version5 space name.now }
     {

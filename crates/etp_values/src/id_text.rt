@@ -9,8 +9,8 @@ use uuid::Uuid;
 pub const ID_TEXT_LEN: usize = 36;
 
 impl Id16 {
-    /// The identifier of a text of 8-4-4-4-12 hexadecimal digits in either case, of any version and variant. None for
-    /// any other text, also for the forms without hyphens, in braces and as a URN.
+    /// Reads the 8-4-4-4-12 form: hexadecimal digits in either case, of any version and variant. `None` for any other text, including the
+    /// forms without hyphens, in braces and as a URN.
     pub fn read(text: &str) -> Option<Id16>
         ensures { result ≡ id_of text.now }
     {
@@ -23,7 +23,7 @@ impl Id16 {
         }
     }
 
-    /// Writes the hyphenated text, its digits in lower case, to the start of `buffer`, and lends it.
+    /// Writes the hyphenated text, with lower-case digits, to the start of `buffer`, and borrows it from there.
     pub fn write<'b>(&self, buffer: &'b mut [u8]) -> &'b str
         requires { ID_TEXT_LEN ≤ length buffer.old }
         ensures { result.now ≡ id_text self.now }

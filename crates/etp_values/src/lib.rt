@@ -1,11 +1,11 @@
 //! The values that messages and the store are made of.
 //!
-//! [`Text`], [`Blob`], [`List`], [`Named`], [`Boxed`] and [`Shared`] are `String`, `Bytes`, `Vec`, a sorted `Vec` of pairs,
-//! `Box` and `Arc` that contracts see as what they hold: the bytes, the items, the names with their values, the value. So a
-//! contract compares two records of any depth by `≡`, and no record needs a second type for specifications.
+//! [`Text`], [`Blob`], [`List`], [`Named`], [`Boxed`] and [`Shared`] are `String`, `Bytes`, `Vec`, a sorted `Vec` of pairs, `Box` and
+//! `Arc`, which contracts see as what they hold: the bytes, the items, the names with their values, the value. So a contract compares two
+//! records of any depth by `≡`, and no record needs a second type for specifications.
 //!
-//! [`StoreUri`] names a dataspace or an object in one, and is read from exactly the texts of its grammar. [`Id16`] is an
-//! identifier, [`DataValue`] a value of any kind, [`Point`] one at an index, and [`ErrorCode`] why a request is refused.
+//! [`StoreUri`] names a dataspace or an object in one, and is read from exactly the texts of its grammar. [`Id16`] is an identifier,
+//! [`DataValue`] a value of any kind, [`Point`] a value at an index, and [`ErrorCode`] the reason why a request is refused.
 #![tactic(auto)]
 
 mod bits;

@@ -10,7 +10,7 @@ pub struct List<T> {
     items: Vec<T>,
 }
 
-/// Written out, so that whoever holds one drops it by one call.
+/// Written out, so that whatever holds one drops it by a single call.
 impl<T: Drop> Drop for List<T> {
     fn drop(self) {
         let List { items } = self;
@@ -39,14 +39,14 @@ impl<T> List<T> {
         }
     }
 
-    /// The list of these items, which are moved and not copied.
+    /// The list of these items, moved and not copied.
     pub fn from_vec(items: Vec<T>) -> List<T>
         ensures { result ≡ items.items }
     {
         List { items }
     }
 
-    /// The items, which are moved and not copied.
+    /// The items, moved and not copied.
     pub fn into_vec(self) -> Vec<T>
         ensures { result.items ≡ self }
     {
@@ -54,7 +54,7 @@ impl<T> List<T> {
         items
     }
 
-    /// The items, to be read.
+    /// Borrows the items.
     pub fn as_slice(&self) -> &[T]
         ensures { result.now ≡ self.now }
     {

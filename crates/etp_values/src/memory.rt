@@ -1,8 +1,8 @@
-//! Want of memory, the one answer that any call which allocates may give.
+//! Running out of memory: the one error that any call that allocates may return.
 use std::alloc::{AllocError, AllocFailed};
 use thiserror::Error;
 
-/// Memory was refused. The call that answers this has left everything as it says of its own errors.
+/// Allocation failed. The call that returns this leaves everything as it does with its other errors.
 #[derive(Clone, Copy, Debug, PartialEq, Eq, Drop, Error)]
 #[error("out of memory")]
 pub struct NoMemory;

@@ -20,7 +20,7 @@ pub struct Named<T> {
     items: Vec<(Text, T)>,
 }
 
-/// Written out, so that whoever holds one drops it by one call.
+/// Written out, so that whatever holds one drops it by a single call.
 impl<T: Drop> Drop for Named<T> {
     fn drop(self) {
         let Named { items } = self;
@@ -55,7 +55,7 @@ impl<T> Named<T> {
         }
     }
 
-    /// The values of these names, which are in order.
+    /// Values from names that are already in order.
     pub fn from_sorted(items: Vec<(Text, T)>) -> Named<T>
         requires { IsStrictlySortedBy (slice_cmp nat_cmp) (keys_of items.items) }
         ensures { result ≡ items.items }
@@ -72,7 +72,7 @@ impl<T> Named<T> {
         items
     }
 
-    /// The names and their values, to be read.
+    /// Borrows the names and their values.
     pub fn as_slice(&self) -> &[(Text, T)]
         ensures items { result.now ≡ self.now }
         ensures sorted { IsStrictlySortedBy (slice_cmp nat_cmp) (keys_of self.now) }
@@ -89,7 +89,7 @@ impl<T> Named<T> {
         self.items.len()
     }
 
-    /// The name and the value at a place.
+    /// The name and the value at an index.
     pub fn at(&self, i: usize) -> (&Text, &T)
         requires { i < length self.now }
         ensures pair { drop i self.now ≡ (result.0.now, result.1.now) ∷ drop (i + 1) self.now }
@@ -99,7 +99,7 @@ impl<T> Named<T> {
         (&pair.0, &pair.1)
     }
 
-    /// The value of this name, if it has one.
+    /// The value under this name, if there is one.
     pub fn get(&self, name: &str) -> Option<&T>
         ensures { option_copied result ≡ lookup (bytes_eq name.now) self.now }
     {
@@ -113,7 +113,7 @@ impl<T> Named<T> {
 }
 
 impl<T: Drop> Named<T> {
-    /// These names and values in the order of the names, or none where a name comes twice.
+    /// These names and values in the order of the names, or `None` if a name occurs twice.
     pub fn from_pairs(mut items: Vec<(Text, T)>) -> Result<Option<Named<T>>, NoMemory>
         ensures { IfOk result (λ named. OrdersPairs items.items named) }
     {

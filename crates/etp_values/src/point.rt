@@ -11,7 +11,7 @@ pub struct Point {
     pub value: DataValue,
 }
 
-/// A point of the channel of this number.
+/// A point of the channel with this number.
 #[derive(Debug, Drop, PartialEq, Eq)]
 pub struct ChannelPoint {
     pub channel: i64,

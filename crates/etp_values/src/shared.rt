@@ -1,4 +1,4 @@
-//! A value that several owners share without a copy.
+//! A value that several owners share without copying.
 ghost use Rattle.std.specs.Prelude.{◌≡◌, IfOk};
 
 use crate::copied::Copied;
@@ -13,7 +13,7 @@ pub struct Shared<T> {
     inner: Arc<T, Global>,
 }
 
-/// Written out, so that whoever holds one drops it by one call.
+/// Written out, so that whatever holds one drops it by a single call.
 impl<T: Drop> Drop for Shared<T> {
     fn drop(self) {
         let Shared { inner } = self;
@@ -32,14 +32,14 @@ impl<T> Model for Shared<T> {
 }
 
 impl<T> Shared<T> {
-    /// The value, to be read.
+    /// Borrows the value.
     pub fn get(&self) -> &T
         ensures { result.now ≡ self.now }
     {
         &self.inner
     }
 
-    /// One more owner of the same value, which is not copied.
+    /// Another owner of the same value, which is not copied.
     pub fn share(&self) -> Result<Shared<T>, NoMemory>
         ensures { IfOk result (λ s. s ≡ self.now) }
     {
@@ -50,7 +50,7 @@ impl<T> Shared<T> {
 }
 
 impl<T: Drop> Shared<T> {
-    /// Moves a value to the heap, with one owner. Where memory is refused, the value is dropped.
+    /// Moves a value to the heap, with one owner. If allocation fails, the value is dropped.
     pub fn new(alloc: Global, value: T) -> Result<Shared<T>, NoMemory>
         ensures { IfOk result (λ s. s ≡ value) }
     {

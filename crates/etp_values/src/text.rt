@@ -1,4 +1,4 @@
-//! A text that contracts see as its UTF-8 bytes, so that records which hold texts are compared by what they say.
+//! A text that contracts see as its UTF-8 bytes, so that records that hold texts are compared by their content.
 ghost use Rattle.std.specs.Prelude.{◌≡◌, ◌==◌, IfOk, Some, refl, [], length, string_bytes};
 ghost use Rattle.std.specs.Ordering.{nat_cmp};
 ghost use Rattle.std.specs.Bool.{nat_eq};
@@ -21,7 +21,7 @@ pub struct Text {
     inner: String,
 }
 
-/// Written out, so that whoever holds one drops it by one call.
+/// Written out, so that whatever holds one drops it by a single call.
 impl Drop for Text {
     fn drop(self) {
         let Text { inner } = self;
@@ -57,21 +57,21 @@ impl Text {
         })
     }
 
-    /// The text of this string, which is moved and not copied.
+    /// The text of this string, moved and not copied.
     pub fn from_string(inner: String) -> Text
         ensures { result ≡ string_bytes inner }
     {
         Text { inner }
     }
 
-    /// The text, to be read.
+    /// Borrows the text.
     pub fn as_str(&self) -> &str
         ensures { result.now ≡ self.now }
     {
         self.inner.as_str()
     }
 
-    /// Its UTF-8 bytes, to be read.
+    /// Borrows its UTF-8 bytes.
     pub fn as_bytes(&self) -> &[u8]
         ensures value { result.now ≡ self.now }
         ensures utf8 { IsUtf8 self.now }

@@ -27,20 +27,20 @@ pub use laws::{id_texts, uri_equality, uri_texts};
 pub use reading::is_type_filter;
 pub use space_path::SpacePath;
 
-/// The greatest number of bytes of a URI's text.
+/// The maximum length of a URI, in bytes.
 pub const MAX_URI_LEN: usize = 2_048;
 
-/// The greatest number of bytes of a dataspace's path, counted before quotes are doubled.
+/// The maximum length of a dataspace's path in bytes, counted before quotes are doubled.
 pub const MAX_PATH_LEN: usize = 256;
 
-/// How many bytes the canonical text of a dataspace has besides its path.
+/// The length of a dataspace's canonical text without its path, in bytes.
 const SPACE_PARTS: usize = 20;
 
-/// How many bytes an object adds to the text besides its two names.
+/// How many bytes an object adds to the text, not counting its two names.
 const OBJECT_PARTS: usize = ID_TEXT_LEN + 4;
 
-/// What names an object in its dataspace: `DOMAIN.NAME(ID)`. A domain is lower-case letters with two digits behind them; a
-/// name begins with a letter and goes on with letters, digits and underscores.
+/// What names an object in its dataspace: `DOMAIN.NAME(ID)`. A domain is lower-case letters followed by two digits; a name begins with a
+/// letter and continues with letters, digits and underscores.
 #[derive(Debug, Drop, PartialEq, Eq, PartialOrd, Ord, Hash)]
 pub struct ObjectName {
     pub domain: Text,
@@ -55,35 +55,35 @@ pub struct StoreUri {
     pub object: Option<ObjectName>,
 }
 
-/// Why a text is no URI, with the place of the first byte of what is refused.
+/// Why a text is not a URI, with the offset of the first byte of the offending part.
 #[derive(Clone, Copy, Debug, PartialEq, Eq, Drop, Error)]
 pub enum UriError {
     /// The text has more than 2,048 bytes.
     #[error("the URI has more than 2048 bytes")]
     TooLong,
-    /// It does not begin with `eml:///`: the first byte that differs, or the end of a shorter text.
+    /// It does not begin with `eml:///`: the offset of the first byte that differs, or the end of a shorter text.
     #[error("the URI does not begin with eml:/// (byte {0})")]
     Prefix(usize),
-    /// What begins with `dataspace(` is no dataspace: quotes are missing or single, or the path has no byte or more than
-    /// 256.
+    /// What begins with `dataspace(` is not a dataspace: quotes are missing or not doubled, or the path is empty or has more than 256
+    /// bytes.
     #[error("no dataspace at byte {0} of the URI")]
     Space(usize),
-    /// An object was to follow, and no domain, dot, type name and parenthesis stand there.
+    /// An object is expected here, but there is no domain, dot, type name and parenthesis.
     #[error("no object type at byte {0} of the URI")]
     TypeName(usize),
-    /// No hyphenated identifier and closing parenthesis follow the object's type.
+    /// The object's type is not followed by a hyphenated identifier and a closing parenthesis.
     #[error("no identifier at byte {0} of the URI")]
     Uuid(usize),
-    /// More follows a form that had ended.
+    /// There is more text after the end of a complete URI.
     #[error("the URI ends at byte {0}, and more follows")]
     Rest(usize),
-    /// Memory was refused.
+    /// Out of memory.
     #[error("out of memory")]
     NoMemory,
 }
 
 impl StoreUri {
-    /// The URI of a text, or the first reason from the left why the text is none.
+    /// Reads a URI, or returns the first reason, from the left, why the text is not one.
     pub fn read(alloc: Global, text: &str) -> Result<StoreUri, UriError>
         ensures said { Gives UriError.NoMemory result (uri_of text.now) }
         ensures form { IfOk result IsUri }
@@ -97,7 +97,7 @@ impl StoreUri {
         }
     }
 
-    /// Room for the canonical text, where no quote is doubled.
+    /// Room for the canonical text if no quote is doubled.
     fn text_room(&self) -> usize {
         let space = self.space.len().saturating_add(SPACE_PARTS);
         match &self.object {
@@ -122,7 +122,7 @@ impl StoreUri {
         Ok(Text::from_string(out))
     }
 
-    /// Whether two URIs are equal. Those of two texts are equal where the canonical texts are.
+    /// Whether two URIs are equal. Two URIs are equal exactly if their canonical texts are.
     pub fn same(&self, other: &StoreUri) -> bool
         ensures test { result ≡ same_uri self.now other.now }
         ensures value { IsTrue result ↔ (self.now ≡ other.now) }

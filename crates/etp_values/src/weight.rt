@@ -9,8 +9,8 @@ use crate::named::Named;
 use crate::text::Text;
 
 impl DataValue {
-    /// How much the value counts towards a limit: a text or a bytes value 8 more than its length, and whatever else it
-    /// is made of, a list as such included, 8 apiece. A sum above `u64::MAX` is `u64::MAX`.
+    /// How much the value counts towards a limit: a text or a bytes value counts its length plus 8, and every other constituent, each list
+    /// included, counts 8. A sum above `u64::MAX` is `u64::MAX`.
     pub fn weight(&self) -> u64
         ensures { result ≡ capped (value_weight self.now) }
     {
@@ -39,7 +39,7 @@ impl DataValue {
 }
 
 impl AnyArray {
-    /// As [`DataValue::weight`], of an array's elements.
+    /// Like [`DataValue::weight`], for an array's elements.
     pub fn weight(&self) -> u64
         ensures { result ≡ capped (array_weight self.now) }
     {
@@ -55,7 +55,7 @@ impl AnyArray {
     }
 }
 
-/// The weight of custom data: its keys' lengths and its values' weights. A sum above `u64::MAX` is `u64::MAX`.
+/// The weight of custom data: the lengths of its keys plus the weights of its values. A sum above `u64::MAX` is `u64::MAX`.
 pub fn custom_weight(custom: &Named<DataValue>) -> u64
     ensures { result ≡ capped (custom_weight_of custom.now) }
 {

@@ -1,4 +1,4 @@
--- What is told while a command goes on for long.
+-- What is reported while a command runs for long.
 use Rattle.std.specs.Prelude.{◌≡◌, ◌≤◌, ◌+◌, ◌==◌, ℕ, Bool, true, false, List, ◌++◌, codes, count_by, take, Option}
 use Rattle.std.specs.Fmt.{decimal}
 use Rattle.std.specs.Io.KnownBytes.{Appends}
@@ -21,17 +21,18 @@ counted_text Changes = codes " changes seen\n"
 abbrev pub progress_line : Counted → ℕ → List ℕ
 progress_line what count = codes "etpctl: " ++ decimal count ++ counted_text what
 
--- what writing a text leaves of an output: all of it stands there, or a front of it that is not all, and the output has failed
+-- what writing a text leaves of an output: all of it is there, or a proper prefix, and the output has failed
 abbrev pub IsWritten : Written → List ℕ → Option (List ℕ) → Option (List ℕ) → ℕ → ℕ → Type 0
 IsWritten Done text held kept before after = Appends held kept text × (before ≤ after)
 IsWritten WriteFailed text held kept before after = AppendsFront held kept text × Rose before after
 
--- what telling leaves of an output, where somebody looks on or not, and the line was told in this second or not: where it is told, it is written once
+-- what reporting leaves of an output, by whether somebody is watching and whether the line was written in this second: if it is reported,
+-- it is written once
 abbrev pub Tells : Bool → Bool → List ℕ → Option (List ℕ) → Option (List ℕ) → ℕ → ℕ → Type 0
 Tells true false text held kept before after = (w : Written) × IsWritten w text held kept before after
 Tells is_shown is_told text held kept before after = (kept ≡ held) × (after ≡ before)
 
--- how many line feeds stand among bytes
+-- how many line feeds there are among bytes
 abbrev pub line_feeds : List ℕ → ℕ
 line_feeds bytes = count_by (λ b. b == 10) bytes
 

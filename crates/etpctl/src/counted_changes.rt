@@ -12,7 +12,7 @@ use std::alloc::Global;
 use std::time;
 use watch_views::View;
 
-/// A view that has no lines, and tells how many changes there were as they come.
+/// A view that has no lines, and reports how many changes there were as they come.
 #[derive(Drop)]
 pub(crate) struct CountedChanges<T: time::Clock, W: Sink> {
     progress: Progress<T, W>,
@@ -25,7 +25,7 @@ impl<T: time::Clock, W: Sink> CountedChanges<T, W> {
         CountedChanges { progress }
     }
 
-    /// One more, which may be told.
+    /// One more, which may be reported.
     fn see(&mut self)
         ensures counts { self.new.progress.count ≡ capped (self.old.progress.count + 1) }
         ensures told { Tells self.old.progress.is_shown (self.new.progress.second == self.old.progress.second) (progress_line self.old.progress.counted (capped (self.old.progress.count + 1)))

@@ -8,8 +8,8 @@ use crate::progress::Progress;
 use etp_outside::{ReadOutcome, Sink, Source};
 use std::time;
 
-/// A source that gives what another gives, and counts the line feeds. Before it reads on, it tells how many there were: by then whoever reads has
-/// asked for more, and has made a point of each of these lines.
+/// A source that gives what another gives, and counts the line feeds. Before it reads on, it reports how many there were: by then whoever
+/// reads has asked for more, and has made a point of each of these lines.
 #[derive(Drop)]
 pub(crate) struct CountedSource<S: Source, T: time::Clock, W: Sink> {
     source: S,
@@ -48,7 +48,7 @@ impl<S: Source, T: time::Clock, W: Sink> Source for CountedSource<S, T, W> {
     }
 }
 
-/// How many line feeds stand among bytes.
+/// How many line feeds there are among bytes.
 fn line_feeds(bytes: &[u8]) -> u64
     ensures { result ≡ line_feeds bytes.now }
 {

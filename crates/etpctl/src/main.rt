@@ -1,10 +1,10 @@
-//! The client by the command line: `etpctl put URL URI FILE`, `etpctl get URL URI`, `etpctl load URL URI` and `etpctl watch URL URI COUNT`.
-//! What each does is said in `client_forms`, where the work is. A channel that is watched is shown by its last point, its last ten
-//! points, and counts.
+//! The client on the command line: `etpctl put URL URI FILE`, `etpctl get URL URI`, `etpctl load URL URI` and `etpctl watch URL URI COUNT`.
+//! `client_forms` does the work and says what each does. A channel that is watched is shown by its last point, its last ten points, and
+//! counts.
 //!
-//! Where standard error is a terminal, [`Progress`] tells there how many points `load` has read and how many changes `watch` has seen, about
-//! once a second. It counts in the input that the run is handed ([`CountedSource`]) and in a view more that has no lines ([`CountedChanges`]), so
-//! that neither what is written nor how the run ends depends on it.
+//! If standard error is a terminal, [`Progress`] reports there how many points `load` has read and how many changes `watch` has seen, about
+//! once a second. It counts in the input that the run is given ([`CountedSource`]) and in an additional view that has no lines
+//! ([`CountedChanges`]), so that neither what is written nor how the run ends depends on it.
 #![tactic(auto)]
 
 mod counted_changes;
@@ -38,7 +38,7 @@ fn main(rt: HostRuntime) -> ExitCode {
     let is_shown = rt.stderr().is_terminal();
     if is_shown {
         let changes = Progress::new(Counted::Changes, is_shown, rt, StdSink::new(rt.stderr()));
-        // Without memory for it the run goes on, and nothing is told.
+        // If memory runs out for it the run continues, and nothing is reported.
         if let Ok(view) = Box::new(alloc, CountedChanges::new(changes)) {
             let _ = views.push(view);
         }

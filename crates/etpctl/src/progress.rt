@@ -1,4 +1,4 @@
-//! What is told while a command goes on for long.
+//! What is reported while a command runs for long.
 ghost use Rattle.std.specs.Prelude.{◌≡◌, ◌+◌, ◌++◌, ◌==◌, ℕ, List, true};
 ghost use Rattle.std.specs.declared.option.Option.{Option};
 ghost use Rattle.etp_values.specs.Weight.{capped};
@@ -17,7 +17,7 @@ pub(crate) enum Counted {
     Changes,
 }
 
-/// How many there were so far. A line tells it where somebody looks on, at most one in each second of the clock.
+/// How many there were so far. A line reports it if standard error is a terminal, at most once in each second of the clock.
 #[derive(Drop)]
 pub(crate) struct Progress<T: time::Clock, W: Sink> {
     counted: Counted,
@@ -29,7 +29,7 @@ pub(crate) struct Progress<T: time::Clock, W: Sink> {
 }
 
 impl<T: time::Clock, W: Sink> Progress<T, W> {
-    /// None yet. Nothing is told in the second in which this is called.
+    /// None yet. Nothing is reported in the second in which this is called.
     pub(crate) fn new(counted: Counted, is_shown: bool, clock: T, errors: W) -> Progress<T, W>
         ensures { (result.counted ≡ counted) × (result.count ≡ 0) × (result.is_shown ≡ is_shown) × (result.clock ≡ clock) × (result.errors ≡ errors) }
     {
@@ -43,14 +43,14 @@ impl<T: time::Clock, W: Sink> Progress<T, W> {
         }
     }
 
-    /// So many more. The count stops at the greatest `u64`.
+    /// This many more. The count stops at `u64::MAX`.
     pub(crate) fn add(&mut self, more: u64)
         ensures { self.new ≡ record self.old { count = capped (self.old.count + more) } }
     {
         self.count = self.count.saturating_add(more);
     }
 
-    /// Tells how many there are, unless nobody looks on, or something was told in this second. What can't be written is lost.
+    /// Reports how many there are, unless nobody is watching, or something was reported in this second. What can't be written is lost.
     pub(crate) fn tell(&mut self)
         ensures same { (self.new.counted ≡ self.old.counted) × (self.new.count ≡ self.old.count) × (self.new.is_shown ≡ self.old.is_shown) × (self.new.clock ≡ self.old.clock) }
         ensures told { Tells self.old.is_shown (self.new.second == self.old.second) (progress_line self.old.counted self.old.count)
@@ -62,7 +62,7 @@ impl<T: time::Clock, W: Sink> Progress<T, W> {
         }
     }
 
-    /// Tells it in a second in which nothing was told yet.
+    /// Reports it in a second in which nothing was reported yet.
     fn tell_in(&mut self, second: u64)
         ensures same { (self.new.counted ≡ self.old.counted) × (self.new.count ≡ self.old.count) × (self.new.is_shown ≡ self.old.is_shown) × (self.new.clock ≡ self.old.clock) × (self.new.second ≡ second) }
         ensures told { Tells true (second == self.old.second) (progress_line self.old.counted self.old.count)
@@ -76,7 +76,7 @@ impl<T: time::Clock, W: Sink> Progress<T, W> {
     }
 }
 
-/// The second that a clock shows, or 0 where it can't be read.
+/// The second that a clock shows, or 0 if it can't be read.
 fn second_of<T: time::Clock>(clock: &T) -> u64 {
     match clock.monotonic() {
         Ok(since) => since.as_secs(),
@@ -84,7 +84,7 @@ fn second_of<T: time::Clock>(clock: &T) -> u64 {
     }
 }
 
-/// Writes the line of a count. It takes no memory.
+/// Writes the line of a count. It does not allocate.
 fn write_line<W: Sink>(counted: Counted, count: u64, errors: &mut W) -> Written
     ensures { IsWritten result (progress_line counted count) (W.held errors.old) (W.held errors.new) (W.faults errors.old) (W.faults errors.new) }
 {
@@ -94,7 +94,7 @@ fn write_line<W: Sink>(counted: Counted, count: u64, errors: &mut W) -> Written
     write_behind(number, counted_text(counted), errors)
 }
 
-/// Writes a piece of a text, unless what stands before it was not written.
+/// Writes a piece of a text, unless what comes before it was not written.
 fn write_behind<W: Sink>(before: Written, piece: &[u8], errors: &mut W) -> Written
     ensures { (text : List ℕ) (held : Option (List ℕ)) (faults : ℕ) → IsWritten before text held (W.held errors.old) faults (W.faults errors.old)
         → IsWritten result (text ++ piece.now) held (W.held errors.new) faults (W.faults errors.new) }

@@ -17,8 +17,8 @@ use watch_views::View;
 /// How much of the input is read at a time.
 const READ_AHEAD: usize = 65_536;
 
-/// So much memory is taken once and given back before the run. The C library then keeps what is freed, where it would else
-/// give what a large message took back to the system, and take it again page by page for the next.
+/// This much memory is allocated once and freed before the run. The C library then keeps what is freed; otherwise it would return the
+/// memory of a large message to the system, and request it again page by page for the next.
 const KEPT_MEMORY: usize = 16_777_216;
 
 /// Runs the client with the program's words, its input and its output. The views show the channel that is watched, and `points` has the points

@@ -1,5 +1,5 @@
-//! The server by the command line: `etpd CONFIG ADDRESS` and `etpd CONFIG ADDRESS SESSIONS`. What it does is said in
-//! `server_forms`, where the work is.
+//! The server on the command line: `etpd CONFIG ADDRESS` and `etpd CONFIG ADDRESS SESSIONS`. `server_forms` does the work and says what it
+//! is.
 #![tactic(auto)]
 
 use etp_outside::StdSink;

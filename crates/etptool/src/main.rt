@@ -1,5 +1,5 @@
-//! Captures and loads by the command line: `etptool replay CONFIG`, `etptool show`, `etptool check`, `etptool capture N` and
-//! `etptool generate N`. What each does is said in `tool_forms`, where the work is.
+//! Captures and loads on the command line: `etptool replay CONFIG`, `etptool show`, `etptool check`, `etptool capture N` and `etptool
+//! generate N`. `tool_forms` does the work and says what each does.
 #![tactic(auto)]
 
 use etp_outside::StdSink;

@@ -1,4 +1,4 @@
-//! The system with its faults.
+//! The system and its faults.
 ghost use Rattle.std.specs.Io.{WritesAtMost};
 
 use etp_capture::kinds;

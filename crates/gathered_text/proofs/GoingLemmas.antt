@@ -27,7 +27,7 @@ module _ (text gathered rest : List ℕ) (h k : Option (List ℕ)) (g : Going te
     whole = g.whole ∙ sym (append_assoc g.sent gathered rest);
   }
 
-  -- a front of it is written
+  -- a prefix of it is written
   pub going_failed : (l : Option (List ℕ)) → AppendsFront k l gathered → AppendsSome text h l
   going_failed l front =
       let t : List ℕ = take front.0 gathered in

@@ -4,7 +4,7 @@ use Rattle.std.specs.Io.KnownBytes.{Appends}
 use Rattle.gathered_text.specs.declared.writing.Wrote.{Wrote}
 use Rattle.gathered_text.specs.declared.writing.Wrote.TheVariants.{Whole, WriteFault, NoMemory}
 
--- a front of the text was written, which may be all of it
+-- a prefix of the text was written, which may be all of it
 abbrev pub AppendsSome : List ℕ → Option (List ℕ) → Option (List ℕ) → Type 0
 AppendsSome text old new = (front : List ℕ) × (rest : List ℕ) × (text ≡ front ++ rest) × Appends old new front
 
@@ -14,7 +14,7 @@ pub record Going (text gathered rest : List ℕ) (old new : Option (List ℕ)) :
   pub written : Appends old new sent
   pub whole : text ≡ sent ++ (gathered ++ rest)
 
--- what came of a part, behind which this is gathered and the rest is left
+-- what came of a part, after which this is gathered and the rest is left
 abbrev pub GoesOn : Wrote → List ℕ → List ℕ → List ℕ → Option (List ℕ) → Option (List ℕ) → Type 0
 GoesOn Whole text gathered rest old new = Going text gathered rest old new
 GoesOn WriteFault text gathered rest old new = AppendsSome text old new

@@ -6,7 +6,7 @@ ghost use Rattle.gathered_text.specs.Writing.{Going, GoesOn, Writes};
 
 use etp_outside::{Sink, Written, write_all};
 
-/// So many bytes are gathered before they are written.
+/// The number of bytes that are gathered before they are written.
 const GATHERED: usize = 65_536;
 
 /// What came of a text, or of a part of it.
@@ -14,9 +14,9 @@ const GATHERED: usize = 65_536;
 pub enum Wrote {
     /// All of it was written, or gathered.
     Whole,
-    /// A front of it was written, and then the output failed.
+    /// A prefix of it was written, and then the output failed.
     WriteFault,
-    /// A front of it was written, and then memory was refused.
+    /// A prefix of it was written, and then memory ran out.
     NoMemory,
 }
 

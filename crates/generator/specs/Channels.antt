@@ -1,4 +1,4 @@
--- The configuration that the load is played under.
+-- The configuration under which the load is played.
 use Rattle.std.specs.Prelude.{ℕ, ◌+◌, List, [], ◌∷◌, map, codes, Some, None}
 use Rattle.std.specs.List.{range_with_len}
 use Rattle.etp_values.specs.declared.uri.StoreUri.{StoreUri}
@@ -18,6 +18,6 @@ channel_uri n = record { space = []; object = Some (record { domain = codes "wit
 abbrev pub channel : ℕ → ChannelDef
 channel n = record { uri = channel_uri n; name = 99 ∷ (48 + n) ∷ []; kind = value_kind.Long; uom = [] }
 
--- eight channels, and otherwise what a configuration has by default
+-- eight channels, and otherwise the defaults
 abbrev pub generator_config : Config
 generator_config = record { instance = id_ending 1; name = codes "gen"; lag = 65536; journal = 4194304; types = None; channels = map channel (range_with_len 0 8) }

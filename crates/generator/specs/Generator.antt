@@ -86,7 +86,7 @@ later_message x j =
     else if (x / 2 ^ 33) % 4 == 3 then replace_range (pos (j % 8)) (pos j -ℤ pos 64) (pos j -ℤ pos 33) (pos (x / 2 ^ 40))
     else append_point (pos (j % 8)) (pos j) (pos (x / 2 ^ 40))
 
--- message j, of session j % 8 in round j / 8, where the number x was drawn
+-- message j, of session j % 8 in round j / 8, if the number x was drawn
 abbrev pub message_at : ℕ → ℕ → Message
 message_at x j =
     if j / 8 == 0 then request_session
@@ -117,16 +117,16 @@ poll_frame j = record { kind = kind_poll; tag = j % 8; moment = pos j; bytes = [
 unfoldable pub message_frame : ℕ → ℕ → Frame
 message_frame x j = frame_of j (message_at x j)
 
--- the frames of so many messages from message j on, where the number x was drawn
+-- the frames of this many messages from message j on, if the number x was drawn
 abbrev pub frames_from : ℕ → ℕ → ℕ → List Frame
 frames_from x j zero = []
 frames_from x j (suc k) = message_frame x j ∷ poll_frame j ∷ frames_from (next_number x) (j + 1) k
 
--- the frames of a load of so many messages
+-- the frames of a load of this many messages
 abbrev pub frames : ℕ → List Frame
 frames count = frames_from count 0 count
 
--- a step gives the next two frames, or nothing where there are no more
+-- a step gives the next two frames, or nothing if there are no more
 abbrev pub Gives : Result (Option (Frame × Frame)) NoMemory → List Frame → List Frame → Type 0
 Gives (Ok None) old new = (old ≡ []) × (new ≡ [])
 Gives (Ok (Some two)) old new = old ≡ two.0 ∷ two.1 ∷ new

@@ -1,4 +1,4 @@
-//! The configuration that the load is played under: eight channels.
+//! The configuration under which the load is played: eight channels.
 ghost use Rattle.std.specs.Prelude.{◌≡◌, ◌+◌, ◌<◌, [], ◌∷◌, IfOk, map};
 ghost use Rattle.std.specs.List.{range_with_len};
 ghost use Rattle.generator.specs.Channels.{id_ending, channel_uri, channel, generator_config};
@@ -10,8 +10,7 @@ use std::alloc::Global;
 /// How many channels there are, and sessions of the load.
 pub(crate) const CHANNELS: u8 = 8;
 
-/// The configuration that the load is played under: channels 0 to 7 of kind `long`, and otherwise what a configuration has by
-/// default.
+/// The configuration under which the load is played: channels 0 to 7 of kind `long`, and otherwise the defaults.
 pub fn generator_config(alloc: Global) -> Result<Config, NoMemory>
     ensures { IfOk result (λ c. c ≡ generator_config) }
 {

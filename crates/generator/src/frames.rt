@@ -10,7 +10,7 @@ use etp_values::{Blob, NoMemory};
 use std::alloc::Global;
 use std::marker::Model;
 
-/// How many sessions the load has, and of them each a channel.
+/// How many sessions the load has; each has a channel of its own.
 pub(crate) const SESSIONS: u32 = 8;
 
 /// A load that is given frame by frame. A contract sees the frames that are left to give.
@@ -37,7 +37,7 @@ impl Model for Generator {
 }
 
 impl Generator {
-    /// A load of so many messages, which are drawn by this number too.
+    /// A load of this many messages; the count is also the seed of the draws.
     pub fn new(count: u32) -> Generator
         ensures { result ≡ frames count }
     {
@@ -48,7 +48,7 @@ impl Generator {
         }
     }
 
-    /// The next message's frame and that of the poll behind it; none where there are no more. An error gives nothing.
+    /// The frame of the next message and that of the poll after it; `None` if there are no more. An error gives nothing.
     pub fn next(&mut self, alloc: Global) -> Result<Option<(Frame, Frame)>, NoMemory>
         ensures { Gives result self.old self.new }
     {
@@ -93,7 +93,7 @@ fn bytes_of(alloc: Global, place: u32, message: &Message) -> Result<Blob, NoMemo
     write_message(alloc, &header, message)
 }
 
-/// The header of a message, of which each session's have the even ids in order.
+/// The header of a message; the messages of each session have the even ids in order.
 fn request_header(place: u32, message: &Message) -> Header
     ensures { result ≡ request_header place message.now }
 {

@@ -24,7 +24,7 @@ pub(crate) fn next_number(number: u64) -> u64
         .wrapping_add(1_442_695_040_888_963_407)
 }
 
-/// The message of a place in the load, where this number was drawn for it.
+/// The message at a place in the load, if this number was drawn for it.
 pub(crate) fn message_at(alloc: Global, number: u64, place: u32) -> Result<Message, NoMemory>
     ensures { IfOk result (λ m. m ≡ message_at number place) }
 {
@@ -89,7 +89,7 @@ fn wanted(alloc: Global, protocol: i32) -> Result<SupportedProtocol, NoMemory>
     })
 }
 
-/// The formats of objects that a client takes.
+/// The formats of objects that a client accepts.
 fn formats(alloc: Global) -> Result<List<Text>, NoMemory>
     ensures { IfOk result (λ l. l ≡ codes "xml" ∷ []) }
 {

@@ -10,7 +10,7 @@ use Rattle.keyed_requests.specs.declared.keys.Decision.{Decision}
 use Rattle.keyed_requests.specs.declared.keys.Decision.TheVariants.{Granted, Refused}
 use Rattle.keyed_requests.proofs.OrderLemmas.{checked_names, mapped_names, finished_names}
 
--- one key more
+-- one more key
 more : (is : List ℕ → Bool) (k : List ℕ) (keys : List (List ℕ)) → count_by is (k ∷ keys) ≡ count_by is (k ∷ []) + count_by is keys
 more is k keys = sum_by-cons (λ key. cond (is key) 1 0) k keys ∙ ap (λ n. n + count_by is keys) (sym (sum_by-cons (λ key. cond (is key) 1 0) k [] ∙ add-zero _))
 

@@ -1,4 +1,4 @@
--- Names stay in order where their values change, and where some of them are left out. Crates above cite it too.
+-- Names stay in order if their values change, and if some of them are left out. Crates above cite it too.
 use Rattle.std.specs.Prelude.{ℕ, ◌≡◌, List, [], ◌∷◌, ◌++◌, map, take, drop, refl}
 use Rattle.std.specs.List.{AllByRecursion}
 use Rattle.std.specs.List.Sorted.{IsStrictlySortedBy}

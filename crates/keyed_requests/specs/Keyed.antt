@@ -1,5 +1,5 @@
--- Requests whose items stand under keys. Each key is checked in the order of the keys, and those that are granted go into the
--- call. What comes back is joined with them, and granted and refused keys then make the reply.
+-- Requests whose items are under keys. Each key is checked in the order of the keys, and those that are granted go into the call. What
+-- comes back is joined with them, and granted and refused keys then make the reply.
 use Rattle.std.specs.Prelude.{ℕ, Bool, true, false, List, [], ◌∷◌, Option, Some, None, map, take, drop}
 use Rattle.std.specs.List.{flat_map}
 use Rattle.etp_values.specs.declared.code.ErrorCode.{ErrorCode}
@@ -12,7 +12,7 @@ use Rattle.keyed_requests.specs.declared.sending.Outcome.TheVariants.{Replies, C
 
 -- ---- before the call
 
--- each key checked in turn, where a key sees what the earlier ones passed on
+-- each key checked in turn; a key sees what the earlier ones passed on
 abbrev pub checked : {S A B : Type 0} → (S → A → S × Decision B) → S → List (List ℕ × A) → List (List ℕ × Decision B)
 checked one s [] = []
 checked one s (x ∷ xs) = (x.0, (one s x.1).1) ∷ checked one (one s x.1).0 xs
@@ -40,7 +40,7 @@ sent_one send key (Refused code) = []
 abbrev pub sent : {A B : Type 0} → (A → B) → List (List ℕ × Decision A) → List (List ℕ × B)
 sent send items = flat_map (λ x. sent_one send x.0 x.1) items
 
--- ---- after the call: each granted key is finished by its findings, so many for each
+-- ---- after the call: each granted key is finished by its findings, a fixed number for each
 
 -- a key is granted unless there is a cause against it
 abbrev pub granted_unless : {R : Type 0} → Option ErrorCode → R → Decision R
@@ -52,7 +52,7 @@ abbrev pub width_of : {B : Type 0} → ℕ → Decision B → ℕ
 width_of width (Granted b) = width
 width_of width (Refused code) = 0
 
--- one key finished by its findings: what it passes on, and what is decided of it
+-- one key finished by its findings: what it passes on, and what is decided about it
 abbrev pub finished_one : {S B F R : Type 0} → (S → List ℕ → B → List F → S × Decision R) → S → List ℕ → Decision B → List F → S × Decision R
 finished_one one s key (Granted b) found = one s key b found
 finished_one one s key (Refused code) found = (s, Refused code)
@@ -89,21 +89,21 @@ granted items = flat_map (λ x. granted_one x.0 x.1) items
 abbrev pub refused_keys : {B : Type 0} → List (List ℕ × Decision B) → List (List ℕ × ErrorCode)
 refused_keys items = flat_map (λ x. refused_one x.0 x.1) items
 
--- what goes out: the granted keys in the response, where there are some, then the refused ones, where there are some; to no
--- keys at all, a response that tells none
+-- what is sent: the granted keys in the response, if there are any, then the refused ones, if there are any; for no keys at all, an empty
+-- response
 abbrev pub keyed_replies : {R M : Type 0} → (List (List ℕ × R) → M) → List (List ℕ × R) → List (List ℕ × ErrorCode) → List (Sending M)
 keyed_replies response [] [] = Reply (response []) ∷ []
 keyed_replies response [] (r ∷ rs) = RefusedKeys (r ∷ rs) ∷ []
 keyed_replies response (g ∷ gs) [] = Reply (response (g ∷ gs)) ∷ []
 keyed_replies response (g ∷ gs) (r ∷ rs) = Reply (response (g ∷ gs)) ∷ RefusedKeys (r ∷ rs) ∷ []
 
--- the same of a response that was made of the granted keys, if any key was granted
+-- the same for a response that was made from the granted keys, if any key was granted
 abbrev pub response_unless_refused : {M : Type 0} → Bool → M → List (List ℕ × ErrorCode) → List (Sending M)
 response_unless_refused some response [] = Reply response ∷ []
 response_unless_refused false response (r ∷ rs) = RefusedKeys (r ∷ rs) ∷ []
 response_unless_refused true response (r ∷ rs) = Reply response ∷ RefusedKeys (r ∷ rs) ∷ []
 
--- the reply to a request of which this was decided
+-- the reply to a request for which this was decided
 abbrev pub request_reply : {R M : Type 0} → (List (List ℕ × R) → M) → List (List ℕ × Decision R) → List (Sending M)
 request_reply response items = keyed_replies response (granted items) (refused_keys items)
 
@@ -111,7 +111,7 @@ request_reply response items = keyed_replies response (granted items) (refused_k
 abbrev pub unasked : {K R M : Type 0} → (List (List ℕ × R) → M) → List (List ℕ × Decision K) → List (Sending M)
 unasked response items = keyed_replies response [] (refused_keys items)
 
--- ---- what comes of a request: with no key granted nothing is called for
+-- ---- what comes of a request: if no key is granted no call is made
 
 abbrev pub called : {K T R M : Type 0} → (List (List ℕ × R) → M) → List (List ℕ × Decision K) → List (List ℕ × T) → Outcome (List (List ℕ × T)) (List (List ℕ × Decision K)) M
 called response items [] = Replies (unasked response items)

@@ -1,4 +1,4 @@
--- Requests whose keys are nothing but their items: nothing of them is kept, and one finding decides each.
+-- Requests whose keys have nothing but their items: nothing of them is kept, and one finding decides each.
 use Rattle.std.specs.Prelude.{ℕ, List, [], ◌∷◌}
 use Rattle.etp_values.specs.declared.code.ErrorCode.TheVariants.{RequestDenied}
 use Rattle.keyed_requests.specs.declared.keys.Decision.{Decision}

@@ -14,7 +14,7 @@ reply_alone message = Reply message ∷ []
 abbrev pub refusal_alone : {M : Type 0} → ErrorCode → List (Sending M)
 refusal_alone code = Refusal code ∷ []
 
--- a request is refused as a whole, where there is a cause
+-- a request is refused as a whole, if there is a cause
 abbrev pub unless_refused : {C P M : Type 0} → Option ErrorCode → Outcome C P M → Outcome C P M
 unless_refused (Some code) outcome = Replies (refusal_alone code)
 unless_refused None outcome = outcome

@@ -1,4 +1,4 @@
-//! The first half of a request: its keys are checked, and what is granted is called for.
+//! The first half of a request: its keys are checked, and a call is made for what is granted.
 ghost use Rattle.std.specs.Prelude.{◌≡◌, [], ◌∷◌, ◌++◌, IfOk, OnOk};
 ghost use Rattle.keyed_requests.specs.Keyed.{called, checked, checked_state, kept, kept_one, request_outcome, sent, sent_one};
 
@@ -93,7 +93,7 @@ where
     }
 }
 
-/// What comes of a request with these items: a call with what is granted, or, where no key is, the reply at once.
+/// What comes of a request with these items: a call with what is granted, or the reply at once if no key is granted.
 pub fn request_outcome<R: KeyedRequest, A: KeyedReply>(
     alloc: Global,
     request: &R,

@@ -8,10 +8,10 @@ use etp_values::{ErrorCode, Named, Text};
 /// The greatest number of keys of a request.
 pub const MAX_KEYS: usize = 1_024;
 
-/// The greatest number of bytes of a key.
+/// The maximum length of a key, in bytes.
 pub const MAX_KEY_LEN: usize = 1_024;
 
-/// What was decided of one key of a request.
+/// What was decided about one key of a request.
 #[derive(Debug, Drop)]
 pub enum Decision<T> {
     Granted(T),

@@ -6,7 +6,7 @@ ghost use Rattle.keyed_requests.specs.Laws.{AnswersEach};
 use crate::request::{Findings, KeyedReply, KeyedRequest};
 use etp_values::Named;
 
-/// Each key of a request that makes a call stands in exactly one of the response and the exception, whatever was found.
+/// Each key of a request that makes a call is in exactly one of the response and the exception, whatever was found.
 pub fn each_key_once<R: KeyedRequest, A: KeyedReply<Kept = R::Kept>>(
     request: &R,
     reply: &A,

@@ -1,11 +1,10 @@
-//! Requests whose items stand under keys.
+//! Requests whose items are under keys.
 //!
-//! Each key of such a request is granted or refused for itself, in three steps. In the first half
-//! ([`KeyedRequest`], [`request_outcome`]) each key is checked, and what is granted is divided into what is kept
-//! and what is sent in a call; in the second ([`KeyedReply`], [`request_reply`]), when the call is answered, each
-//! granted key is finished with what was found for it. Refused keys keep their place among the others until the
-//! reply, which has the granted keys first. Where nothing of a key is kept and one finding decides it,
-//! [`PlainRequest`] and [`PlainReply`] ask for less.
+//! Each key of such a request is granted or refused on its own, in three steps. In the first half ([`KeyedRequest`], [`request_outcome`])
+//! each key is checked, and what is granted is divided into what is kept and what is sent in a call; in the second ([`KeyedReply`],
+//! [`request_reply`]), when the call is answered, each granted key is finished with what was found for it. Refused keys keep their position
+//! among the others until the reply, which has the granted keys first. If nothing of a key is kept and one finding decides it,
+//! [`PlainRequest`] and [`PlainReply`] require less.
 //!
 //! Nothing here knows a message, a call or a session: they are parameters of [`Sending`] and [`Outcome`].
 #![tactic(auto)]

@@ -1,4 +1,4 @@
-//! Requests whose keys are nothing but their items.
+//! Requests whose keys have nothing but their items.
 ghost use Rattle.std.specs.Prelude.{◌≡◌, IfOk, OnOk};
 ghost use Rattle.keyed_requests.specs.Plain.{by_first, nothing};
 
@@ -7,12 +7,12 @@ use crate::request::{KeyedReply, KeyedRequest};
 use etp_values::{ErrorCode, List, Named, NoMemory, Text};
 use std::alloc::Global;
 
-/// The first half of a request of which each key is checked by its item alone, and is sent as it was granted.
+/// The first half of a request in which each key is checked by its item alone, and is sent as it was granted.
 pub trait PlainRequest {
     ghost use Rattle.std.specs.Prelude.{◌≡◌, IfOk};
     ghost use Rattle.keyed_requests.specs.declared.keys.Decision.{Decision};
 
-    /// What stands under a key.
+    /// What is under a key.
     type Item;
 
     /// What is granted of an item, and sent in the call.
@@ -25,7 +25,7 @@ pub trait PlainRequest {
         ensures { IfOk result (λ d. d ≡ check self.now item) };
 }
 
-/// The second half of a request of which nothing is kept, and each key is decided by one finding.
+/// The second half of a request of which nothing is kept, and in which each key is decided by one finding.
 pub trait PlainReply {
     ghost use Rattle.std.specs.Prelude.{◌≡◌, ℕ, List as Items, IfOk};
     ghost use Rattle.keyed_requests.specs.declared.keys.Decision.{Decision};

@@ -107,7 +107,7 @@ where
     }
 }
 
-/// The response, and behind it the refused keys, if there are some; these alone where no key is granted.
+/// The response, followed by the refused keys, if there are any; only these if no key is granted.
 #[tactic(auto, using(crate::proofs::CaseLemmas::both_given, crate::proofs::CaseLemmas::none_given))]
 pub fn response_unless_refused<M>(
     alloc: Global,

@@ -1,4 +1,4 @@
-//! What the two halves of a request under keys have to say of one key.
+//! What the two halves of a request under keys say about one key.
 ghost use Rattle.std.specs.Prelude.{◌≡◌, IfOk, OnOk, take, drop};
 
 use crate::keys::Decision;
@@ -7,12 +7,12 @@ use std::alloc::Global;
 use std::collections::VecDeque;
 use std::marker::Model;
 
-/// The first half of a request whose items stand under keys: what is checked of a key, and what of it is kept and called for.
+/// The first half of a request whose items are under keys: what is checked for a key, and what of it is kept and called for.
 pub trait KeyedRequest {
     ghost use Rattle.std.specs.Prelude.{◌≡◌, ℕ, List as Items, IfOk, OnOk};
     ghost use Rattle.keyed_requests.specs.declared.keys.Decision.{Decision};
 
-    /// What stands under a key.
+    /// What is under a key.
     type Item;
 
     /// What is granted of an item before the call.
@@ -24,7 +24,7 @@ pub trait KeyedRequest {
     /// What of it is sent in the call.
     type Sent;
 
-    /// What a key that is checked passes on to the next one, `()` where none looks at another.
+    /// What a key that is checked passes on to the next one; `()` if none looks at another.
     type Checking;
 
     ghost check: { Self → Self.Checking → Self.Item → Self.Checking × Decision Self.Checked };
@@ -53,7 +53,7 @@ pub trait KeyedRequest {
         ensures sent { IfOk result (λ r. r.1 ≡ send self.now checked) };
 }
 
-/// The second half of such a request: what is decided of a granted key by what was found for it, and the response.
+/// The second half of such a request: what is decided about a granted key by what was found for it, and the response.
 pub trait KeyedReply {
     ghost use Rattle.std.specs.Prelude.{◌≡◌, ℕ, List as Items, IfOk, OnOk};
     ghost use Rattle.keyed_requests.specs.declared.keys.Decision.{Decision};
@@ -67,7 +67,7 @@ pub trait KeyedReply {
     /// What is granted of a key in the end.
     type Given;
 
-    /// What a key that is finished passes on to the next one, `()` where none looks at another.
+    /// What a key that is finished passes on to the next one; `()` if none looks at another.
     type Finishing;
 
     /// The messages of the request's protocol.
@@ -124,7 +124,7 @@ impl<F> Findings<F> {
         }
     }
 
-    /// So many of the first findings, which are taken out; all that are left where they are fewer.
+    /// Takes out this many of the first findings; all that are left if there are fewer.
     pub(crate) fn split(&mut self, alloc: Global, count: usize) -> Result<List<F>, NoMemory>
     where
         F: Drop,

@@ -5,7 +5,7 @@ ghost use Rattle.keyed_requests.specs.Sending.{refusal_alone, reply_alone};
 use etp_values::{ErrorCode, List, Named, NoMemory};
 use std::alloc::Global;
 
-/// A message that a request is answered by, or that follows its reply. It has no header yet.
+/// A message that answers a request, or that follows its reply. It has no header yet.
 #[derive(Debug, Drop)]
 pub enum Sending<M> {
     /// A message of the request's protocol.
@@ -14,11 +14,11 @@ pub enum Sending<M> {
     Refusal(ErrorCode),
     /// Keys of the request are refused.
     RefusedKeys(Named<ErrorCode>),
-    /// A message of the request's protocol that is no part of the reply and answers nobody.
+    /// A message of the request's protocol that is not part of the reply and answers no request.
     Notice(M),
 }
 
-/// What comes of a request: its reply, or a call, beside what its answer is to be joined with.
+/// What comes of a request: its reply, or a call, with what its answer is to be joined with.
 #[derive(Debug, Drop)]
 pub enum Outcome<C, P, M> {
     Replies(List<Sending<M>>),
@@ -44,7 +44,7 @@ where
     one(alloc, Sending::Reply(message))
 }
 
-/// The reply by which a request is refused as a whole.
+/// The reply with which a request is refused as a whole.
 pub fn refusal_alone<M>(alloc: Global, code: ErrorCode) -> Result<List<Sending<M>>, NoMemory>
 where
     M: Drop,
@@ -53,7 +53,7 @@ where
     one(alloc, Sending::Refusal(code))
 }
 
-/// A request that is refused as a whole calls for nothing.
+/// A request that is refused as a whole makes no call.
 pub fn refused_outcome<C, P, M>(
     alloc: Global,
     code: ErrorCode,

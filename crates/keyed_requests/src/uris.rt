@@ -6,7 +6,7 @@ use crate::keys::Decision;
 use etp_values::{ErrorCode, NoMemory, StoreUri, UriError};
 use std::alloc::Global;
 
-/// The URI of an object in a text. A text that is no URI, or that of a dataspace, is refused by `InvalidUri`.
+/// The URI of an object in a text. A text that is not a URI, or is that of a dataspace, is refused by `InvalidUri`.
 pub fn object_uri(alloc: Global, text: &str) -> Result<Decision<StoreUri>, NoMemory>
     ensures { IfOk result (λ d. d ≡ object_uri text.now) }
 {

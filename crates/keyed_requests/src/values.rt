@@ -1,4 +1,4 @@
-//! What stands under the keys of a call, and what is found for one key.
+//! What is under the keys of a call, and what is found for one key.
 ghost use Rattle.std.specs.Prelude.{◌≡◌, IfOk, OnOk, ◌++◌, slice_get};
 ghost use Rattle.std.specs.List.{flat_map};
 ghost use Rattle.std.specs.Map.{values_of};
@@ -7,7 +7,7 @@ use etp_values::{List, Named, NoMemory};
 use std::alloc::Global;
 use std::collections::VecDeque;
 
-/// What stands under the keys, in their order.
+/// What is under the keys, in their order.
 pub fn sent_values<T: Drop>(alloc: Global, items: Named<T>) -> Result<List<T>, NoMemory>
     ensures { IfOk result (λ l. l ≡ values_of items) }
 {
@@ -19,7 +19,7 @@ pub fn sent_values<T: Drop>(alloc: Global, items: Named<T>) -> Result<List<T>, N
     Ok(List::from_vec(out))
 }
 
-/// What stands in the lists under the keys, in their order.
+/// What is in the lists under the keys, in their order.
 pub fn joined_values<T: Drop>(alloc: Global, items: Named<List<T>>) -> Result<List<T>, NoMemory>
     ensures { IfOk result (λ l. l ≡ flat_map (λ x. x.1) items) }
 {

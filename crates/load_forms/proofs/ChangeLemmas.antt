@@ -1,4 +1,4 @@
--- Messages that are refused tell of no change.
+-- Messages that are refused report no change.
 use Rattle.std.proofs.Common.{◌≡◌, ◌≢◌, ℕ, Bool, false, ap, sym, ◌∙◌, Result, Ok, Err, IfOk}
 use Rattle.avro_bin.specs.Value.{Value}
 use Rattle.etp_values.specs.declared.memory.NoMemory.{NoMemory}

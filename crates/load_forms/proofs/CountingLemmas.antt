@@ -19,7 +19,7 @@ one_if true true = (omega arith, omega arith)
 one_if true false = (omega arith, omega arith)
 one_if false change = (omega arith, omega arith)
 
--- a frame counts one at most
+-- a frame counts at most one
 pub one_at_most : (kind : ℕ) (bytes : List ℕ) → IsOne (tally_part kind bytes)
 one_at_most kind bytes = one_if (kind == kind_out) (change_in (tree_of Server bytes))
 
@@ -50,7 +50,7 @@ one_fits before now all rest short room sum =
 less : (a b n k : ℕ) → b ≤ n → n < 2 ^ 64 → a + (k + 1) * 2 ^ 64 < 2 ^ 128 → a + b + k * 2 ^ 64 < 2 ^ 128
 less a b n k few short room = omega (arith, few, short, room)
 
--- behind the answers of a frame there is room for one frame fewer
+-- after the answers of a frame there is room for one frame fewer
 pub room_left : (before now : Tally) (fs : List Frame) (frames : ℕ) → length fs < 2 ^ 64 → now ≡ plus before (tally fs) → HasRoom (frames + 1) before → HasRoom frames now
 room_left before now fs frames short is room =
     let most = few fs in

@@ -1,4 +1,4 @@
--- What a step that may end says of each.
+-- What a step that may end says about each.
 use Rattle.std.proofs.Common.{◌≡◌, ℕ, ◌<◌, List, ◌∷◌, length, refl, ap, arith, Option, None, Some, IfNone, IfSome}
 use Rattle.etp_capture.specs.declared.frame.Frame.{Frame}
 use Rattle.gathered_text.specs.Writing.{Going, Writes, GoesOn}

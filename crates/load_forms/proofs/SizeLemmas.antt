@@ -17,7 +17,7 @@ use Rattle.etp_frame.specs.declared.message.Message.{Message}
 use Rattle.generator.specs.Generator.{frames, frames_from, later_message, message_at, message_frame, next_number, poll_frame, request_header}
 use Rattle.load_forms.specs.Laws.{LoadsAreCaptures}
 
--- ---- numbers, and lists that stand one after the other
+-- ---- numbers, and lists one after the other
 
 both_few : (xs ys : List ℕ) (a b : ℕ) → length xs ≤ a → length ys ≤ b → length (xs ++ ys) ≤ a + b
 both_few xs ys a b few others = let long = length-append xs ys in omega (arith, long, few, others)
@@ -46,7 +46,7 @@ block_few (suc count) items n few =
 
 -- ---- values
 
--- so many bytes a value has at most
+-- a value has at most this many bytes
 abbrev mutual
   most : Value → ℕ
   most VNull = 0
@@ -120,7 +120,7 @@ message_short x j = either_short (j / 8 == 0) _ _ refl (either_short (j / 8 == 1
 within : (n m : ℕ) → n ≤ m → nat_le m 900 ≡ true → n ≤ 900
 within n m less short = grind (arith, nat_tests)
 
--- behind a header, of at most 50 bytes
+-- after a header, of at most 50 bytes
 bytes_few : (h : Header) (m : Message) → IsShort m → length (message_bytes h m) ≤ 950
 bytes_few h m short =
     let header : length (plain (header_form.as_value h)) ≤ 50 = few (header_form.as_value h) in

@@ -7,7 +7,7 @@ use Rattle.load_forms.specs.declared.tally.Tally.{Tally}
 abbrev pub first_lines : ℕ → ℕ → List ℕ
 first_lines messages entries = codes "messages " ++ (decimal messages ++ (codes "\nsessions 8\nentries " ++ (decimal entries ++ codes "\n")))
 
--- how many messages were sent, and how many of them tell of changes
+-- how many messages were sent, and how many of them report changes
 abbrev pub last_lines : Tally → List ℕ
 last_lines t = codes "sent " ++ (decimal t.sent ++ (codes "\nchanges " ++ (decimal t.changes ++ codes "\n")))
 

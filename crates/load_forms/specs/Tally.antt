@@ -11,8 +11,7 @@ use Rattle.etp_frame.specs.declared.header.Header.{Header}
 use Rattle.etp_frame.specs.declared.error.FrameError.{FrameError}
 use Rattle.load_forms.specs.declared.tally.Tally.{Tally}
 
--- the number of a message of ChannelSubscribe that tells of points, of a range or of an end: ChannelData, RangeReplaced or
--- ChannelsTruncated
+-- the number of a message of ChannelSubscribe that reports points, a range or an end: ChannelData, RangeReplaced or ChannelsTruncated
 abbrev pub is_change : ℤ → Bool
 is_change kind = is_number 4 kind || (is_number 6 kind || is_number 13 kind)
 
@@ -20,12 +19,12 @@ is_change kind = is_number 4 kind || (is_number 6 kind || is_number 13 kind)
 abbrev pub tells_change : Header → Bool
 tells_change h = is_number channel_subscribe_number h.protocol && is_change h.kind
 
--- the same of what a server's bytes are read as
+-- the same for what a server's bytes are read as
 abbrev pub change_in : Result (Header × (ℕ × Value)) FrameError → Bool
 change_in (Ok x) = tells_change x.0
 change_in (Err e) = false
 
--- a message that was sent, and whether it tells of a change
+-- a message that was sent, and whether it reports a change
 abbrev pub one_sent : Bool → Tally
 one_sent true = record { sent = 1; changes = 1 }
 one_sent false = record { sent = 1; changes = 0 }
@@ -33,7 +32,7 @@ one_sent false = record { sent = 1; changes = 0 }
 abbrev pub nothing_sent : Tally
 nothing_sent = record { sent = 0; changes = 0 }
 
--- a frame of this kind counts where it is a server's message
+-- a frame of this kind counts if it is a server's message
 abbrev pub tally_part : ℕ → List ℕ → Tally
 tally_part kind bytes = if kind == kind_out then one_sent (change_in (tree_of Server bytes)) else nothing_sent
 
@@ -44,11 +43,11 @@ tally_of f = tally_part f.kind f.bytes
 abbrev pub plus : Tally → Tally → Tally
 plus t u = record { sent = t.sent + u.sent; changes = t.changes + u.changes }
 
--- the messages among frames, and those of them that tell of changes
+-- the messages among frames, and those of them that report changes
 abbrev pub tally : List Frame → Tally
 tally [] = nothing_sent
 tally (f ∷ fs) = plus (tally_of f) (tally fs)
 
--- so many further frames can be counted, whatever answers them: a frame has fewer than 2 ^ 64 answers
+-- this many further frames can be counted, whatever answers them: a frame has fewer than 2 ^ 64 answers
 abbrev pub HasRoom : ℕ → Tally → Type 0
 HasRoom frames t = (t.sent + frames * 2 ^ 64 < 2 ^ 128) × (t.changes + frames * 2 ^ 64 < 2 ^ 128)

@@ -22,8 +22,8 @@ const RANGE_REPLACED: i32 = 6;
 /// The number of ChannelsTruncated.
 const CHANNELS_TRUNCATED: i32 = 13;
 
-/// How many messages were sent, and how many of them tell of points, of a range or of an end of channels. No number of answers
-/// that a load can have passes 2^128.
+/// How many messages were sent, and how many of them report points, a range or an end of channels. No number of answers that a load can
+/// have exceeds 2^128.
 #[derive(Clone, Copy)]
 pub struct Tally {
     pub sent: u128,
@@ -95,7 +95,7 @@ fn one_sent(change: bool) -> Tally
     }
 }
 
-/// Whether a server's message tells of a change.
+/// Whether a server's message reports a change.
 fn change_in(alloc: Global, bytes: &[u8]) -> Result<bool, NoMemory>
     ensures { IfOk result (λ b. b ≡ change_in (tree_of side.Server bytes.now)) }
 {
@@ -105,7 +105,7 @@ fn change_in(alloc: Global, bytes: &[u8]) -> Result<bool, NoMemory>
     }
 }
 
-/// What is refused tells of none, but for want of memory.
+/// What is refused reports none, unless memory runs out.
 fn no_change(error: FrameError) -> Result<bool, NoMemory>
     ensures { IfOk result (λ b. (b ≡ false) × (error ≢ refused.NoMemory)) }
 {

@@ -16,7 +16,7 @@ use gathered_text::{Wrote, finish, pass_on};
 use generator::Generator;
 use std::alloc::Global;
 
-/// Writes the capture of a load of so many messages.
+/// Writes the capture of a load of this many messages.
 pub fn write_load<W: Sink>(alloc: Global, size: u32, out: &mut W) -> Wrote
     ensures written { Writes result (magic ++ frames_bytes (frames size)) (W.held out.old) (W.held out.new) }
     ensures kept { W.faults out.old ≤ W.faults out.new }
@@ -54,7 +54,7 @@ fn write_frames<W: Sink>(alloc: Global, generator: Generator, text: Vec<u8>, out
     }
 }
 
-/// Gathers the next two frames, and writes what was gathered, once it is enough or there are no more. None where it goes on.
+/// Gathers the next two frames, and writes what was gathered, once there is enough or there are no more. `None` if it continues.
 fn write_next<W: Sink>(
     alloc: Global,
     generator: &mut Generator,
@@ -81,7 +81,7 @@ fn write_next<W: Sink>(
     }
 }
 
-/// Why it ends, unless it goes on.
+/// Why it ends, unless it continues.
 fn unless_whole(wrote: Wrote) -> Option<Wrote>
     ensures { result ≡ unless_whole wrote }
 {
@@ -92,7 +92,7 @@ fn unless_whole(wrote: Wrote) -> Option<Wrote>
     }
 }
 
-/// Gathers two frames, and writes what was gathered, once it is enough.
+/// Gathers two frames, and writes what was gathered, once there is enough.
 fn write_two<W: Sink>(first: &Frame, second: &Frame, text: &mut Vec<u8>, out: &mut W) -> Wrote
     ensures goes { (whole rest : List ℕ) (before : Option (List ℕ))
         → Going whole text.old.items (frame_bytes first.now ++ (frame_bytes second.now ++ rest)) before (W.held out.old)

@@ -20,7 +20,7 @@ pub trait BodyInTree: Drop {
         ensures value { IfOk result (λ t. value_of t ≡ (body self.now).value) }
         ensures typed { OnOk result (HasSchema (body self.now).schema (body self.now).value) };
 
-    /// The message of this number with this body, where the protocol has one.
+    /// The message of this number with this body, if the protocol has one.
     fn from_tree(alloc: Global, kind: i32, tree: Tree) -> Result<Option<Self>, NoMemory>
         ensures { IfOk result (λ m. m ≡ read_kind kinds kind (value_of tree)) };
 }

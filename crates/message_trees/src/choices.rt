@@ -26,7 +26,7 @@ pub fn branch_of(alloc: Global, tree: Tree) -> (u32, Tree)
     union_of(first_of(alloc, tree))
 }
 
-/// The same of a union.
+/// The same for a union.
 #[tactic(auto, using(avro_bin::proofs::ViewLemmas::values))]
 fn union_of(tree: Tree) -> (u32, Tree)
     ensures place { result.0 ≡ branch_in (value_of tree) }

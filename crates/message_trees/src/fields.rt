@@ -19,7 +19,7 @@ pub struct Fields {
 }
 
 impl Fields {
-    /// The fields of a record, and none of another tree.
+    /// The fields of a record; none of any other tree.
     pub fn of(alloc: Global, tree: Tree) -> Fields
         ensures { left result ≡ fields_in (value_of tree) }
     {
@@ -29,7 +29,7 @@ impl Fields {
         }
     }
 
-    /// The tree of the next field, and null where there is none more.
+    /// The tree of the next field; null if there are no more.
     #[tactic(auto, using(avro_bin::proofs::ViewLemmas::values))]
     pub fn next(&mut self) -> Tree
         ensures value { value_of result ≡ first (left self.old) }
@@ -41,7 +41,7 @@ impl Fields {
         }
     }
 
-    /// Reads the next field; where there is none more, it is read as of null.
+    /// Reads the next field; if there are no more, null is read instead.
     pub fn take<T: InTree>(&mut self) -> Result<T, NoMemory>
         ensures value { IfOk result (λ x. x ≡ T.form.from_value (first (left self.old))) }
         ensures others { left self.new ≡ rest (left self.old) }

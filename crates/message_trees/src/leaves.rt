@@ -129,8 +129,7 @@ impl InTree for Id16 {
     }
 }
 
-/// The symbol of an enumeration with these symbols in order: `past` for a place past them, and the first for another
-/// tree.
+/// The symbol of an enumeration with these symbols in order: `past` for a place beyond the last, and the first for any other tree.
 pub fn symbol_of<T: Copy>(tree: Tree, symbols: &[T], past: T) -> T
     ensures { result ≡ get_or symbols.now (symbol_in (value_of tree)) past }
 {

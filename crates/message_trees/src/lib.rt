@@ -1,9 +1,9 @@
 //! Typed values as trees of the schema, and back.
 //!
-//! [`InTree`] is a type whose values are, one to one, the trees of its schema: its tree gives a value back, and a tree of the schema
-//! is the tree of what is read of it ([`read_back`], [`write_back`]). [`BodyInTree`] is the same of the messages of a protocol, by
-//! their numbers. A record goes by its fields, first to last, as a pair of the first and the others ([`fields_of`], [`tree_of`]), so
-//! that no record needs a proof:
+//! [`InTree`] is a type whose values correspond one to one to the trees of its schema: its tree gives a value back, and a tree of the
+//! schema is the tree of what is read from it ([`read_back`], [`write_back`]). [`BodyInTree`] is the same for the messages of a
+//! protocol, by their numbers. A record is read and written as nested pairs, first field, then the rest ([`fields_of`],
+//! [`tree_of`]), so that no record needs a proof:
 //!
 //! ```text
 //! impl InTree for TruncateInfo {
@@ -19,7 +19,7 @@
 //! }
 //! ```
 //!
-//! Sessions read and write the same values straight from and to bytes (`etp_schema::OnWire`), and need no tree.
+//! Sessions read and write the same values directly from and to bytes (`etp_schema::OnWire`), and need no tree.
 #![tactic(auto)]
 
 mod array_records;

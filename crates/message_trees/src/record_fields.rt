@@ -13,11 +13,11 @@ use avro_bin::Tree;
 use etp_values::NoMemory;
 use std::alloc::Global;
 
-/// The fields of a record that are read of its tree: a pair of the first and the others, and `()` behind the last.
+/// The fields of a record that are read from its tree: a pair of the first and the others, and `()` after the last.
 pub trait ReadTrees: Drop {
     ghost forms: { Row Self };
 
-    /// The fields that are still to be read of a record's tree; where there is none more, null is read.
+    /// The fields that are still to be read from a record's tree; if there are no more, null is read.
     fn from_trees(trees: &mut Fields) -> Result<Self, NoMemory>
         ensures { IfOk result (λ x. x ≡ forms.from_values (left trees.old)) };
 }
@@ -40,7 +40,7 @@ impl<A: InTree, B: ReadTrees> ReadTrees for (A, B) {
     }
 }
 
-/// The fields of a record that are written as its tree: a pair of the first and the others, and `()` behind the last.
+/// The fields of a record that are written as its tree: a pair of the first and the others, and `()` after the last.
 pub trait WriteTrees: Drop {
     ghost schemas: { Schemas };
 

@@ -1,4 +1,4 @@
--- What messages on channels have in common: indexes, points, and what a channel is.
+-- What messages about channels have in common: indexes, points, and what a channel is.
 use Rattle.std.proofs.Common.{inl, inr}
 use Rattle.std.specs.Prelude.{◌≡◌, refl, ℕ, ℤ, List, [], ◌∷◌, ◌⊎◌, get_or}
 use Rattle.etp_values.specs.declared.bits.Bits64.{Bits64}

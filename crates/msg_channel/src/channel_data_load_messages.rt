@@ -10,12 +10,12 @@ use crate::points::{DataItem, TruncateInfo};
 use etp_schema::Typed;
 use etp_values::{List, Named, Text};
 
-/// A channel that is open for loading, and what the server wants of it.
+/// A channel that is open for loading, and what the server wants for it.
 #[derive(Debug, Drop)]
 pub struct OpenChannelInfo {
-    /// What the channel is, with the number by which points name it.
+    /// What the channel is, with the number by which points refer to it.
     pub metadata: ChannelMetadataRecord,
-    /// Whether new points are wanted before those of the past.
+    /// Whether new points are wanted before past ones.
     pub prefer_realtime: bool,
     /// Whether ranges may be replaced and channels truncated.
     pub data_changes: bool,
@@ -30,7 +30,7 @@ impl Typed for OpenChannelInfo {
 /// Asks to load points into channels.
 #[derive(Debug, Drop)]
 pub struct OpenChannels {
-    /// The channels' URIs, under keys of the sender's choice.
+    /// The channels' URIs, under keys of the client's choice.
     pub uris: Named<Text>,
 }
 
@@ -56,7 +56,7 @@ impl Typed for OpenChannelsResponse {
 /// Ends the loading of channels.
 #[derive(Debug, Drop)]
 pub struct CloseChannels {
-    /// The channels' numbers, under keys of the sender's choice.
+    /// The channels' numbers, under keys of the client's choice.
     pub id: Named<i64>,
 }
 
@@ -66,7 +66,7 @@ impl Typed for CloseChannels {
     ghost form = { close_channels_form };
 }
 
-/// Appends points to open channels. The schema calls it ChannelData, as the message of ChannelSubscribe.
+/// Appends points to open channels. The schema calls it ChannelData, like the message of ChannelSubscribe.
 #[derive(Debug, Drop)]
 pub struct LoadChannelData {
     /// The points, those of one channel in the order of their indexes.
@@ -86,7 +86,7 @@ pub struct ReplaceRange {
     pub changed_interval: IndexInterval,
     /// The channels' numbers.
     pub channel_ids: List<i64>,
-    /// The points that take their place.
+    /// The points that replace them.
     pub payload: List<DataItem>,
 }
 
@@ -114,7 +114,7 @@ impl Typed for ChannelsClosed {
 /// The range was replaced.
 #[derive(Debug, Drop)]
 pub struct ReplaceRangeResponse {
-    /// When that was done, in microseconds since 1970-01-01 UTC.
+    /// When it was replaced, in microseconds since 1970-01-01 UTC.
     pub channel_change_time: i64,
 }
 
@@ -124,10 +124,10 @@ impl Typed for ReplaceRangeResponse {
     ghost form = { replace_range_response_form };
 }
 
-/// Cuts off open channels.
+/// Truncates open channels.
 #[derive(Debug, Drop)]
 pub struct TruncateChannels {
-    /// Where each channel is to end, under keys of the sender's choice.
+    /// Where each channel is to end, under keys of the client's choice.
     pub channels: Named<TruncateInfo>,
 }
 
@@ -137,10 +137,10 @@ impl Typed for TruncateChannels {
     ghost form = { truncate_channels_form };
 }
 
-/// The channels that were cut off.
+/// The channels that were truncated.
 #[derive(Debug, Drop)]
 pub struct TruncateChannelsResponse {
-    /// When that was done, in microseconds since 1970-01-01 UTC, under the keys of the request.
+    /// When they were truncated, in microseconds since 1970-01-01 UTC, under the keys of the request.
     pub channels_truncated_time: Named<i64>,
 }
 
@@ -183,8 +183,8 @@ impl ChannelDataLoadMessage {
     }
 }
 
-/// What ChannelDataLoadMessage and the trees of its bodies have to do with one another: each message is found by its number and
-/// its body is read as that message, and what is read of a body is written as that body.
+/// How ChannelDataLoadMessage and the trees of its bodies relate: each message is found by its number and its body is read as that message,
+/// and what is read from a body is written as that body.
 pub fn channel_data_load_laws()
     ensures found { (x : ChannelDataLoadMessage) → IsFound channel_data_load_kinds channel_data_load_body x }
     ensures again { AllByRecursion (IsAgain channel_data_load_body) channel_data_load_kinds }

@@ -217,7 +217,7 @@ impl OnWire for TruncateChannelsResponse {
 }
 
 impl ChannelDataLoadMessage {
-    /// The message of this number whose body stands at the front of what is left, where the protocol has one.
+    /// The message of this number whose body is at the front of the rest, if the protocol has one.
     pub fn read(from: &mut Reader<'_>, kind: i32) -> Result<Option<ChannelDataLoadMessage>, Fault>
         ensures { Reads (kind_at (kind_in channel_data_load_kinds kind) from.old.left from.old.rest.now) result from.new }
     {
@@ -235,7 +235,7 @@ impl ChannelDataLoadMessage {
         }
     }
 
-    /// Appends the written spelling of the body. After `NoMemory` what was there still stands in front.
+    /// Appends the written spelling of the body. After `NoMemory` what was there is still at the front.
     #[tactic(auto, unfolding(etp_schema::specs::Form::Holds))]
     pub fn write(&self, into: &mut Vec<u8>) -> Result<(), NoMemory>
         ensures written { Writes (plain (channel_data_load_body self.now).value) into.old.items into.new.items result }
@@ -255,7 +255,7 @@ impl ChannelDataLoadMessage {
         }
     }
 
-    /// How much of a message the body takes. It takes no memory.
+    /// How much of a message the body takes. It does not allocate.
     pub fn measure(&self) -> Measure
         ensures { result ≡ measured (channel_data_load_body self.now).value }
     {

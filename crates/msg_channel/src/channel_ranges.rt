@@ -11,7 +11,7 @@ pub struct ChannelRangeInfo {
     pub channel_ids: List<i64>,
     /// The interval of their primary index.
     pub interval: IndexInterval,
-    /// Intervals of their further indexes, in the order of these; empty for no limit.
+    /// Intervals of their other indexes, in the order of these; empty for no limit.
     pub secondary_intervals: List<IndexInterval>,
 }
 
@@ -39,7 +39,7 @@ impl Typed for GetRanges {
 /// The points of the intervals.
 #[derive(Debug, Drop)]
 pub struct GetRangesResponse {
-    /// The points, range by range as they were asked for.
+    /// The points, range by range in the order of the request.
     pub payload: List<DataItem>,
 }
 
@@ -52,13 +52,13 @@ impl Typed for GetRangesResponse {
 /// Points of subscribed channels were replaced.
 #[derive(Debug, Drop)]
 pub struct RangeReplaced {
-    /// When that was done, in microseconds since 1970-01-01 UTC.
+    /// When it was replaced, in microseconds since 1970-01-01 UTC.
     pub change_time: i64,
     /// The channels' numbers.
     pub channel_ids: List<i64>,
     /// The interval whose points were dropped.
     pub changed_interval: IndexInterval,
-    /// The points that stand in the interval since then.
+    /// The points that are in the interval now.
     pub payload: List<DataItem>,
 }
 
@@ -68,12 +68,12 @@ impl Typed for RangeReplaced {
     ghost form = { range_replaced_form };
 }
 
-/// Subscribed channels were cut off.
+/// Subscribed channels were truncated.
 #[derive(Debug, Drop)]
 pub struct ChannelsTruncated {
-    /// When that was done, in microseconds since 1970-01-01 UTC.
+    /// When it was replaced, in microseconds since 1970-01-01 UTC.
     pub change_time: i64,
-    /// Where each channel ends since then.
+    /// Where each channel ends now.
     pub channels: List<TruncateInfo>,
 }
 

@@ -6,7 +6,7 @@ use etp_values::{DataValue, List, Named, Text};
 /// What an index counts or measures.
 #[derive(Clone, Copy, Debug, PartialEq, Eq, Drop)]
 pub enum ChannelIndexKind {
-    /// A moment, in microseconds since 1970-01-01 UTC.
+    /// A time, in microseconds since 1970-01-01 UTC.
     DateTime,
     /// A time since some start, in microseconds.
     ElapsedTime,
@@ -28,7 +28,7 @@ impl Typed for ChannelIndexKind {
     ghost form = { channel_index_kind_form };
 }
 
-/// How an index goes from one of a channel's points to the next.
+/// How an index changes from one of a channel's points to the next.
 #[derive(Clone, Copy, Debug, PartialEq, Eq, Drop)]
 pub enum IndexDirection {
     Increasing,
@@ -45,7 +45,7 @@ impl Typed for IndexDirection {
 /// What a channel's values, or those of an attribute, are.
 #[derive(Clone, Copy, Debug, PartialEq, Eq, Drop)]
 pub enum ChannelDataKind {
-    /// A moment as a long, in microseconds since 1970-01-01 UTC.
+    /// A time as a long, in microseconds since 1970-01-01 UTC.
     DateTime,
     /// A time since some start as a long, in microseconds.
     ElapsedTime,
@@ -74,15 +74,15 @@ impl Typed for ChannelDataKind {
 #[derive(Debug, Drop)]
 pub struct IndexMetadataRecord {
     pub index_kind: ChannelIndexKind,
-    /// From the index of the channel's first point to that of its last; both null where it has no points.
+    /// From the index of the channel's first point to that of its last; both null if it has no points.
     pub interval: IndexInterval,
-    /// How the index goes from point to point.
+    /// How the index changes from point to point.
     pub direction: IndexDirection,
     /// The index's name: `time`.
     pub name: Text,
-    /// The index's unit; `us` for moments.
+    /// The index's unit; `us` for times.
     pub uom: Text,
-    /// What depths are measured from; empty where the index is no depth.
+    /// What depths are measured from; empty if the index is not a depth.
     pub depth_datum: Text,
     /// The URI of the kind of property that the index is; it may be empty.
     pub index_property_kind_uri: Text,
@@ -96,7 +96,7 @@ impl Typed for IndexMetadataRecord {
     ghost form = { index_metadata_record_form };
 }
 
-/// An attribute that the values of a channel can have, as a mark of their quality.
+/// An attribute that the values of a channel can have, such as a mark of their quality.
 #[derive(Debug, Drop)]
 pub struct AttributeMetadataRecord {
     /// The number by which a [`DataAttribute`] names it.
@@ -104,13 +104,13 @@ pub struct AttributeMetadataRecord {
     pub attribute_name: Text,
     /// What the attribute's values are.
     pub data_kind: ChannelDataKind,
-    /// The unit of its values; empty where they have none.
+    /// The unit of its values; empty if they have none.
     pub uom: Text,
-    /// What depths are measured from; empty where its values are no depths.
+    /// What depths are measured from; empty if its values are not depths.
     pub depth_datum: Text,
     /// The URI of the kind of property that it is; it may be empty.
     pub attribute_property_kind_uri: Text,
-    /// The lengths of the axes of a value that is an array; empty where a value is a single one.
+    /// The lengths of the axes of a value that is an array; empty for single values.
     pub axis_vector_lengths: List<i32>,
 }
 
@@ -125,24 +125,24 @@ impl Typed for AttributeMetadataRecord {
 pub struct ChannelMetadataRecord {
     /// The URI of the channel as a data object.
     pub uri: Text,
-    /// The number by which messages name the channel.
+    /// The number by which messages refer to the channel.
     pub id: i64,
     /// Its indexes, the primary one first.
     pub indexes: List<IndexMetadataRecord>,
     pub channel_name: Text,
     /// What the channel's values are.
     pub data_kind: ChannelDataKind,
-    /// The unit of its values; empty where they have none.
+    /// The unit of its values; empty if they have none.
     pub uom: Text,
-    /// What depths are measured from; empty where its values are no depths.
+    /// What depths are measured from; empty if its values are not depths.
     pub depth_datum: Text,
     /// The URI of the channel's class; it may be empty.
     pub channel_class_uri: Text,
-    /// Whether points still come.
+    /// Whether more points are expected.
     pub status: ActiveStatusKind,
     /// Where its points come from, in words; it may be empty.
     pub source: Text,
-    /// The lengths of the axes of a value that is an array; empty where a value is a single one.
+    /// The lengths of the axes of a value that is an array; empty for single values.
     pub axis_vector_lengths: List<i32>,
     /// The attributes that its values can have.
     pub attribute_metadata: List<AttributeMetadataRecord>,

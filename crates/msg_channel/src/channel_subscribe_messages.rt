@@ -11,16 +11,16 @@ use crate::points::DataItem;
 use etp_schema::Typed;
 use etp_values::{List, Named, Text};
 
-/// What a client wants of one channel.
+/// What a client wants from one channel.
 #[derive(Debug, Drop)]
 pub struct ChannelSubscribeInfo {
     /// The channel's number.
     pub channel_id: i64,
-    /// The index from which on points are sent; null for only those that come later.
+    /// The index from which points are sent; null for only those that come later.
     pub start_index: IndexValue,
     /// Whether replaced ranges and truncations are sent too.
     pub data_changes: bool,
-    /// How many of the last points are sent at first; where it is given, `start_index` does not count.
+    /// How many of the last points are sent at first; if it is given, `start_index` does not count.
     pub request_latest_index_count: Option<i32>,
 }
 
@@ -30,10 +30,10 @@ impl Typed for ChannelSubscribeInfo {
     ghost form = { channel_subscribe_info_form };
 }
 
-/// Asks what channels are.
+/// Asks for the metadata of channels.
 #[derive(Debug, Drop)]
 pub struct GetChannelMetadata {
-    /// The channels' URIs, under keys of the sender's choice.
+    /// The channels' URIs, under keys of the client's choice.
     pub uris: Named<Text>,
 }
 
@@ -43,7 +43,7 @@ impl Typed for GetChannelMetadata {
     ghost form = { get_channel_metadata_form };
 }
 
-/// What the channels are.
+/// The metadata of the channels.
 #[derive(Debug, Drop)]
 pub struct GetChannelMetadataResponse {
     /// The records, under the keys of the request.
@@ -56,10 +56,10 @@ impl Typed for GetChannelMetadataResponse {
     ghost form = { get_channel_metadata_response_form };
 }
 
-/// Asks for the points of channels, those that stand and those to come.
+/// Asks for the points of channels, those that exist and those to come.
 #[derive(Debug, Drop)]
 pub struct SubscribeChannels {
-    /// What is wanted of each channel, under keys of the sender's choice.
+    /// What is wanted from each channel, under keys of the client's choice.
     pub channels: Named<ChannelSubscribeInfo>,
 }
 
@@ -85,7 +85,7 @@ impl Typed for ChannelData {
 /// Ends subscriptions.
 #[derive(Debug, Drop)]
 pub struct UnsubscribeChannels {
-    /// The channels' numbers, under keys of the sender's choice.
+    /// The channels' numbers, under keys of the client's choice.
     pub channel_ids: Named<i64>,
 }
 
@@ -110,7 +110,7 @@ impl Typed for SubscriptionsStopped {
     ghost form = { subscriptions_stopped_form };
 }
 
-/// The channels that were subscribed.
+/// The channels that are now subscribed to.
 #[derive(Debug, Drop)]
 pub struct SubscribeChannelsResponse {
     /// A text for each key of the request that was granted; it may be empty.
@@ -160,8 +160,8 @@ impl ChannelSubscribeMessage {
     }
 }
 
-/// What ChannelSubscribeMessage and the trees of its bodies have to do with one another: each message is found by its number
-/// and its body is read as that message, and what is read of a body is written as that body.
+/// How ChannelSubscribeMessage and the trees of its bodies relate: each message is found by its number and its body is read as that
+/// message, and what is read from a body is written as that body.
 pub fn channel_subscribe_laws()
     ensures found { (x : ChannelSubscribeMessage) → IsFound channel_subscribe_kinds channel_subscribe_body x }
     ensures again { AllByRecursion (IsAgain channel_subscribe_body) channel_subscribe_kinds }

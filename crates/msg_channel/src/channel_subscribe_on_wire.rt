@@ -177,7 +177,7 @@ impl OnWire for SubscribeChannelsResponse {
 }
 
 impl ChannelSubscribeMessage {
-    /// The message of this number whose body stands at the front of what is left, where the protocol has one.
+    /// The message of this number whose body is at the front of the rest, if the protocol has one.
     pub fn read(from: &mut Reader<'_>, kind: i32) -> Result<Option<ChannelSubscribeMessage>, Fault>
         ensures { Reads (kind_at (kind_in channel_subscribe_kinds kind) from.old.left from.old.rest.now) result from.new }
     {
@@ -197,7 +197,7 @@ impl ChannelSubscribeMessage {
         }
     }
 
-    /// Appends the written spelling of the body. After `NoMemory` what was there still stands in front.
+    /// Appends the written spelling of the body. After `NoMemory` what was there is still at the front.
     #[tactic(auto, unfolding(etp_schema::specs::Form::Holds))]
     pub fn write(&self, into: &mut Vec<u8>) -> Result<(), NoMemory>
         ensures written { Writes (plain (channel_subscribe_body self.now).value) into.old.items into.new.items result }
@@ -219,7 +219,7 @@ impl ChannelSubscribeMessage {
         }
     }
 
-    /// How much of a message the body takes. It takes no memory.
+    /// How much of a message the body takes. It does not allocate.
     pub fn measure(&self) -> Measure
         ensures { result ≡ measured (channel_subscribe_body self.now).value }
     {

@@ -34,12 +34,12 @@ impl Typed for PassIndexedDepth {
     ghost form = { pass_indexed_depth_form };
 }
 
-/// A value of an index: a moment, a depth, another number, or none.
+/// A value of an index: a time, a depth, another number, or none.
 #[derive(Clone, Copy, Debug, PartialEq, Eq, Drop)]
 pub enum IndexValue {
-    /// No value. What that means stands at each field.
+    /// No value. What that means is said at each field.
     Null,
-    /// A moment in microseconds since 1970-01-01 UTC, or an elapsed time in microseconds, by the index's kind.
+    /// A time in microseconds since 1970-01-01 UTC, or an elapsed time in microseconds, depending on the index's kind.
     Long(i64),
     /// A depth or another measure, in the index's unit.
     Double(Bits64),
@@ -56,13 +56,13 @@ impl Typed for IndexValue {
 /// The values of an index from one to another, both included.
 #[derive(Debug, Drop)]
 pub struct IndexInterval {
-    /// The first value; null where there is none.
+    /// The first value; null if there is none.
     pub start_index: IndexValue,
-    /// The last value; null where there is none.
+    /// The last value; null if there is none.
     pub end_index: IndexValue,
-    /// The unit of both ends; `us` for moments. It may be empty.
+    /// The unit of both ends; `us` for times. It may be empty.
     pub uom: Text,
-    /// What depths are measured from; empty where the index is no depth.
+    /// What depths are measured from; empty if the index is not a depth.
     pub depth_datum: Text,
 }
 

@@ -1,12 +1,11 @@
 //! The messages of the protocols ChannelSubscribe and ChannelDataLoad, with their records.
 //!
-//! Each message and record is a struct with the schema's fields in order, and is [`Typed`](etp_schema::Typed): its values are,
-//! one to one, those of its schema. The messages of a protocol are an enum, as
-//! [`ChannelSubscribeMessage`], which knows each message's number and reads a body by it. A point is a [`DataItem`], its
-//! place in a channel an [`IndexValue`]. The forms and the tables of numbers stand in `specs/ChannelRecords`,
-//! `specs/ChannelSubscribe` and `specs/ChannelDataLoad`. The schema's field `data` is called `payload`.
+//! Each message and record is a struct with the schema's fields in order, and is [`Typed`](etp_schema::Typed): its values correspond one to
+//! one to those of its schema. The messages of a protocol are an enum, such as [`ChannelSubscribeMessage`], which knows each message's
+//! number and reads a body by it. A point is a [`DataItem`], its place in a channel an [`IndexValue`]. The forms and the tables of numbers
+//! are in `specs/ChannelRecords`, `specs/ChannelSubscribe` and `specs/ChannelDataLoad`. The schema's field `data` is called `payload`.
 //!
-//! All moments are in microseconds since 1970-01-01 UTC.
+//! All times are in microseconds since 1970-01-01 UTC.
 #![tactic(auto)]
 
 mod channel_data_load_messages;

@@ -1,4 +1,4 @@
-//! Points of channels, and where channels are cut off.
+//! Points of channels, and where channels are truncated.
 use crate::indexes::IndexValue;
 use etp_schema::{Few, Typed};
 use etp_values::{DataValue, List};
@@ -36,7 +36,7 @@ impl Typed for DataItem {
     ghost form = { data_item_form };
 }
 
-/// Where a channel is cut off.
+/// Where a channel is truncated.
 #[derive(Debug, Drop)]
 pub struct TruncateInfo {
     /// The channel's number.

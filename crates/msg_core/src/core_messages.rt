@@ -31,7 +31,7 @@ pub struct SupportedProtocol {
     pub protocol_version: Version,
     /// The role that the other end is to have, or has: `store`.
     pub role: Text,
-    /// What holds for this protocol, by name.
+    /// What applies to this protocol, by name.
     pub protocol_capabilities: Named<DataValue>,
 }
 
@@ -44,9 +44,9 @@ impl Typed for SupportedProtocol {
 /// A type of data objects that one end knows.
 #[derive(Debug, Drop)]
 pub struct SupportedDataObject {
-    /// The type as `DOMAIN.TYPE`, where `*` in place of the type stands for all of the domain.
+    /// The type as `DOMAIN.TYPE`; `*` in place of the type means all types of the domain.
     pub qualified_type: Text,
-    /// What holds for this type, by name.
+    /// What applies to this type, by name.
     pub data_object_capabilities: Named<DataValue>,
 }
 
@@ -86,13 +86,13 @@ pub struct RequestSession {
     pub supported_compression: List<Text>,
     /// The formats of data objects: `xml`, `json`.
     pub supported_formats: List<Text>,
-    /// The sender's moment, in microseconds since 1970-01-01 UTC.
+    /// The sender's current time, in microseconds since 1970-01-01 UTC.
     pub current_date_time: i64,
-    /// The earliest change that the sender still knows of, in microseconds since 1970-01-01 UTC.
+    /// The earliest change that the sender still has, in microseconds since 1970-01-01 UTC.
     pub earliest_retained_change_time: i64,
-    /// Whether the client wants the server to prove who it is.
+    /// Whether the client wants the server to prove its identity.
     pub server_authorization_required: bool,
-    /// What the sender can do and up to which limits, by name.
+    /// The sender's capabilities and limits, by name.
     pub endpoint_capabilities: Named<DataValue>,
 }
 
@@ -102,14 +102,14 @@ impl Typed for RequestSession {
     ghost form = { request_session_form };
 }
 
-/// The server's answer to RequestSession: what the session has.
+/// The server's answer to RequestSession: what the session supports.
 #[derive(Debug, Drop)]
 pub struct OpenSession {
     pub application_name: Text,
     pub application_version: Text,
     /// The server's identity.
     pub server_instance_id: Id16,
-    /// The protocols that the session has.
+    /// The protocols that the session supports.
     pub supported_protocols: List<SupportedProtocol>,
     /// The types of data objects that the sender knows.
     pub supported_data_objects: List<SupportedDataObject>,
@@ -117,13 +117,13 @@ pub struct OpenSession {
     pub supported_compression: Text,
     /// The formats of data objects: `xml`, `json`.
     pub supported_formats: List<Text>,
-    /// The sender's moment, in microseconds since 1970-01-01 UTC.
+    /// The sender's current time, in microseconds since 1970-01-01 UTC.
     pub current_date_time: i64,
-    /// The earliest change that the sender still knows of, in microseconds since 1970-01-01 UTC.
+    /// The earliest change that the sender still has, in microseconds since 1970-01-01 UTC.
     pub earliest_retained_change_time: i64,
     /// The session's identity.
     pub session_id: Id16,
-    /// What the sender can do and up to which limits, by name.
+    /// The sender's capabilities and limits, by name.
     pub endpoint_capabilities: Named<DataValue>,
 }
 
@@ -149,7 +149,7 @@ impl Typed for CloseSession {
 /// Asks for a Pong.
 #[derive(Debug, Drop)]
 pub struct Ping {
-    /// The sender's moment, in microseconds since 1970-01-01 UTC.
+    /// The sender's current time, in microseconds since 1970-01-01 UTC.
     pub current_date_time: i64,
 }
 
@@ -162,7 +162,7 @@ impl Typed for Ping {
 /// Answers a Ping.
 #[derive(Debug, Drop)]
 pub struct Pong {
-    /// The sender's moment, in microseconds since 1970-01-01 UTC.
+    /// The sender's current time, in microseconds since 1970-01-01 UTC.
     pub current_date_time: i64,
 }
 
@@ -187,7 +187,7 @@ impl Typed for ProtocolException {
     ghost form = { protocol_exception_form };
 }
 
-/// Says that a message came, where its sender asked for that. It is a message of every protocol.
+/// Says that a message arrived, if its sender asked for that. It is a message of every protocol.
 #[derive(Clone, Copy, Debug, PartialEq, Eq, Drop)]
 pub struct Acknowledge;
 
@@ -227,8 +227,8 @@ impl CoreMessage {
     }
 }
 
-/// What CoreMessage and the trees of its bodies have to do with one another: each message is found by its number and its body is
-/// read as that message, and what is read of a body is written as that body.
+/// How CoreMessage and the trees of its bodies relate: each message is found by its number and its body is read as that message, and what
+/// is read from a body is written as that body.
 pub fn core_laws()
     ensures found { (x : CoreMessage) → IsFound core_kinds core_body x }
     ensures again { AllByRecursion (IsAgain core_body) core_kinds }

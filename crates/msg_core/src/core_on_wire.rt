@@ -447,7 +447,7 @@ impl OnWire for Acknowledge {
 }
 
 impl CoreMessage {
-    /// The message of this number whose body stands at the front of what is left, where the protocol has one.
+    /// The message of this number whose body is at the front of the rest, if the protocol has one.
     pub fn read(from: &mut Reader<'_>, kind: i32) -> Result<Option<CoreMessage>, Fault>
         ensures { Reads (kind_at (kind_in core_kinds kind) from.old.left from.old.rest.now) result from.new }
     {
@@ -463,7 +463,7 @@ impl CoreMessage {
         }
     }
 
-    /// Appends the written spelling of the body. After `NoMemory` what was there still stands in front.
+    /// Appends the written spelling of the body. After `NoMemory` what was there is still at the front.
     #[tactic(auto, unfolding(etp_schema::specs::Form::Holds))]
     pub fn write(&self, into: &mut Vec<u8>) -> Result<(), NoMemory>
         ensures written { Writes (plain (core_body self.now).value) into.old.items into.new.items result }
@@ -481,7 +481,7 @@ impl CoreMessage {
         }
     }
 
-    /// How much of a message the body takes. It takes no memory.
+    /// How much of a message the body takes. It does not allocate.
     pub fn measure(&self) -> Measure
         ensures { result ≡ measured (core_body self.now).value }
     {

@@ -14,9 +14,9 @@ pub struct Dataspace {
     pub uri: Shared<Text>,
     /// The dataspace's path; empty for the default one.
     pub path: Shared<Text>,
-    /// The moment of the last write, in microseconds since 1970-01-01 UTC.
+    /// The time of the last write, in microseconds since 1970-01-01 UTC.
     pub store_last_write: i64,
-    /// The moment at which the store first had it, in microseconds since 1970-01-01 UTC.
+    /// The time at which it was created in the store, in microseconds since 1970-01-01 UTC.
     pub store_created: i64,
     /// What the customer keeps with it, by name.
     pub custom_data: Named<DataValue>,
@@ -28,11 +28,10 @@ impl Typed for Dataspace {
     ghost form = { dataspace_form };
 }
 
-/// Asks which dataspaces there are.
+/// Asks which dataspaces exist.
 #[derive(Debug, Drop)]
 pub struct GetDataspaces {
-    /// Where given, only dataspaces that were written after this moment are wanted, in microseconds since 1970-01-01
-    /// UTC.
+    /// If given, only dataspaces that were written after this time are wanted, in microseconds since 1970-01-01 UTC.
     pub store_last_write_filter: Option<i64>,
 }
 
@@ -55,10 +54,10 @@ impl Typed for GetDataspacesResponse {
     ghost form = { get_dataspaces_response_form };
 }
 
-/// Makes or writes dataspaces.
+/// Creates or overwrites dataspaces.
 #[derive(Debug, Drop)]
 pub struct PutDataspaces {
-    /// The dataspaces to make or to write, by the client's keys.
+    /// The dataspaces to create or overwrite, under the client's keys.
     pub dataspaces: Named<Dataspace>,
 }
 
@@ -68,10 +67,10 @@ impl Typed for PutDataspaces {
     ghost form = { put_dataspaces_form };
 }
 
-/// Deletes dataspaces with all that they hold.
+/// Deletes dataspaces with everything in them.
 #[derive(Debug, Drop)]
 pub struct DeleteDataspaces {
-    /// The URIs of the dataspaces, by the client's keys.
+    /// The URIs of the dataspaces, under the client's keys.
     pub uris: Named<Text>,
 }
 
@@ -134,8 +133,8 @@ impl DataspaceMessage {
     }
 }
 
-/// What DataspaceMessage and the trees of its bodies have to do with one another: each message is found by its number and its body is
-/// read as that message, and what is read of a body is written as that body.
+/// How DataspaceMessage and the trees of its bodies relate: each message is found by its number and its body is read as that message, and
+/// what is read from a body is written as that body.
 pub fn dataspace_laws()
     ensures found { (x : DataspaceMessage) → IsFound dataspace_kinds dataspace_body x }
     ensures again { AllByRecursion (IsAgain dataspace_body) dataspace_kinds }

@@ -1,11 +1,10 @@
 //! The messages of the protocols Core, Dataspace and Transaction, with their records.
 //!
-//! Each message and record is a struct with the schema's fields in order, and is [`Typed`](etp_schema::Typed): its values are,
-//! one to one, those of its schema. The messages of a protocol are an enum, as
-//! [`CoreMessage`], which knows each message's number and reads a body by it. The forms and the tables of numbers stand in
-//! `specs/Core`, `specs/Dataspace` and `specs/Transaction`.
+//! Each message and record is a struct with the schema's fields in order, and is [`Typed`](etp_schema::Typed): its values correspond one to
+//! one to those of its schema. The messages of a protocol are an enum, such as [`CoreMessage`], which knows each message's number and reads
+//! a body by it. The forms and the tables of numbers are in `specs/Core`, `specs/Dataspace` and `specs/Transaction`.
 //!
-//! All moments are in microseconds since 1970-01-01 UTC.
+//! All times are in microseconds since 1970-01-01 UTC.
 #![tactic(auto)]
 
 mod core_messages;

@@ -12,9 +12,9 @@ use etp_values::{Id16, List, Text};
 pub struct StartTransaction {
     /// Whether the transaction only reads.
     pub read_only: bool,
-    /// A note of the client.
+    /// A note from the client.
     pub message: Text,
-    /// The dataspaces that the transaction may use; none for the default one alone.
+    /// The dataspaces that the transaction may use; empty for the default one alone.
     pub dataspace_uris: List<Text>,
 }
 
@@ -29,9 +29,9 @@ impl Typed for StartTransaction {
 pub struct StartTransactionResponse {
     /// The transaction's identity.
     pub transaction_uuid: Id16,
-    /// Whether it was done.
+    /// Whether it succeeded.
     pub successful: bool,
-    /// Why it was not; empty where it was.
+    /// Why it failed; empty if it succeeded.
     pub failure_reason: Text,
 }
 
@@ -41,7 +41,7 @@ impl Typed for StartTransactionResponse {
     ghost form = { start_transaction_response_form };
 }
 
-/// Asks that all writes of the transaction be done at once.
+/// Asks for all writes of the transaction to be done at once.
 #[derive(Debug, Drop)]
 pub struct CommitTransaction {
     /// The transaction's identity.
@@ -54,7 +54,7 @@ impl Typed for CommitTransaction {
     ghost form = { commit_transaction_form };
 }
 
-/// Drops the transaction and its writes.
+/// Discards the transaction and its writes.
 #[derive(Debug, Drop)]
 pub struct RollbackTransaction {
     /// The transaction's identity.
@@ -72,9 +72,9 @@ impl Typed for RollbackTransaction {
 pub struct CommitTransactionResponse {
     /// The transaction's identity.
     pub transaction_uuid: Id16,
-    /// Whether it was done.
+    /// Whether it succeeded.
     pub successful: bool,
-    /// Why it was not; empty where it was.
+    /// Why it failed; empty if it succeeded.
     pub failure_reason: Text,
 }
 
@@ -89,9 +89,9 @@ impl Typed for CommitTransactionResponse {
 pub struct RollbackTransactionResponse {
     /// The transaction's identity.
     pub transaction_uuid: Id16,
-    /// Whether it was done.
+    /// Whether it succeeded.
     pub successful: bool,
-    /// Why it was not; empty where it was.
+    /// Why it failed; empty if it succeeded.
     pub failure_reason: Text,
 }
 
@@ -128,8 +128,8 @@ impl TransactionMessage {
     }
 }
 
-/// What TransactionMessage and the trees of its bodies have to do with one another: each message is found by its number and its body is
-/// read as that message, and what is read of a body is written as that body.
+/// How TransactionMessage and the trees of its bodies relate: each message is found by its number and its body is read as that message, and
+/// what is read from a body is written as that body.
 pub fn transaction_laws()
     ensures found { (x : TransactionMessage) → IsFound transaction_kinds transaction_body x }
     ensures again { AllByRecursion (IsAgain transaction_body) transaction_kinds }

@@ -1,4 +1,4 @@
-//! Records of the DataArray protocol (9): arrays, what is known of them, and what is asked of them.
+//! Records of the DataArray protocol (9): arrays, their metadata, and what is asked of them.
 use crate::array_types::{AnyArrayType, AnyLogicalArrayType};
 use etp_schema::Typed;
 use etp_values::{AnyArray, DataValue, List, Named, Text};
@@ -21,7 +21,7 @@ impl Typed for DataArrayIdentifier {
 /// An array, or a region of one.
 #[derive(Debug, Drop)]
 pub struct DataArray {
-    /// How many elements it has in each dimension; the last dimension runs fastest.
+    /// How many elements it has in each dimension; the last dimension varies fastest.
     pub dimensions: List<i64>,
     /// The elements in row-major order (`data` in the schema).
     pub payload: AnyArray,
@@ -33,20 +33,20 @@ impl Typed for DataArray {
     ghost form = { data_array_form };
 }
 
-/// What is known of an array beside its elements.
+/// What is known about an array apart from its elements.
 #[derive(Debug, Drop)]
 pub struct DataArrayMetadata {
-    /// How many elements the array has in each dimension; the last dimension runs fastest.
+    /// How many elements the array has in each dimension; the last dimension varies fastest.
     pub dimensions: List<i64>,
-    /// The dimensions in which regions had best be asked for: as many as the array's, or none.
+    /// The dimensions in which regions are best requested: as many as the array's, or none.
     pub preferred_subarray_dimensions: List<i64>,
     /// The kind in which the elements are sent.
     pub transport_array_type: AnyArrayType,
     /// What the elements mean.
     pub logical_array_type: AnyLogicalArrayType,
-    /// The moment of the last write, in microseconds since 1970-01-01 UTC.
+    /// The time of the last write, in microseconds since 1970-01-01 UTC.
     pub store_last_write: i64,
-    /// The moment at which the store first had it, in microseconds since 1970-01-01 UTC.
+    /// The time at which it was created in the store, in microseconds since 1970-01-01 UTC.
     pub store_created: i64,
     /// What the customer keeps with it, by name.
     pub custom_data: Named<DataValue>,
@@ -58,11 +58,11 @@ impl Typed for DataArrayMetadata {
     ghost form = { data_array_metadata_form };
 }
 
-/// A region of an array that is wanted.
+/// A region of an array that is requested.
 #[derive(Debug, Drop)]
 pub struct GetDataSubarraysType {
     pub uid: DataArrayIdentifier,
-    /// The place of the region's first element, in each dimension from 0.
+    /// The index of the region's first element in each dimension, from 0.
     pub starts: List<i64>,
     /// How many elements the region has in each dimension.
     pub counts: List<i64>,
@@ -74,7 +74,7 @@ impl Typed for GetDataSubarraysType {
     ghost form = { get_data_subarrays_type_form };
 }
 
-/// An array to make or to write.
+/// An array to create or overwrite.
 #[derive(Debug, Drop)]
 pub struct PutDataArraysType {
     pub uid: DataArrayIdentifier,
@@ -95,7 +95,7 @@ pub struct PutDataSubarraysType {
     pub uid: DataArrayIdentifier,
     /// The region's elements in row-major order (`data` in the schema).
     pub payload: AnyArray,
-    /// The place of the region's first element, in each dimension from 0.
+    /// The index of the region's first element in each dimension, from 0.
     pub starts: List<i64>,
     /// How many elements the region has in each dimension.
     pub counts: List<i64>,
@@ -107,11 +107,11 @@ impl Typed for PutDataSubarraysType {
     ghost form = { put_data_subarrays_type_form };
 }
 
-/// An array to make whose elements are false, 0, the empty text or the byte 0.
+/// An array to create, whose elements are false, 0, the empty text or the byte 0.
 #[derive(Debug, Drop)]
 pub struct PutUninitializedDataArrayType {
     pub uid: DataArrayIdentifier,
-    /// What the array is to be. Its two moments are ignored.
+    /// What the array is to be. Its two times are ignored.
     pub metadata: DataArrayMetadata,
 }
 

@@ -1,7 +1,7 @@
 //! The kinds of arrays, and what their elements mean.
 use etp_schema::Typed;
 
-/// A kind of array: which branch of AnyArray its elements are sent in.
+/// A kind of array: the branch of AnyArray in which its elements are sent.
 #[derive(Clone, Copy, Debug, PartialEq, Eq, Drop)]
 pub enum AnyArrayType {
     ArrayOfBoolean,
@@ -9,9 +9,9 @@ pub enum AnyArrayType {
     ArrayOfInt,
     /// Integers of 64 bits.
     ArrayOfLong,
-    /// Floating values of 32 bits.
+    /// Floating-point values of 32 bits.
     ArrayOfFloat,
-    /// Floating values of 64 bits.
+    /// Floating-point values of 64 bits.
     ArrayOfDouble,
     ArrayOfString,
     /// Elements of one byte each.
@@ -24,8 +24,8 @@ impl Typed for AnyArrayType {
     ghost form = { any_array_type_form };
 }
 
-/// What the elements of an array mean to those who wrote them: a sign, a number of bits, an order of bytes (`LE` with
-/// the lowest first, `BE` with the highest). The store keeps it and does not act on it.
+/// What the elements of an array mean to those who wrote them: signedness, width and byte order (`LE` with the lowest byte first, `BE` with
+/// the highest). The store keeps it and does not act on it.
 #[derive(Clone, Copy, Debug, PartialEq, Eq, Drop)]
 pub enum AnyLogicalArrayType {
     ArrayOfBoolean,
@@ -48,7 +48,7 @@ pub enum AnyLogicalArrayType {
     ArrayOfFloat32BE,
     ArrayOfDouble64BE,
     ArrayOfString,
-    /// What only those who wrote them know.
+    /// Known only to those who wrote them.
     ArrayOfCustom,
 }
 

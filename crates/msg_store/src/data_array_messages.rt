@@ -14,7 +14,7 @@ use etp_values::{Named, Text};
 /// Answers GetDataArrays.
 #[derive(Debug, Drop)]
 pub struct GetDataArraysResponse {
-    /// The arrays, by the client's keys.
+    /// The arrays, under the client's keys.
     pub data_arrays: Named<DataArray>,
 }
 
@@ -27,7 +27,7 @@ impl Typed for GetDataArraysResponse {
 /// Asks for whole arrays.
 #[derive(Debug, Drop)]
 pub struct GetDataArrays {
-    /// Which arrays, by the client's keys.
+    /// Which arrays, under the client's keys.
     pub data_arrays: Named<DataArrayIdentifier>,
 }
 
@@ -40,7 +40,7 @@ impl Typed for GetDataArrays {
 /// Asks for regions of arrays.
 #[derive(Debug, Drop)]
 pub struct GetDataSubarrays {
-    /// Which regions, by the client's keys.
+    /// Which regions, under the client's keys.
     pub data_subarrays: Named<GetDataSubarraysType>,
 }
 
@@ -50,10 +50,10 @@ impl Typed for GetDataSubarrays {
     ghost form = { get_data_subarrays_form };
 }
 
-/// Makes or writes whole arrays.
+/// Creates or overwrites whole arrays.
 #[derive(Debug, Drop)]
 pub struct PutDataArrays {
-    /// The arrays, by the client's keys.
+    /// The arrays, under the client's keys.
     pub data_arrays: Named<PutDataArraysType>,
 }
 
@@ -63,10 +63,10 @@ impl Typed for PutDataArrays {
     ghost form = { put_data_arrays_form };
 }
 
-/// Writes regions of arrays that are there.
+/// Writes regions of existing arrays.
 #[derive(Debug, Drop)]
 pub struct PutDataSubarrays {
-    /// The regions, by the client's keys.
+    /// The regions, under the client's keys.
     pub data_subarrays: Named<PutDataSubarraysType>,
 }
 
@@ -76,10 +76,10 @@ impl Typed for PutDataSubarrays {
     ghost form = { put_data_subarrays_form };
 }
 
-/// Asks what is known of arrays, without their elements.
+/// Asks for the metadata of arrays, without their elements.
 #[derive(Debug, Drop)]
 pub struct GetDataArrayMetadata {
-    /// Which arrays, by the client's keys.
+    /// Which arrays, under the client's keys.
     pub data_arrays: Named<DataArrayIdentifier>,
 }
 
@@ -92,7 +92,7 @@ impl Typed for GetDataArrayMetadata {
 /// Answers GetDataArrayMetadata.
 #[derive(Debug, Drop)]
 pub struct GetDataArrayMetadataResponse {
-    /// What is known of each array, by the client's keys.
+    /// The metadata of each array, under the client's keys.
     pub array_metadata: Named<DataArrayMetadata>,
 }
 
@@ -105,7 +105,7 @@ impl Typed for GetDataArrayMetadataResponse {
 /// Answers GetDataSubarrays.
 #[derive(Debug, Drop)]
 pub struct GetDataSubarraysResponse {
-    /// The regions, by the client's keys.
+    /// The regions, under the client's keys.
     pub data_subarrays: Named<DataArray>,
 }
 
@@ -115,10 +115,10 @@ impl Typed for GetDataSubarraysResponse {
     ghost form = { get_data_subarrays_response_form };
 }
 
-/// Makes arrays without sending their elements.
+/// Creates arrays without sending their elements.
 #[derive(Debug, Drop)]
 pub struct PutUninitializedDataArrays {
-    /// The arrays, by the client's keys.
+    /// The arrays, under the client's keys.
     pub data_arrays: Named<PutUninitializedDataArrayType>,
 }
 
@@ -206,8 +206,8 @@ impl DataArrayMessage {
     }
 }
 
-/// What DataArrayMessage and the trees of its bodies have to do with one another: each message is found by its number
-/// and its body is read as that message, and what is read of a body is written as that body.
+/// How DataArrayMessage and the trees of its bodies relate: each message is found by its number and its body is read as that message, and
+/// what is read from a body is written as that body.
 pub fn data_array_laws()
     ensures found { (x : DataArrayMessage) → IsFound data_array_kinds data_array_body x }
     ensures again { AllByRecursion (IsAgain data_array_body) data_array_kinds }

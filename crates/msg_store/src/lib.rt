@@ -1,12 +1,11 @@
 //! The messages of the protocols Store and DataArray, with their records.
 //!
-//! Each message and record is a struct with the schema's fields in order, and is [`Typed`](etp_schema::Typed): its values are,
-//! one to one, those of its schema. The schema's fields `data` and `final` are
-//! called `payload` and `last` here. The messages of a protocol are an enum, as [`StoreMessage`], which knows each
-//! message's number and reads a body by it. The forms and the tables of numbers stand in `specs/Store`,
-//! `specs/ArrayTypes`, `specs/ArrayRecords` and `specs/DataArray`.
+//! Each message and record is a struct with the schema's fields in order, and is [`Typed`](etp_schema::Typed): its values correspond one to
+//! one to those of its schema. The schema's fields `data` and `final` are called `payload` and `last` here. The messages of a protocol are
+//! an enum, such as [`StoreMessage`], which knows each message's number and reads a body by it. The forms and the tables of numbers are in
+//! `specs/Store`, `specs/ArrayTypes`, `specs/ArrayRecords` and `specs/DataArray`.
 //!
-//! All moments are in microseconds since 1970-01-01 UTC.
+//! All times are in microseconds since 1970-01-01 UTC.
 #![tactic(auto)]
 
 mod array_records;

@@ -7,7 +7,7 @@ ghost use Rattle.msg_store.specs.Store.{store_body, store_kinds};
 use etp_schema::{ActiveStatusKind, Typed};
 use etp_values::{Blob, DataValue, Id16, List, Named, Text};
 
-/// What a data object is, beside its data.
+/// The description of a data object, apart from its data.
 #[derive(Debug, Drop)]
 pub struct Resource {
     /// The object's URI.
@@ -16,15 +16,15 @@ pub struct Resource {
     pub alternate_uris: List<Text>,
     /// The object's name, for people.
     pub name: Text,
-    /// How many objects refer to this one; null where that is not counted.
+    /// How many objects refer to this one; null if that is not counted.
     pub source_count: Option<i32>,
-    /// How many objects this one refers to; null where that is not counted.
+    /// How many objects this one refers to; null if that is not counted.
     pub target_count: Option<i32>,
-    /// The moment at which the object last changed, as its client says, in microseconds since 1970-01-01 UTC.
+    /// When the object last changed, according to its client, in microseconds since 1970-01-01 UTC.
     pub last_changed: i64,
-    /// The moment of the last write, in microseconds since 1970-01-01 UTC.
+    /// The time of the last write, in microseconds since 1970-01-01 UTC.
     pub store_last_write: i64,
-    /// The moment at which the store first had it, in microseconds since 1970-01-01 UTC.
+    /// The time at which it was created in the store, in microseconds since 1970-01-01 UTC.
     pub store_created: i64,
     /// Whether the object is being written to.
     pub active_status: ActiveStatusKind,
@@ -38,13 +38,13 @@ impl Typed for Resource {
     ghost form = { resource_form };
 }
 
-/// A data object with its data, which no store reads.
+/// A data object with its data, which no store interprets.
 #[derive(Debug, Drop)]
 pub struct DataObject {
     pub resource: Resource,
-    /// What the data are written in: `xml`, `json`; empty for `xml`.
+    /// The format of the data: `xml`, `json`; empty for `xml`.
     pub format: Text,
-    /// Where given, the data come in the chunks with this identity, and `payload` is empty.
+    /// If given, the data come in the chunks with this identity, and `payload` is empty.
     pub blob_id: Option<Id16>,
     /// The data (`data` in the schema).
     pub payload: Blob,
@@ -60,13 +60,13 @@ impl Typed for DataObject {
 /// objects leaves the four lists empty.
 #[derive(Debug, Drop)]
 pub struct PutResponse {
-    /// Those that were made.
+    /// Those that were created.
     pub created_contained_object_uris: List<Text>,
     /// Those that were deleted.
     pub deleted_contained_object_uris: List<Text>,
-    /// Those that were there, and which the object now contains.
+    /// Those that existed already, and which the object now contains.
     pub joined_contained_object_uris: List<Text>,
-    /// Those that are still there, and which the object no longer contains.
+    /// Those that still exist, and which the object no longer contains.
     pub unjoined_contained_object_uris: List<Text>,
 }
 
@@ -91,9 +91,9 @@ impl Typed for ArrayOfString {
 /// Asks for data objects.
 #[derive(Debug, Drop)]
 pub struct GetDataObjects {
-    /// The URIs of the objects, by the client's keys.
+    /// The URIs of the objects, under the client's keys.
     pub uris: Named<Text>,
-    /// What the objects are to be written in; empty for `xml`.
+    /// The format in which the objects are wanted; empty for `xml`.
     pub format: Text,
 }
 
@@ -103,10 +103,10 @@ impl Typed for GetDataObjects {
     ghost form = { get_data_objects_form };
 }
 
-/// Makes or writes data objects.
+/// Creates or overwrites data objects.
 #[derive(Debug, Drop)]
 pub struct PutDataObjects {
-    /// The objects to make or to write, by the client's keys.
+    /// The objects to create or overwrite, under the client's keys.
     pub data_objects: Named<DataObject>,
     /// Whether contained objects that no object contains any longer are to be deleted as well.
     pub prune_contained_objects: bool,
@@ -121,7 +121,7 @@ impl Typed for PutDataObjects {
 /// Deletes data objects with their arrays.
 #[derive(Debug, Drop)]
 pub struct DeleteDataObjects {
-    /// The URIs of the objects, by the client's keys.
+    /// The URIs of the objects, under the client's keys.
     pub uris: Named<Text>,
     /// Whether contained objects that no object contains any longer are to be deleted as well.
     pub prune_contained_objects: bool,
@@ -136,7 +136,7 @@ impl Typed for DeleteDataObjects {
 /// Answers GetDataObjects.
 #[derive(Debug, Drop)]
 pub struct GetDataObjectsResponse {
-    /// The objects, by the client's keys.
+    /// The objects, under the client's keys.
     pub data_objects: Named<DataObject>,
 }
 
@@ -146,8 +146,7 @@ impl Typed for GetDataObjectsResponse {
     ghost form = { get_data_objects_response_form };
 }
 
-/// A piece of the data of an object that was sent with a `blob_id`. The pieces come in order after the message that has
-/// the object.
+/// A piece of the data of an object that was sent with a `blob_id`. The pieces follow in order after the message that has the object.
 #[derive(Debug, Drop)]
 pub struct Chunk {
     /// The identity that the object was sent with.
@@ -219,8 +218,8 @@ impl StoreMessage {
     }
 }
 
-/// What StoreMessage and the trees of its bodies have to do with one another: each message is found by its number and
-/// its body is read as that message, and what is read of a body is written as that body.
+/// How StoreMessage and the trees of its bodies relate: each message is found by its number and its body is read as that message, and what
+/// is read from a body is written as that body.
 pub fn store_laws()
     ensures found { (x : StoreMessage) → IsFound store_kinds store_body x }
     ensures again { AllByRecursion (IsAgain store_body) store_kinds }

@@ -346,7 +346,7 @@ impl OnWire for DeleteDataObjectsResponse {
 }
 
 impl StoreMessage {
-    /// The message of this number whose body stands at the front of what is left, where the protocol has one.
+    /// The message of this number whose body is at the front of the rest, if the protocol has one.
     pub fn read(from: &mut Reader<'_>, kind: i32) -> Result<Option<StoreMessage>, Fault>
         ensures { Reads (kind_at (kind_in store_kinds kind) from.old.left from.old.rest.now) result from.new }
     {
@@ -362,7 +362,7 @@ impl StoreMessage {
         }
     }
 
-    /// Appends the written spelling of the body. After `NoMemory` what was there still stands in front.
+    /// Appends the written spelling of the body. After `NoMemory` what was there is still at the front.
     #[tactic(auto, unfolding(etp_schema::specs::Form::Holds))]
     pub fn write(&self, into: &mut Vec<u8>) -> Result<(), NoMemory>
         ensures written { Writes (plain (store_body self.now).value) into.old.items into.new.items result }
@@ -380,7 +380,7 @@ impl StoreMessage {
         }
     }
 
-    /// How much of a message the body takes. It takes no memory.
+    /// How much of a message the body takes. It does not allocate.
     pub fn measure(&self) -> Measure
         ensures { result ≡ measured (store_body self.now).value }
     {

@@ -18,7 +18,7 @@ use Rattle.object_store.specs.Going.{Going, goes, TakesToo, Turns, Gathering}
 -- ---- one operation
 
 module _ {R : Type 0} where
-  -- a set of what goes later changes nothing
+  -- a set of what is dropped later changes nothing
   set_gone : (here out : Bool) (put was : Option R) → (here ≡ true → out ≡ true) → cond out None was ≡ cond out None (cond here put was)
   set_gone true true put was gone = refl
   set_gone true false put was gone = absurd (false≢true (gone refl))
@@ -103,7 +103,7 @@ drop-gone old new path items takes = record {
   objects = λ q was. drop_gone (bytes_eq path q.space) (bytes_eq q.space path) (goes old q.space) (goes new q.space) was (nat_list_eq_equiv.symm path q.space) (takes q.space);
 }
 
--- ---- one operation more, at one key: by whether it went before, and whether it goes now
+-- ---- one more operation, at one key: by whether it was dropped before, and whether it is dropped now
 
 module _ {R : Type 0} (step : Option R → ObjectOp → Option R) (old new : Bool) (o : ObjectOp) (put left front shorter ops : List ObjectOp) where
   turned-at : front ≡ shorter ++ o ∷ []

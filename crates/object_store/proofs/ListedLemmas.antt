@@ -1,4 +1,4 @@
--- The records of a table whose records stand at their own keys.
+-- The records of a table that are at their own keys.
 use Rattle.std.specs.Prelude.{ℕ, Bool, true, false, cond, List, [], ◌∷◌, ◌≡◌, Some, IfSome, refl, find, map}
 use Rattle.std.specs.Cmp.Lexicographic.{nat_list_eq_equiv}
 use Rattle.std.specs.List.{IsDistinct, AllByRecursion}
@@ -37,7 +37,7 @@ found_said : (path : List ℕ) (es : List (List ℕ × SpaceRecord)) → AllByRe
 found_said path [] all = refl
 found_said path (e ∷ es) all = (λ j. cond (bytes_eq path (all.0 j)) (Some e.1) (found_said path es all.1 j))
 
--- where each record stands at its own key, and no key comes twice, the values are the dataspaces, each once
+-- if each record is at its own key, and no key occurs twice, the values are the dataspaces, each once
 pub lists_spaces : (t : Tables) (records : List SpaceRecord) → records ≡ values_of t.spaces → IsDistinct bytes_eq (keys_of t.spaces) → ((path : List ℕ) → IfSome (space_in t path) (λ r. r.path ≡ path)) → ListsSpaces t records
 lists_spaces t records listed distinct says =
     let all = all_say t.spaces distinct says in

@@ -10,24 +10,24 @@ use Rattle.object_store.specs.declared.op.ObjectOp.{ObjectOp}
 use Rattle.object_store.specs.declared.op.ObjectOp.TheVariants.{SetSpace, DropSpace, SetObject, DropObject}
 use Rattle.object_store.specs.Tables.{Tables, space_in, object_in}
 
--- the dataspace that a put leaves: it was made when the one before was, or now where there was none
+-- the dataspace that a put leaves: it was created when the previous one was, or now if there was none
 abbrev pub space_made : Option SpaceRecord → SpaceRecord → SpaceRecord
 space_made None r = record r { created = r.written }
 space_made (Some before) r = record r { created = before.created }
 
--- the object that a put leaves: it was made when the one before was, or now where there was none
+-- the object that a put leaves: it was created when the previous one was, or now if there was none
 abbrev pub object_made : Option ObjectRecord → ObjectRecord → ObjectRecord
 object_made None r = record r { created = r.written }
 object_made (Some before) r = record r { created = before.created }
 
--- what an operation leaves of the dataspace of a path
+-- what an operation leaves of the dataspace with a path
 abbrev pub space_after : List ℕ → Option SpaceRecord → ObjectOp → Option SpaceRecord
 space_after path before (SetSpace r) = if bytes_eq path r.path then Some (space_made before r) else before
 space_after path before (DropSpace p) = if bytes_eq path p then None else before
 space_after path before (SetObject r) = before
 space_after path before (DropObject u) = before
 
--- what an operation leaves of the object of a URI; a dropped dataspace takes its objects along
+-- what an operation leaves of the object with a URI; a dropped dataspace takes its objects with it
 abbrev pub object_after : StoreUri → Option ObjectRecord → ObjectOp → Option ObjectRecord
 object_after uri before (SetSpace r) = before
 object_after uri before (DropSpace p) = if bytes_eq uri.space p then None else before
@@ -36,7 +36,7 @@ object_after uri before (DropObject u) = if same_uri uri u then None else before
 
 -- ---- one table
 
--- the table of dataspaces after a put: at the path the record as it is made, elsewhere what was there
+-- the table of dataspaces after a put: at the path the record as it is put, elsewhere what was there
 abbrev pub PutsSpace : List ℕ → SpaceRecord → List (List ℕ × SpaceRecord) → List (List ℕ × SpaceRecord) → Type 0
 PutsSpace path r old new = (q : List ℕ)
     → lookup (bytes_eq q) new
@@ -68,7 +68,7 @@ pub record Applies (ops : List ObjectOp) (old new : Tables) : Type 0 where
   pub spaces : (path : List ℕ) → space_in new path ≡ fold (space_after path) (space_in old path) ops
   pub objects : (uri : StoreUri) → object_in new uri ≡ fold (object_after uri) (object_in old uri) ops
 
--- what is left to do leads from here where the whole leads from the start
+-- what is left to do leads from here to where the whole leads from the start
 pub record Continues (rest all : List ObjectOp) (now start : Tables) : Type 0 where
   pub spaces : (path : List ℕ) → fold (space_after path) (space_in now path) rest ≡ fold (space_after path) (space_in start path) all
   pub objects : (uri : StoreUri) → fold (object_after uri) (object_in now uri) rest ≡ fold (object_after uri) (object_in start uri) all

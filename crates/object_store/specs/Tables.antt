@@ -8,7 +8,7 @@ use Rattle.etp_values.specs.SameUri.{same_uri}
 use Rattle.object_store.specs.declared.records.SpaceRecord.{SpaceRecord}
 use Rattle.object_store.specs.declared.records.ObjectRecord.{ObjectRecord}
 
--- the records by their keys, and how many operations fit without memory
+-- the records by their keys, and how many operations fit without allocating
 pub record Tables : Type 0 where
   pub spaces : List (List ℕ × SpaceRecord)
   pub objects : List (StoreUri × ObjectRecord)
@@ -22,12 +22,12 @@ space_in t path = lookup (bytes_eq path) t.spaces
 abbrev pub object_in : Tables → StoreUri → Option ObjectRecord
 object_in t uri = lookup (same_uri uri) t.objects
 
--- these are the dataspaces that are there, each once
+-- these are the existing dataspaces, each once
 pub record ListsSpaces (t : Tables) (records : List SpaceRecord) : Type 0 where
   pub found : (path : List ℕ) → find (λ r. bytes_eq path r.path) records ≡ space_in t path
   pub once : IsDistinct bytes_eq (map (λ r. r.path) records)
 
--- the default dataspace as it is from the first
+-- the default dataspace in its initial state
 abbrev pub default_dataspace : SpaceRecord
 default_dataspace = record { path = []; written = pos 0; created = pos 0; custom = [] }
 

@@ -13,7 +13,7 @@ use std::alloc::Global;
 use std::collections::VecDeque;
 use std::marker::Model;
 
-/// The dataspaces that go with all that is in them, to be found by hash.
+/// The dataspaces that are dropped with everything in them, to be found by hash.
 #[derive(Drop)]
 pub(crate) struct GoingSpaces {
     spaces: IndexSet<Text>,
@@ -29,7 +29,7 @@ impl Model for GoingSpaces {
 }
 
 impl GoingSpaces {
-    /// Nothing goes.
+    /// Nothing is dropped.
     pub(crate) fn new(alloc: Global) -> GoingSpaces {
         GoingSpaces {
             spaces: IndexSet::new(alloc),
@@ -45,7 +45,7 @@ impl GoingSpaces {
         Ok(())
     }
 
-    /// Nothing goes any more.
+    /// Nothing is dropped any more.
     pub(crate) fn clear(&mut self)
         ensures none { (path : Items ℕ) → goes self.new path ≡ false }
         ensures room { self.old.room ≤ self.new.room }
@@ -53,21 +53,21 @@ impl GoingSpaces {
         self.spaces.clear();
     }
 
-    /// Whether nothing goes.
+    /// Whether nothing is dropped.
     pub(crate) fn is_empty(&self) -> bool
         ensures { IsTrue result → (path : Items ℕ) → goes self.now path ≡ false }
     {
         self.spaces.is_empty()
     }
 
-    /// Whether the dataspace of a path goes.
+    /// Whether the dataspace of a path is dropped.
     pub(crate) fn has(&self, path: &Text) -> bool
         ensures { result ≡ goes self.now path.now }
     {
         self.spaces.contains(path)
     }
 
-    /// The dataspace of a path goes too.
+    /// The dataspace of a path is dropped too.
     fn add(&mut self, path: Text)
         requires { 0 < self.old.room }
         ensures each { TakesToo self.old self.new path }
@@ -76,7 +76,7 @@ impl GoingSpaces {
         let _ = self.spaces.insert(path);
     }
 
-    /// Puts the set of a dataspace before what is left to do, where it doesn't go.
+    /// Puts the set of a dataspace before what is left to do, unless it is dropped.
     fn turn_space(&self, queue: &mut VecDeque<ObjectOp>, space: KeyedSpace)
         requires { deque_len queue.old < deque_capacity queue.old }
         ensures each { Turns self.now self.now (op.SetSpace space) queue.old.items queue.new.items }
@@ -89,7 +89,7 @@ impl GoingSpaces {
         queue.push_front_reserved(ObjectOp::SetSpace(space));
     }
 
-    /// The same of an object, where its dataspace doesn't go.
+    /// The same for an object, unless its dataspace is dropped.
     fn turn_object(&self, queue: &mut VecDeque<ObjectOp>, object: KeyedObject)
         requires { deque_len queue.old < deque_capacity queue.old }
         ensures each { Turns self.now self.now (op.SetObject object) queue.old.items queue.new.items }
@@ -135,8 +135,8 @@ impl GoingSpaces {
         self.turn_op(queue, op);
     }
 
-    /// Gathers the dataspaces that operations drop, and answers what is left to do once they are gone with all that is in them: from
-    /// the end to the start, what is set before its dataspace is dropped is left out. It takes no memory.
+    /// Gathers the dataspaces that operations drop, and returns what is left to do once they are gone with everything in them: from the end
+    /// to the start, what is set before its dataspace is dropped is left out. It does not allocate.
     pub(crate) fn gather(&mut self, ops: List<ObjectOp>) -> List<ObjectOp>
         requires { length ops ≤ self.old.room }
         ensures each { Gathers self.new result ops }

@@ -1,4 +1,4 @@
-//! Records beside a copy of their key, as a table takes them.
+//! Records next to a copy of their key, as a table takes them.
 ghost use Rattle.std.specs.Prelude.{◌≡◌, IfOk};
 
 use crate::records::{ObjectRecord, SpaceRecord};
@@ -13,7 +13,7 @@ pub struct KeyedSpace {
     space: SpaceRecord,
 }
 
-/// Written out, so that whoever holds one drops it by one call.
+/// Written out, so that whatever holds one drops it by a single call.
 impl Drop for KeyedSpace {
     fn drop(self) {
         let KeyedSpace { path, space } = self;
@@ -42,7 +42,7 @@ impl KeyedSpace {
         Ok(KeyedSpace { path, space })
     }
 
-    /// The record, to be read.
+    /// Borrows the record.
     pub fn as_record(&self) -> &SpaceRecord
         ensures { result.now ≡ self.now }
     {
@@ -66,7 +66,7 @@ pub struct KeyedObject {
     object: ObjectRecord,
 }
 
-/// Written out, so that whoever holds one drops it by one call.
+/// Written out, so that whatever holds one drops it by a single call.
 impl Drop for KeyedObject {
     fn drop(self) {
         let KeyedObject { uri, object } = self;
@@ -95,7 +95,7 @@ impl KeyedObject {
         Ok(KeyedObject { uri, object })
     }
 
-    /// The record, to be read.
+    /// Borrows the record.
     pub fn as_record(&self) -> &ObjectRecord
         ensures { result.now ≡ self.now }
     {

@@ -21,12 +21,12 @@ pub struct ObjectRecord {
     /// Other URIs of the object, as its client wrote them.
     pub others: List<Text>,
     pub name: Text,
-    /// When the object last changed, as its client says.
+    /// When the object last changed, according to its client.
     pub changed: i64,
     /// Whether the object is being written to: 0 or 1.
     pub active: u32,
     pub custom: Named<DataValue>,
-    /// What `payload` is written in, as `xml`.
+    /// The format of `payload`, such as `xml`.
     pub format: Text,
     pub payload: Blob,
     /// When it was last put.

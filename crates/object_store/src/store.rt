@@ -13,16 +13,16 @@ use indexmap::IndexMap;
 use std::alloc::Global;
 use std::marker::Model;
 
-/// Dataspaces by their path and objects by their URI. A contract sees the two tables, and as `spare` how many operations
-/// can be done without memory.
+/// Dataspaces by their path and objects by their URI. A contract sees the two tables, and as `spare` how many operations can be done
+/// without allocating.
 pub struct ObjectStore {
     spaces: IndexMap<Text, SpaceRecord>,
     objects: IndexMap<StoreUri, ObjectRecord>,
-    /// The dataspaces that a list of operations drops, while it is done.
+    /// The dataspaces that a list of operations drops, while it is applied.
     going: GoingSpaces,
 }
 
-/// Written out, so that whoever holds one drops it by one call.
+/// Written out, so that whatever holds one drops it by a single call.
 impl Drop for ObjectStore {
     fn drop(self) {
         let ObjectStore {
@@ -54,7 +54,7 @@ impl ObjectStore {
     ghost use Rattle.object_store.specs.Tables.{space_in, object_in, ListsSpaces, SameTables, IsFirst};
     ghost use Rattle.object_store.specs.Changes.{Applies, Continues};
 
-    /// A store with the default dataspace alone, made at the moment 0.
+    /// A store with only the default dataspace, created at time 0.
     pub fn new(alloc: Global) -> Result<ObjectStore, NoMemory>
         ensures { IfOk result IsFirst }
     {
@@ -73,7 +73,7 @@ impl ObjectStore {
         })
     }
 
-    /// The dataspace of a path.
+    /// The dataspace with a path.
     pub fn space(&self, path: &Text) -> Option<&SpaceRecord>
         ensures value { option_copied result ≡ space_in self.now path.now }
         ensures path { IfSome result (λ r. r.now.path ≡ path.now) }
@@ -81,7 +81,7 @@ impl ObjectStore {
         self.spaces.get(path)
     }
 
-    /// The object of a URI.
+    /// The object with a URI.
     pub fn look(&self, uri: &StoreUri) -> Option<&ObjectRecord>
         ensures value { option_copied result ≡ object_in self.now uri.now }
         ensures uri { IfSome result (λ r. r.now.uri ≡ uri.now) }
@@ -89,11 +89,11 @@ impl ObjectStore {
         object_at(&self.objects, uri)
     }
 
-    /// The dataspaces, in no order that is promised.
+    /// The dataspaces, in no particular order.
     pub fn spaces(&self) -> &[SpaceRecord]
         ensures { ListsSpaces self.now result.now }
     {
-        // The map's length is asked for its clause that no path comes twice.
+        // The map's length is requested for its clause that no path occurs twice.
         let _count = self.spaces.len();
         self.spaces.values().as_slice()
     }
@@ -110,7 +110,7 @@ impl ObjectStore {
         self.going.reserve(count)
     }
 
-    /// Does one operation.
+    /// Applies one operation.
     fn apply_one(&mut self, op: ObjectOp)
         requires { 0 < self.old.spare }
         ensures each { Applies (op ∷ []) self.old self.new }
@@ -133,7 +133,7 @@ impl ObjectStore {
         }
     }
 
-    /// Does these operations one after the other.
+    /// Applies these operations one after the other.
     fn apply_each(&mut self, ops: List<ObjectOp>)
         requires { length ops ≤ self.old.spare }
         ensures each { Applies ops self.old self.new }
@@ -144,7 +144,7 @@ impl ObjectStore {
         }
     }
 
-    /// Takes out all dataspaces that these operations drop, in one pass, and answers what is left to do.
+    /// Takes out all dataspaces that these operations drop, in one pass, and returns what is left to do.
     fn take_out(&mut self, ops: List<ObjectOp>) -> List<ObjectOp>
         requires { length ops ≤ self.old.spare }
         ensures each { Continues result ops self.new self.old }
@@ -157,7 +157,7 @@ impl ObjectStore {
         left
     }
 
-    /// Does these operations in order: however many drop a dataspace, the tables are gone through once. It takes no memory.
+    /// Applies these operations in order: however many drop a dataspace, the tables are traversed once. It does not allocate.
     pub fn apply(&mut self, ops: List<ObjectOp>)
         requires { length ops ≤ self.old.spare }
         ensures each { Applies ops self.old self.new }

@@ -13,7 +13,7 @@ use crate::records::{ObjectRecord, SpaceRecord};
 use etp_values::{StoreUri, Text};
 use indexmap::IndexMap;
 
-/// The record as it is put: it keeps the moment at which the one before was made.
+/// The record as it is put: it keeps the time at which the previous one was created.
 fn space_made(
     spaces: &IndexMap<Text, SpaceRecord>,
     path: &Text,
@@ -28,7 +28,7 @@ fn space_made(
     space
 }
 
-/// Puts a dataspace in place of the one of its path.
+/// Puts a dataspace in place of the one with its path.
 pub(crate) fn put_space(spaces: &mut IndexMap<Text, SpaceRecord>, path: Text, space: SpaceRecord)
     requires { 0 < spare spaces.old }
     ensures each { PutsSpace path space spaces.old.entries spaces.new.entries }
@@ -38,7 +38,7 @@ pub(crate) fn put_space(spaces: &mut IndexMap<Text, SpaceRecord>, path: Text, sp
     let _ = spaces.insert(path, space);
 }
 
-/// Takes out the dataspace of a path.
+/// Takes out the dataspace with a path.
 pub(crate) fn drop_space(spaces: &mut IndexMap<Text, SpaceRecord>, path: &Text)
     ensures each { DropsSpace path.now spaces.old.entries spaces.new.entries }
     ensures room { spare spaces.old ≤ spare spaces.new }
@@ -46,7 +46,7 @@ pub(crate) fn drop_space(spaces: &mut IndexMap<Text, SpaceRecord>, path: &Text)
     let _ = spaces.swap_remove(path);
 }
 
-/// The record as it is put: it keeps the moment at which the one before was made.
+/// The record as it is put: it keeps the time at which the previous one was created.
 fn object_made(
     objects: &IndexMap<StoreUri, ObjectRecord>,
     uri: &StoreUri,
@@ -61,7 +61,7 @@ fn object_made(
     object
 }
 
-/// The object of a URI.
+/// The object with a URI.
 pub(crate) fn object_at<'a>(
     objects: &'a IndexMap<StoreUri, ObjectRecord>,
     uri: &StoreUri,
@@ -71,7 +71,7 @@ pub(crate) fn object_at<'a>(
     objects.get(uri)
 }
 
-/// Puts an object in place of the one of its URI.
+/// Puts an object in place of the one with its URI.
 pub(crate) fn put_object(
     objects: &mut IndexMap<StoreUri, ObjectRecord>,
     uri: StoreUri,
@@ -85,7 +85,7 @@ pub(crate) fn put_object(
     let _ = objects.insert(uri, object);
 }
 
-/// Takes out the object of a URI.
+/// Takes out the object with a URI.
 pub(crate) fn drop_object(objects: &mut IndexMap<StoreUri, ObjectRecord>, uri: &StoreUri)
     ensures each { DropsObject uri.now objects.old.entries objects.new.entries }
     ensures room { spare objects.old ≤ spare objects.new }
@@ -105,7 +105,7 @@ pub(crate) fn drop_objects_in(objects: &mut IndexMap<StoreUri, ObjectRecord>, pa
     );
 }
 
-/// Keeps the dataspaces that don't go.
+/// Keeps the dataspaces that are not dropped.
 fn retain_spaces(spaces: &mut IndexMap<Text, SpaceRecord>, going: &GoingSpaces)
     ensures each { LosesSpaces going.now spaces.old.entries spaces.new.entries }
     ensures room { spare spaces.old ≤ spare spaces.new }
@@ -117,7 +117,7 @@ fn retain_spaces(spaces: &mut IndexMap<Text, SpaceRecord>, going: &GoingSpaces)
     );
 }
 
-/// Keeps the objects whose dataspace doesn't go.
+/// Keeps the objects whose dataspace is not dropped.
 fn retain_objects(objects: &mut IndexMap<StoreUri, ObjectRecord>, going: &GoingSpaces)
     ensures each { LosesObjects going.now objects.old.entries objects.new.entries }
     ensures room { spare objects.old ≤ spare objects.new }
@@ -129,7 +129,7 @@ fn retain_objects(objects: &mut IndexMap<StoreUri, ObjectRecord>, going: &GoingS
     );
 }
 
-/// Takes out the dataspaces that go, and all objects in them: in one pass over each table, and in none where nothing goes.
+/// Takes out the dropped dataspaces, and all objects in them: in one pass over each table, and in none if nothing is dropped.
 pub(crate) fn drop_going(
     spaces: &mut IndexMap<Text, SpaceRecord>,
     objects: &mut IndexMap<StoreUri, ObjectRecord>,

@@ -5,15 +5,15 @@ use Rattle.outside_net.specs.declared.arrival.Arrival.TheVariants as arrival
 use Rattle.outside_net.specs.declared.coming.Kind.{Kind}
 use Rattle.outside_net.specs.declared.coming.Kind.TheVariants.{Binary, Text}
 
--- whether a message of so many bytes is handed on as it is
+-- whether a message of this many bytes is handed on as it is
 abbrev pub is_short : ℕ → Bool
 is_short count = nat_le count 16777216
 
--- what is kept of a binary message of which so many bytes have come with the piece
+-- what is kept of a binary message of which this many bytes have come with the piece
 abbrev pub kept : ℕ → List ℕ → List ℕ → List ℕ
 kept count before piece = if is_short count then before ++ piece else []
 
--- the same of any message: of a text nothing is kept
+-- the same for any message: of a text nothing is kept
 abbrev pub added : Kind → ℕ → List ℕ → List ℕ → List ℕ
 added Binary count before piece = kept count before piece
 added Text count before piece = before
@@ -22,7 +22,7 @@ added Text count before piece = before
 abbrev pub IsTooLong : List ℕ → Type 0
 IsTooLong bytes = length bytes ≡ 16777217
 
--- what is handed on for a message that is whole: a binary one as it is, a text as no bytes
+-- what is handed on for a complete message: a binary one as it is, a text as no bytes
 abbrev pub IsWhole : Kind → Bool → List ℕ → Arrival → Type 0
 IsWhole Binary true bytes (arrival.Message m) = m ≡ bytes
 IsWhole Binary false bytes (arrival.Message m) = IsTooLong m

@@ -1,4 +1,4 @@
--- The frames that may come (RFC 6455, sections 5.1 to 5.5), and the codes by which breaches are answered (section 7.4.1).
+-- The frames that are allowed (RFC 6455, sections 5.1 to 5.5), and the codes with which breaches are answered (section 7.4.1).
 use Rattle.std.specs.Prelude.{ℕ, Bool, not, ◌&&◌, ◌||◌, is_some, nat_le}
 use Rattle.websocket.specs.declared.protocol.config.Role.{Role}
 use Rattle.websocket.specs.declared.protocol.config.Role.TheVariants.{Server, Client}
@@ -22,7 +22,7 @@ abbrev pub has_mask_of : Role → Bool → Bool
 has_mask_of Server masked = masked
 has_mask_of Client masked = not masked
 
--- a control frame is whole and has 125 bytes at most; a fragment goes on where a message has begun, and nowhere else
+-- a control frame is whole and has at most 125 bytes; a continuation follows where a message has begun, and nowhere else
 abbrev pub fits_opcode : Bool → Bool → ℕ → OpCode → Bool
 fits_opcode within is_final n (Control kind) = is_final && nat_le n 125
 fits_opcode within is_final n (Data Continue) = within

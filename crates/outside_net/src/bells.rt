@@ -1,4 +1,4 @@
-//! Bells, by which links that wait learn that the store may have changed.
+//! Bells, by which waiting links learn that the store may have changed.
 use mio::unix::SourceFd;
 use mio::{Events, Interest, Poll, Token, Waker};
 use std::alloc::{AllocError, Global};
@@ -8,7 +8,7 @@ use std::sync::atomic::{AtomicBool, AtomicU64, Ordering};
 use std::sync::{Arc, OnceLock};
 use std::time::Duration;
 
-/// How many links of a door have a bell: each has a bit of a word. A further one waits for its socket alone.
+/// How many links of a door have a bell: each has a bit of a word. Any more wait only for their sockets.
 const PLACES: usize = 64;
 
 /// What ends a wait.
@@ -24,7 +24,7 @@ pub(crate) const STANDARD_INPUT: RawFd = 0;
 /// The bells of a door's links.
 #[derive(Drop)]
 pub(crate) struct Bells {
-    /// The wakers of all places, of which those have one that had a link.
+    /// The wakers of all places; a place that has had a link has one.
     wakers: Vec<OnceLock<Waker>>,
     /// The bits of the links that wait for their bells.
     waiting: AtomicU64,
@@ -43,7 +43,7 @@ struct Bell {
     seen: u64,
 }
 
-/// Where a link waits: for its socket, for its bell, and no longer than a time.
+/// Where a link waits: for its socket, for its bell, and at most for a given time.
 #[derive(Drop)]
 pub(crate) struct Post {
     poll: Poll,
@@ -57,7 +57,7 @@ pub(crate) struct Post {
     peer: Option<SocketAddr>,
 }
 
-/// The posts of a door: those at which no link waits, and what makes a further one.
+/// The posts of a door: those at which no link waits, and what makes another.
 #[derive(Drop)]
 pub(crate) struct Posts {
     free: Vec<Post>,
@@ -96,7 +96,7 @@ impl Bells {
         self.ring();
     }
 
-    /// Rings: each link that waits for its bell is woken. It gives how often they had been rung before.
+    /// Rings: each link that waits for its bell is woken. Returns how often they had been rung before.
     fn ring(&self) -> u64 {
         let before = self.rung.fetch_add(1, Ordering::SeqCst);
         let waiting = self.waiting.swap(0, Ordering::SeqCst);
@@ -119,7 +119,7 @@ impl Bells {
 }
 
 impl Bell {
-    /// Whether the bells were rung since this link looked. Else the link waits from now on, and each ring wakes it.
+    /// Whether the bells were rung since this link looked. If not, the link waits from now on, and each ring wakes it.
     fn waits(&self) -> bool {
         self.bells.waiting.fetch_or(self.bit, Ordering::SeqCst);
         self.bells.rung.load(Ordering::SeqCst) == self.seen
@@ -166,8 +166,8 @@ impl Posts {
         })
     }
 
-    /// A post for a link with this peer: one at which no link waits any more, or a new one, which has a bell if it is one of the first
-    /// 64. None where the system or the memory gives none.
+    /// A post for a link with this peer: one at which no link waits any more, or a new one, which has a bell if it is one of the first 64.
+    /// `None` if the system has no descriptor, or memory runs out.
     pub(crate) fn take(&mut self, net: &impl Net, alloc: Global, peer: SocketAddr) -> Option<Post> {
         let mut post = match self.free.pop() {
             Some(post) => post,
@@ -177,7 +177,7 @@ impl Posts {
         Some(post)
     }
 
-    /// Takes a post back. One that finds no room is closed.
+    /// Takes a post back. One for which there is no room is closed.
     pub(crate) fn put(&mut self, post: Post) {
         let _ = self.free.push(post);
     }
@@ -216,7 +216,7 @@ impl Posts {
 }
 
 impl Post {
-    /// Has the post wait for a socket. False where the system refuses.
+    /// Has the post wait for a socket. False if the system refuses.
     pub(crate) fn watch(&mut self, socket: RawFd) -> bool {
         self.socket = socket;
         self.over = false;
@@ -227,7 +227,7 @@ impl Post {
             .is_ok()
     }
 
-    /// Has the post wait for the end of the standard input too, where the system can.
+    /// Has the post wait for the end of the standard input too, if the system can.
     fn watch_input(&self) {
         let _ = self
             .poll
@@ -255,7 +255,7 @@ impl Post {
         self.peer
     }
 
-    /// Has the post wait for another readiness of its socket. What is ready by now is told at the next wait.
+    /// Has the post wait for another readiness of its socket. What is ready by now is reported at the next wait.
     fn turn(&mut self, interest: Interest) -> bool {
         let socket = self.socket;
         let mut source = SourceFd(&socket);
@@ -270,8 +270,8 @@ impl Post {
         self.over
     }
 
-    /// Waits until the socket takes something, or so many milliseconds are over. It gives how many of them count as waited: all
-    /// where nothing happened, and else one.
+    /// Waits until the socket takes something, or this many milliseconds are over. Returns how many of them count as waited: all if nothing
+    /// happened, otherwise one.
     pub(crate) fn wait_for_room(&mut self, limit: u64) -> Option<u64> {
         if !self.turn(Interest::WRITABLE) {
             return None;
@@ -286,13 +286,13 @@ impl Post {
         }
     }
 
-    /// Waits until the socket has something, or so many milliseconds are over. The bell is not heard, but where it was rung at the end of
-    /// an earlier wait.
+    /// Waits until the socket has something, or this many milliseconds are over. The bell is not heard, unless it was rung at the end of an
+    /// earlier wait.
     pub(crate) fn wait_for_socket(&mut self, limit: u64) -> Woken {
         self.sleep(limit)
     }
 
-    /// Looks how often the bells have been rung. What rings them from now on ends the next wait.
+    /// Looks how often the bells have been rung. Any ring from now on ends the next wait.
     pub(crate) fn look(&mut self) {
         if let Some(bell) = &mut self.bell {
             bell.seen = bell.bells.rung.load(Ordering::SeqCst);
@@ -303,15 +303,15 @@ impl Post {
     pub(crate) fn ring(&mut self) {
         if let Some(bell) = &mut self.bell {
             let before = bell.bells.ring();
-            // This ring is no news to the link itself.
+            // This ring tells the link itself nothing.
             if before == bell.seen {
                 bell.seen = before.wrapping_add(1);
             }
         }
     }
 
-    /// Waits until the socket has something, the link's bell is rung, or so many milliseconds are over. For the first of them,
-    /// `rest`, the bell is not heard.
+    /// Waits until the socket has something, the link's bell is rung, or this many milliseconds are over. For the first of them, `rest`,
+    /// the bell is not heard.
     pub(crate) fn wait(&mut self, rest: u64, limit: u64) -> Woken {
         if rest > 0 && self.sleep(rest) == Woken::Socket {
             return Woken::Socket;
@@ -338,7 +338,7 @@ impl Post {
         }
     }
 
-    /// Sleeps for so many milliseconds at most.
+    /// Sleeps for at most this many milliseconds.
     fn sleep(&mut self, limit: u64) -> Woken {
         let limit = Some(Duration::from_millis(limit));
         if self.poll.poll(&mut self.events, limit).is_err() {
@@ -353,7 +353,7 @@ impl Post {
     }
 }
 
-/// What the events of a wait tell.
+/// What the events of a wait report.
 #[derive(Clone, Copy)]
 struct Heard {
     socket: bool,

@@ -6,13 +6,13 @@ use websocket::protocol::Role;
 use websocket::protocol::frame::FrameHeader;
 use websocket::protocol::frame::coding::{CloseCode, Data, OpCode};
 
-/// The greatest number of bytes in the payload of a control frame.
+/// The greatest payload of a control frame, in bytes.
 const MAX_CONTROL: u64 = 125;
 
 /// How a peer broke the protocol.
 #[derive(Clone, Copy)]
 pub enum Breach {
-    /// A frame that may not come, or not now.
+    /// A frame that is not allowed, or not at this point.
     Protocol,
     /// A text that is not UTF-8.
     Utf8,
@@ -21,7 +21,7 @@ pub enum Breach {
 }
 
 impl Breach {
-    /// The code of the Close frame by which it is answered.
+    /// The code of the Close frame that answers it.
     pub fn code(self) -> CloseCode
         ensures { result ≡ close_code self }
     {
@@ -33,8 +33,8 @@ impl Breach {
     }
 }
 
-/// Whether a frame with this header, and with a payload of so many bytes, may come to an endpoint of this role. `within` says that
-/// a message has come of which a fragment is still to come. It is judged before any of the payload is waited for.
+/// Whether an endpoint of this role accepts a frame with this header and a payload of this many bytes. `within` says that a message has
+/// begun of which a fragment is still to come. It is decided before waiting for any of the payload.
 pub fn may_come(role: Role, within: bool, header: &FrameHeader, length: u64) -> bool
     ensures { result ≡ may_come role within header.now length }
 {
@@ -45,7 +45,7 @@ pub fn may_come(role: Role, within: bool, header: &FrameHeader, length: u64) -> 
         && fits_opcode(within, header.is_final, length, header.opcode)
 }
 
-/// A server gets frames with masks, and a client gets frames without.
+/// A server accepts frames with masks, and a client frames without.
 fn has_mask_of(role: Role, masked: bool) -> bool
     ensures { result ≡ has_mask_of role masked }
 {
@@ -55,7 +55,7 @@ fn has_mask_of(role: Role, masked: bool) -> bool
     }
 }
 
-/// A control frame is whole and short. A message has one first frame, and its other frames go on.
+/// A control frame is whole and short. A message has one first frame, and its other frames are continuations.
 fn fits_opcode(within: bool, is_final: bool, length: u64, opcode: OpCode) -> bool
     ensures { result ≡ fits_opcode within is_final length opcode }
 {

@@ -6,36 +6,36 @@ use std::io::{ErrorKind, Read, Write};
 use std::net::{Shutdown, SocketAddr, TcpStream};
 use std::os::fd::{AsRawFd, RawFd};
 
-/// How long a connection may take until its head is whole, and how long one that was refused may take to leave, in milliseconds.
+/// How long a connection has until its head is complete, and how long a refused one has to leave, in milliseconds.
 const PATIENCE: u64 = 2_000;
 
-/// The most bytes of a head.
+/// The greatest size of a head, in bytes.
 const LONGEST: usize = 65_536;
 
-/// How often a head is judged: first when its first bytes are there, then whenever an empty line has come.
+/// How often a head is examined: first when its first bytes are there, then whenever an empty line has come.
 const JUDGED: u32 = 16;
 
 /// How many bytes one read asks for.
 const PIECE: usize = 4_096;
 
-/// How many reads of a connection that was refused are made together. It is cut off where more comes.
+/// How many reads of a refused connection are made together. It is cut off if more comes.
 const DRAINED: u32 = 16;
 
-/// What came of a connection when it was looked at.
+/// What a look at a connection found.
 #[derive(Clone, Copy, Debug)]
 pub(crate) enum Step {
-    /// It waits for more.
+    /// It needs more bytes.
     Waits,
-    /// Its head is whole and asks for a WebSocket.
+    /// Its head is complete and asks for a WebSocket.
     Asks(Upgrade),
     /// It is refused.
     Refused(Refusal),
-    /// It was refused before, and is over.
+    /// It was refused earlier, and is over.
     Over,
 }
 
-/// A connection whose handshake is not done. One that was refused stays until its peer has closed it too, so that the answer is
-/// not lost with what the peer still sends.
+/// A connection whose handshake is not done. A refused one is kept until its peer has closed it too, so that the answer is not lost with
+/// what the peer still sends.
 #[derive(Drop)]
 pub(crate) struct Caller {
     stream: TcpStream,
@@ -43,12 +43,12 @@ pub(crate) struct Caller {
     head: Vec<u8>,
     judged: u32,
     refused: bool,
-    /// Until when it has time.
+    /// When its time is over.
     until: u64,
 }
 
 impl Caller {
-    /// A connection that was accepted at this moment. None where the system refuses it what it needs.
+    /// A connection that was accepted at this moment. `None` if the system refuses what it needs.
     pub(crate) fn new(
         alloc: Global,
         stream: TcpStream,
@@ -80,7 +80,7 @@ impl Caller {
         self.until
     }
 
-    /// Whether it was refused before.
+    /// Whether it was refused earlier.
     pub(crate) fn is_refused(&self) -> bool {
         self.refused
     }
@@ -160,7 +160,7 @@ impl Caller {
         Step::Over
     }
 
-    /// Answers with a refusal, and says that nothing more comes. From now on the peer has time to leave. False where it has left.
+    /// Answers with a refusal, and says that nothing more comes. From now on the peer has time to leave. False if it has left already.
     pub(crate) fn refuse(&mut self, alloc: Global, refusal: Refusal, now: u64) -> bool {
         self.refused = true;
         self.until = now.saturating_add(PATIENCE);
@@ -180,7 +180,7 @@ impl Caller {
     }
 }
 
-/// Whether an empty line may end among the bytes from this place on.
+/// Whether an empty line may end among the bytes from this index on.
 fn may_end(head: &[u8], from: usize) -> bool {
     let Some(news) = head.get(from.saturating_sub(2)..) else {
         return false;

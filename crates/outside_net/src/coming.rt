@@ -1,4 +1,4 @@
-//! A message of which not all has come.
+//! A message of which not everything has come.
 ghost use Rattle.std.specs.Prelude.{◌≡◌, ℕ, Bool, List, ◌+◌, [], length, IfOk, OnOk};
 ghost use Rattle.outside_net.specs.Coming.{added, kept, is_short, IsWhole, IsTooLong};
 
@@ -8,26 +8,26 @@ use crate::utf8::Utf8;
 use etp_values::Blob;
 use std::alloc::{AllocError, Global};
 
-/// The longest message that is handed on as it is, in bytes: 16 MiB. Of a longer one only the count is kept, and it is handed on
-/// as one byte more than this, all zero, so that whoever reads it sees that it is too long.
+/// The longest message that is handed on as it is, in bytes: 16 MiB. Of a longer one only the count is kept, and what is handed on is one
+/// byte longer than this, all zero, so that whoever reads it sees that it is too long.
 pub const MAX_MESSAGE: u64 = 16_777_216;
 
 /// The length of what is handed on for a message that is too long.
 const TOO_LONG: usize = 16_777_217;
 
-/// A message of more bytes than this, 1 MiB, gets memory of its own from the system, to which it goes back when the message is
-/// dropped.
+/// A message of more bytes than this, 1 MiB, gets memory of its own from the system, to which it returns when the message is dropped.
 const LARGE: u64 = 1_048_576;
 
-/// So many bytes are asked for at once for a large message. The C library has a mapping of its own for a piece of this size, however much it
-/// keeps of smaller ones; what is not written of it takes no memory, and what is not needed is given back when the message is whole.
+/// The number of bytes that are allocated at once for a large message. The C library makes a separate mapping for a piece of this size,
+/// however much it keeps of smaller ones; what is not written of it uses no memory, and what is not needed is given back when the message
+/// is complete.
 const MAPPED: usize = 33_619_968;
 
 /// What a message is made of.
 #[derive(Clone, Copy)]
 pub enum Kind {
     Binary,
-    /// A text is no message of the protocol. It is checked, and handed on as an empty message, so that it is refused as one.
+    /// A text is not a message of the protocol. It is checked, and handed on as an empty message, so that it is refused as one.
     Text,
 }
 
@@ -36,11 +36,11 @@ pub enum Kind {
 pub enum Unadded {
     /// The message breaks the protocol.
     Breach(Breach),
-    /// Memory was refused.
+    /// Out of memory.
     NoMemory,
 }
 
-/// A message of which not all has come. It holds no more than [`MAX_MESSAGE`] bytes.
+/// A message of which not everything has come. It holds no more than [`MAX_MESSAGE`] bytes.
 #[derive(Drop)]
 pub struct Coming {
     alloc: Global,
@@ -53,7 +53,7 @@ pub struct Coming {
 }
 
 impl Coming {
-    /// A message of which nothing has come.
+    /// A message of which nothing has come yet.
     pub fn new(alloc: Global, kind: Kind) -> Coming
         ensures bytes { result.bytes.items ≡ [] }
         ensures count { result.count ≡ 0 }
@@ -83,7 +83,7 @@ impl Coming {
         }
     }
 
-    /// Checks a piece of a text, of which so many bytes have come with it.
+    /// Checks a piece of a text, of which this many bytes have come including it.
     fn check(&mut self, count: u64, piece: &[u8]) -> Result<(), Unadded>
         ensures kind { self.new.kind ≡ self.old.kind }
         ensures count { OnOk result (self.new.count ≡ count) }
@@ -96,7 +96,7 @@ impl Coming {
         Ok(())
     }
 
-    /// Keeps a piece of a binary message, of which so many bytes have come with it.
+    /// Keeps a piece of a binary message, of which this many bytes have come including it.
     fn keep(&mut self, count: u64, piece: &[u8]) -> Result<(), Unadded>
         ensures kind { self.new.kind ≡ self.old.kind }
         ensures count { OnOk result (self.new.count ≡ count) }
@@ -114,7 +114,7 @@ impl Coming {
         Ok(())
     }
 
-    /// Makes room for a message of so many bytes, where it becomes large.
+    /// Makes room for a message of this many bytes, if it becomes large.
     fn make_room(&mut self, count: u64) -> Result<(), AllocError>
         ensures kind { self.new.kind ≡ self.old.kind }
         ensures bytes { self.new.bytes.items ≡ self.old.bytes.items }
@@ -127,7 +127,7 @@ impl Coming {
         Ok(())
     }
 
-    /// The message, which is whole.
+    /// The complete message.
     pub fn finish(self) -> Arrival
         ensures { IsWhole self.kind (is_short self.count) self.bytes.items result }
     {
@@ -145,14 +145,14 @@ impl Coming {
     }
 }
 
-/// Whether a message of so many bytes is handed on as it is.
+/// Whether a message of this many bytes is handed on as it is.
 fn is_short(count: u64) -> bool
     ensures { result ≡ is_short count }
 {
     count <= MAX_MESSAGE
 }
 
-/// A text that is whole.
+/// A complete text.
 fn finish_text(utf8: Utf8) -> Arrival
     ensures { (short : Bool) (bytes : List ℕ) → IsWhole Kind.Text short bytes result }
 {
@@ -163,7 +163,7 @@ fn finish_text(utf8: Utf8) -> Arrival
     }
 }
 
-/// A binary message that is whole, and of which so many bytes came.
+/// A complete binary message, of which this many bytes came.
 fn finish_binary(alloc: Global, bytes: Vec<u8>, count: u64) -> Arrival
     ensures { IsWhole Kind.Binary (is_short count) bytes.items result }
 {

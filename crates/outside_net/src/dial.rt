@@ -15,11 +15,11 @@ use tungstenite::{RandomKeys, Role};
 /// How long a connection to an address may take, and how long a read of the handshake waits, in milliseconds.
 const PATIENCE: u64 = 10_000;
 
-/// A link to a server that was dialed. The system's random bytes mask what it sends.
+/// A link to a server that was dialed. What it sends is masked with the system's random bytes.
 pub type ClientLink<'a, R> = WsLink<TcpStream, RandomKeys<&'a R>>;
 
-/// A dialer over TCP. It tries each address of a host in turn, and asks for a WebSocket with the subprotocol of ETP 1.2. A server
-/// that chooses none, or another, is a fault.
+/// A dialer over TCP. It tries each address of a host in turn, and asks for a WebSocket with the subprotocol of ETP 1.2. It is a fault if a
+/// server chooses none, or another.
 #[derive(Drop)]
 pub struct TcpDial<'a, R> {
     rt: &'a R,
@@ -42,7 +42,7 @@ impl<'a, R: Net<Listener = TcpListener, Stream = TcpStream> + RandomSource + Syn
         }
     }
 
-    /// The same with another patience: so long a connection to an address may take, and a read of the handshake.
+    /// The same with another timeout for a connection to an address, and for a read of the handshake.
     pub fn with_patience(rt: &'a R, patience: Duration) -> TcpDial<'a, R>
         ensures faults { ⟦<TcpDial<'a, R> as Dialer>⟧.faults result ≡ 0 }
         ensures ended { ⟦<TcpDial<'a, R> as Dialer>⟧.ended result ≡ false }
@@ -65,7 +65,7 @@ impl<'a, R: Net<Listener = TcpListener, Stream = TcpStream> + RandomSource> TcpD
         self.faults = self.faults.saturating_add(1);
     }
 
-    /// A connection to the first address of a host that takes one.
+    /// A connection to the first address of a host that accepts one.
     fn connect(&self, host: &str, port: u16) -> Option<TcpStream> {
         let Ok(addresses) = (without_brackets(host), port).to_socket_addrs(self.rt) else {
             return None;
@@ -106,7 +106,7 @@ impl<'a, R: Net<Listener = TcpListener, Stream = TcpStream> + RandomSource> TcpD
     }
 }
 
-/// The host as it is looked up: an IPv6 address has no brackets there.
+/// The host as it is looked up: without the brackets of an IPv6 address.
 fn without_brackets(host: &str) -> &str {
     match host.strip_prefix('[') {
         Some(rest) => rest.strip_suffix(']').unwrap_or(host),

@@ -22,30 +22,30 @@ use websocket::protocol::{NoMask, Role};
 /// A link to a client that connected.
 pub type ServerLink = WsLink<TcpStream, NoMask>;
 
-/// A listener over TCP, with bells for the links that it gives.
+/// A listener over TCP, with bells for the links that it gives out.
 ///
-/// While it is asked for a link it waits for the listener and for all connections whose handshake is not done at once, and reads of
-/// each what has come. So a connection that is silent, slow or sends rubbish keeps nobody waiting, and no thread is needed for it.
-/// Each has 2 seconds until its head is whole, and 65,536 bytes. At most 256 are at this point: a further one takes the place of
-/// the one that has waited longest. A refused one is answered with a status of HTTP and the cause. A connection is answered that
-/// it is accepted as its link is handed out, so one for which there is no session yet waits for its answer.
+/// While it is asked for a link it waits for the listener and all connections in their handshake at the same time, and reads from each what
+/// has come. So a connection that is silent, slow or sends rubbish delays nobody, and needs no thread. Each has 2 seconds until its head is
+/// complete, and 65,536 bytes. At most 256 are at this point: one more takes the place of the one that has waited longest. A refused one is
+/// answered with an HTTP status and the cause. A connection is told that it is accepted when its link is handed out, so one for which there
+/// is no session yet waits for its answer.
 ///
-/// Where the system has no descriptor or no memory for a connection that comes, that one or the one that has waited longest is
-/// turned away, and the door goes on after 50 milliseconds.
+/// If the system has no descriptor or memory for a new connection, that one or the one that has waited longest is turned away, and the door
+/// continues after 50 milliseconds.
 #[derive(Drop)]
 pub struct TcpDoor<'a, R> {
     rt: &'a R,
     listener: Option<TcpListener>,
-    /// Where connections wait. None before the first link is asked for.
+    /// Where connections wait. `None` before the first link is asked for.
     hall: Option<Hall>,
     /// Whether the end of the standard input stops the door.
     input: bool,
-    /// Why it does not listen.
+    /// Why it is not listening.
     cause: Option<io::Error>,
     faults: u64,
     given: u64,
     stopped: bool,
-    /// Where its links wait. None before the first link is asked for.
+    /// Where its links wait. `None` before the first link is asked for.
     posts: Option<Posts>,
 }
 
@@ -69,8 +69,8 @@ impl<'a, R: Net<Listener = TcpListener, Stream = TcpStream> + Clock> TcpDoor<'a,
         }
     }
 
-    /// The same door, which gives no further link once the standard input has ended. Where the standard input has ended before
-    /// the first link is asked for, or is a file, it is left alone.
+    /// The same door, which gives no more links once the standard input has ended. If the standard input ended before the first link was
+    /// asked for, or is a file, it is ignored.
     pub fn until_input_ends(self) -> TcpDoor<'a, R>
         ensures faults { ⟦<TcpDoor<'a, R> as Listener>⟧.faults result ≡ ⟦<TcpDoor<'a, R> as Listener>⟧.faults self.entry }
         ensures given { ⟦<TcpDoor<'a, R> as Listener>⟧.given result ≡ ⟦<TcpDoor<'a, R> as Listener>⟧.given self.entry }
@@ -81,7 +81,7 @@ impl<'a, R: Net<Listener = TcpListener, Stream = TcpStream> + Clock> TcpDoor<'a,
         door
     }
 
-    /// The port that it listens at. It is of use where port 0 was asked for, which is any that is free.
+    /// The port that it listens at, which matters if port 0, any free port, was asked for.
     pub fn port(&self) -> Option<u16> {
         let Some(listener) = &self.listener else {
             return None;
@@ -106,7 +106,7 @@ impl<'a, R: Net<Listener = TcpListener, Stream = TcpStream> + Clock> TcpDoor<'a,
         self.faults = self.faults.saturating_add(1);
     }
 
-    /// A post for a link with this peer. None where the system gives none.
+    /// A post for a link with this peer. `None` if the system refuses.
     fn post(&mut self, alloc: Global, peer: SocketAddr) -> Option<Post>
         ensures faults { self.new.faults ≡ self.old.faults }
         ensures given { self.new.given ≡ self.old.given }
@@ -173,7 +173,7 @@ impl<'a, R: Net<Listener = TcpListener, Stream = TcpStream> + Clock> TcpDoor<'a,
         }
     }
 
-    /// Opens the hall where that was not done. It fails where the door does not listen, or the system or the memory refuses.
+    /// Opens the hall if that was not done. It fails if the door is not listening, the system refuses, or memory runs out.
     fn open(&mut self, alloc: Global) -> io::Result<()>
         ensures faults { self.new.faults ≡ self.old.faults }
         ensures given { self.new.given ≡ self.old.given }
@@ -208,7 +208,7 @@ impl<'a, R: Net<Listener = TcpListener, Stream = TcpStream> + Clock> TcpDoor<'a,
         }
     }
 
-    /// Has all links end, and lets nobody in any more.
+    /// Ends all links, and lets nobody in any more.
     fn shut(&mut self)
         ensures faults { self.new.faults ≡ self.old.faults }
         ensures given { self.new.given ≡ self.old.given }
@@ -251,7 +251,7 @@ impl<'a, R: Net<Listener = TcpListener, Stream = TcpStream> + Clock> TcpDoor<'a,
         Next::Failed
     }
 
-    /// The next link, as [`next`](Listener::next) gives it. The log is told which connections are turned away meanwhile.
+    /// The next link, as [`next`](Listener::next) returns it. The connections that are turned away meanwhile are reported to the log.
     pub fn next_told<L: DoorLog>(&mut self, alloc: Global, log: &mut L) -> Next<ServerLink>
         ensures link { IfLink result (λ l. IsAccepted (⟦<ServerLink as Link>⟧.talk l) (⟦<ServerLink as Link>⟧.faults l) (⟦<ServerLink as Link>⟧.ended l)) }
         ensures given { ⟦<TcpDoor<'a, R> as Listener>⟧.given self.new ≡ ⟦<TcpDoor<'a, R> as Listener>⟧.given self.old + links result }
@@ -280,7 +280,7 @@ impl<'a, R: Net<Listener = TcpListener, Stream = TcpStream> + Clock> TcpDoor<'a,
         }
     }
 
-    /// Takes a link back, as [`back`](Listener::back) does, and tells the log how its session ended.
+    /// Takes a link back, as [`back`](Listener::back) does, and reports to the log how its session ended.
     pub fn back_told<L: DoorLog>(&mut self, link: ServerLink, number: u64, end: u8, log: &mut L)
         ensures given { ⟦<TcpDoor<'a, R> as Listener>⟧.given self.new ≡ ⟦<TcpDoor<'a, R> as Listener>⟧.given self.old }
         ensures stopped { ⟦<TcpDoor<'a, R> as Listener>⟧.stopped self.new ≡ ⟦<TcpDoor<'a, R> as Listener>⟧.stopped self.old }
@@ -319,7 +319,7 @@ fn accept(alloc: Global, caller: &mut Caller, upgrade: &Upgrade) -> Result<(), R
     }
 }
 
-/// The link over a connection that was accepted. None where the system refuses it what it needs.
+/// The link over a connection that was accepted. `None` if the system refuses what it needs.
 fn link_of(alloc: Global, caller: Caller, post: Post) -> Option<ServerLink>
     ensures { IfSome result (λ l. IsAccepted (⟦<ServerLink as Link>⟧.talk l) (⟦<ServerLink as Link>⟧.faults l) (⟦<ServerLink as Link>⟧.ended l)) }
 {

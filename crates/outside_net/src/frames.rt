@@ -13,19 +13,19 @@ use websocket::protocol::{
     CloseFrame, Message, Received, Role, Step, WebSocketConfig, WebSocketContext,
 };
 
-/// A data frame of which not all has come.
+/// A data frame of which not everything has come.
 #[derive(Clone, Copy)]
 struct Frame {
     /// How many bytes of its payload are still to come.
     left: u64,
-    /// The key of its mask, turned so that its first byte is for the next byte of the payload.
+    /// The key of its mask, rotated so that its first byte is for the next byte of the payload.
     key: Option<[u8; 4]>,
     /// Whether it is the last of its message.
     is_final: bool,
 }
 
-/// The frames of a connection: what has come and was not taken, and how far the message is whose fragments come. Of a frame that is not whole
-/// what has come is taken at once, so that no more than one message and one read are kept.
+/// The frames of a connection: what has come and was not taken, and how far the current fragmented message is. What has come of an
+/// incomplete frame is taken at once, so that no more than one message and one read are kept.
 #[derive(Drop)]
 pub struct Frames {
     alloc: Global,
@@ -60,7 +60,7 @@ impl Frames {
         self.input.take(usize::MAX);
     }
 
-    /// Appends a message to the output as one frame, masked for a server.
+    /// Appends a message to the output as one frame, masked if it goes to a server.
     pub fn write<K: MaskKeys>(
         &mut self,
         message: Message<'_>,
@@ -70,8 +70,8 @@ impl Frames {
         self.context.write(message, output, keys)
     }
 
-    /// Appends the header of a message's frame alone, where the message needs no mask, and gives the bytes that are to be sent
-    /// behind the output. Else it does as [`write`](Self::write).
+    /// Appends only the header of a message's frame, if the message needs no mask, and returns the bytes that are to be sent after the
+    /// output. Otherwise it does the same as [`write`](Self::write).
     pub fn write_header<'m, K: MaskKeys>(
         &mut self,
         message: Message<'m>,
@@ -92,7 +92,7 @@ impl Frames {
         self.context.close(Some(frame), output, keys)
     }
 
-    /// Takes what is at the front of the bytes that have come. The answer that it asks for goes to the output.
+    /// Takes what is at the front of the bytes that have come. An answer that it requires goes to the output.
     pub fn next<K: MaskKeys>(&mut self, output: &mut Vec<u8>, keys: &mut K) -> Arrival {
         match self.frame.take() {
             Some(frame) => self.go_on(frame),
@@ -100,7 +100,7 @@ impl Frames {
         }
     }
 
-    /// Begins a frame, once its header is whole.
+    /// Begins a frame, once its header is complete.
     fn begin<K: MaskKeys>(&mut self, output: &mut Vec<u8>, keys: &mut K) -> Arrival {
         match FrameHeader::parse(self.input.as_slice()) {
             Ok(Some((header, length))) => self.judge(&header, length, output, keys),
@@ -109,7 +109,7 @@ impl Frames {
         }
     }
 
-    /// Takes a frame with this header, if it may come.
+    /// Takes a frame with this header, if it is allowed.
     fn judge<K: MaskKeys>(
         &mut self,
         header: &FrameHeader,
@@ -126,7 +126,7 @@ impl Frames {
         }
     }
 
-    /// Takes a control frame, once it is whole.
+    /// Takes a control frame, once it is complete.
     fn control<K: MaskKeys>(&mut self, output: &mut Vec<u8>, keys: &mut K) -> Arrival {
         match self.input.read_frame(&mut self.context, output, keys) {
             Ok(FrameStatus::Partial(_)) => Arrival::Nothing,
@@ -138,7 +138,7 @@ impl Frames {
         }
     }
 
-    /// Takes a data frame: whole, where it is a whole message and has come, or else what has come of it.
+    /// Takes a data frame: as a whole, if it is a whole message and has come, otherwise what has come of it.
     fn data(&mut self, kind: Data, header: &FrameHeader, length: u64) -> Arrival {
         let start = header.len(length);
         let has_come = self.input.as_slice().len().saturating_sub(start);
@@ -156,7 +156,7 @@ impl Frames {
         })
     }
 
-    /// Takes a message that is one frame and has come, of so many bytes behind a header of so many.
+    /// Takes a message that is one frame and has come, of a given size after a header of a given size.
     fn whole(&mut self, start: usize, length: u64, key: Option<[u8; 4]>) -> Arrival {
         let count = self.input.unmask(start, length, key);
         let message = Blob::copy(self.alloc, self.input.part(start, count));
@@ -209,7 +209,7 @@ fn take_piece(input: &mut Input, frame: &mut Frame, coming: &mut Coming) -> Resu
     added
 }
 
-/// The key behind so many bytes.
+/// The key after this many bytes.
 fn turned(key: [u8; 4], count: usize) -> [u8; 4] {
     let [a, b, c, d] = key;
     match count % 4 {
@@ -220,7 +220,7 @@ fn turned(key: [u8; 4], count: usize) -> [u8; 4] {
     }
 }
 
-/// What a control frame comes to.
+/// What comes of a control frame.
 fn controlled(step: &Step) -> Arrival {
     match &step.message {
         Some(Received::Close(_)) => Arrival::End,

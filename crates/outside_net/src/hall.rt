@@ -13,24 +13,24 @@ use std::net::{Net, SocketAddr, TcpListener, TcpStream};
 use std::os::fd::AsRawFd;
 use std::time::{Clock, Duration};
 
-/// What ends a wait: a connection at the listener, or the end of the standard input. The others are the room's.
+/// What ends a wait: a connection at the listener, or the end of the standard input. The other tokens are the room's.
 const LISTENER: Token = Token(0);
 
 const INPUT: Token = Token(1);
 
-/// How many sources a wait tells of together.
+/// How many sources a wait reports together.
 const EVENTS: usize = 64;
 
 /// How many connections are accepted together.
 const TOGETHER: u32 = 64;
 
-/// How long the hall waits after an accept that failed, in milliseconds.
+/// How long the hall waits after a failed accept, in milliseconds.
 const PAUSE: u64 = 50;
 
-/// What a turn of the hall came to.
+/// What came of a turn of the hall.
 #[derive(Clone, Copy, Debug, PartialEq, Eq)]
 pub(crate) enum Turn {
-    /// It is to be asked for those that are ready.
+    /// Ask it for those that are ready.
     Again,
     /// The standard input has ended.
     Stop,
@@ -41,7 +41,7 @@ pub(crate) enum Turn {
 /// Why an accept gave no connection.
 #[derive(Clone, Copy, Debug, PartialEq, Eq)]
 enum Fate {
-    /// None waits.
+    /// No connection waits.
     Nobody,
     /// A signal came.
     Again,
@@ -49,12 +49,12 @@ enum Fate {
     Connection,
     /// The system has no descriptor or no memory for it.
     System,
-    /// The listener is none.
+    /// The listener is not one.
     Listener,
 }
 
-/// Where connections are from their accept until their handshake is done. One wait of the system is for the listener and for
-/// all of them, and nothing that is done here waits for a peer, so none holds up another.
+/// Where connections are from their accept until their handshake is done. One system call waits for the listener and all of them, and
+/// nothing here waits for a peer, so none delays another.
 #[derive(Drop)]
 pub(crate) struct Hall {
     poll: Poll,
@@ -64,7 +64,7 @@ pub(crate) struct Hall {
     crowd: bool,
     /// Whether the last accept failed.
     pause: bool,
-    /// A descriptor that is given up to turn a connection away where the system has no other.
+    /// A descriptor that is given up to turn a connection away when the system has no other.
     spare: Option<TcpListener>,
     /// Whether it waits for the end of the standard input too.
     input: bool,
@@ -102,7 +102,7 @@ impl Hall {
         self.input
     }
 
-    /// The next connection whose head is whole. The hall waits for it no longer.
+    /// The next connection whose head is complete. It leaves the hall.
     pub(crate) fn next_ready(&mut self) -> Option<Ready> {
         let ready = self.room.next_ready()?;
         let descriptor = ready.caller.descriptor();
@@ -143,12 +143,12 @@ impl Hall {
             return Some(Duration::from_millis(0));
         }
         let until = self.room.earliest()?;
-        // A millisecond more than is left, since the system may cut a part of one off.
+        // A millisecond more than is left, since the system may round down.
         let left = until.saturating_sub(now).saturating_add(1);
         Some(Duration::from_millis(left))
     }
 
-    /// Accepts the connections that wait at the listener, or the first ones. False where the listener failed.
+    /// Accepts the connections that wait at the listener, or the first ones. False if the listener failed.
     fn accept_all<L: DoorLog>(
         &mut self,
         alloc: Global,
@@ -185,7 +185,7 @@ impl Hall {
         self.room.admit(alloc, registry, stream, peer, now, log);
     }
 
-    /// What follows an accept that gave no connection. False where the listener failed.
+    /// What follows an accept that gave no connection. False if the listener failed.
     fn unaccepted<L: DoorLog>(
         &mut self,
         alloc: Global,
@@ -235,14 +235,14 @@ impl Hall {
     }
 }
 
-/// What a wait told of the door's own sources.
+/// What a wait reported of the door's own sources.
 #[derive(Clone, Copy, Debug)]
 struct Heard {
     crowd: bool,
     stop: bool,
 }
 
-/// Looks at each source that a wait told of.
+/// Looks at each source that a wait reported.
 fn hear<L: DoorLog>(
     events: &Events,
     room: &mut Room,
@@ -267,8 +267,8 @@ fn hear<L: DoorLog>(
     heard
 }
 
-/// Has waits tell of the end of the standard input. False where the system can't, or it has ended already: such a process was started
-/// with nothing on its input, and nobody asks it to stop.
+/// Has waits report the end of the standard input. False if the system can't, or it has ended already: such a process was started with
+/// nothing on its input, and nobody asks it to stop.
 fn watches_input(poll: &mut Poll, events: &mut Events) -> bool {
     let mut source = SourceFd(&STANDARD_INPUT);
     if poll
@@ -293,7 +293,7 @@ fn spare_of(listener: &TcpListener) -> Option<TcpListener> {
     }
 }
 
-/// The milliseconds of the clock that never goes back. Where it fails no time passes.
+/// The milliseconds of the monotonic clock. If it fails no time passes.
 fn now<C: Clock>(clock: &C) -> u64 {
     match clock.monotonic() {
         Ok(time) => time
@@ -304,8 +304,8 @@ fn now<C: Clock>(clock: &C) -> u64 {
     }
 }
 
-/// Why an accept gave no connection, by the system's number: 23 and 24 are too many open files, 105 and 12 no memory; 9, 14, 22
-/// and 88 say that the descriptor is no listener. All others are of the connection.
+/// Why an accept gave no connection, by the system's error number: 23 and 24 are too many open files, 105 and 12 no memory; 9, 14, 22 and
+/// 88 say that the descriptor is not a listener. All others concern the connection.
 fn fate_of(error: &io::Error) -> Fate {
     match error.kind() {
         ErrorKind::WouldBlock => return Fate::Nobody,

@@ -12,15 +12,15 @@ use tungstenite::handshake::client;
 use tungstenite::{Error, HandshakeError, RandomKeys, WebSocket, WebSocketConfig};
 use websocket::handshake::server::write_response;
 
-/// The subprotocol that a client offers, and that a server chooses where it is offered.
+/// The subprotocol that a client offers, and that a server chooses if it is offered.
 pub const SUBPROTOCOL: &str = "etp12.energistics.org";
 
 /// Why a client got no WebSocket.
 #[derive(Clone, Copy, Debug, PartialEq, Eq)]
 pub enum Missed {
-    /// The system failed, or the server did not answer as a server of the subprotocol.
+    /// The system failed, or the server did not answer as a server of the subprotocol does.
     Fault,
-    /// Memory was refused.
+    /// Out of memory.
     NoMemory,
 }
 
@@ -36,11 +36,11 @@ impl From<AllocError> for Missed {
     }
 }
 
-/// The longest message and frame. It is twice what a session reads, so that a message past that limit still comes whole and is
-/// refused by the session; one past this limit is a fault of the link.
+/// The longest message and frame. It is twice what a session reads, so that a message past that limit still arrives whole and is refused by
+/// the session; one past this limit is a fault of the link.
 const MAX_MESSAGE: usize = 33_554_432;
 
-/// How many bytes one read of a stream asks for. A socket keeps so many twice.
+/// How many bytes one read of a stream asks for. A socket keeps twice as many.
 const READ_BUFFER: usize = 65_536;
 
 fn limits() -> WebSocketConfig {
@@ -50,8 +50,8 @@ fn limits() -> WebSocketConfig {
         .read_buffer_size(READ_BUFFER)
 }
 
-/// The answer that accepts a request for a WebSocket. The subprotocol is chosen where it was offered; a client that offers none, or
-/// others, is taken too.
+/// The answer that accepts a request for a WebSocket. The subprotocol is chosen if it was offered; a client that offers none, or others, is
+/// accepted too.
 pub fn acceptance(alloc: Global, upgrade: &Upgrade) -> Option<Vec<u8>> {
     let chosen = Header {
         name: "sec-websocket-protocol",
@@ -95,8 +95,8 @@ fn request_at(alloc: Global, url: &str) -> Result<Request<()>, Missed> {
     }
 }
 
-/// The WebSocket of a connection that was made: its server has answered the request, and has chosen the subprotocol. A read of
-/// the handshake waits no longer than the patience.
+/// The WebSocket of a new connection: its server has answered the request, and has chosen the subprotocol. A read of the handshake waits no
+/// longer than the timeout.
 pub fn ask_for_upgrade<'a, R: RandomSource>(
     alloc: Global,
     stream: TcpStream,

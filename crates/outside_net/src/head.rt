@@ -9,7 +9,7 @@ use httparse::Status;
 use httparse::spans::{EMPTY_HEADER_SPAN, HeaderSpan, RequestSpans, parse_request};
 use websocket::handshake::server::accept_key;
 
-/// The most lines of a head.
+/// The greatest number of lines of a head.
 const MOST_LINES: usize = 128;
 
 /// What a head asks for.
@@ -26,13 +26,13 @@ pub(crate) struct Upgrade {
 pub(crate) enum Head {
     /// The beginning of a head.
     Part,
-    /// A whole head that asks for a WebSocket.
+    /// A complete head that asks for a WebSocket.
     Asks(Upgrade),
     /// Anything else.
     Refused(Refusal),
 }
 
-/// Judges what has come of a head.
+/// Examines what has come of a head.
 pub(crate) fn judge(bytes: &[u8]) -> Head
     ensures { IfAsks result IsAnswered }
 {
@@ -92,7 +92,7 @@ fn judge_lines(bytes: &[u8], lines: &[HeaderSpan]) -> Result<Upgrade, Refusal>
     }
 }
 
-/// Why the request is not for version 13 of WebSocket, where it is not.
+/// Why the request is not for version 13 of WebSocket, if it is not.
 fn check_version(bytes: &[u8], lines: &[HeaderSpan]) -> Option<Refusal>
     requires { All (IsHeaderWithin (length bytes.now)) lines.now }
 {
@@ -123,7 +123,7 @@ fn judge_key(bytes: &[u8], lines: &[HeaderSpan]) -> Result<Upgrade, Refusal>
     }
 }
 
-/// How many lines have this name, which is written in any case.
+/// How many lines have this name, in any case of letters.
 fn count(bytes: &[u8], lines: &[HeaderSpan], name: &[u8]) -> usize
     requires { All (IsHeaderWithin (length bytes.now)) lines.now }
 {
@@ -148,7 +148,7 @@ fn first<'b>(bytes: &'b [u8], lines: &[HeaderSpan], name: &[u8]) -> Option<&'b [
     None
 }
 
-/// Whether the lines of a name, taken together as a list, have this item, in any case.
+/// Whether the lines of a name, taken together as a list, have this item, in any case of letters.
 fn lists(bytes: &[u8], lines: &[HeaderSpan], name: &[u8], item: &[u8]) -> bool
     requires { All (IsHeaderWithin (length bytes.now)) lines.now }
 {
@@ -160,7 +160,7 @@ fn lists(bytes: &[u8], lines: &[HeaderSpan], name: &[u8], item: &[u8]) -> bool
     false
 }
 
-/// Whether a list has this item, in any case.
+/// Whether a list has this item, in any case of letters.
 fn has_item(list: &[u8], item: &[u8]) -> bool {
     list.split(|byte| *byte == b',')
         .any(|part| part.trim_ascii().eq_ignore_ascii_case(item))

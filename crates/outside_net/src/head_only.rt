@@ -1,15 +1,15 @@
-//! A stream of which nothing is read behind a head.
+//! A stream of which nothing after a head is read.
 use std::io::{self, Read, Write};
 use std::net::TcpStream;
 
-/// A stream during a handshake: it gives what has come up to the end of the head, the first empty line behind a line, and leaves
-/// what follows for whoever reads the stream next.
+/// A stream during a handshake: it gives what has come up to the end of the head, the first empty line after a line, and leaves what
+/// follows for whoever reads the stream next.
 #[derive(Drop)]
 pub struct HeadOnly {
     stream: TcpStream,
-    /// Whether the line so far has something.
+    /// Whether the current line has any bytes.
     filled: bool,
-    /// Whether a line before had something.
+    /// Whether an earlier line had any bytes.
     begun: bool,
 }
 
@@ -23,13 +23,13 @@ impl HeadOnly {
         }
     }
 
-    /// The stream, behind the head.
+    /// The stream, after the head.
     pub fn into_stream(self) -> TcpStream {
         let HeadOnly { stream, .. } = self;
         stream
     }
 
-    /// Takes a byte of the head. True where it is the last.
+    /// Takes a byte of the head. True if it is the last.
     fn ends_with(&mut self, byte: u8) -> bool {
         match byte {
             b'\r' => false,

@@ -7,8 +7,8 @@ use websocket::error::Error;
 use websocket::protocol::frame::{FrameStatus, MaskKeys, apply_mask};
 use websocket::protocol::{Step, WebSocketContext};
 
-/// How many bytes the first read of a stream asks for, and how many a read asks for at most. Where a read brought all that it
-/// asked for, the next asks for four times as much.
+/// How many bytes the first read of a stream asks for, and how many a read asks for at most. If a read brought all that it asked for, the
+/// next asks for four times as much.
 const FIRST_READ: usize = 16_384;
 
 const LONGEST_READ: usize = 262_144;
@@ -16,20 +16,20 @@ const LONGEST_READ: usize = 262_144;
 /// How many bytes are moved to the front before a read.
 const FEW: usize = 256;
 
-/// What one read of a stream came to.
+/// What came of one read of a stream.
 #[derive(Clone, Copy)]
 pub enum Filled {
-    /// So many bytes came. `all` says that it was as many as were asked for, so that more may be there.
+    /// This many bytes came. `all` says that it was as many as were asked for, so that more may be there.
     Bytes { count: usize, all: bool },
     /// Nothing is there yet.
     Nothing,
-    /// A signal came first. The read is to be made again.
+    /// A signal came first. The read is to be repeated.
     Again,
     /// The peer has ended the stream.
     End,
     /// The stream failed.
     Fault,
-    /// Memory was refused.
+    /// Out of memory.
     NoMemory,
 }
 
@@ -37,7 +37,7 @@ pub enum Filled {
 #[derive(Drop)]
 pub struct Input {
     bytes: Vec<u8>,
-    /// Where the first byte lies that was not taken, and behind the last.
+    /// The offset of the first byte that was not taken, and the offset after the last.
     start: usize,
     end: usize,
     /// Whether the last read brought all that it asked for.
@@ -63,14 +63,14 @@ impl Input {
         &self.bytes[self.start..self.end]
     }
 
-    /// So many bytes, behind the first `from`, or none where they have not all come.
+    /// This many bytes, after the first `from`; `None` if they have not all come.
     pub fn part(&self, from: usize, count: usize) -> &[u8] {
         self.as_slice()
             .get(from..from.saturating_add(count))
             .unwrap_or(&[])
     }
 
-    /// Takes the mask off the bytes behind the first `from`, so many at most. It gives how many they are.
+    /// Unmasks the bytes after the first `from`, at most this many. Returns how many they are.
     pub fn unmask(&mut self, from: usize, most: u64, key: Option<[u8; 4]>) -> usize {
         if from > self.end - self.start {
             return 0;
@@ -88,7 +88,7 @@ impl Input {
         count
     }
 
-    /// Has the protocol take the frame at the front, once it is whole.
+    /// Has the protocol take the frame at the front, once it is complete.
     pub fn read_frame<K: MaskKeys>(
         &mut self,
         context: &mut WebSocketContext,
@@ -98,7 +98,7 @@ impl Input {
         context.read(&mut self.bytes[self.start..self.end], output, keys)
     }
 
-    /// Takes so many bytes from the front, or all where there are fewer.
+    /// Takes this many bytes from the front, or all if there are fewer.
     pub fn take(&mut self, count: usize) {
         if count < self.end - self.start {
             self.start += count;
@@ -117,7 +117,7 @@ impl Input {
         self.read(stream)
     }
 
-    /// Reads once into the room behind the bytes.
+    /// Reads once into the room after the bytes.
     fn read<S: Read>(&mut self, stream: &mut S) -> Filled {
         let room = self.bytes.len() - self.end;
         match stream.read(&mut self.bytes[self.end..]) {
@@ -138,7 +138,8 @@ impl Input {
         }
     }
 
-    /// Moves the bytes to the front, where they are few. Of a frame that is not whole only a header, or a control frame, is left here, so they always are.
+    /// Moves the bytes to the front, if they are few. Only a header, or a control frame, of an incomplete frame is left here, so they
+    /// always are.
     fn compact(&mut self) {
         let count = self.end - self.start;
         if count > FEW || self.start == 0 {
@@ -149,7 +150,7 @@ impl Input {
         self.end = count;
     }
 
-    /// Makes room for a read behind the bytes.
+    /// Makes room for a read after the bytes.
     fn make_room(&mut self) -> Result<(), AllocError> {
         let before = self.bytes.len();
         let wanted = if self.full {
@@ -165,7 +166,7 @@ impl Input {
     }
 }
 
-/// Moves so many bytes from a place to the front.
+/// Moves this many bytes from an offset to the front.
 fn move_to_front(bytes: &mut Vec<u8>, start: usize, count: usize)
     requires inside { start + count ≤ vec_len bytes.old }
     requires few { count ≤ 256 }

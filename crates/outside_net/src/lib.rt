@@ -1,10 +1,10 @@
 //! Links, a listener and a dialer over the system's sockets: WebSocket (RFC 6455) over TCP.
 //!
-//! [`WsLink`] is a [`Link`](etp_outside::Link) over a WebSocket, [`TcpDoor`] a [`Listener`](etp_outside::Listener) that
-//! does a server's handshake with each connection that it accepts, and [`TcpDial`] a [`Dialer`](etp_outside::Dialer) that does a
-//! client's with each connection that it makes. They are part of the trusted edge: what a socket gives and takes, no clause
-//! says. What is proved of them is what every link, listener and dialer owes, which headers of frames may come ([`may_come`](breach::may_come)),
-//! and how a message is put together of its pieces ([`Coming`](coming::Coming)).
+//! [`WsLink`] is a [`Link`](etp_outside::Link) over a WebSocket, [`TcpDoor`] a [`Listener`](etp_outside::Listener) that does a server's
+//! handshake with each connection that it accepts, and [`TcpDial`] a [`Dialer`](etp_outside::Dialer) that does a client's with each
+//! connection that it makes. They are part of the trusted edge: no clause says what a socket gives and takes. What is proved of them is
+//! what every link, listener and dialer owes, which headers of frames are allowed ([`may_come`](breach::may_come)), and how a message is
+//! assembled from its pieces ([`Coming`](coming::Coming)).
 #![tactic(auto)]
 
 mod arrival;

@@ -21,23 +21,23 @@ use websocket::protocol::frame::MaskKeys;
 use websocket::protocol::frame::coding::CloseCode;
 use websocket::protocol::{Message, Role};
 
-/// The output leaves where it has more bytes than this, 128 KiB, and else before the link waits.
+/// The output is sent once it has more bytes than this, 128 KiB, and otherwise before the link waits.
 const LONG_OUTPUT: usize = 131_072;
 
-/// A message of more bytes than this, 64 KiB, that a server sends leaves by itself, and is not copied to the output.
+/// A message of more bytes than this, 64 KiB, that a server sends is sent directly, and is not copied to the output.
 const LONG_MESSAGE: usize = 65_536;
 
-/// An output of more bytes than this, 512 KiB, gives its memory back once it has left.
+/// An output of more bytes than this, 512 KiB, frees its memory once it was sent.
 const KEPT_OUTPUT: usize = 524_288;
 
-/// The bells of the others are rung before the link waits, and after so many messages.
+/// The bells of the others are rung before the link waits, and after this many messages.
 const RUNG_AFTER: u32 = 64;
 
-/// A client that has sent no message for so many milliseconds since its handshake is given up.
+/// A client that has sent no message for this many milliseconds since its handshake is given up.
 const ASKED_WITHIN: u64 = 30_000;
 
-/// What a read counts, in milliseconds, while the first message is waited for: one that brings fewer bytes than [`DROP`], and one that
-/// brings more. What a client sends in drops doesn't keep its place, and a long message may come as slowly as a link brings it.
+/// What a read counts, in milliseconds, while the first message is awaited: one that brings fewer bytes than [`DROP`], and one that brings
+/// more. A client that sends in drops doesn't keep its place, while a long message may come as slowly as the connection carries it.
 const DROP_COUNTS: u64 = 8;
 
 const PIECE_COUNTS: u64 = 2;
@@ -54,17 +54,18 @@ const FEW_BYTES: usize = 4_096;
 
 /// A WebSocket as a link.
 ///
-/// What has come is read at once, 256 KiB at most, and handed on message by message without a call to the system. What is sent waits in the output and
-/// leaves before the link waits, past 128 KiB, or as it closes: so the answers to what one read brought leave in one write. A
-/// write waits 30 seconds at most for a peer that takes nothing. A message longer than 16,777,216 bytes is counted and not kept. After a fault
-/// every call is a fault.
+/// What has come is read at once, at most 256 KiB, and handed on message by message without a system call. What is sent is buffered in the
+/// output and leaves before the link waits, past 128 KiB, or on closing: so the answers to what one read brought are sent in one write. A
+/// write waits at most 30 seconds for a peer that takes nothing. A message longer than 16,777,216 bytes is counted and not kept. After a
+/// fault every call is a fault.
 ///
-/// A link waits for its socket and for its bell. It rings the bells of the others before it waits, and after 64 messages: what
-/// the messages were for is done then, and their entries, if any, are in the journal. A bell ends a turn in which nothing came, so
-/// that the session looks at once at what the others did.
+/// A link waits for its socket and for its bell. It rings the bells of the others before it waits, and after 64 messages: what the messages
+/// asked for is done by then, and their entries, if any, are in the journal. A bell ends a turn in which nothing came, so that the session
+/// looks at once at what the others did.
 ///
-/// A peer that breaks the protocol is sent a Close frame with the code of its breach (RFC 6455, section 7.4.1). One of which nothing has come
-/// for 30 seconds is sent a ping, and is given up where nothing came for 60 seconds more. A client of which no message came within 30 seconds is given up.
+/// A peer that breaks the protocol is sent a Close frame with the code of its breach (RFC 6455, section 7.4.1). One from which nothing has
+/// come for 30 seconds is sent a ping, and is given up if nothing comes for 60 seconds more. A client from which no message came within 30
+/// seconds is given up.
 #[derive(Drop)]
 pub struct WsLink<S, K> {
     alloc: Global,
@@ -73,7 +74,7 @@ pub struct WsLink<S, K> {
     keys: K,
     frames: Frames,
     output: Vec<u8>,
-    /// How many bytes came. The count stays at the greatest `u64`.
+    /// How many bytes came. The count stops at `u64::MAX`.
     came: u64,
     faults: u64,
     ended: bool,
@@ -87,7 +88,7 @@ pub struct WsLink<S, K> {
     handed: u32,
     /// Whether a message has come.
     asked: bool,
-    /// How many milliseconds were waited for the first message.
+    /// How many milliseconds the first message has been awaited.
     unasked: u64,
     pace: Pace,
     silence: Silence,
@@ -95,8 +96,8 @@ pub struct WsLink<S, K> {
 }
 
 impl<S: Read + Write + OpenStream + AsRawFd + Drop, K: MaskKeys + Drop> WsLink<S, K> {
-    /// A link over a stream whose handshake is done, at whose end of it this endpoint has this role. `early` is what came behind the handshake.
-    /// It waits at a post. None where the stream can't be made not to block, or can't be waited for.
+    /// A link over a stream whose handshake is done, at the end with this role. `early` is what came after the handshake. It waits at a
+    /// post. `None` if the stream can't be made non-blocking, or can't be waited for.
     pub(crate) fn new(
         alloc: Global,
         role: Role,
@@ -158,7 +159,7 @@ impl<S: Read + Write + OpenStream + Drop, K: MaskKeys + Drop> WsLink<S, K> {
         self.ended
     }
 
-    /// Counts a fault, and has every later call fail.
+    /// Counts a fault, and makes every later call fail.
     fn fault(&mut self)
         ensures rose { Rose self.old.faults self.new.faults }
         ensures kept { self.old.faults ≤ self.new.faults }
@@ -168,7 +169,7 @@ impl<S: Read + Write + OpenStream + Drop, K: MaskKeys + Drop> WsLink<S, K> {
         self.faults = self.faults.saturating_add(1);
     }
 
-    /// Sends the output. False where it did not leave.
+    /// Sends the output. False if it could not be sent.
     fn flush(&mut self) -> bool
         ensures faults { self.new.faults ≡ self.old.faults }
         ensures ended { self.new.ended ≡ self.old.ended }
@@ -188,7 +189,7 @@ impl<S: Read + Write + OpenStream + Drop, K: MaskKeys + Drop> WsLink<S, K> {
         left
     }
 
-    /// Rings the bells of the others, where a message was handed on since they were rung.
+    /// Rings the bells of the others, if a message was handed on since they were rung.
     fn ring(&mut self)
         ensures faults { self.new.faults ≡ self.old.faults }
         ensures ended { self.new.ended ≡ self.old.ended }
@@ -232,7 +233,7 @@ impl<S: Read + Write + OpenStream + Drop, K: MaskKeys + Drop> WsLink<S, K> {
         }
     }
 
-    /// A turn in which memory was refused. The message may be lost.
+    /// A turn in which memory ran out. The message may be lost.
     fn spent(&mut self) -> Recv
         ensures kept { self.old.faults ≤ self.new.faults }
         ensures cause { result ≡ Recv.Failed → Rose self.old.faults self.new.faults }
@@ -243,7 +244,7 @@ impl<S: Read + Write + OpenStream + Drop, K: MaskKeys + Drop> WsLink<S, K> {
         Recv::NoMemory
     }
 
-    /// Tells the peer by a Close frame with this code why the link fails.
+    /// Sends the peer a Close frame with this code, which says why the link fails.
     fn refuse(&mut self, code: CloseCode) -> Recv
         ensures kept { self.old.faults ≤ self.new.faults }
         ensures cause { result ≡ Recv.Failed → Rose self.old.faults self.new.faults }
@@ -265,7 +266,7 @@ impl<S: Read + Write + OpenStream + Drop, K: MaskKeys + Drop> WsLink<S, K> {
         }
     }
 
-    /// Whether the first message was waited for too long, with so many milliseconds more.
+    /// Whether the first message has been awaited for too long, with this many milliseconds more.
     fn waited_enough(&mut self, more: u64) -> bool
         ensures faults { self.new.faults ≡ self.old.faults }
         ensures ended { self.new.ended ≡ self.old.ended }
@@ -277,7 +278,7 @@ impl<S: Read + Write + OpenStream + Drop, K: MaskKeys + Drop> WsLink<S, K> {
         self.unasked >= ASKED_WITHIN
     }
 
-    /// Whether each wait is to be counted exactly: the first message is waited for, or the answer to a ping. So no bell is heard.
+    /// Whether each wait is to be counted exactly, since the first message or the answer to a ping is awaited. Then no bell is heard.
     fn is_exact(&self) -> bool {
         (!self.asked && self.role == Role::Server) || self.silence.is_pinged()
     }
@@ -317,8 +318,8 @@ impl<S: Read + Write + OpenStream + Drop, K: MaskKeys + Drop> WsLink<S, K> {
         }
     }
 
-    /// A wait that the bell ends too. Where it does the whole wait counts, so that a peer is asked for a sign of life no later than after
-    /// 30 seconds.
+    /// A wait that the bell ends too. If it does the whole wait counts, so that a peer is asked for a sign of life after at most 30
+    /// seconds.
     fn wait_for_bell(&mut self) -> Recv
         ensures kept { self.old.faults ≤ self.new.faults }
         ensures cause { result ≡ Recv.Failed → Rose self.old.faults self.new.faults }
@@ -338,7 +339,7 @@ impl<S: Read + Write + OpenStream + Drop, K: MaskKeys + Drop> WsLink<S, K> {
         }
     }
 
-    /// A turn in which nothing came for so many milliseconds.
+    /// A turn in which nothing came for this many milliseconds.
     fn silent(&mut self, lasted: u64) -> Recv
         ensures kept { self.old.faults ≤ self.new.faults }
         ensures cause { result ≡ Recv.Failed → Rose self.old.faults self.new.faults }
@@ -392,7 +393,7 @@ impl<S: Read + Write + OpenStream + Drop, K: MaskKeys + Drop> WsLink<S, K> {
         }
     }
 
-    /// Hands on the first of what so many bytes brought.
+    /// Hands on the first message out of this many bytes.
     fn heard(&mut self, count: usize) -> Recv
         ensures kept { self.old.faults ≤ self.new.faults }
         ensures cause { result ≡ Recv.Failed → Rose self.old.faults self.new.faults }
@@ -428,7 +429,7 @@ impl<S: Read + Write + OpenStream + Drop, K: MaskKeys + Drop> WsLink<S, K> {
         Sent::Failed
     }
 
-    /// Sends a long message behind the output.
+    /// Sends a long message after the output.
     fn put_long(&mut self, message: &[u8]) -> Sent
         ensures kept { self.old.faults ≤ self.new.faults }
         ensures cause { result ≡ Sent.Failed → Rose self.old.faults self.new.faults }
@@ -464,8 +465,8 @@ impl<S: Read + Write + OpenStream + Drop, K: MaskKeys + Drop> WsLink<S, K> {
         }
     }
 
-    /// Sends the goodbye, and reads until the peer's has come, or has not come in time. A client of which no message came was turned away, and
-    /// is not waited for.
+    /// Sends the goodbye, and reads until the peer's has come, or has not come in time. A client from which no message came was turned
+    /// away, and is not waited for.
     fn say_goodbye(&mut self)
         ensures faults { self.new.faults ≡ self.old.faults }
         ensures ended { self.new.ended ≡ self.old.ended }
@@ -495,7 +496,7 @@ impl<S: Read + Write + OpenStream + Drop, K: MaskKeys + Drop> WsLink<S, K> {
         }
     }
 
-    /// Reads and drops what the peer of a link that failed still sends, so that what it was told is not lost with it.
+    /// Reads and drops what the peer of a failed link still sends, so that what it was sent is not lost with it.
     fn drain(&mut self)
         ensures faults { self.new.faults ≡ self.old.faults }
         ensures ended { self.new.ended ≡ self.old.ended }
@@ -510,7 +511,7 @@ impl<S: Read + Write + OpenStream + Drop, K: MaskKeys + Drop> WsLink<S, K> {
         }
     }
 
-    /// Reads once for a goodbye, and waits where nothing is there. It gives what that counts.
+    /// Reads once for a goodbye, waiting if nothing is there. Returns what that counts.
     fn refill(&mut self) -> u64
         ensures faults { self.new.faults ≡ self.old.faults }
         ensures ended { self.new.ended ≡ self.old.ended }
@@ -526,7 +527,7 @@ impl<S: Read + Write + OpenStream + Drop, K: MaskKeys + Drop> WsLink<S, K> {
         }
     }
 
-    /// The server stops: what waits leaves, the peer is told so, and nothing more comes.
+    /// The server stops: buffered output is sent, the peer is told so, and nothing more comes.
     fn leave(&mut self) -> Recv
         ensures faults { self.new.faults ≡ self.old.faults }
         ensures end { result ≡ Recv.End }

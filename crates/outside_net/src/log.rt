@@ -1,9 +1,10 @@
-//! Who is told what becomes of a door's connections.
+//! Where a door reports what becomes of its connections.
 use crate::refusal::Refusal;
 use std::io;
 use std::net::SocketAddr;
 
-/// Who is told which connections a door turns away, as it does so, and how the sessions of its links ended, as these come back.
+/// Receives reports of the connections that a door turns away, as it does so, and of how the sessions of its links ended, as these come
+/// back.
 pub trait DoorLog {
     /// The connection of this peer was given no link.
     fn refused(&mut self, peer: &SocketAddr, refusal: Refusal);

@@ -6,11 +6,11 @@ const SHORTEST: u64 = 4;
 
 const LONGEST: u64 = 32;
 
-/// After a turn in which a link sent so many messages its session may have more to send: a poll tells no more than some hundreds of
+/// After a turn in which a link sent this many messages its session may have more to send: a poll sends no more than some hundreds of
 /// changes.
 const MANY: u32 = 16;
 
-/// A wait: for so many milliseconds the bell is not heard, and then for so many it is.
+/// A wait: for some milliseconds the bell is not heard, and then for some it is.
 #[derive(Clone, Copy)]
 pub(crate) struct Wait {
     pub(crate) rest: u64,
@@ -18,7 +18,7 @@ pub(crate) struct Wait {
 }
 
 impl Wait {
-    /// How long it lasts where nothing ends it.
+    /// How long it lasts if nothing ends it.
     pub(crate) fn whole(self) -> u64 {
         self.rest.saturating_add(self.limit)
     }
@@ -26,10 +26,10 @@ impl Wait {
 
 /// How long a link waits.
 ///
-/// A bell says that the store may have changed, and not whether that is news to this link's session. While bells bring no news the
-/// link rests before it hears the next one, and its rests grow: a session that follows nothing is not woken by each write of the others. A
-/// link that has told a little neither rests nor waits long: lone news are told at once. A link that has sent much does not wait, as there may be
-/// more to send, and rests a millisecond once it has sent all, so that changes that come close together are told together.
+/// A bell says that the store may have changed, and not whether that concerns this link's session. While bells bring nothing the link rests
+/// before it hears the next one, and its rests grow: a session that follows nothing is not woken by each write of the others. A link that
+/// has sent a little neither rests nor waits long: single changes are sent at once. A link that has sent much does not wait, as there may
+/// be more to send, and rests a millisecond once it has sent all, so that changes that come close together are sent together.
 #[derive(Clone, Copy)]
 pub(crate) struct Pace {
     limit: u64,
@@ -38,7 +38,7 @@ pub(crate) struct Pace {
     sent: u32,
     /// Whether the last wait was ended by the bell.
     belled: bool,
-    /// Whether the turn before the last sent much.
+    /// Whether much was sent in the turn before the last.
     crowded: bool,
 }
 
@@ -77,7 +77,7 @@ impl Pace {
         }
     }
 
-    /// A wait in which no bell is heard, so that it is counted exactly, begins. It gives how long it lasts, in milliseconds.
+    /// A wait in which no bell is heard begins, so that it is counted exactly. Returns how long it lasts, in milliseconds.
     pub(crate) fn hushed(&mut self) -> u64 {
         self.sent = 0;
         self.belled = false;

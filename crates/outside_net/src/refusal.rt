@@ -5,19 +5,19 @@ use std::fmt;
 /// Why a connection was given no link.
 #[derive(Clone, Copy, Debug, PartialEq, Eq)]
 pub enum Refusal {
-    /// What came is no head of an HTTP request.
+    /// What came is not the head of an HTTP request.
     NotHttp,
     /// The head has more than 65,536 bytes, or more than 128 lines.
     TooLong,
     /// More bytes follow the head. A client has to wait for the answer.
     Behind,
-    /// The head was not whole in time.
+    /// The head was not complete in time.
     Late,
     /// The method is not GET.
     Method,
     /// There is no line `Host`, or there are several.
     Host,
-    /// It asks for no WebSocket, or by a version of HTTP below 1.1.
+    /// It asks for no WebSocket, or with a version of HTTP below 1.1.
     NoUpgrade,
     /// There is no version of WebSocket, or another one than 13.
     Version,
@@ -32,7 +32,7 @@ pub enum Refusal {
 }
 
 impl Refusal {
-    /// The status line's end. None where nothing is answered.
+    /// The end of the status line. `None` if nothing is answered.
     fn status(self) -> Option<&'static str> {
         match self {
             Refusal::NotHttp | Refusal::Behind | Refusal::Host | Refusal::Versions | Refusal::Key =>
@@ -46,7 +46,7 @@ impl Refusal {
         }
     }
 
-    /// The lines of the answer that only some refusals have.
+    /// The header lines that only some refusals have.
     fn fields(self) -> &'static str {
         match self {
             Refusal::Method => "Allow: GET\r\nConnection: close\r\n",
@@ -83,7 +83,7 @@ impl Refusal {
         }
     }
 
-    /// The answer, with the cause as its text. None where nothing is answered.
+    /// The answer, with the cause as its text. `None` if nothing is answered.
     pub(crate) fn answer(self, alloc: Global) -> Result<Option<String>, AllocError> {
         let Some(status) = self.status() else {
             return Ok(None);

@@ -9,21 +9,21 @@ use std::alloc::{AllocError, Global};
 use std::collections::VecDeque;
 use std::net::{SocketAddr, TcpStream};
 
-/// The most connections whose handshake is not done.
+/// The greatest number of connections whose handshake is not done.
 const PLACES: usize = 256;
 
 /// The token of the first place. The ones below it are the door's own.
 const FIRST: usize = 2;
 
-/// A connection whose head is whole and asks for a WebSocket.
+/// A connection whose head is complete and asks for a WebSocket.
 #[derive(Drop)]
 pub(crate) struct Ready {
     pub(crate) caller: Caller,
     pub(crate) upgrade: Upgrade,
 }
 
-/// The connections whose handshake is not done, each at a place of its own, and those whose head is whole, in the order in which
-/// they became so.
+/// The connections whose handshake is not done, each at a place of its own, and those whose head is complete, in the order in which it
+/// became so.
 #[derive(Drop)]
 pub(crate) struct Room {
     places: Vec<Option<Caller>>,
@@ -48,8 +48,7 @@ impl Room {
         self.ready.pop_front()
     }
 
-    /// Takes in a connection that was accepted at this moment. Where all places are taken, the one that has waited longest is
-    /// refused for it.
+    /// Takes in a connection that was accepted at this moment. If all places are taken, the one that has waited longest is refused for it.
     pub(crate) fn admit<L: DoorLog>(
         &mut self,
         alloc: Global,
@@ -83,7 +82,7 @@ impl Room {
         Some(place)
     }
 
-    /// Refuses the connection that has waited longest. False where there is none.
+    /// Refuses the connection that has waited longest. False if there is none.
     pub(crate) fn cut_oldest<L: DoorLog>(&mut self, alloc: Global, now: u64, log: &mut L) -> bool {
         let Some(place) = self.oldest() else {
             return false;
@@ -173,7 +172,7 @@ impl Room {
         }
     }
 
-    /// Until when the connection at a place has time.
+    /// When the time of the connection at a place is over.
     fn until(&self, place: usize) -> Option<u64> {
         match self.places.get(place)? {
             Some(caller) => Some(caller.until()),
@@ -195,7 +194,7 @@ impl Room {
     }
 }
 
-/// Has the door woken when something comes from a connection at a place. False where the system refuses.
+/// Has the door woken when something comes from a connection at a place. False if the system refuses.
 fn watches(registry: &Registry, caller: &Caller, place: usize) -> bool {
     let descriptor = caller.descriptor();
     let token = Token(place.saturating_add(FIRST));

@@ -2,13 +2,13 @@
 ghost use Rattle.std.specs.Prelude.{◌≡◌, ◌↔◌, ◌<◌, ◌≤◌, nat_le};
 ghost use Rattle.outside_net.specs.Silence.{lasts};
 
-/// After so many milliseconds in which nothing came the peer is sent a ping.
+/// After this many milliseconds in which nothing came the peer is sent a ping.
 pub const PING_AFTER: u64 = 30_000;
 
-/// After so many it counts as gone.
+/// After this many it counts as gone.
 pub const GONE_AFTER: u64 = 90_000;
 
-/// What a peer's silence calls for.
+/// What a peer's silence requires.
 #[derive(Clone, Copy, Debug, PartialEq, Eq)]
 pub enum Call {
     Nothing,
@@ -16,8 +16,8 @@ pub enum Call {
     GiveUp,
 }
 
-/// A peer's silence: how many bytes had come when it began, and for how many milliseconds it has lasted. The time is the sum
-/// of the waits of reads, so that no clock is asked.
+/// A peer's silence: how many bytes had come when it began, and for how many milliseconds it has lasted. The time is the sum of the waits
+/// of reads, so that no clock is read.
 #[derive(Clone, Copy, Debug)]
 pub struct Silence {
     heard: u64,
@@ -43,8 +43,7 @@ impl Silence {
         self.lasted >= PING_AFTER
     }
 
-    /// After a wait of so many milliseconds, when so many bytes have come in all. A ping is called for once in each
-    /// silence.
+    /// After a wait of this many milliseconds, when this many bytes have come in all. A ping is due once in each silence.
     pub fn after(&mut self, heard: u64, wait: u64) -> Call
         ensures heard { self.new.heard ≡ heard }
         ensures lasted { self.new.lasted ≡ lasts self.old heard wait }

@@ -1,7 +1,7 @@
 //! Texts that come in pieces.
 
-/// How far a text was checked that comes in pieces: how many bytes of its last character are still to come, and between which
-/// values the next of them lies (RFC 3629, section 4).
+/// How far a text that comes in pieces was checked: how many bytes of its last character are still to come, and between which values the
+/// next of them is (RFC 3629, section 4).
 #[derive(Clone, Copy)]
 pub struct Utf8 {
     missing: u8,
@@ -23,12 +23,12 @@ impl Utf8 {
         }
     }
 
-    /// Whether the last character is whole.
+    /// Whether the last character is complete.
     pub fn is_whole(self) -> bool {
         self.missing == 0
     }
 
-    /// Takes a piece. False at the first byte that no text has there.
+    /// Takes a piece. False at the first byte that is not valid there.
     pub fn takes(&mut self, piece: &[u8]) -> bool {
         for byte in piece {
             match self.after(*byte) {
@@ -39,7 +39,7 @@ impl Utf8 {
         true
     }
 
-    /// After one byte more.
+    /// After one more byte.
     fn after(self, byte: u8) -> Option<Utf8> {
         if self.missing == 0 {
             return first(byte);

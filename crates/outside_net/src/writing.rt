@@ -2,14 +2,14 @@
 use crate::bells::Post;
 use std::io::{ErrorKind, Write};
 
-/// How long a write waits for the peer to take something, in milliseconds. A peer that takes nothing for so long is a fault.
+/// How long a write waits for the peer to take something, in milliseconds. A peer that takes nothing for this long is a fault.
 const WRITE_WAIT: u64 = 30_000;
 
-/// How long it waits at once.
+/// How long a single wait is.
 const LOOK_AFTER: u64 = 1_000;
 
-/// Writes all of these bytes to a stream, and waits at its post where it takes nothing. False where the stream fails, or takes
-/// nothing for too long.
+/// Writes all of these bytes to a stream, and waits at its post while it takes nothing. False if the stream fails, or takes nothing for too
+/// long.
 pub(crate) fn write_all<S: Write>(stream: &mut S, post: &mut Post, bytes: &[u8]) -> bool {
     let mut rest = bytes;
     let mut waited = 0u64;
@@ -34,16 +34,16 @@ pub(crate) fn write_all<S: Write>(stream: &mut S, post: &mut Post, bytes: &[u8])
     false
 }
 
-/// What one write came to.
+/// What came of one write.
 enum Wrote {
-    /// So many bytes were taken, one at least.
+    /// This many bytes were taken, at least one.
     Bytes(usize),
-    /// None was taken, and so many milliseconds count as waited.
+    /// None was taken, and this many milliseconds count as waited.
     Waited(u64),
     Failed,
 }
 
-/// Writes once, and waits where the stream takes nothing.
+/// Writes once, and waits if the stream takes nothing.
 fn write_some<S: Write>(stream: &mut S, post: &mut Post, bytes: &[u8]) -> Wrote {
     match stream.write(bytes) {
         Ok(0) => Wrote::Failed,

@@ -6,7 +6,7 @@ use Rattle.std.proofs.lemmas.Grind.{pow_more}
 use Rattle.std.proofs.lemmas.List.{drop_more, length-drop, length-take-le}
 use Rattle.point_lines.specs.Numerals.{hex_value, byte_of, joined, bytes_in}
 
--- a further digit fits 64 bits
+-- a further digit fits in 64 bits
 pub bits_room : (bits n k : ℕ) → n ≡ k + 1 → (bits + 1) * 16 ^ n ≤ 2 ^ 64 → bits * 16 + 16 ≤ 2 ^ 64
 bits_room bits n k e h =
     let some : 1 ≤ 16 ^ k = one-le-pow k 16 (lit< tt) in
@@ -64,7 +64,7 @@ pairs_odd text made i whole is_i odd so_far =
     let one : length text - 2 * i ≡ 1 = omega arith in
     end_odd (drop (2 * i) text) made (left ∙ one) ∙ so_far
 
--- the digits behind the first are one fewer
+-- the digits after the first are one fewer
 pub tail_length : (digits : List ℕ) → 1 ≤ length digits → length digits ≡ length (take (length digits - 1) (drop 1 digits)) + 1
 tail_length digits some =
     let dropped : length (drop 1 digits) ≡ length digits - 1 = length-drop 1 digits in

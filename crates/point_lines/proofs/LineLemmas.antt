@@ -31,7 +31,7 @@ pub lines_of_parts : (bs : List ℕ) (p : List ℕ × List ℕ) → parted 10 bs
 lines_of_parts [] p h = cc
 lines_of_parts (b ∷ bs) p h = first_step b bs (b == 10) p (lines_of_parts bs) h
 
--- bytes without a line feed are a line, where there are any
+-- bytes without a line feed are a line, if there are any
 abbrev pub whole : List ℕ → List (List ℕ)
 whole [] = []
 whole (b ∷ bs) = (b ∷ bs) ∷ []
@@ -54,7 +54,7 @@ may_join : (over : Bool) (more rest : List ℕ) → MayFollow over more → MayF
 may_join false more rest h k = tt
 may_join true more rest h k = ap (λ l. l ++ rest) h ∙ k
 
--- a further line, where more was taken
+-- a further line, if more was taken
 pub given_line : (before mid now : Option (List ℕ)) (r : Reading) (given : List (List ℕ)) (more buf : List ℕ) (p : List ℕ × List ℕ) → HasGiven before mid r given → Consumes mid now more → MayFollow r.over more → (r.over ≡ true → IsAtEnd now) → r.ahead ++ more ≡ buf → parted 10 buf ≡ Some p → HasGiven before now (record { line = p.0; ahead = p.1; over = r.over }) (given ++ p.0 ∷ [])
 given_line before mid now r given more buf p h took may end is_buf parts = record {
   taken = h.taken ++ more;
@@ -75,7 +75,7 @@ whole_line : (buf : List ℕ) → 0 < length buf → whole buf ≡ buf ∷ []
 whole_line [] some = absurd (omega arith)
 whole_line (b ∷ bs) some = refl
 
--- all that was taken, where the input has ended
+-- all that was taken, if the input has ended
 taken_all : (before mid : Option (List ℕ)) (r : Reading) (given : List (List ℕ)) (more buf : List ℕ) (h : HasGiven before mid r given) → MayFollow r.over more → r.ahead ++ more ≡ buf → parted 10 buf ≡ None → lines_in (h.taken ++ more) ≡ given ++ whole buf
 taken_all before mid r given more buf h may is_buf clear =
     h.lines more may ∙ ap (λ l. given ++ lines_in l) is_buf ∙ ap (λ l. given ++ l) (lines_of_whole buf clear)
@@ -145,7 +145,7 @@ ended false mid now before same here = here refl
 pub still_ended : (over : Bool) (mid now : Option (List ℕ)) → (over ≡ true → IsAtEnd mid) → (over ≡ true → now ≡ mid) → over ≡ true → IsAtEnd now
 still_ended over mid now before same is = subst IsAtEnd (sym (same is)) (before is)
 
--- a line feed stands at this place of what is gathered
+-- a line feed is at this offset of what is gathered
 pub fed_line : (answer : Advance) (i : ℕ) (before mid now : Option (List ℕ)) (r : Reading) (buf line ahead : List ℕ) (given : List (List ℕ)) → answer ≡ of_length i → Gathers r.over mid now r.ahead buf → IsPlace 10 buf (Some i) → (r.over ≡ true → IsAtEnd now) → line ≡ take i buf → ahead ≡ drop (suc i) buf → HasGiven before mid r given → Goes answer before now (record { line = line; ahead = ahead; over = r.over }) given
 fed_line answer i before mid now r buf line ahead given is g place end is_line is_ahead h =
     let parts : parted 10 buf ≡ Some (line, ahead) = place.1 ∙ ap (λ l. Some (l, drop (suc i) buf)) (sym is_line) ∙ ap (λ l. Some (line, l)) (sym is_ahead) in
@@ -173,7 +173,7 @@ no_line before mid now r buf given g end nothing h = given_all before mid now r 
 pub long_line : (before mid now : Option (List ℕ)) (r : Reading) (buf : List ℕ) (given : List (List ℕ)) → Gathers r.over mid now r.ahead buf → parted 10 buf ≡ None → 65536 < length buf → HasGiven before mid r given → MeetsLong before now given
 long_line before mid now r buf given g clear long h = meets_long_end before mid now r given g.more buf h g.took g.may g.all clear long
 
--- the line stands ahead already
+-- the line was read ahead already
 pub next_line : (answer : Advance) (i : ℕ) (before mid : Option (List ℕ)) (r : Reading) (line ahead : List ℕ) (given : List (List ℕ)) → answer ≡ of_length i → IsPlace 10 r.ahead (Some i) → line ≡ take i r.ahead → ahead ≡ drop (suc i) r.ahead → HasGiven before mid r given → Goes answer before mid (record { line = line; ahead = ahead; over = r.over }) given
 next_line answer i before mid r line ahead given is place is_line is_ahead h =
     fed_line answer i before mid mid r r.ahead line ahead given is (record { more = []; took = Consumes-nil mid; may = may_nothing r.over; all = append-nil r.ahead }) place h.end is_line is_ahead h

@@ -28,12 +28,12 @@ join_step : (mark b : ℕ) (bs ys : List ℕ) (t : Bool) → (parted mark bs ≡
 join_step mark b bs ys true rest h = cc
 join_step mark b bs ys false rest h = ap (option_map (put_before b)) (rest (unmapped b (parted mark bs) h)) ∙ behind_more b bs (parted mark ys)
 
--- behind bytes without the mark
+-- after bytes without the mark
 pub parted_join : (mark : ℕ) (xs ys : List ℕ) → parted mark xs ≡ None → parted mark (xs ++ ys) ≡ behind xs (parted mark ys)
 parted_join mark [] ys h = behind_nothing (parted mark ys)
 parted_join mark (b ∷ bs) ys h = join_step mark b bs ys (b == mark) (parted_join mark bs ys) h
 
--- more bytes behind two parts
+-- more bytes after two parts
 abbrev pub lengthened : List ℕ → List ℕ × List ℕ → List ℕ × List ℕ
 lengthened ys p = (p.0, p.1 ++ ys)
 
@@ -53,7 +53,7 @@ parted_more : (mark : ℕ) (xs ys : List ℕ) → is_some (parted mark xs) ≡ t
 parted_more mark [] ys h = absurd (false≢true h)
 parted_more mark (b ∷ bs) ys h = grown_step mark b bs ys (b == mark) (parted_more mark bs ys) h
 
--- what follows bytes with the mark stands behind it
+-- what follows bytes with the mark comes after it
 pub parted_grown : (mark : ℕ) (xs ys : List ℕ) (p : List ℕ × List ℕ) → parted mark xs ≡ Some p → parted mark (xs ++ ys) ≡ Some (p.0, p.1 ++ ys)
 parted_grown mark xs ys p h = parted_more mark xs ys (ap is_some h) ∙ ap (option_map (lengthened ys)) h
 
@@ -97,7 +97,7 @@ behind_some mark bytes seen i clear within h =
           ∙ ap (λ l. Some (take (seen + i) bytes, l)) (drop-drop (suc i) seen bytes ∙ ap (λ k. drop k bytes) far),
     )
 
--- the parts round a mark, as they are sliced
+-- the parts before and after a mark, as they are sliced
 pub parts_sliced : (mark : ℕ) (bytes : List ℕ) (i : ℕ) → IsPlace mark bytes (Some i) → Some (take i bytes, slice_range bytes (i + 1) (length bytes)) ≡ parted mark bytes
 parts_sliced mark bytes i place =
     ap (λ l. Some (take i bytes, l)) (take_rest bytes (i + 1) ∙ ap (λ n. drop n bytes) (add-one i)) ∙ sym place.1

@@ -1,4 +1,4 @@
--- The points that lines spell: an index, a space, and a value of the channel's kind.
+-- The points written in lines: an index, a space, and a value of the channel's kind.
 use Rattle.std.specs.Prelude.{ℕ, ℤ, ◌-◌, ◌^◌, ◌==◌, Bool, true, false, List, codes, if◌then◌else◌, Option, None, Some, option_map}
 use Rattle.std.specs.Str.{bytes_eq, is_utf8}
 use Rattle.etp_values.specs.Uri.{parted}
@@ -19,8 +19,8 @@ text_in text = if is_utf8 text then Some text else None
 abbrev pub long_in : List ℕ → Option ℤ
 long_in text = integer_in (2 ^ 63 - 1) text
 
--- a value of the kind at this place among the kinds of channels: 5 a truth value, 6 and 7 numbers of 32 and 64 bits, 8 and 9 the bits of a
--- float of 32 and of 64 bits, 10 a text, 11 bytes. No other kind has a value that a line spells
+-- a value of the kind at this index among the kinds of channels: 5 a truth value, 6 and 7 numbers of 32 and 64 bits, 8 and 9 the bits of a
+-- float of 32 and of 64 bits, 10 a text, 11 bytes. No other kind has a value that a line denotes
 abbrev pub value_in : ℕ → List ℕ → Option DataValue
 value_in kind text =
     if kind == 5 then option_map Boolean (truth_in text)
@@ -40,6 +40,6 @@ abbrev pub point_of : ℕ → Option (List ℕ × List ℕ) → Option Point
 point_of kind None = None
 point_of kind (Some parts) = point_at (long_in parts.0) (value_in kind parts.1)
 
--- the point of a line for a channel of this kind: its index stands before the first space, and its value behind that
+-- the point of a line for a channel of this kind: its index comes before the first space, and its value after it
 abbrev pub point_in : ℕ → List ℕ → Option Point
 point_in kind line = point_of kind (parted 32 line)

@@ -6,7 +6,7 @@ use Rattle.point_lines.specs.Marks.{IsPlace}
 use Rattle.point_lines.specs.declared.lines.Ended.{Ended}
 use Rattle.point_lines.specs.declared.lines.Ended.TheVariants.{Feed, Over, TooLong, Failed, NoMemory}
 
--- behind these bytes, which have no line feed, some were taken from the input, and these are all of them
+-- after these bytes, which have no line feed, some were taken from the input, and these are all of them
 pub record Gathers (over : Bool) (before after : Option (List ℕ)) (a b : List ℕ) : Type 0 where
   pub more : List ℕ
   pub took : Consumes before after more
@@ -21,7 +21,7 @@ ReadsOn TooLong over before after a b = Gathers over before after a b × IsPlace
 ReadsOn Failed over before after a b = Unit {0}
 ReadsOn NoMemory over before after a b = Unit {0}
 
--- the input has ended where nothing more came
+-- the input has ended if nothing more came
 abbrev pub IsOver : Ended → Option (List ℕ) → Type 0
 IsOver (Feed i) after = Unit {0}
 IsOver Over after = IsAtEnd after

@@ -1,4 +1,4 @@
-//! Lines of an input, and the points that they spell.
+//! Lines of an input, and the points written in them.
 //!
 //! [`Lines`] reads an input of any length line by line. [`point_in`] reads a line as a point of a channel of some kind: `INDEX VALUE`.
 //! [`positive_in`] reads a number of a command line.

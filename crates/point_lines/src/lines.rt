@@ -11,13 +11,13 @@ use etp_outside::{ReadOutcome, Source};
 use std::alloc::Global;
 use std::marker::Model;
 
-/// The greatest number of bytes of a line, without its line feed.
+/// The maximum length of a line in bytes, without its line feed.
 pub const MAX_LINE_LEN: usize = 65_536;
 
-/// What going on to the next line gave.
+/// What moving on to the next line returned.
 #[derive(Clone, Copy, Debug, PartialEq, Eq)]
 pub enum Advance {
-    /// The reader stands at the next line.
+    /// The reader is at the next line.
     Line,
     /// The next line has more than 65,536 bytes.
     TooLong,
@@ -25,25 +25,25 @@ pub enum Advance {
     NoMore,
     /// The source failed.
     Failed,
-    /// Memory was refused.
+    /// Out of memory.
     NoMemory,
 }
 
-/// What reading on to the end of a line gave.
+/// What reading on to the end of a line returned.
 enum Ended {
-    /// A line feed stands at this place.
+    /// There is a line feed at this offset.
     Feed(usize),
     /// The input has ended, and no line feed came.
     Over,
-    /// No line feed came within the greatest length of a line.
+    /// No line feed came within the maximum length of a line.
     TooLong,
     /// The source failed.
     Failed,
-    /// Memory was refused.
+    /// Out of memory.
     NoMemory,
 }
 
-/// Appends what comes, until a line feed stands there, there are too many bytes, or nothing more comes.
+/// Appends what comes, until there is a line feed, there are too many bytes, or nothing more comes.
 fn read_line<R: Source>(buf: &mut Vec<u8>, input: &mut R) -> Ended
     requires { parted 10 buf.old.items ≡ None }
     ensures bytes { ReadsOn result false (R.left input.old) (R.left input.new) buf.old.items buf.new.items }
@@ -72,7 +72,7 @@ fn read_line<R: Source>(buf: &mut Vec<u8>, input: &mut R) -> Ended
     }
 }
 
-/// Lets the bytes before `next` go, and reads on, unless the input is over.
+/// Drops the bytes before `next`, and reads on, unless the input is over.
 fn refill<R: Source>(
     alloc: Global,
     buf: &mut Vec<u8>,
@@ -98,7 +98,7 @@ fn refill<R: Source>(
     read_line(buf, input)
 }
 
-/// Whether a line of so many bytes is one that may be.
+/// Whether a line may have this length.
 fn of_length(len: usize) -> Advance
     ensures { result ≡ of_length len }
 {
@@ -109,7 +109,7 @@ fn of_length(len: usize) -> Advance
     }
 }
 
-/// Gives the lines of an input, one at a time. Contracts see the line that it stands at, the bytes that it took ahead, and whether the input is
+/// Gives the lines of an input, one at a time. Contracts see the current line, the bytes that were read ahead, and whether the input is
 /// over.
 #[derive(Drop)]
 pub struct Lines {
@@ -145,15 +145,15 @@ impl Lines {
         }
     }
 
-    /// The line that it stands at, without its line feed.
+    /// The current line, without its line feed.
     pub fn line(&self) -> &[u8]
         ensures { result.now ≡ self.now.line }
     {
         &self.buf[self.start..self.end]
     }
 
-    /// Goes on to the next line. It may take more of the input than that line. After another answer than `Line` nothing is said of what it
-    /// holds.
+    /// Moves on to the next line. It may read more of the input than that line. After any answer other than `Line` its contents are
+    /// unspecified.
     pub fn advance<R: Source>(&mut self, alloc: Global, input: &mut R) -> Advance
         ensures goes { (before : Option (List ℕ)) (given : List (List ℕ)) → HasGiven before (R.left input.old) self.old given
             → Goes result before (R.left input.new) self.new given }
@@ -172,7 +172,7 @@ impl Lines {
         }
     }
 
-    /// The same where no line feed stands ahead.
+    /// The same if no line feed was read ahead.
     fn read_on<R: Source>(&mut self, alloc: Global, input: &mut R) -> Advance
         requires { parted 10 self.old.ahead ≡ None }
         ensures goes { (before : Option (List ℕ)) (given : List (List ℕ)) → HasGiven before (R.left input.old) self.old given

@@ -1,10 +1,10 @@
-//! Where marks stand among bytes.
+//! Finding marks among bytes.
 ghost use Rattle.std.specs.Prelude.{◌≡◌, ◌≤◌, length, take, None};
 ghost use Rattle.std.specs.Option.{option_map};
 ghost use Rattle.etp_values.specs.Uri.{parted};
 ghost use Rattle.point_lines.specs.Marks.{IsPlace};
 
-/// Where the first mark stands.
+/// The offset of the first mark.
 pub(crate) fn place_of(mark: u8, bytes: &[u8]) -> Option<usize>
     ensures { IsPlace mark bytes.now result }
 {
@@ -16,7 +16,7 @@ pub(crate) fn place_of(mark: u8, bytes: &[u8]) -> Option<usize>
     None
 }
 
-/// The same, where none stands among the first `seen` bytes.
+/// The same, if there is none among the first `seen` bytes.
 pub(crate) fn place_behind(mark: u8, bytes: &[u8], seen: usize) -> Option<usize>
     requires within { seen ≤ length bytes.now }
     requires clear { parted mark (take seen bytes.now) ≡ None }
@@ -28,7 +28,7 @@ pub(crate) fn place_behind(mark: u8, bytes: &[u8], seen: usize) -> Option<usize>
     }
 }
 
-/// What stands before the first mark, and what stands behind it.
+/// What comes before the first mark, and what follows it.
 pub(crate) fn parted(mark: u8, bytes: &[u8]) -> Option<(&[u8], &[u8])>
     ensures { option_map (λ p. (p.0.now, p.1.now)) result ≡ parted mark bytes.now }
 {

@@ -7,7 +7,7 @@ ghost use Rattle.point_lines.specs.Numerals.{has_no_needless_zero, number_on, na
 use etp_values::{Blob, NoMemory};
 use std::alloc::Global;
 
-/// Whether digits have no zero in front that says nothing. No text at all is no number.
+/// Whether digits have no unnecessary leading zero. The empty text is not a number.
 fn has_no_needless_zero(digits: &[u8]) -> bool
     ensures { result ≡ has_no_needless_zero digits.now }
 {
@@ -18,7 +18,7 @@ fn has_no_needless_zero(digits: &[u8]) -> bool
     }
 }
 
-/// The number that digits spell behind those of `count`, where it is at most `most`.
+/// The number that digits denote when they follow those of `count`, if it is at most `most`.
 #[tactic(auto, using(crate::proofs::NumeralLemmas::beyond))]
 fn number_on(most: u64, count: u64, digits: &[u8]) -> Option<u64>
     requires within { count ≤ most }
@@ -42,7 +42,7 @@ fn number_on(most: u64, count: u64, digits: &[u8]) -> Option<u64>
     }
 }
 
-/// A number in decimal of at most `most`, without a sign or a needless zero.
+/// A number in decimal of at most `most`, without a sign or an unnecessary zero.
 fn natural_in(most: u64, text: &[u8]) -> Option<u64>
     requires { most ≤ 2 ^ 63 }
     ensures value { result ≡ natural_in most text.now }
@@ -54,7 +54,7 @@ fn natural_in(most: u64, text: &[u8]) -> Option<u64>
     number_on(most, 0, text)
 }
 
-/// A number in decimal of 1 to `most`, without a sign or a needless zero.
+/// A number in decimal of 1 to `most`, without a sign or an unnecessary zero.
 pub fn positive_in(most: u64, text: &[u8]) -> Option<u64>
     requires { most ≤ 2 ^ 63 }
     ensures { result ≡ positive_in most text.now }
@@ -66,7 +66,7 @@ pub fn positive_in(most: u64, text: &[u8]) -> Option<u64>
     }
 }
 
-/// The number below 0 of a size of at most 2^63; 0 has no sign.
+/// The negative number of a size of at most 2^63; 0 has no sign.
 fn negative(size: u64) -> Option<i64>
     requires { size ≤ 2 ^ 63 }
     ensures { result ≡ negative size }
@@ -77,7 +77,7 @@ fn negative(size: u64) -> Option<i64>
     Some(-1 - (size - 1) as i64)
 }
 
-/// A number in decimal of a signed type whose greatest is `most`: of a hyphen and a number of at least 1, or of a number.
+/// A number in decimal of a signed type whose greatest is `most`: a hyphen and a number of at least 1, or a number.
 pub(crate) fn integer_in(most: u64, text: &[u8]) -> Option<i64>
     requires { most < 2 ^ 63 }
     ensures { result ≡ integer_in most text.now }
@@ -96,7 +96,7 @@ pub(crate) fn integer_in(most: u64, text: &[u8]) -> Option<i64>
     }
 }
 
-/// The number below 0 of the size that a text spells.
+/// The negative number whose size a text denotes.
 fn negative_in(most: u64, text: &[u8]) -> Option<i64>
     requires { most ≤ 2 ^ 63 }
     ensures { result ≡ option_and_then negative (natural_in most text.now) }
@@ -147,7 +147,7 @@ fn capital_value(c: u8) -> u64
     }
 }
 
-/// The number that such digits spell behind those of `bits`.
+/// The number that such digits denote when they follow those of `bits`.
 #[tactic(auto, using(crate::proofs::BitLemmas::bits_end))]
 fn bits_on(bits: u64, digits: &[u8]) -> Option<u64>
     requires { (bits + 1) * 16 ^ length digits.now ≤ 2 ^ 64 }

@@ -1,4 +1,4 @@
-//! The points that lines spell.
+//! The points written in lines.
 ghost use Rattle.std.specs.Prelude.{◌≡◌, ◌^◌, ◌-◌, IfOk};
 ghost use Rattle.std.specs.Option.{option_map};
 ghost use Rattle.etp_values.specs.declared.data.DataValue.TheVariants as value;
@@ -10,7 +10,7 @@ use crate::numerals::{bits_in, bytes_in, integer_in};
 use etp_values::{Bits32, Bits64, Boxed, DataValue, NoMemory, Point, Text};
 use std::alloc::Global;
 
-/// The kinds of channels by their places among the kinds of the schema.
+/// The kinds of channels by their indexes among the kinds of the schema.
 mod kinds {
     pub const BOOLEAN: u32 = 5;
 
@@ -130,7 +130,7 @@ fn bytes(alloc: Global, text: &[u8]) -> Result<Option<DataValue>, NoMemory>
     }
 }
 
-/// The value that a text spells for a channel of this kind.
+/// The value that a text denotes for a channel of this kind.
 fn value_in(alloc: Global, kind: u32, text: &[u8]) -> Result<Option<DataValue>, NoMemory>
     ensures { IfOk result (λ found. found ≡ value_in kind text.now) }
 {
@@ -146,7 +146,7 @@ fn value_in(alloc: Global, kind: u32, text: &[u8]) -> Result<Option<DataValue>, 
     }
 }
 
-/// The point of an index and a value, where both are in their forms.
+/// The point of an index and a value, if both are well formed.
 fn point_at(alloc: Global, kind: u32, index: &[u8], value: &[u8]) -> Result<Option<Point>, NoMemory>
     ensures { IfOk result (λ point. point ≡ point_at (long_in index.now) (value_in kind value.now)) }
 {
@@ -159,11 +159,11 @@ fn point_at(alloc: Global, kind: u32, index: &[u8], value: &[u8]) -> Result<Opti
     }
 }
 
-/// The point that a line `INDEX VALUE` spells for a channel of this kind, or None where the line is in no form.
+/// The point that a line `INDEX VALUE` denotes for a channel of this kind, or `None` if the line is malformed.
 ///
-/// The index and the numbers are decimal, without a sign but `-` and without a needless zero. A float is its bits in hexadecimal capitals,
-/// a text the rest of the line, and bytes are pairs of hexadecimal digits. `kind` is the place of the kind among those of the schema: 5 a truth
-/// value, 6 an int, 7 a long, 8 a float, 9 a double, 10 a text, 11 bytes.
+/// The index and the numbers are decimal, without a sign except `-` and without an unnecessary zero. A float is its bits in hexadecimal
+/// capitals, a text the rest of the line, and bytes are pairs of hexadecimal digits. `kind` is the index of the kind among those of the
+/// schema: 5 a truth value, 6 an int, 7 a long, 8 a float, 9 a double, 10 a text, 11 bytes.
 pub fn point_in(alloc: Global, kind: u32, line: &[u8]) -> Result<Option<Point>, NoMemory>
     ensures { IfOk result (λ point. point ≡ point_in kind line.now) }
 {

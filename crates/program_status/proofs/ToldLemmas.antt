@@ -1,4 +1,4 @@
--- What was told of a status, by what came of writing it.
+-- What was written for a status, by what came of writing it.
 use Rattle.std.specs.Prelude.{IfOk, IfErr, IsOk}
 use Rattle.std.proofs.Common.{◌≡◌, ℕ, List, Option, Result, Ok, Err, inl, inr, refl, ap}
 use Rattle.std.proofs.lemmas.Bool.{false≢true}

@@ -3,7 +3,7 @@ use etp_outside::Status;
 use std::rt::Env;
 use std::{env, io};
 
-/// The words after the program's name; words that are no text are in no form.
+/// The words after the program's name; words that are not UTF-8 make the command line malformed.
 pub fn words<R: AllocGlobal + Env>(rt: &R) -> Result<Vec<String>, Status> {
     let args = match env::args(rt) {
         Ok(args) => args,

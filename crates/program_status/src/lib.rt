@@ -1,7 +1,7 @@
-//! How a program begins and ends: its words, the line that tells how it ended, and its exit status.
+//! How a program begins and ends: its words, the line that says how it ended, and its exit status.
 //!
-//! [`words`] gives the words behind the program's name. [`finish`] tells the line of a [`Status`](etp_outside::Status) and gives the exit
-//! status that `main` ends with. How a program is called, which follows the line where its words are in no form, is its own.
+//! [`words`] returns the words after the program's name. [`finish`] writes the line of a [`Status`](etp_outside::Status) and returns the
+//! exit status for `main` to end with. Each program has its own usage text, which follows the line if the command line is malformed.
 #![tactic(auto)]
 
 mod command_line;

@@ -1,4 +1,4 @@
-//! What is told of a status, and the exit status.
+//! What is written for a status, and the exit status.
 ghost use Rattle.std.specs.Prelude.{◌≡◌, ◌≤◌, ◌++◌, OnOk, IfOk, IfErr, IsOk};
 ghost use Rattle.std.specs.Process.{exit_status};
 ghost use Rattle.etp_outside.specs.Faults.{Rose};
@@ -11,9 +11,9 @@ use etp_values::NoMemory;
 use std::alloc::Global;
 use std::process::ExitCode;
 
-/// Tells `errors` how a program has ended, and gives its exit status. What is told is the status line, and behind that of words in no
-/// form `usage`, which says how the program is called; `Done` has no line. What can't be told is lost: a part of it where the output
-/// fails, and all of it for want of memory, but for the line of `NoMemory`, which needs none.
+/// Writes to `errors` how a program has ended, and returns its exit status. The text is the status line, followed by `usage` if the command
+/// line was malformed; `Done` has no line. It may be truncated if the output fails, and missing if memory runs out; the line of `NoMemory`
+/// itself needs no memory.
 pub fn finish<W: Sink>(alloc: Global, status: Status, usage: &[u8], errors: &mut W) -> ExitCode
     ensures number { exit_status result ≡ number_of status }
     ensures told { IsTold status (told_with usage.now status) (W.held errors.old) (W.held errors.new) (W.faults errors.old) (W.faults errors.new) }
@@ -23,7 +23,7 @@ pub fn finish<W: Sink>(alloc: Global, status: Status, usage: &[u8], errors: &mut
     ExitCode::from(status.number())
 }
 
-/// Writes what is told of a status.
+/// Writes the text of a status.
 fn tell<W: Sink>(
     alloc: Global,
     status: Status,
@@ -45,7 +45,7 @@ fn tell<W: Sink>(
     Ok(write_all(errors, text.as_slice()))
 }
 
-/// Appends all that is told of a status.
+/// Appends the whole text of a status.
 fn push_told(
     alloc: Global,
     status: Status,

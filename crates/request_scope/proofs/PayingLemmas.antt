@@ -1,4 +1,4 @@
--- Whether a payload is counted is the same for a size that stops at the greatest number of 64 bits.
+-- Whether a payload is counted is the same for a size that stops at the greatest 64-bit number.
 use Rattle.std.specs.Prelude.{ℕ, ◌≡◌}
 use Rattle.std.proofs.Common.{arith}
 use Rattle.std.proofs.lemmas.Bool.Decides.{nat_tests}

@@ -17,21 +17,21 @@ refused_look [] = None
 refused_look (Refused code ∷ ls) = Some code
 refused_look (l ∷ ls) = refused_look ls
 
--- something stands at the first key that was looked at
+-- something exists at the first key that was looked at
 abbrev pub is_first_seen : List Looked → Bool
 is_first_seen [] = false
 is_first_seen (Missing ∷ ls) = false
 is_first_seen (l ∷ ls) = true
 
--- why an operation is refused, where no look was
+-- why an operation is refused, if no look was
 abbrev pub needed_refusal : Option Transaction → Key → Op → Bool → Option ErrorCode
 needed_refusal stage needed o found = if not (stands stage needed found) then Some NotFound else stage_refusal stage o
 
--- why an operation is refused: a look was, what it needs doesn't stand, or the transaction refuses it
+-- why an operation is refused: a look was, what it needs doesn't exist, or the transaction refuses it
 abbrev pub found_refusal : Option Transaction → Key → Op → List Looked → Option ErrorCode
 found_refusal stage needed o found = first_cause (refused_look found) (needed_refusal stage needed o (is_first_seen found))
 
--- the scope after the operation, where neither a look was refused nor what it needs is missing
+-- the scope after the operation, if neither a look was refused nor what it needs is missing
 abbrev pub putting_by : Option ErrorCode → Bool → Scope → Op → Scope
 putting_by (Some code) standing s o = s
 putting_by None false s o = s

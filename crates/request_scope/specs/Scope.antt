@@ -20,7 +20,7 @@ use Rattle.request_scope.specs.declared.within.Scope.{Scope}
 
 -- ---- what may be touched
 
--- a transaction is open that only reads
+-- an open transaction only reads
 abbrev pub is_read_only : Option Transaction → Bool
 is_read_only None = false
 is_read_only (Some x) = x.read_only
@@ -40,37 +40,37 @@ begun stage = record { stage = stage; paid = 0 }
 abbrev pub pays : Scope → ℕ → Bool
 pays s size = nat_le (s.paid + size) 67108864
 
--- what is counted once so many bytes were asked for
+-- what is counted once this many bytes were requested
 abbrev pub paying : Scope → ℕ → Scope
 paying s size = if pays s size then record s { paid = s.paid + size } else s
 
 -- ---- the transaction's operations over what the store has
 
--- the object that stands at a URI within the transaction, where the store has this one
+-- the object at a URI within the transaction, if the store has this one
 abbrev pub object_over : Option Transaction → StoreUri → Option ObjectRecord → Option ObjectRecord
 object_over None uri found = found
 object_over (Some x) uri found = as_object (overlay x.ops (Object uri) (option_map value.Object found))
 
--- the array that stands at a key within the transaction, where the store has this one
+-- the array at a key within the transaction, if the store has this one
 abbrev pub array_over : Option Transaction → ArrayKey → Option ArrayRecord → Option ArrayRecord
 array_over None key found = found
 array_over (Some x) key found = as_array (overlay x.ops (Array key) (option_map value.Array found))
 
--- whether something stands at a key
+-- whether something exists at a key
 abbrev pub stands : Option Transaction → Key → Bool → Bool
 stands None key found = found
 stands (Some x) key found = there x.ops key found
 
 -- ---- a further operation
 
--- the code by which a transaction's refusal is answered
+-- the code with which a transaction's refusal is answered
 abbrev pub code_of : StageError → ErrorCode
 code_of error.ReadOnly = RequestDenied
 code_of (error.Space path) = RequestDenied
 code_of error.Operations = LimitExceeded
 code_of error.Bytes = LimitExceeded
 code_of error.Keys = LimitExceeded
--- no operation is refused so
+-- no operation is refused with it
 code_of error.NoMemory = LimitExceeded
 
 -- why an operation is refused

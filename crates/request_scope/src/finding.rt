@@ -25,7 +25,7 @@ pub fn refused_look(found: &[Looked]) -> Option<ErrorCode>
     }
 }
 
-/// Whether something stands at the first key that was looked at.
+/// Whether something exists at the first key that was looked at.
 fn is_first_seen(found: &[Looked]) -> bool
     ensures { result ≡ is_first_seen found.now }
 {
@@ -45,8 +45,8 @@ fn is_first_seen(found: &[Looked]) -> bool
 }
 
 impl Scope {
-    /// Stages an operation by what was seen of the keys that it touches, of which the first, `needed`, has to stand. Answers why
-    /// it is refused: a look was, nothing stands there, or the transaction refuses it.
+    /// Stages an operation by what was seen of the keys that it touches, of which the first, `needed`, has to exist. Returns why it is
+    /// refused: a look was, nothing exists there, or the transaction refuses it.
     pub fn put_found(
         &mut self,
         op: Op,

@@ -8,7 +8,7 @@ use keyed_requests::{Decision, Findings, KeyedReply, Sending, request_reply};
 use std::alloc::Global;
 use tx_stage::Stage;
 
-/// What a request is answered by, and the open transaction, if there is one, with what the request staged in it.
+/// What a request is answered with, and the open transaction, if there is one, with what the request staged in it.
 #[derive(Drop)]
 pub struct Answered<M> {
     pub stage: Option<Stage>,

@@ -54,7 +54,7 @@ pub(crate) fn array_in(value: Option<Value>) -> Option<ArrayRecord>
     }
 }
 
-/// Stages an operation, or answers why it is refused.
+/// Stages an operation, or returns why it is refused.
 pub(crate) fn put_in(stage: &mut Stage, op: Op) -> Result<Option<ErrorCode>, NoMemory>
     ensures refusal { IfOk result (λ code. code ≡ put_code stage.old op) }
     ensures state { OnOk result (stage.new ≡ put_left stage.old op) }
@@ -68,7 +68,7 @@ pub(crate) fn put_in(stage: &mut Stage, op: Op) -> Result<Option<ErrorCode>, NoM
     }
 }
 
-/// The code by which a transaction's refusal of a key or an operation is answered; want of memory is none.
+/// The code with which a transaction's refusal of a key or an operation is answered; running out of memory is not one.
 pub fn refusal_code(error: StageError) -> Result<ErrorCode, NoMemory>
     ensures code { IfOk result (λ code. code ≡ code_of error) }
     ensures memory { OnOk result (error ≢ StageError.NoMemory) }

@@ -10,15 +10,15 @@ use object_store::ObjectRecord;
 use std::alloc::Global;
 use tx_stage::{Key, MAX_PAYLOAD, Op, Stage};
 
-/// What each key of a request passes on to the next one: the open transaction, if there is one, and how many bytes of payload
-/// the request counts so far.
+/// What each key of a request passes on to the next one: the open transaction, if there is one, and how many bytes of payload the request
+/// has counted so far.
 #[derive(Drop)]
 pub struct Scope {
     pub stage: Option<Stage>,
     pub paid: u64,
 }
 
-/// Whether a transaction is open that only reads.
+/// Whether an open transaction only reads.
 pub fn is_read_only(stage: &Option<Stage>) -> bool
     ensures { result ≡ is_read_only stage.now }
 {
@@ -39,14 +39,14 @@ pub fn may_use(stage: &Option<Stage>, path: &Text) -> bool
 }
 
 impl Scope {
-    /// Where no key has been taken yet.
+    /// The scope before any key.
     pub fn new(stage: Option<Stage>) -> Scope
         ensures { result ≡ begun stage }
     {
         Scope { stage, paid: 0 }
     }
 
-    /// Counts so many bytes of payload more, where the request then counts at most 67,108,864. Else it counts what it did.
+    /// Counts this many more bytes of payload, if the request then counts at most 67,108,864. Otherwise the count is unchanged.
     pub fn pay(&mut self, size: u64) -> bool
         ensures paid { result ≡ pays self.old size }
         ensures state { self.new ≡ paying self.old size }
@@ -68,7 +68,7 @@ impl Scope {
         self.pay(array_bytes(values))
     }
 
-    /// The object of a URI, where the store has this one: with the transaction's operations over it.
+    /// The object of a URI, if the store has this one: with the transaction's operations applied.
     pub fn object(
         &self,
         alloc: Global,
@@ -87,7 +87,7 @@ impl Scope {
         }
     }
 
-    /// The array of a key, where the store has this one: with the transaction's operations over it.
+    /// The array of a key, if the store has this one: with the transaction's operations applied.
     pub fn array(
         &self,
         alloc: Global,
@@ -106,7 +106,7 @@ impl Scope {
         }
     }
 
-    /// Whether something stands at a key, by whether the store has something there.
+    /// Whether something exists at a key, by whether the store has something there.
     pub fn stands(&self, key: &Key, found: bool) -> bool
         ensures { result ≡ stands self.now.stage key.now found }
     {
@@ -116,7 +116,7 @@ impl Scope {
         }
     }
 
-    /// Stages an operation, or answers why it is refused; without an open transaction every one is.
+    /// Stages an operation, or returns why it is refused; without an open transaction every one is.
     pub fn put(&mut self, op: Op) -> Result<Option<ErrorCode>, NoMemory>
         ensures refusal { IfOk result (λ code. code ≡ stage_refusal self.old.stage op) }
         ensures state { OnOk result (self.new ≡ staging self.old op) }

@@ -2,10 +2,10 @@
 use etp_values::{Copied, Id16, List, NoMemory, Shared, StoreUri, Text};
 use std::alloc::Global;
 
-/// The greatest lag of a subscription, in entries of the journal, and what it is where a configuration doesn't say.
+/// The greatest lag of a subscription, in entries of the journal, and the default if a configuration gives none.
 pub const MAX_LAG: u64 = 65_536;
 
-/// The greatest number of entries of a journal, and what it is where a configuration doesn't say.
+/// The greatest number of entries of a journal, and the default if a configuration gives none.
 pub const MAX_JOURNAL: u64 = 4_194_304;
 
 /// What a channel's values are.
@@ -20,7 +20,7 @@ pub enum ValueKind {
     Bytes,
 }
 
-/// A channel: the object that it is, its name, what its values are, and their unit of measure.
+/// A channel: its object, its name, the kind of its values, and their unit of measure.
 #[derive(Debug, Drop)]
 pub struct ChannelDef {
     pub uri: StoreUri,
@@ -29,8 +29,8 @@ pub struct ChannelDef {
     pub uom: Text,
 }
 
-/// A server's configuration. `types` is none where objects of all types are accepted. The copies of a configuration have the
-/// types and the channels in common.
+/// A server's configuration. `types` is `None` if objects of all types are accepted. Copies of a configuration share the types and the
+/// channels.
 #[derive(Debug, Drop)]
 pub struct Config {
     pub instance: Id16,

@@ -1,6 +1,6 @@
 //! The configuration of a server: its identifier and name, its limits, and the channels that it serves.
 //!
-//! A configuration is a plain value. How one is read of a TOML document is said in `chan_defs`.
+//! A configuration is a plain value. `chan_defs` says how one is read from a TOML document.
 #![tactic(auto)]
 
 mod config;

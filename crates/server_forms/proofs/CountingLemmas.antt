@@ -27,7 +27,7 @@ counts_next journal k e old new fits at same each c = record {
       next_count (e.by == place) e (get_or old place 0) (get_or new place 0) (length (own place (drop (k + 1) journal))) (length (own place journal)) (length journal) (each place inside) (omega (arith, step, sofar)) (own_few place journal) fits;
 }
 
--- the numbers stand in their vector again
+-- the numbers are in their vector again
 pub back_whole : (len : ℕ) (new old : List ℕ) → length new ≡ length old → length old ≡ len → take len (new ++ drop (length new) old) ≡ new
 back_whole len new old same long =
     let past : drop (length new) old ≡ [] = drop_all (length new) old (omega (arith, same)) in

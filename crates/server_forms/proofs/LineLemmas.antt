@@ -16,7 +16,7 @@ next_by journal k e at =
     ∙ (ap (λ l. l ++ lines_from journal (k + 1) (drop (suc k) journal)) (sym (ap (line_of journal k) at))
     ∙ ap (λ j. line_at journal k ++ lines_from journal (k + 1) (drop j journal)) (sym (add-one k)))
 
--- the line of an entry, and those of the entries behind it
+-- the line of an entry, and those of the entries after it
 pub lines_next : (journal : List Entry) (k : ℕ) → k < length journal → lines_from journal k (drop k journal) ≡ line_at journal k ++ lines_from journal (k + 1) (drop (k + 1) journal)
 lines_next journal k within = ⊎_elim (λ found. next_by journal k found.0 found.2) (λ past. absurd (omega (arith, within, past.0))) (slice_get_cases journal k).1
 
@@ -25,6 +25,6 @@ pub line_is : (journal : List Entry) (k entries : ℕ) (e : Entry) → slice_get
     → line_at journal k ≡ line_if (is_enter e.act) k entries
 line_is journal k entries e at is = ap (line_of journal k) at ∙ ap (line_if (is_enter e.act) k) (sym is)
 
--- behind the last entry there are none
+-- after the last entry there are none
 pub lines_end : (journal : List Entry) (k : ℕ) → length journal ≤ k → lines_from journal k (drop k journal) ≡ []
 lines_end journal k over = ap (lines_from journal k) (drop_all k journal over)

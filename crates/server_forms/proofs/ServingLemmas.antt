@@ -32,7 +32,7 @@ use Rattle.server_forms.specs.Words.{Command}
 
 -- ---- links
 
--- a listener that does not listen gives none
+-- a listener that is not listening gives out none
 pub served_none : (test : List ℤ → Bool) (config : Config) (v : Known) (given now : ℕ) (b0 b : Option (List Back)) → now ≡ given → b ≡ b0 → ServesAll why.ListenFault test config v v given now b0 b
 served_none test config v given now b0 b same is = record {
   came = [];
@@ -82,7 +82,7 @@ listen_fault_is why.Stopped NoMemory is = absurd (cc is)
 listen_fault_is why.ListenFault reported is = refl
 listen_fault_is why.NoMemory reported is = absurd (cc is)
 
--- words that are in a form, and a file that was read, are at fault for nothing
+-- well-formed words, and a file that was read, are not at fault
 pub no_usage : (end : Served) (reported : Wrote) → status_of end reported ≡ outcome.Usage → ⊥
 no_usage why.Stopped Whole is = absurd (cc is)
 no_usage why.Stopped WriteFault is = absurd (cc is)
@@ -97,7 +97,7 @@ no_read_fault why.Stopped NoMemory is = absurd (cc is)
 no_read_fault why.ListenFault reported is = absurd (cc is)
 no_read_fault why.NoMemory reported is = absurd (cc is)
 
--- where there is no configuration, the status is no other's
+-- if there is no configuration, the status is no other's
 pub never : (status other : Status) (content : Option (List ℕ)) → (IsNoConfig other content → ⊥) → IsNoConfig status content → status ≡ other → ⊥
 never status other content not fact is = not (subst (λ (s : Status). IsNoConfig s content) is fact)
 

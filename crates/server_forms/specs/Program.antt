@@ -1,8 +1,8 @@
--- What the program tells of its status.
+-- What the program reports about its status.
 use Rattle.std.specs.Prelude.{ℕ, List, codes}
 use Rattle.program_status.specs.Told.{told_with}
 use Rattle.etp_outside.specs.declared.status.Status.{Status}
 
--- the status line and what follows it: where the words are in no form, how the program is called
+-- the status line and what follows it: after a malformed command line the usage
 abbrev pub told : Status → List ℕ
 told status = told_with (codes "\netpd CONFIG ADDRESS\netpd CONFIG ADDRESS SESSIONS\n") status

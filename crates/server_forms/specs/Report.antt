@@ -9,7 +9,7 @@ use Rattle.store_machine.specs.declared.journal.Entry.{Entry}
 abbrev pub entries_line : ℕ → List ℕ
 entries_line entries = codes "entries " ++ (decimal entries ++ codes "\n")
 
--- the line of a session with so many entries, of which the first let it in
+-- the line of a session with this many entries, of which the first let it in
 abbrev pub session_line : ℕ → ℕ → List ℕ
 session_line number entries = codes "session " ++ (decimal number ++ (codes " writes " ++ (decimal (entries - 1) ++ codes "\n")))
 
@@ -27,7 +27,7 @@ line_of journal place (Some e) = line_if (is_enter e.act) place (length (own pla
 abbrev pub line_at : List Entry → ℕ → List ℕ
 line_at journal place = line_of journal place (slice_get journal place)
 
--- the lines of entries that stand in a journal from a place on
+-- the lines of entries that are in a journal from a place on
 abbrev pub lines_from : List Entry → ℕ → List Entry → List ℕ
 lines_from journal place [] = []
 lines_from journal place (e ∷ es) = line_if (is_enter e.act) place (length (own place journal)) ++ lines_from journal (place + 1) es

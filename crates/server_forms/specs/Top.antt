@@ -1,4 +1,4 @@
--- What the top call answers, by all that it was handed and left.
+-- What the top call answers, by all that it was given and left.
 use Rattle.std.specs.Prelude.{◌≡◌, ◌⊎◌, ◌+◌, ◌≤◌, ℕ, ℤ, Bool, true, false, List, drop, Option, None, Some, IfSome, Ok}
 use Rattle.std.specs.Io.KnownBytes.{Keeps}
 use Rattle.chan_defs.specs.Config.{defs}
@@ -22,14 +22,14 @@ use Rattle.store_machine.specs.declared.journal.Entry.{Entry}
 use Rattle.server_forms.specs.Report.{report}
 use Rattle.server_forms.specs.Words.{Command}
 
--- what a listener tells before a call and after it: how many links it gave, and which it took back
+-- what a listener reveals before a call and after it: how many links it gave out, and which it took back
 pub record Door : Type 0 where
   pub given : ℕ
   pub now : ℕ
   pub backs : Option (List Back)
   pub taken : Option (List Back)
 
--- a listener that tells this before a call and after it
+-- a listener that reveals this before a call and after it
 abbrev pub door_of : ℕ → ℕ → Option (List Back) → Option (List Back) → Door
 door_of given now backs taken = record { given = given; now = now; backs = backs; taken = taken }
 
@@ -40,17 +40,17 @@ pub record Output : Type 0 where
   pub faults : ℕ
   pub count : ℕ
 
--- an output that tells this before a call and after it
+-- an output that reveals this before a call and after it
 abbrev pub output_of : Option (List ℕ) → Option (List ℕ) → ℕ → ℕ → Output
 output_of before after faults count = record { before = before; after = after; faults = faults; count = count }
 
--- no link was given or taken back, and nothing was written
+-- no link was given out or taken back, and nothing was written
 pub record Untouched (door : Door) (output : Output) : Type 0 where
   pub given : door.now ≡ door.given
   pub backs : door.taken ≡ door.backs
   pub written : Keeps output.before output.after
 
--- the status by why no further link was served; where as many were served as could be, what came of the report decides
+-- the status by why no more links were served; if as many were served as could be, what came of the report decides
 abbrev pub status_of : Served → Wrote → Status
 status_of why.Stopped Whole = outcome.Done
 status_of why.Stopped WriteFault = outcome.WriteFault
@@ -58,13 +58,12 @@ status_of why.Stopped NoMemory = outcome.NoMemory
 status_of why.ListenFault reported = outcome.ListenFault
 status_of why.NoMemory reported = outcome.NoMemory
 
--- as many sessions were let in behind the first entry as links were given, or the journal has no room for another
+-- as many sessions were let in after the first entry as links were given out, or the journal has no room for another
 abbrev pub HasEntered : Settings → List Entry → ℕ → ℕ → Type 0
 HasEntered config journal given now = (now ≤ given + entered (drop 1 journal)) ⊎ (has_room_for config journal Enter ≡ false)
 
--- Links were served from one new store. There is an answer for each link that was given, over the journal that the store had
--- in the end, which is legal; and of the report of that journal all was written, or a front: where the output failed, or for want
--- of memory
+-- Links were served from one new store. There is an answer for each link that was given out, over the journal that the store had in the
+-- end, which is legal; and of the report of that journal all was written, or a front: if the output failed, or memory ran out
 pub record ServesWith (status : Status) (config : Settings) (test : List ℤ → Bool) (door : Door) (output : Output) : Type 0 where
   pub end : Served
   pub reported : Wrote
@@ -86,23 +85,23 @@ pub record Serves (status : Status) (content : Option (List ℕ)) (test : List �
 abbrev pub Tries : Status → Settings → (List ℤ → Bool) → Door → Output → Type 0
 Tries status config test door output = ((status ≡ outcome.NoMemory) × Untouched door output) ⊎ ServesWith status config test door output
 
--- what a status says of a command: that there is no configuration or no memory to begin with, or that links were served
+-- what a status says about a command: that there is no configuration or no memory to begin with, or that links were served
 abbrev pub Fulfils : Status → Command → (List ℕ → Option (List ℕ)) → (List ℤ → Bool) → Door → Output → Type 0
 Fulfils status command files test door output =
     (IsNoConfig status (files command.config) × Untouched door output) ⊎ Serves status (files command.config) test door output
 
--- the same of words, which may be in no form
+-- the same for words, which may be malformed
 abbrev pub Answers : Status → Option Command → (List ℕ → Option (List ℕ)) → (List ℤ → Bool) → Door → Output → Type 0
 Answers status None files test door output = ((status ≡ outcome.Usage) ⊎ (status ≡ outcome.NoMemory)) × Untouched door output
 Answers status (Some command) files test door output =
     Fulfils status command files test door output ⊎ ((status ≡ outcome.NoMemory) × Untouched door output)
 
--- no more links were given than were to be served
+-- no more links were given out than were to be served
 abbrev pub AtMost : Option Command → ℕ → ℕ → Type 0
 AtMost None given now = now ≡ given
 AtMost (Some command) given now = IfSome command.sessions (λ most. now ≤ given + most)
 
--- the listener has stopped, or has given as many links as were to be served
+-- the listener has stopped, or has given out as many links as were to be served
 abbrev pub IsOver : Option Command → Bool → ℕ → ℕ → Type 0
 IsOver None stopped given now = ⊥
 IsOver (Some command) stopped given now = (stopped ≡ true) ⊎ IsReached command.sessions given now

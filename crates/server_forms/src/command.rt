@@ -5,8 +5,8 @@ ghost use Rattle.server_forms.specs.Words.{command_of, limited};
 
 use command_words::count_in;
 
-/// What the server is asked to do: to serve with the configuration of a name, at an address, and so many links, where their
-/// number is limited.
+/// What the server is asked to do: to serve with the configuration of a name, at an address, and this many links, if their number is
+/// limited.
 #[derive(Clone, Copy, Debug, PartialEq, Eq)]
 pub struct Command<'a> {
     pub config: &'a str,
@@ -14,7 +14,7 @@ pub struct Command<'a> {
     pub sessions: Option<u64>,
 }
 
-/// The command of these words, where they are in a form.
+/// The command of these words, if they are well formed.
 pub(crate) fn command_of<'a>(words: &[&'a str]) -> Option<Command<'a>>
     ensures { as_option result ≡ command_of (map (λ w. w.now) words.now) }
 {

@@ -1,4 +1,4 @@
-//! A listener that tells where it listens.
+//! A listener that reports where it listens.
 ghost use Rattle.std.specs.Prelude.{◌≡◌, None};
 
 use crate::log::Log;
@@ -10,7 +10,7 @@ use std::net::{Net, TcpListener, TcpStream};
 use std::time::Clock;
 
 /// A listener over TCP that stops once the standard input has ended, and writes lines: `listening at port PORT` once it listens, or why it
-/// can't, and then one for each connection that is refused and each session that ended, ten a second at most. A session's line comes
+/// can't, and then one for each connection that is refused and each session that ended, at most ten a second. A session's line is written
 /// when its link is taken back.
 #[derive(Drop)]
 pub(crate) struct ToldDoor<'a, R, W> {

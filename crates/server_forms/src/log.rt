@@ -7,11 +7,11 @@ use std::io;
 use std::net::SocketAddr;
 use std::time::Clock;
 
-/// The most lines in one second.
+/// The greatest number of lines in one second.
 const MOST: u32 = 10;
 
-/// Writes a line for each connection that was refused and for each session that ended, with the moment, the peer and the cause, and at most
-/// ten in a second: then how many were left out. What can't be written is lost.
+/// Writes a line for each connection that was refused and for each session that ended, with the moment, the peer and the cause, at most ten
+/// in a second: then how many were left out. What can't be written is lost.
 #[derive(Drop)]
 pub(crate) struct Log<'a, R, W> {
     rt: &'a R,
@@ -55,7 +55,7 @@ impl<'a, R: Clock, W: Sink> Log<'a, R, W> {
         let _ = write_all(&mut self.errors, line.as_bytes());
     }
 
-    /// The moment of a line that may be written now. None where its second has had its lines, or the clock fails.
+    /// The moment of a line that may be written now. `None` if its second has had its lines, or the clock fails.
     fn moment(&mut self) -> Option<HttpDate> {
         let Ok(time) = self.rt.since_1970() else {
             return None;
@@ -75,7 +75,7 @@ impl<'a, R: Clock, W: Sink> Log<'a, R, W> {
         Some(moment)
     }
 
-    /// Begins another second, and writes how many lines the one before left out.
+    /// Begins another second, and writes how many lines the previous one left out.
     fn begin(&mut self, second: u64, moment: HttpDate) {
         let left_out = self.left_out;
         self.second = second;

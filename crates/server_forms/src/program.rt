@@ -21,11 +21,11 @@ use std::time;
 /// What follows the line of `Usage`.
 const USAGE: &[u8] = b"\netpd CONFIG ADDRESS\netpd CONFIG ADDRESS SESSIONS\n";
 
-/// So much memory is taken once and given back before the run. The C library then keeps what is freed, where it would else
-/// give what a large message took back to the system, and take it again page by page for the next.
+/// This much memory is allocated once and freed before the run. The C library then keeps what is freed; otherwise it would return the
+/// memory of a large message to the system, and request it again page by page for the next.
 const KEPT_MEMORY: usize = 16_777_216;
 
-/// Runs the server with the program's words and its output. It tells `ports` the port that it got, and `errors` how it ended, as
+/// Runs the server with the program's words and its output. It writes to `ports` the port that it got, and to `errors` how it ended, as
 /// [`finish`] does.
 pub fn run_program<R, T, W>(rt: &R, ports: T, errors: &mut W) -> ExitCode
 where
@@ -85,7 +85,7 @@ where
     )
 }
 
-/// Tells `errors` how the server has ended, and gives its exit status. What can't be told is lost.
+/// Writes to `errors` how the server has ended, and returns its exit status. What can't be written is lost.
 pub fn finish<W: Sink>(alloc: Global, status: Status, errors: &mut W) -> ExitCode
     ensures number { exit_status result ≡ number_of status }
     ensures told { IsTold status (told status) (W.held errors.old) (W.held errors.new) (W.faults errors.old) (W.faults errors.new) }

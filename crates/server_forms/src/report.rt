@@ -25,7 +25,7 @@ fn count_one(counts: &mut [u64], by: u64)
     }
 }
 
-/// So many zeros.
+/// This many zeros.
 fn zeros(alloc: Global, count: u64) -> Result<Vec<u64>, NoMemory>
     ensures { IfOk result (λ zeros. zeros.items ≡ replicate count 0) }
 {
@@ -34,7 +34,7 @@ fn zeros(alloc: Global, count: u64) -> Result<Vec<u64>, NoMemory>
     Ok(zeros)
 }
 
-/// How many entries stand under each place.
+/// How many entries are under each place.
 fn counts(alloc: Global, store: &Store) -> Result<Vec<u64>, NoMemory>
     ensures { IfOk result (λ counts. Counts store.now.journal counts.items) }
 {
@@ -62,7 +62,7 @@ fn push_entries(alloc: Global, entries: u64, text: &mut Vec<u8>) -> Result<(), N
     Ok(())
 }
 
-/// Appends the line of a session with so many entries, of which the first let it in.
+/// Appends the line of a session with this many entries, of which the first let it in.
 fn push_session(
     alloc: Global,
     number: u64,
@@ -94,7 +94,7 @@ fn push_line(
     }
 }
 
-/// How many entries stand under a place.
+/// How many entries are under a place.
 fn count_at(counts: &[u64], place: u64) -> u64
     requires { place < length counts.now }
     ensures { result ≡ slice_index counts.now place }
@@ -102,7 +102,7 @@ fn count_at(counts: &[u64], place: u64) -> u64
     counts[place as usize]
 }
 
-/// Appends the line of the entry at a place, if it lets a session in, and writes what was gathered, once it is enough.
+/// Appends the line of the entry at a place, if it lets a session in, and writes what was gathered, once there is enough.
 fn write_line<W: Sink>(
     alloc: Global,
     store: &Store,
@@ -127,7 +127,7 @@ fn write_line<W: Sink>(
     }
 }
 
-/// Appends the lines of all entries that let a session in, and writes what was gathered whenever it is enough.
+/// Appends the lines of all entries that let a session in, and writes what was gathered whenever there is enough.
 fn write_lines<W: Sink>(
     alloc: Global,
     store: &Store,
@@ -161,7 +161,7 @@ fn head(alloc: Global, entries: u64) -> Result<Vec<u8>, NoMemory>
     Ok(text)
 }
 
-/// Writes the report of a store's journal, with how many entries stand under each place.
+/// Writes the report of a store's journal, with how many entries are under each place.
 fn write_counted<W: Sink>(alloc: Global, store: &Store, counts: &[u64], out: &mut W) -> Wrote
     requires counts { Counts store.now.journal counts.now }
     ensures written { Writes result (report store.now.journal) (W.held out.old) (W.held out.new) }

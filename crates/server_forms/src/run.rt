@@ -26,11 +26,10 @@ use std::thread::Threads;
 use store_hub::{Hub, Pass};
 use store_machine::Store;
 
-/// Does what the words say, and answers how that ended. The forms are `CONFIG ADDRESS` and `CONFIG ADDRESS SESSIONS`: the
-/// configuration of that name is read, and links are served that come at that address, until the listener stops, or for that
-/// many links, 1 to 1,000,000. Then the report goes to the output; it follows a listener's failure and want of memory too,
-/// as far as there is memory for it. The first cause stands: where the listener failed, a report that could not be written
-/// changes nothing.
+/// Does what the words say, and returns how that ended. The forms are `CONFIG ADDRESS` and `CONFIG ADDRESS SESSIONS`: the configuration of
+/// that name is read, and links that come at that address are served, until the listener stops, or for that many links, 1 to 1,000,000.
+/// Then the report is written to the output; it also follows a listener's failure and running out of memory, as far as there is memory for
+/// it. The first cause counts: if the listener failed, a report that could not be written changes nothing.
 #[tactic(auto, using(crate::proofs::ServingLemmas::at_most_same, crate::proofs::ServingLemmas::no_memory, crate::proofs::ServingLemmas::untouched))]
 pub fn run_server<H: Host, A: Listener, W: Sink, C: Clock, G: Gate, R: Threads + Wait + Sync>(
     rt: &R,
@@ -118,7 +117,7 @@ fn serve<A: Listener, W: Sink, C: Clock, G: Gate, R: Threads + Wait + Sync>(
     ensures write_cause { result ≡ WriteFault → Rose (W.faults out.old) (W.faults out.new) }
     ensures listen_cause { result ≡ ListenFault → Rose (A.faults door.old) (A.faults door.new) }
 {
-    // For the proof alone: what became of links is so over the journal in the end.
+    // For the proof only: what became of links also holds over the journal in the end.
     closing_laws();
     let Ok((hub, pass)) = open(alloc, config) else {
         return Status::NoMemory;
@@ -174,7 +173,7 @@ fn serve_at<A: Listener, C: Clock, G: Gate, R: Threads + Wait + Sync>(
     }
 }
 
-/// The status of the first cause: why no further link was served, and then what came of the report.
+/// The status of the first cause: why no more links were served, and then what came of the report.
 fn status_of(served: Served, reported: Wrote) -> Status
     ensures { result ≡ status_of served reported }
 {

@@ -46,8 +46,8 @@ at base last next opens subs x joiner blobs out = record base { phase = phase.Li
 abbrev pub Later : ℤ → ℤ → Type 0
 Later a b = (id : ℤ) → int_lt b id ≡ true → int_lt a id ≡ true
 
--- what is shown of the events that are left: the replies are those of the session alone, no touched key was altered before the
--- commit, and the commit's place is not below this one
+-- what is shown about the events that are left: the replies are those of the session alone, no touched key was altered before the commit,
+-- and the commit's place is not below this one
 pub record Lawful (h : List Entry) (p n : ℕ) (ts : List Touch) (left right : List Message) : Type 0 where
   pub same : left ≡ right
   pub free : AreFree (take p h) ts
@@ -113,7 +113,7 @@ looks-same law h k ws all = law (λ key. value_after key h) (λ key. value_after
 -- ---- the law, event by event
 
 module _ (config : Config) (n : ℕ) (h : List Entry) (p : ℕ) where
-  -- what is to be shown of the events that are left
+  -- what is to be shown about the events that are left
   abbrev pub Induction : State → List Event → Type 0
   Induction base es = (x : Transaction) (joiner : Option Awaited) (blobs : ℕ) (ls la : ℤ) (ns na : ℕ) (os oa : List Bool) (bs ba : Subbed) (q : ℕ) (ps : List ℕ) (sent : List Outgoing) (made : List (ℕ × Entry)) (reach : ℕ)
       → Later la ls → na ≤ ns → blobs ≤ 2 ^ 64 - 1 → RisesFrom q ps → AreWithin q x.touched

@@ -1,4 +1,4 @@
--- What a session does at events that are no requests of its open transaction.
+-- What a session does at events that are not requests of its open transaction.
 use Rattle.std.specs.Prelude.{ℕ, ℤ, pos, ◌+◌, ◌-◌, ◌^◌, ◌≤◌, ◌&&◌, Bool, true, false, ◌≡◌, List, [], ◌∷◌, Option, Some, None, refl, if◌then◌else◌, is_some, min, nat_le}
 use Rattle.std.specs.List.{AllByRecursion}
 use Rattle.std.specs.Str.{bytes_eq}
@@ -123,7 +123,7 @@ beside-said r xs s ready quiet =
 
 -- ---- an event that leaves the transaction
 
--- what is kept for a call that is none of the transaction's
+-- what is kept for a call that is not the transaction's
 abbrev pub IsApart : Option Pending → Type 0
 IsApart None = Unit {0}
 IsApart (Some (pending.Dataspaces r p)) = Unit {0}
@@ -141,7 +141,7 @@ KeepsApart (Some c) kept = IsApart kept
 abbrev pub Leaves : State → Taken → Type 0
 Leaves s t = Beside s t.state × KeepsApart t.call t.state.pending
 
--- what an event does that is no request of the transaction
+-- what an event does that is not a request of the transaction
 pub data Aside (s : State) (x : Transaction) (t : Taken) : Type 0 where
   Goes : Leaves s t → Aside s x t
   Commits : t.state.stage ≡ None → t.call ≡ Some (call.Commit (transactions.to_commit x)) → Aside s x t
@@ -208,9 +208,9 @@ module _ (r : Request) (x : Transaction) (s : State) (is : s.stage ≡ Some x) (
   of_transactions : (m : TransactionMessage) → Aside s x (on_transactions r (transactions.transaction_request s.config.instance s.number s.stage s.starts m) s)
   of_transactions m = subst (λ st. Aside s x (on_transactions r (transactions.transaction_request s.config.instance s.number st s.starts m) s)) (sym is) (in_open m)
 
--- ---- any message that is none of Store and DataArray
+-- ---- any message that is not of Store or DataArray
 
--- the header of a message names its protocol; those of Core may stand under any
+-- the header of a message names its protocol; those of Core may be under any
 abbrev pub IsNamed : Header → Message → Type 0
 IsNamed h (message.Core m) = Unit {0}
 IsNamed h m = h.protocol ≡ pos (protocol_of m)
@@ -246,7 +246,7 @@ module _ (h : Header) (moment : ℤ) (x : Transaction) (s : State) (is : s.stage
   of_received (phase.Live live.Open) begun m named = of_message m named
   of_received (phase.Ended e) begun m named = Goes (same s ready.1, idle)
 
--- from a state beside another one
+-- from a state next to another one
 aside-from : (s t : State) (x : Transaction) (u : Taken) → Beside s t → Aside t x u → Aside s x u
 aside-from s t x u b (Goes l) = Goes (beside-trans s t u.state b l.0, l.1)
 aside-from s t x u b (Commits gone c) = Commits gone c
@@ -265,7 +265,7 @@ abbrev pub AreNamed : Arrived → Type 0
 AreNamed (arrives.Fresh h moment m) = IsNamed h m
 AreNamed _ = Unit {0}
 
--- the state once the id of what arrived is the last one, where it is accepted
+-- the state once the id of what arrived is the last one, if it is accepted
 abbrev pub accepted : Arrived → State → State
 accepted (arrives.Refused r c) s = accepting r s
 accepted (arrives.Fresh h moment m) s = accepting (request_of h) s
@@ -278,7 +278,7 @@ event_aside (arrives.Refused r c) x s is ready idle outside named = Goes (refuse
 event_aside (arrives.Fresh h moment m) x s is ready idle outside named = of_fresh h moment m x (accepting (request_of h) s) is ready idle outside named (has_flag h.flags acknowledge && may_acknowledge m)
 event_aside (arrives.Polled front) x s is ready idle outside named = Goes (polled (subscribes.news_call s.subs front) s ready idle)
 
--- ---- the answer to a call that is none of the transaction's
+-- ---- the answer to a call that is not the transaction's
 
 pub answer_beside : (kept : Option Pending) (a : Answer) (s : State) → IsApart kept → IsReady s → Beside s (given_to kept a s) × ((given_to kept a s).pending ≡ s.pending)
 answer_beside None a s apart ready = (same s ready.1, refl)

@@ -1,4 +1,4 @@
--- What the channel protocols ask of the store is of channels alone; for the crates above too.
+-- What the channel protocols ask of the store concerns only channels; for the crates above too.
 use Rattle.std.specs.Prelude.{ℕ, ℤ, ◌==◌, Bool, true, false, not, length, List, [], ◌∷◌, Option, Some, None, if◌then◌else◌}
 use Rattle.channel_rows.specs.Loads as loads
 use Rattle.channel_rows.specs.Opens.{are_open}

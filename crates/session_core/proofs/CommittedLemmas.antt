@@ -73,7 +73,7 @@ id_in last (arrives.Refused r c) = r.id
 id_in last (arrives.Fresh h moment m) = h.id
 id_in last (arrives.Polled front) = last
 
--- how what arrived in the run stands to what arrives alone
+-- how what arrived in the run relates to what arrives alone
 abbrev Stands : ℤ → ℤ → Arrived → Arrived → Type 0
 Stands la ls here there = (is_accepted here ≡ true → there ≡ here) × Later la (id_in ls here)
 
@@ -153,7 +153,7 @@ module _ (config : Config) (n : ℕ) (h : List Entry) (p : ℕ) (between : Value
     abbrev one : State
     one = at base la na oa ba (marked (length (take p h)) x) joiner blobs []
 
-    -- once an event that is no request led to a state beside that before it
+    -- once an event that is not a request led to a state next to that before it
     after_aside : (last : ℤ) (ns : ℕ) (os : List Bool) (bs : Subbed) (v : State) (q : ℕ) (qs : List ℕ) (sent : List Outgoing) (made : List (ℕ × Entry)) (reach : ℕ)
         → Beside (at base last ns os bs x joiner blobs []) v → v.pending ≡ None → Later la last → na ≤ ns → RisesFrom q qs → AreWithin q x.touched
         → Succeeds config n h p (course (drained v) qs sent made reach) es
@@ -197,7 +197,7 @@ module _ (config : Config) (n : ℕ) (h : List Entry) (p : ℕ) (between : Value
           → Lawful h p q x.touched (while_open st (where_so false (bodies (asked config n h moment (record c { sent = [] }) t.state t.call).sent) ++ replies config n h (asked config n h moment c t.state t.call) es))
           (alone config (take p h) one (while_open st (requests config n h (asked config n h moment c t.state t.call) es)))
 
-      -- the answer to a call that is none of the transaction's
+      -- the answer to a call that is not the transaction's
       called : (s : State) (k : StoreCall) → Beside before s → IsApart s.pending → (ps : List ℕ) → RisesFrom q ps
           → Succeeds config n h p (answered_at config n h moment c s k ps) es
           → Lawful h p q x.touched (replies config n h (answered_at config n h moment c s k ps) es) (alone config (take p h) one (requests config n h (answered_at config n h moment c s k ps) es))

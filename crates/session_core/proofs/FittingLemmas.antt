@@ -647,7 +647,7 @@ module _ (config : Config) (h : List Entry) where
   of_received (phase.Live live) hd moment m s = of_message live hd moment m s
   of_received (phase.Ended e) hd moment m s = refl
 
-  -- what is kept before a receipt is kept behind it
+  -- what is kept before a receipt is kept after it
   of_acknowledged : (wanted : Bool) (hd : Header) (moment : ℤ) (m : Message) (s : State) →
       let t = if wanted then said (request_of hd) (receipt ∷ []) s else s in TakenFits s (on_received t.phase hd moment m t)
   of_acknowledged true hd moment m s = let t = said (request_of hd) (receipt ∷ []) s in of_received t.phase hd moment m t

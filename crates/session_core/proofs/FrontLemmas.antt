@@ -34,12 +34,12 @@ use Rattle.session_core.proofs.StreamingLemmas.{IsSame, Kept, course_cut, course
 
 -- ---- what is heard later
 
--- no stop came between, and no less was told
+-- no stop came between, and no less was sent
 record TellsOn (j k : Heard) : Type 0 where
   stops : k.stops ≡ j.stops
   told : IsPrefix j.told k.told
 
--- a stop came between, up to which no less was told
+-- a stop came between, up to which no less was sent
 record StopsOn (j k : Heard) : Type 0 where
   first : Stopped
   more : List Stopped
@@ -138,7 +138,7 @@ last_is [] (f ∷ g ∷ fs) rest x y p e = absurd (cc e)
 last_is (o ∷ os) [] rest x y p e = absurd (cc (p.1))
 last_is (o ∷ os) (f ∷ fs) rest x y p e = last_is os fs rest x y (p.0, cc (p.1)) (cc e)
 
--- the one stop of an event came after all that was told before the event
+-- the one stop of an event came after all that was sent before the event
 stop_told : (Causes : StopCause → Type 0) (o w : Option Sub) (i j : Heard) (x : Stopped) (rest all : List Stopped) (most : List What)
     → IsPrefix i.stops j.stops → j.stops ++ x ∷ rest ≡ all → IsStopped Causes o w i.told i.stops all → (w ≡ None → i.told ≡ most) → x.told ≡ most
 stop_told Causes None w i j x rest all most p e stopped before = absurd (no_more i.stops j.stops rest x p (e ∙ stopped))

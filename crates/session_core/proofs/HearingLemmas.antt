@@ -22,7 +22,7 @@ use Rattle.session_core.specs.Sending.{blobs_after, ended, flags_to, is_spent, m
 use Rattle.session_core.specs.Streams.{Heard, gathers, hear, hear_message, hear_notice, hear_stops, stops_for}
 use Rattle.session_core.proofs.MessagePartLemmas.{all_map, array_each, core_each, load_each, object_each, space_each}
 
--- ---- messages that tell changes, and those that stop
+-- ---- messages that send changes, and those that stop
 
 abbrev pub notice_tells : ChannelSubscribeMessage → Bool
 notice_tells (subscribe.ChannelData m) = true
@@ -70,7 +70,7 @@ parts_kind limit number k (message.DataArray x) = array_each (SameKind (message.
 parts_kind limit number k (message.ChannelSubscribe x) = subscribe_kind limit x
 parts_kind limit number k (message.ChannelDataLoad x) = load_each (SameKind (message.ChannelDataLoad x)) (λ y. (refl, refl)) limit x
 
--- a property of kinds that holds of all that is said holds of its parts
+-- a property of kinds that holds for all that is sent holds for its parts
 module _ (P : Bool → Bool → Type 0) where
   abbrev Kinds : Message → Type 0
   Kinds m = P (tells m) (stops m)
@@ -105,7 +105,7 @@ grows_if : (b : Bool) (j k : Heard) → IsPrefix k.told j.told → IsPrefix k.to
 grows_if true j k p = p
 grows_if false j k p = prefix_self k.told
 
--- a message that stops nothing adds to what was told
+-- a message that stops nothing adds to what was sent
 grows_notice : (c : ℤ) (last : Bool) (m : ChannelSubscribeMessage) (k : Heard) → notice_stops m ≡ false → IsPrefix k.told (hear_notice c last m k).told
 grows_notice c last (subscribe.GetChannelMetadata x) k e = prefix_self k.told
 grows_notice c last (subscribe.GetChannelMetadataResponse x) k e = prefix_self k.told
@@ -128,7 +128,7 @@ grows c last (message.DataArray x) k e = prefix_self k.told
 grows c last (message.ChannelSubscribe x) k e = grows_notice c last x k e
 grows c last (message.ChannelDataLoad x) k e = prefix_self k.told
 
--- one that tells nothing leaves what was told, or begins anew
+-- one that sends no change leaves what was sent, or begins anew
 shrinks_if : (b : Bool) (reason : List ℕ) (k : Heard) → IsPrefix (if b then stops_for reason k else k).told k.told
 shrinks_if true reason k = prefix_none k.told
 shrinks_if false reason k = prefix_self k.told
@@ -227,7 +227,7 @@ unheard c last (message.ChannelDataLoad x) k e = refl
 
 -- ---- parts as they are numbered
 
--- whether a part with so many of the reply behind it is flagged as the last
+-- whether a part followed by this many of the reply is flagged as the last
 abbrev pub flagged : Part → ℕ → Bool
 flagged p left = has_flag (flags_to p.to p.last left) final_part
 
@@ -255,7 +255,7 @@ numbered_quiet c r id (p ∷ ps) k q = by (nat_le id max_id) (numbered_quiet c r
     by true rest = ap (λ j. fold (hear c) j (numbered r (id + 2) ps)) (unheard c (flagged p (replies_in ps)) p.message k q.0) ∙ rest
     by false rest = refl
 
--- the parts that could be numbered tell a beginning, where none of them stops
+-- the parts that could be numbered send a prefix, if none of them stops
 parts_grow : (c : ℤ) (ps : List Part) (k : Heard) → AllByRecursion (λ (p : Part). stops p.message ≡ false) ps → IsPrefix k.told (hear_parts c k ps).told
 parts_grow c [] k q = prefix_self k.told
 parts_grow c (p ∷ ps) k q =
@@ -272,7 +272,7 @@ numbered_front c r id (p ∷ ps) k q = by (nat_le id max_id) (numbered_front c r
     by true rest = rest
     by false rest = parts_grow c (p ∷ ps) k q
 
--- where none of them tells, they leave a beginning of what was told
+-- if none of them sends a change, they leave a prefix of what was sent
 pub numbered_back : (c : ℤ) (r : Request) (id : ℕ) (ps : List Part) (k : Heard) → AllByRecursion (λ (p : Part). tells p.message ≡ false) ps
     → IsPrefix (fold (hear c) k (numbered r id ps)).told k.told
 numbered_back c r id [] k q = prefix_self k.told
@@ -301,7 +301,7 @@ numbered_stops c r id (p ∷ ps) k = by (nat_le id max_id) (numbered_stops c r (
     by true rest = rest
     by false rest = parts_add c (p ∷ ps) k
 
--- ---- what is heard in all parts, saying by saying
+-- ---- what is heard in all parts, message by message
 
 pub parts_quiet : (c : ℤ) (ps qs : List Part) (k : Heard) → AllByRecursion (λ (p : Part). IsQuiet (tells p.message) (stops p.message)) ps → hear_parts c k (ps ++ qs) ≡ hear_parts c k qs
 parts_quiet c [] qs k q = refl
@@ -327,7 +327,7 @@ notice_parts c (m ∷ n ∷ ms) qs k =
 -- ---- the parts of a message that has its items in groups
 
 module _ {A : Type 0} (size : A → Amount) (limit : ℕ) where
-  -- there is a group at least
+  -- there is at least one group
   some_group : (held xs : List A) → (g : List A) × (gs : List (List A)) × (groups_from size limit held xs ≡ g ∷ gs)
   some_group held [] = (held, [], refl)
   some_group held (x ∷ xs) = by (goes_in size limit held x) (some_group (held ++ x ∷ []) xs)

@@ -81,7 +81,7 @@ marked-found m q x (k ∷ ks) ls =
     ∙ ap (λ (l : List Looked). map (found_by (option_map code_of (note_refusal (marked m x) k))) (take 1 ls) ++ l)
     (marked-found m q (note q x k) ks (drop 1 ls) ∙ ap (λ (y : Transaction). found_noted m y ks (drop 1 ls)) (marked-note m q x k))
 
--- ---- what holds of all touches before a note, and after it
+-- ---- what holds for all touches before a note, and after it
 
 module _ (P : Touch → Type 0) (q : ℕ) where
   noted-before : (x : Transaction) (k : Key) (b : Bool) → AllByRecursion P (noted_if b q x k).touched → AllByRecursion P x.touched
@@ -164,7 +164,7 @@ same_but_marks x y (k ∷ ks) same all = (
   same_but_marks (note 0 x k) (note 0 y k) ks (marked-note 0 0 x k ∙ ap (λ (z : Transaction). note 0 z k) same ∙ sym (marked-note 0 0 y k)) all.1,
 )
 
--- all keys that are looked at in dataspaces that may be touched are touched, where none was refused for there being too many
+-- all keys that are looked at in dataspaces that may be touched are touched, if none was refused because there were too many
 pub all_touched : (q : ℕ) (x : Transaction) (ws : List Want) → AllByRecursion (λ w. has_space x.spaces (space_of (key_of w)) ≡ true) ws → AllNoted x (map key_of ws)
     → AllByRecursion (λ w. is_touched (note_all q x (map key_of ws)).touched (key_of w) ≡ true) ws
 all_touched q x [] spaces all = tt

@@ -1,4 +1,4 @@
--- What holds of all messages of a protocol holds of a message's parts; for the crates above too.
+-- What holds for all messages of a protocol holds for a message's parts; for the crates above too.
 use Rattle.std.specs.Prelude.{ℕ, List, [], ◌∷◌, map}
 use Rattle.std.specs.List.{flat_map, AllByRecursion}
 use Rattle.etp_values.proofs.EachLemmas.{all-append}

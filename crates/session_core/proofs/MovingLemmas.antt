@@ -54,7 +54,7 @@ owed_is config h last v c keeps top = by (sub_of c v.subs) refl
     by None e = refl
     by (Some s) e = let f = (known_of (IsKnown config last) c v.subs s e keeps.known).0 in is_stream h v.cursor s (omega (arith, f, top))
 
--- ---- where a session stands
+-- ---- between two events
 
 -- what was heard of a channel is what is owed, to the last part
 pub record Flow (h : List Entry) (v : Subbed) (c : ℤ) (k : Heard) : Type 0 where
@@ -79,7 +79,7 @@ pub record After (config : Config) (h : List Entry) (last : ℕ) (sent : List Ou
   pub cuts : is_spent_phase t.phase ≡ true → (c : ℤ)
       → (all : List Stopped) × IsStopped Causes (sub_of c s.subs.subs) (sub_of c t.subs.subs) (heard c sent).told (heard c sent).stops all × IsPrefix (heard c (sent ++ t.out)).stops all
 
--- the subscriptions are as they were, and nothing was said of them
+-- the subscriptions are as they were, and nothing was sent about them
 pub record Hushed (s t : State) : Type 0 where
   pub config : t.config ≡ s.config
   pub subs : t.subs ≡ s.subs
@@ -94,7 +94,7 @@ fold_append c (x ∷ xs) ys k = fold_append c xs ys (hear c k x)
 pub hushed_self : (s : State) → Hushed s s
 hushed_self s = record { config = refl; subs = refl; unheard = λ c k. refl }
 
--- what is heard behind what was sent
+-- what is heard after what was sent
 heard_hushed : (s t : State) (sent : List Outgoing) (c : ℤ) → s.out ≡ [] → Hushed s t → heard c (sent ++ t.out) ≡ heard c sent
 heard_hushed s t sent c none q = fold_append c sent t.out silence ∙ q.unheard c (heard c sent) ∙ ap (fold (hear c) (heard c sent)) none
 
@@ -133,7 +133,7 @@ hushed_after config h last p sent s t Causes flowing le q = record {
   );
 }
 
--- quiet sayings
+-- quiet messages
 abbrev pub AreQuiet : List Saying → Type 0
 AreQuiet xs = AllByRecursion (λ (x : Saying). IsQuiet (tells x.message) (stops x.message)) xs
 
@@ -148,9 +148,9 @@ hushed_said r xs s t quiet q = record {
       ∙ q.unheard c k;
 }
 
--- ---- events that say something
+-- ---- events that send something
 
--- this is said in a state in which nothing was heard yet, with these subscriptions
+-- this is sent in a state in which nothing was heard yet, with these subscriptions
 abbrev pub says_with : Request → List Saying → Subbed → State → State
 says_with r xs v m = said r xs (record m { subs = v })
 
@@ -164,7 +164,7 @@ heard_said r xs v s m sent c none q =
     ∙ fold_append c m.out (numbered r m.next_id (parts_in m xs)) (heard c sent)
     ∙ ap (λ k. fold (hear c) k (numbered r m.next_id (parts_in m xs))) (q.unheard c (heard c sent) ∙ ap (fold (hear c) (heard c sent)) none)
 
--- unless the ids are spent, all is said
+-- unless the ids are used up, all is sent
 pub unspent : (b : Bool) (p : Phase) → is_spent_phase (spent_phase b p) ≡ false → b ≡ false
 unspent true p e = absurd (false≢true (sym e))
 unspent false p e = refl
@@ -221,7 +221,7 @@ module _ (config : Config) (h : List Entry) (last p : ℕ) (sent : List Outgoing
       front c None e = prefix_empty (heard c (sent ++ (says_with r xs v m).out)).told (owed h s.subs c) (subst (λ (o : Option Sub). IsPrefix (heard c (sent ++ (says_with r xs v m).out)).told (owed_to h v.cursor o)) e (part c))
       front c (Some x) e = subst (λ (o : Option Sub). IsPrefix (heard c (sent ++ (says_with r xs v m).out)).told (owed_to h v.cursor o)) e (part c)
 
-  -- what stops: subscriptions end with this cause, and nothing else is told
+  -- what stops: subscriptions end with this cause, and nothing else is sent
   pub stopped_after : (cause : StopCause) → Causes cause → last ≤ p → Keeps config p v → v.cursor ≡ s.subs.cursor → AllByRecursion (λ (x : Saying). tells x.message ≡ false) xs
       → ((c : ℤ) (k : Heard) → Ends (reason_of cause) k (sub_of c s.subs.subs) (hear_parts c k (parts_in m xs)) (sub_of c v.subs))
       → After config h p sent s (says_with r xs v m) Causes

@@ -1,4 +1,4 @@
--- The news of a poll: each subscription is told further along its stream, or all are stopped.
+-- The news of a poll: each subscription is sent more of its stream, or all are stopped.
 use Rattle.std.specs.Prelude.{ℕ, ℤ, pos, List, [], ◌∷◌, ◌++◌, ◌≡◌, ◌+◌, ◌≤◌, ◌<◌, min, Option, Some, None, map, take, drop, length, refl}
 use Rattle.std.specs.List.{flat_map}
 use Rattle.std.proofs.Common.{ap, sym, ◌∙◌, arith, length-take}
@@ -42,7 +42,7 @@ module _ (config : Config) (h : List Entry) (stay : NewsStayWithin) (due : NewsA
       let few : v.cursor + length (come p v) ≤ length (take p h) = stay config (take p h) v.subs v.cursor (omega (arith, size, top, le)) in
       omega (arith, few, size, top)
 
-  -- of one channel they are its changes of the entries that are taken
+  -- for one channel they are its changes of the entries that are taken
   come_of : (p k : ℕ) (v : Subbed) (s : Sub) (last : ℕ) → p ≤ length h → Keeps config last v → v.cursor ≤ p → k < length config.channels → sub_of (pos k) v.subs ≡ Some s
       → of_channel (pos k) (joined (come p v)) ≡ whats_of (since s.from (changes_from v.cursor (pos k) (take (length (come p v)) (drop v.cursor h))))
   come_of p k v s last top keeps le within found =
@@ -51,7 +51,7 @@ module _ (config : Config) (h : List Entry) (stay : NewsStayWithin) (due : NewsA
       ∙ ap (λ (es : List Entry). of_channel (pos k) (joined (dues config v.subs v.cursor es))) (window v.cursor d p h (come_within p v top le))
       ∙ ap whats_of (each config v.subs k v.cursor (take d (drop v.cursor h)) within ∙ due_changes v.subs (pos k) s keeps.apart found v.cursor (take d (drop v.cursor h)))
 
-  -- the subscriptions once they are told
+  -- the subscriptions after changes were sent to them
   abbrev pub told_on : ℕ → Subbed → Subbed
   told_on p v = record v { cursor = v.cursor + length (come p v); pending = [] }
 

@@ -1,4 +1,4 @@
--- Noting goes on by one key.
+-- Noting continues by one key.
 use Rattle.std.specs.Prelude.{ℕ, List, ◌∷◌, ◌++◌, ◌≡◌, Option, drop, map, take}
 use Rattle.std.proofs.Common.{ap, sym, ◌∙◌, append_assoc}
 use Rattle.etp_values.specs.declared.code.ErrorCode.{ErrorCode}

@@ -1,4 +1,4 @@
--- The stream of a subscription, as it goes on along the history.
+-- The stream of a subscription, as it continues along the history.
 use Rattle.std.specs.Prelude.{ℕ, zero, suc, ℤ, Bool, true, false, cond, List, [], ◌∷◌, ◌++◌, ◌≡◌, ◌+◌, ◌≤◌, ◌<◌, max, min, nat_le, Option, Some, None, filter, take, drop, length, refl}
 use Rattle.std.specs.List.{flat_map}
 use Rattle.std.proofs.Common.{ap, sym, ◌∙◌, append-nil, append_assoc, arith, length-take, take-take, take-append-drop, take-add}
@@ -17,9 +17,9 @@ use Rattle.store_machine.specs.Channels.{change_by, change_list, changes_from, c
 use Rattle.store_machine.specs.declared.journal.Entry.{Entry}
 use Rattle.session_core.specs.Streams.{stream_to}
 
--- ---- beginnings of lists
+-- ---- prefixes of lists
 
--- a window of a beginning is one of the whole
+-- a window of a prefix is one of the whole
 pub window : {A : Type 0} (u d p : ℕ) (xs : List A) → u + d ≤ p → take d (drop u (take p xs)) ≡ take d (drop u xs)
 window zero d p xs h = take-take d p xs (omega (arith, h))
 window (suc u) d zero xs h = absurd (omega (arith, h))
@@ -105,7 +105,7 @@ goes_on h u d s le =
     (sym (map-append (λ (x : ChannelChange). x.what) (since s.from old) (since s.from new))
     ∙ ap whats_of (sym (filter-append (λ (x : ChannelChange). nat_le s.from x.place) old new) ∙ ap (since s.from) both)))
 
--- at its place a subscription is told what is there
+-- at its place a subscription is sent what exists
 pub begins_at : (h : List Entry) (u : ℕ) (s : Sub) → u ≤ s.from → told_up_to h u s ≡ append_of (past s.start (channel_points s.channel (take s.from h)))
 begins_at h u s le =
     let size : length (take u h) ≡ min u (length h) = length-take u h in

@@ -1,4 +1,4 @@
--- What holds of each state that a run reaches, and the law of committed transactions in a run.
+-- What holds for each state that a run reaches, and the law of committed transactions in a run.
 use Rattle.std.specs.Prelude.{ℕ, ℤ, ◌-◌, ◌^◌, ◌≤◌, ◌&&◌, ◌≡◌, Bool, true, false, List, [], ◌∷◌, Option, Some, None, Result, Ok, Err, refl, if◌then◌else◌, is_some, take, MatchOption, IsSomeAnd}
 use Rattle.std.proofs.Common.{sym, ◌∙◌, subst, arith}
 use Rattle.std.proofs.lemmas.Bool.{false≢true}
@@ -65,7 +65,7 @@ use Rattle.session_core.proofs.RunLemmas.{course}
 use Rattle.session_core.proofs.BesideLemmas.{IsApart, IsBegun, IsReady, begun-spent, blobs-low}
 use Rattle.session_core.proofs.CommittedLemmas.{committed_is_serial}
 
--- ---- an open session stays begun, and counts its blobs by 64 bits
+-- ---- an open session stays begun, and counts its blobs in 64 bits
 
 ready_said : (r : Request) (xs : List Saying) (s : State) → IsReady s → IsReady (said r xs s)
 ready_said r xs s is = (blobs-low s.limit s.blobs xs is.0, begun-spent (is_spent s.next_id (parts_of s.limit s.number s.blobs xs)) s.phase is.1)
@@ -157,7 +157,7 @@ ready_message h now (message.Transaction m) s is = ready_protocol (protocol_refu
 ready_message h now (message.ChannelSubscribe m) s is = ready_protocol (protocol_refusal live.Open s.accepted h.protocol) h now (message.ChannelSubscribe m) s is
 ready_message h now (message.ChannelDataLoad m) s is = ready_protocol (protocol_refusal live.Open s.accepted h.protocol) h now (message.ChannelDataLoad m) s is
 
--- so it is once something was said of a state that differs in its transaction, its channels or its subscriptions
+-- the same once something was sent in a state that differs in its transaction, its channels or its subscriptions
 ready_objects_answered : (r : Request) (a : objects.ObjectsAnswered) (s : State) → IsReady s → IsReady (on_objects_answered r a s)
 ready_objects_answered r a s is = ready_said r (sayings_of message.Store a.sendings) (record s { stage = a.stage }) is
 

@@ -66,11 +66,11 @@ use Rattle.session_core.proofs.RunLemmas.{course}
 
 -- ---- one event of a run and of its session alone
 
--- a course that is told this state, with the places that are left
+-- a course that has sent up to this state, with the places that are left
 abbrev pub told : List Outgoing → State → List ℕ → List (ℕ × Entry) → ℕ → Course
 told sent v qs made reach = course (drained v) qs (sent ++ v.out) made reach
 
--- what is said at the answer inside a transaction, and the transaction that is left
+-- what is sent in answer inside a transaction, and the transaction that is left
 abbrev tells_of : ℕ → StagedPending → Option Transaction → List Looked → Option Transaction × List Saying
 tells_of limit (staged.Objects p) st found = let a = objects.object_reply st p (reply.Looked found) in (a.stage, sayings_of message.Store a.sendings)
 tells_of limit (staged.Arrays p) st found = let a = arrays.array_reply limit st p (reply.Looked found) in (a.stage, sayings_of message.DataArray a.sendings)
@@ -98,7 +98,7 @@ unfolding hears
 heard-staged r keys (staged.Objects p) mark found base last next os bs x joiner blobs out = refl
 heard-staged r keys (staged.Arrays p) mark found base last next os bs x joiner blobs out = refl
 
--- the state after this was said, by whether too few ids were left for that
+-- the state after this was sent, by whether too few ids were left for it
 abbrev spoke : Bool → Request → List Saying → State → ℤ → ℕ → List Bool → Subbed → Transaction → Option Awaited → ℕ → List Outgoing → State
 spoke b r sayings base last next os bs x joiner blobs out =
     let ps = parts_of base.limit base.number blobs sayings in
@@ -136,7 +136,7 @@ module _ (config : Config) (n : ℕ) (h : List Entry) (p : ℕ) (base : State) (
         above = r.above;
       }
 
-  -- both say the same
+  -- both send the same
   spoken : (r : Request) (sayings : List Saying) (x : Transaction) (joiner : Option Awaited) (blobs : ℕ) (last : ℤ) (ns na : ℕ) (os oa : List Bool) (bs ba : Subbed) (outs outa : List Outgoing) (q : ℕ) (qs : List ℕ) (sent : List Outgoing) (made : List (ℕ × Entry)) (reach : ℕ)
       → na ≤ ns → blobs ≤ 2 ^ 64 - 1 → RisesFrom q qs → AreWithin q x.touched → bodies outs ≡ bodies outa
       → After q qs sent made reach x.touched (said r sayings (at base last ns os bs x joiner blobs outs)) (said r sayings (at base last na oa ba (marked (length (take p h)) x) joiner blobs outa))
@@ -316,7 +316,7 @@ module _ (config : Config) (n : ℕ) (h : List Entry) (p : ℕ) (base : State) (
       abbrev alone_at : ℤ → State
       alone_at last = at base last na oa ba (marked (length (take p h)) x) joiner blobs []
 
-      -- its receipt is acknowledged first, where that is wanted
+      -- its receipt is acknowledged first, if that is wanted
       acknowledged_both : (hd : Header) (now : ℤ) (m : Message) → is_staged hd.protocol ≡ true → IsNamed hd m
           → let v = said (request_of hd) (receipt ∷ []) (run_at hd.id) in let w = said (request_of hd) (receipt ∷ []) (alone_at hd.id) in
           Both x (on_received v.phase hd now m v) (on_received w.phase hd now m w)

@@ -46,18 +46,18 @@ retouched ts x = record x { touched = ts }
 abbrev pub scope : Transaction → ℕ → Scope
 scope x paid = record { stage = Some x; paid = paid }
 
--- whatever was touched, a scope becomes this one, and so much is decided
+-- whatever was touched, a scope becomes this one, and this is decided
 pub record Decides {R : Type 0} (step : List Touch → Scope × Decision R) : Type 0 where
   pub after : Transaction
   pub paid : ℕ
   pub decision : Decision R
   pub is : (ts : List Touch) → step ts ≡ (scope (retouched ts after) paid, decision)
 
--- so it is of a key
+-- the same for a key
 abbrev pub IsSteady : {B R : Type 0} → (Scope → List ℕ → B → List Looked → Scope × Decision R) → Type 0
 IsSteady {B} one = (x : Transaction) (paid : ℕ) (key : List ℕ) (b : B) (found : List Looked) → Decides (λ ts. one (scope (retouched ts x) paid) key b found)
 
--- ---- and so of all keys, one after the other
+-- ---- and for all keys, one after the other
 
 record DecidesAll {R : Type 0} (states : List Touch → Scope) (all : List Touch → List (List ℕ × Decision R)) : Type 0 where
   after : Transaction
@@ -90,7 +90,7 @@ module _ {B R : Type 0} (one : Scope → List ℕ → B → List Looked → Scop
         is = λ ts. ap (λ (l : List (List ℕ × Decision R)). (k, Refused c) ∷ l) (r.is ts);
       }
 
--- whatever was touched, a reply is the same, and leaves of the transaction the same but for that
+-- whatever was touched, a reply is the same, and leaves the transaction the same except for that
 pub record Answers {M : Type 0} (answer : List Touch → Answered M) : Type 0 where
   pub after : Transaction
   pub sendings : List (Sending M)
@@ -140,7 +140,7 @@ left-same ts x o (Some e) = refl
 staging-is : (ts : List Touch) (x : Transaction) (paid : ℕ) (o : Op) → staging (scope (retouched ts x) paid) o ≡ scope (retouched ts (put_left x o)) paid
 staging-is ts x paid o = ap (λ (y : Transaction). scope y paid) (left-same ts x o (put_refusal x o))
 
--- a key's operation, where no look was refused and what it needs stands
+-- a key's operation, if no look was refused and what it needs exists
 putting_then : {R : Type 0} (x : Transaction) (paid : ℕ) (o : Op) (d : Decision R) (why : Option ErrorCode) (standing : Bool) → Decides (λ ts. (putting_by why standing (scope (retouched ts x) paid) o, d))
 putting_then x paid o d (Some code) standing = leaves x paid d
 putting_then x paid o d None false = leaves x paid d
@@ -159,7 +159,7 @@ get_counted : (f : Format) (x : Transaction) (paid : ℕ) (d : Decision ObjectRe
 get_counted f x paid (Refused code) = leaves x paid (Refused code)
 get_counted f x paid (Granted r) = pays_then x paid (length r.payload) (objects.get_given f (pays (scope x paid) (length r.payload)) r)
 
--- what is decided of something seen, which is the same whatever was touched
+-- what is decided about something seen, which is the same whatever was touched
 seen_then : {X R : Type 0} (seen : List Touch → Decision X) (step : List Touch → Decision X → Scope × Decision R) (d : Decision X) → ((ts : List Touch) → seen ts ≡ d) → Decides (λ ts. step ts d) → Decides (λ ts. step ts (seen ts))
 seen_then seen step d same r = record { after = r.after; paid = r.paid; decision = r.decision; is = λ ts. ap (step ts) (same ts) ∙ r.is ts }
 

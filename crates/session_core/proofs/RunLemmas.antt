@@ -19,7 +19,7 @@ take_longer old new p pre le = ap (take p) (sym pre.1) ∙ take-append-le p old 
 abbrev pub course : State → List ℕ → List Outgoing → List (ℕ × Entry) → ℕ → Course
 course s places xs made reach = record { state = s; places = places; sent = xs; made = made; short = false; reach = reach }
 
--- the same course with more places behind
+-- the same course with more places after it
 abbrev more : List ℕ → Course → Course
 more q c = record c { places = c.places ++ q }
 

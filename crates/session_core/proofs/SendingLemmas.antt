@@ -1,4 +1,4 @@
--- Numbering the parts of what is said goes on by one part.
+-- Numbering the parts of what is sent continues by one part.
 use Rattle.std.specs.Prelude.{ℕ, Bool, true, false, List, [], ◌∷◌, ◌++◌, ◌≡◌, ◌+◌, ◌-◌, ◌≤◌, ◌==◌, length, nat_le, if◌then◌else◌, refl}
 use Rattle.std.proofs.lemmas.Bool.Decides.{nat_tests}
 use Rattle.std.proofs.Common.{ap, sym, ◌∙◌, arith, append_assoc, le-leb}
@@ -9,7 +9,7 @@ use Rattle.session_core.specs.declared.state.Part.{Part}
 use Rattle.session_core.specs.declared.state.Request.{Request}
 use Rattle.session_core.specs.Sending.{ended, max_id, numbered, is_reply, is_spent, next_after, outgoing, replies_in}
 
--- ---- one part more is numbered
+-- ---- one more part is numbered
 
 numbered-more : (r : Request) (id : ℕ) (p : Part) (ps : List Part) → id ≤ max_id → numbered r id (p ∷ ps) ≡ outgoing r id (replies_in ps) p ∷ numbered r (id + 2) ps
 numbered-more r id p ps low = let e : nat_le id max_id ≡ true = le-leb id max_id low in rw e refl
@@ -20,7 +20,7 @@ next_after-more id p ps low = let e : nat_le id max_id ≡ true = le-leb id max_
 is_spent-more : (id : ℕ) (p : Part) (ps : List Part) → id ≤ max_id → is_spent id (p ∷ ps) ≡ is_spent (id + 2) ps
 is_spent-more id p ps low = let e : nat_le id max_id ≡ true = le-leb id max_id low in rw e refl
 
--- of the parts that are left to the request, those behind this one
+-- of the parts that are left to the request, those after this one
 pub left_more : (p : Part) (items rest : List Part) (left one : ℕ) → items ≡ p ∷ rest → one ≡ (if is_reply p.to then 1 else 0) → left ≡ replies_in items → left - one ≡ replies_in rest
 left_more p items rest left one is counts whole =
     let e : left ≡ (if is_reply p.to then 1 else 0) + replies_in rest = whole ∙ ap replies_in is in
@@ -49,9 +49,9 @@ next_more id next p items rest low is so_far = sym (ap (λ l. next_after id l) i
 pub spent_more : (id : ℕ) (spent : Bool) (p : Part) (items rest : List Part) → id ≤ max_id → items ≡ p ∷ rest → is_spent id items ≡ spent → is_spent (id + 2) rest ≡ spent
 spent_more id spent p items rest low is so_far = sym (ap (λ l. is_spent id l) is ∙ is_spent-more id p rest low) ∙ so_far
 
--- ---- one part more of a message
+-- ---- one more part of a message
 
--- a message with so many behind it is the last one exactly where there are none
+-- a message followed by this many is the last one exactly if there are none
 abbrev part_of : Addressee → Message → Bool → Part
 part_of to m last = record { to = to; message = m; last = last }
 

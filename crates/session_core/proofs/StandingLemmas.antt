@@ -1,4 +1,4 @@
--- Subscriptions that stand: what is due to them, and where they begin; for the crates above too.
+-- Existing subscriptions: what is due to them, and where they begin; for the crates above too.
 use Rattle.std.specs.Prelude.{ℕ, zero, suc, ℤ, pos, negsuc, Bool, true, false, cond, List, [], ◌∷◌, ◌++◌, ◌≡◌, ◌+◌, ◌<◌, ◌&&◌, ◌||◌, not, nat_le, Option, Some, None, filter, length, slice_get, if◌then◌else◌, refl}
 use Rattle.std.specs.Ordering.{int_eq}
 use Rattle.std.proofs.Common.{ap, sym, ◌∙◌, arith}
@@ -117,7 +117,7 @@ channel_is config h (pos k) c e =
     ((k, refl, f.0), f.1 ∙ ap (λ j. channel_points (pos j) h) (omega arith))
 channel_is config h (negsuc k) c e = absurd (none-some c e)
 
--- an accepted subscription is of a channel that is there, and its points begin at its start
+-- an accepted subscription is of a channel that exists, and its points begin at its start
 pub begun_is : (config : Config) (h : List Entry) (id : ℤ) (room : _) (at : Start) (start : ℤ) (ps : List Point) → begun (channel_at (channels_of config h) id) room at ≡ From start ps
     → IsChannel config id × (ps ≡ past start (channel_points id h))
 begun_is config h id room at start ps e = by (channel_at (channels_of config h) id) refl e

@@ -46,9 +46,9 @@ use Rattle.subscribe_core.proofs.SubLemmas.{absent-has, apart-push, found-push, 
 use Rattle.session_core.proofs.StandingLemmas.{IsChannel, absent-push, begun_is}
 use Rattle.session_core.proofs.TellingLemmas.{AreSolid}
 
--- ---- what holds of subscriptions at a place
+-- ---- what holds for subscriptions at a place
 
--- one was made at a place that was used, for a channel that is there
+-- one was made at a place that was used, for a channel that exists
 abbrev pub IsKnown : Config → ℕ → Sub → Type 0
 IsKnown config last s = (s.from ≤ last) × IsChannel config s.channel
 
@@ -66,7 +66,7 @@ owes_to h u (Some s) = told_up_to h u s
 abbrev pub owes : List Entry → Subbed → ℤ → List What
 owes h v c = owes_to h v.cursor (sub_of c v.subs)
 
--- the message that tells a change
+-- the message that sends a change
 abbrev pub told_as : ChannelChange → ChannelSubscribeMessage
 told_as x = notice_of x.at x.channel x.what
 
@@ -97,7 +97,7 @@ any_push c z (x ∷ xs) h =
     ((λ i. both.0 i || rest.0 i), rest.1)
 
 module _ (config : Config) (h : List Entry) (p : ℕ) (t : ℤ → List What) (first : Subbed) where
-  -- what has begun so far, beside what was told before
+  -- what has begun so far, besides what was sent before
   pub record Begins (b : Beginning) : Type 0 where
     pub keeps : Keeps config p b.subs
     pub new : List ChannelChange
@@ -111,7 +111,7 @@ module _ (config : Config) (h : List Entry) (p : ℕ) (t : ℤ → List What) (f
     pub fresh : (c : ℤ) → list_any (int_eq c) n.named ≡ false → has_sub c first.subs ≡ false → has_sub c b.subs.subs ≡ false
     pub few : length b.subs.subs ≤ length first.subs + n.going
 
-  -- ---- one subscription more
+  -- ---- one more subscription
 
   abbrev new_sub : StartAsk → ℤ → Sub
   new_sub a start = record { channel = a.channel; start = start; from = p; all = a.all }
@@ -171,7 +171,7 @@ module _ (config : Config) (h : List Entry) (p : ℕ) (t : ℤ → List What) (f
 
   -- ---- a granted key by the store's answer
 
-  -- where it is accepted, its channel is there, and its points are those from its start on
+  -- if it is accepted, its channel exists, and its points are those from its start on
   abbrev IsStart : StartAsk → StartReply → Type 0
   IsStart a (replied.Refused code) = Unit {0}
   IsStart a (replied.From start ps) = IsChannel config a.channel × (ps ≡ past start (channel_points a.channel (take p h)))
@@ -223,7 +223,7 @@ module _ (config : Config) (h : List Entry) (p : ℕ) (t : ℤ → List What) (f
   abbrev ends_as : Naming → Beginning → List (List ℕ × StartReply) → List (List ℕ × ChannelSubscribeInfo) → Beginning
   ends_as n b rs items = finished_state (begin_one p) 1 b (kept (λ a. a) (checked (subscribe_one first.subs) n items)) rs
 
-  -- with what is decided of the first key
+  -- with what is decided about the first key
   abbrev ends_with : Naming × Decision StartAsk → List ℕ → Beginning → List (List ℕ × StartReply) → List (List ℕ × ChannelSubscribeInfo) → Beginning
   ends_with d key b rs items = finished_state (begin_one p) 1 b (kept (λ a. a) ((key, d.1) ∷ checked (subscribe_one first.subs) d.0 items)) rs
 
@@ -233,7 +233,7 @@ module _ (config : Config) (h : List Entry) (p : ℕ) (t : ℤ → List What) (f
   abbrev new_ask : ChannelSubscribeInfo → Start → StartAsk
   new_ask x start = record { channel = x.channel_id; start = start; all = x.data_changes }
 
-  -- what is to be shown of the keys that are left
+  -- what is to be shown about the keys that are left
   abbrev AllBegin : List (List ℕ × ChannelSubscribeInfo) → Type 0
   AllBegin items =
       (n : Naming) (b : Beginning) (rs : List (List ℕ × StartReply)) → AreStarts (sent (λ a. a) (checked (subscribe_one first.subs) n items)) rs → Begins b → IsNamedIn n b → Begins (ends_as n b rs items)

@@ -1,4 +1,4 @@
--- What holds of every half step; for the crates above too.
+-- What holds for every half step; for the crates above too.
 use Rattle.std.specs.Prelude.{ℕ, ℤ, Bool, true, false, length, List, ◌≡◌, Option, Some, None, Result, Ok, Err, is_some, nat_lt, if◌then◌else◌, IfSome, IfOk, refl}
 use Rattle.std.specs.Str.{bytes_eq}
 use Rattle.std.proofs.Common.{subst, sym}
@@ -313,7 +313,7 @@ pub asks_call : (o : Option StoreCall) (h : List Entry) → IfSome o Asks → If
 asks_call None h asks = tt
 asks_call (Some call) h asks = asks h
 
--- a call of which that holds at each history is one that a session may make
+-- a call for which that holds at each history is one that a session may make
 asks_of : (o : Option StoreCall) → ((h : List Entry) → IfSome o (IsCallAt h)) → IfSome o Asks
 asks_of None all = tt
 asks_of (Some call) all = all

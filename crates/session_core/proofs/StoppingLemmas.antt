@@ -42,7 +42,7 @@ use Rattle.session_core.proofs.StandingLemmas.{none-others}
 
 -- ---- a stop, in parts
 
--- whomever it is said to
+-- whomever it is sent to
 pub stop_heard : (limit number blobs : ℕ) (c : ℤ) (a : Addressee) (cause : StopCause) (ids : List (List ℕ × ℤ)) (qs : List Part) (k : Heard)
     → hear_parts c k (ended a (parts limit number blobs (message.ChannelSubscribe (stop_response cause ids))) ++ qs) ≡ hear_parts c (hear_stops c (reason_of cause) ids k) qs
 stop_heard limit number blobs c a cause ids qs k =
@@ -69,7 +69,7 @@ stop_reply_heard limit number blobs c cause (g ∷ gs) (r ∷ rs) k =
 
 -- ---- UnsubscribeChannels
 
--- a subscription stands unheard of, or is stopped
+-- a subscription continues unheard, or is stopped
 abbrev pub Ends : List ℕ → Heard → Option Sub → Heard → Option Sub → Type 0
 Ends reason k None j o = (o ≡ None) × (j ≡ k)
 Ends reason k (Some s) j o = ((o ≡ Some s) × (j ≡ k)) ⊎ ((o ≡ None) × (j ≡ stops_for reason k))
@@ -181,7 +181,7 @@ once_heard reason c (x ∷ xs) k h = by (int_eq x.1 c) h (once_heard reason c xs
     by true h rest = never_heard reason c xs (stops_for reason k) (omega (arith, h))
     by false h rest = rest (omega (arith, h))
 
--- ids under their own decimals, which tell them apart
+-- ids under their own decimals, which distinguish them
 abbrev IsSmall : ℤ → Type 0
 IsSmall z = mag z < 2 ^ 63
 

@@ -45,7 +45,7 @@ received_of bytes moment (arrives.Refused r c) is = tt
 received_of bytes moment (arrives.Fresh h at m) is = tt
 received_of bytes moment (arrives.Polled front) is = is
 
--- ---- spent ids
+-- ---- used up ids
 
 module _ (config : Config) (n : ℕ) (h : List Entry) where
   ended_stays : (r : Course) (e : Event) → is_spent_course r ≡ true → is_spent_course (asked config n h (moment_of e) r (takes r.state e).state (takes r.state e).call) ≡ true
@@ -130,7 +130,7 @@ module _ (config : Config) (n : ℕ) (h : List Entry) (small : HasIds config) (s
   unfolding takes
   step r last flowing rises seen e = asked_stepped r last flowing rises seen e (taken r.state e).state (taken r.state e).call (event_leads r last flowing e)
 
-  -- ---- what holds of every course
+  -- ---- what holds for every course
 
   pub record Kept (r : Course) : Type 0 where
     pub last : ℕ
@@ -208,7 +208,7 @@ module _ (config : Config) (n : ℕ) (h : List Entry) (small : HasIds config) (s
   kept_run : (places : List ℕ) (es : List Event) → Rises 0 places (length h) → Kept (run config n h places es)
   kept_run places es rises = kept_from (first_course config n places) es (kept_first places rises)
 
-  -- a session that has ids left had them before, and stands between two events with nothing left to send or to tell
+  -- a session that has ids left had them before, and is between two events with nothing left to send
   pub alive_before : (places : List ℕ) (es : List Event) (e : Event) → is_spent_course (run config n h places (es ++ e ∷ [])) ≡ false → is_spent_course (run config n h places es) ≡ false
   alive_before places es e live =
       let r : Course = run config n h places es in
@@ -240,7 +240,7 @@ module _ (config : Config) (n : ℕ) (h : List Entry) (small : HasIds config) (s
       let alive : is_spent_course r ≡ false = false_from_ne_true (is_spent_course r) (λ spent. false≢true (sym live ∙ ended_stays config n h r e spent)) in
       stepped_stops r (asked config n h (moment_of e) r (takes r.state e).state (takes r.state e).call) e (step r k.last (k.flows alive) k.rises k.seen e) live c
 
-  -- what spent ids leave of an event
+  -- what used up ids leave of an event
   stepped_cut : (r t : Course) (e : Event) → Stepped r t e → is_spent_course t ≡ true → IsCut config h r e t.state.subs t.sent
   stepped_cut r t e x spent =
       let ended : is_spent_phase x.state.phase ≡ true = ap (λ (y : State). is_spent_phase y.phase) (sym x.is) ∙ spent in
@@ -253,7 +253,7 @@ module _ (config : Config) (n : ℕ) (h : List Entry) (small : HasIds config) (s
   course_cut false r e k alive spent =
       stepped_cut r (asked config n h (moment_of e) r (takes r.state e).state (takes r.state e).call) e (step r k.last (k.flows alive) k.rises k.seen e) spent
 
-  -- ---- the event that spends the ids
+  -- ---- the event that uses up the ids
 
   -- nothing changes any more
   pub record IsSame (r t : Course) : Type 0 where
@@ -289,7 +289,7 @@ module _ (config : Config) (n : ℕ) (h : List Entry) (small : HasIds config) (s
   event_out true r e none = none
   event_out false r e none = asked_out (moment_of e) r (takes r.state e).state (takes r.state e).call
 
-  -- the events up to the one that spent them
+  -- the events up to the one that used them up
   record SpentAt (r : Course) (es : List Event) : Type 0 where
     before : List Event
     e : Event
@@ -325,7 +325,7 @@ module _ (config : Config) (n : ℕ) (h : List Entry) (small : HasIds config) (s
   heeded_at r [] later e all = all.0
   heeded_at r (x ∷ es) later e all = heeded_at (happens config n h r x) es later e all.1
 
-  -- a poll that asks nothing tells of no more than the cursor
+  -- a poll that asks nothing reports no more than the cursor
   no_news : (s : State) (c : ℤ) (x : Sub) (front : ℕ) → sub_of c s.subs.subs ≡ Some x → (on_poll (news_call s.subs front) s).call ≡ None → front ≤ s.subs.cursor
   no_news s c x front found none = by s.subs.subs found none
     where

@@ -87,7 +87,7 @@ quiet_replies response quiet [] (r ∷ rs) = ((refl, refl), tt)
 quiet_replies response quiet (g ∷ gs) [] = (quiet (g ∷ gs), tt)
 quiet_replies response quiet (g ∷ gs) (r ∷ rs) = (quiet (g ∷ gs), ((refl, refl), tt))
 
--- requests whose answer says nothing of subscriptions
+-- requests whose answer says nothing about subscriptions
 abbrev IsAside : SubscribePending → Type 0
 IsAside (keeps_subscription.Metadata items) = Unit {0}
 IsAside (keeps_subscription.Subscribe items) = ⊥
@@ -175,7 +175,7 @@ news_answer : (config : Config) (h : List Entry) (cursor : ℕ) (subs : List Sub
 unfolding answered news_after
 news_answer config h cursor subs = refl
 
--- ---- one event of a session that stood so
+-- ---- one event of a session in this state
 
 module _ (config : Config) (h : List Entry) (last : ℕ) (sent : List Outgoing) (s : State) (flowing : Flowing config h last sent s)
     (Causes : StopCause → Type 0) (CausesAt : ℕ → StopCause → Type 0) where

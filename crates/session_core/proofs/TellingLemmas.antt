@@ -1,4 +1,4 @@
--- What is heard of the notices that tell changes; for the crates above too.
+-- What is heard of the notices that send changes; for the crates above too.
 use Rattle.std.specs.Prelude.{ℕ, ℤ, Bool, true, false, cond, List, [], ◌∷◌, ◌++◌, ◌≡◌, ◌||◌, Option, Some, None, int_lt, map, if◌then◌else◌, refl}
 use Rattle.std.specs.Int.{int_max}
 use Rattle.std.specs.List.{flat_map, AllByRecursion}
@@ -47,9 +47,9 @@ points_other : (c ch : ℤ) → int_eq ch c ≡ false → (xs : List Point) → 
 points_other c ch e [] = refl
 points_other c ch e (x ∷ xs) = (λ i. (if e i then x ∷ [] else []) ++ points_other c ch e xs i)
 
--- ---- one change, which is no append of nothing
+-- ---- one change, which is not an append of nothing
 
--- these changes are told of a channel too
+-- these changes are sent of a channel too
 abbrev pub with_told : List What → Heard → Heard
 with_told ws k = record k { told = k.told ++ ws; part = [] }
 
@@ -125,7 +125,7 @@ notes_heard limit number blobs c (x ∷ xs) k solid e =
     ∙ notes_heard limit number (blobs_after limit blobs (note x).message) c xs more solid.1 refl
     ∙ ap (λ ws. record k { told = ws; part = [] }) (append_assoc k.told (of_channel c (x ∷ [])) (of_channel c xs) ∙ ap (λ ws. k.told ++ ws) (sym (of-append c (x ∷ []) xs)))
 
--- ---- what a subscription is told is solid
+-- ---- what a subscription is sent is solid
 
 solid_append : (xs : List Point) → AllByRecursion HasNews (append_of xs)
 solid_append [] = tt

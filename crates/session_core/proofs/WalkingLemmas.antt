@@ -1,4 +1,4 @@
--- Each event, by what it is: most say nothing of any subscription; for the crates above too.
+-- Each event, by what it is: most say nothing about any subscription; for the crates above too.
 use Rattle.std.specs.Prelude.{ℕ, ℤ, Bool, true, false, List, [], ◌∷◌, ◌≤◌, ◌&&◌, is_some, Option, Some, None, Result, Ok, Err, take, length, if◌then◌else◌, refl}
 use Rattle.std.proofs.Common.{arith}
 use Rattle.array_rows.specs.Arrays.{ArrayOutcome, ArraysAnswered, array_outcome, array_reply}
@@ -72,7 +72,7 @@ abbrev pub IsReceived : Arrived → Type 0
 IsReceived (arrives.Polled front) = ⊥
 IsReceived _ = Unit {0}
 
--- ---- answers that say nothing of subscriptions
+-- ---- answers that say nothing about subscriptions
 
 -- what is kept for a call of another protocol
 abbrev pub IsAway : Pending → Type 0
@@ -112,8 +112,8 @@ quiet_given s (pending.Transactions r p) is a m q =
 quiet_given s (pending.Loads r p) is a m q = loads_quiet s r (load_reply m.config.channels m.opens p a.reply) m q
 quiet_given s (pending.Subscriptions r p) is a m q = absurd is
 
--- one event of a session that stood so, which may stop subscriptions by these causes: without a call, and with one that is answered
--- at a place
+-- one event of a session in this state, which may stop subscriptions for these causes: without a call, and with one that is answered at a
+-- place
 module _ (config : Config) (h : List Entry) (last : ℕ) (sent : List Outgoing) (s : State) (flowing : Flowing config h last sent s)
     (Causes : StopCause → Type 0) (CausesAt : ℕ → StopCause → Type 0) where
   -- what the event leads to
@@ -124,7 +124,7 @@ module _ (config : Config) (h : List Entry) (last : ℕ) (sent : List Outgoing) 
   abbrev pub LeadsTo : Taken → Type 0
   LeadsTo t = Leads t.state t.call
 
-  -- ---- nothing is said of subscriptions
+  -- ---- nothing is sent about subscriptions
 
   pub quiet_leads : (t : State) → Hushed s t → LeadsTo (no_call t)
   quiet_leads t q = hushed_after config h last last sent s t Causes flowing (omega arith) q
@@ -208,7 +208,7 @@ module _ (config : Config) (h : List Entry) (last : ℕ) (sent : List Outgoing) 
   core_leads l r moment (core.ProtocolException x) m q = quiet_leads m q
   core_leads l r moment (core.Acknowledge x) m q = quiet_leads m q
 
-  -- ---- messages, where those of subscriptions lead to what they should
+  -- ---- messages, if those of subscriptions lead to what they should
 
   module _ (subscribing : (r : Request) (x : ChannelSubscribeMessage) (m : State) → Hushed s m → LeadsTo (on_subscriptions r (subscribe_outcome m.subs x) m)) where
     row_leads : (hd : Header) (moment : ℤ) (x : Message) (m : State) → Hushed s m → LeadsTo (on_row hd moment x m)

@@ -11,7 +11,7 @@ use Rattle.session_core.specs.Sending.{core_protocol, flags_to, sent_under}
 use Rattle.session_core.specs.declared.state.Addressee.{Addressee}
 use Rattle.session_core.specs.declared.state.Addressee.TheVariants as to
 
--- ---- a message goes under a protocol that has it
+-- ---- a message is sent under a protocol that has it
 
 by_known : (known : Bool) (protocol : ℤ) → is_protocol protocol ≡ known → is_protocol (if known then protocol else pos 0) ≡ true
 by_known true protocol is = is
@@ -35,7 +35,7 @@ is_of protocol (message.DataArray m) = refl
 is_of protocol (message.ChannelSubscribe m) = refl
 is_of protocol (message.ChannelDataLoad m) = refl
 
--- ---- no flag is set that a header can't be written with
+-- ---- no flag is set with which a header can't be written
 
 abbrev pub ArePlain : ℤ → Type 0
 ArePlain flags = (has_flag flags extended ≡ false) × (has_flag flags compressed ≡ false)

@@ -30,7 +30,7 @@ follows last_id id = int_lt last_id id && int_eq (int_rem id (pos 2)) (pos 0)
 abbrev pub request_of : Header → Request
 request_of h = record { protocol = h.protocol; id = h.id }
 
--- where its id follows, an event is this; else it is stale
+-- if its id follows, an event is this; otherwise it is stale
 abbrev pub unless_stale : Bool → Request → Arrived → Arrived
 unless_stale true r a = a
 unless_stale false r a = Stale r
@@ -39,7 +39,7 @@ unless_stale false r a = Stale r
 abbrev pub message_event : ℤ → ℤ → Header → Message → Arrived
 message_event last_id moment h m = unless_stale (follows last_id h.id) (request_of h) (Fresh h moment m)
 
--- a message that is refused for what its bytes are
+-- a message that is refused because of its bytes
 abbrev pub refused_event : ℤ → Header → ErrorCode → Arrived
 refused_event last_id h c = unless_stale (follows last_id h.id) (request_of h) (Refused (request_of h) c)
 
@@ -52,7 +52,7 @@ error_event last_id (frame.UnknownProtocol h) = refused_event last_id h code.Uns
 error_event last_id (frame.UnknownKind h) = refused_event last_id h code.InvalidMessageType
 error_event last_id (frame.Body h why) = refused_event last_id h code.InvalidMessage
 error_event last_id (frame.Rest h at) = refused_event last_id h code.InvalidMessage
--- no bytes are read so
+-- no bytes are read this way
 error_event last_id frame.NoMemory = Unreadable code.InvalidMessage
 
 -- what was read of the bytes

@@ -27,8 +27,8 @@ use Rattle.session_core.specs.State.{State}
 use Rattle.session_core.specs.Arriving.{Event}
 use Rattle.session_core.specs.Run.{takes}
 
--- a reply that says what the kept request needs: the dataspaces, or a verdict on each granted key and no other; a change may
--- find the journal full
+-- a reply that has what the kept request needs: the dataspaces, or a verdict on each granted key and no other; a change may find the
+-- journal full
 abbrev pub FitsDataspaces : DataspacePending → Reply → Type 0
 FitsDataspaces keeps.Get (reply.Spaces records) = Unit {0}
 FitsDataspaces keeps.Get _ = ⊥
@@ -39,7 +39,7 @@ FitsDataspaces (keeps.Delete items) (reply.Verdicts verdicts) = keys_of verdicts
 FitsDataspaces (keeps.Delete items) reply.JournalFull = Unit {0}
 FitsDataspaces (keeps.Delete items) _ = ⊥
 
--- a verdict on each granted key and no other, or that the journal is full; or so many looks for each granted key
+-- a verdict on each granted key and no other, or that the journal is full; or this many looks for each granted key
 abbrev pub FitsObjects : ObjectPending → Reply → Type 0
 FitsObjects (objects.Get f items) (reply.Looked looks) = length looks ≡ length (granted items)
 FitsObjects (objects.Get f items) _ = ⊥
@@ -73,14 +73,14 @@ FitsArrays (arrays.StagedPut what at items) _ = ⊥
 FitsArrays (arrays.StagedPatch at items) (reply.Looked looks) = length looks ≡ length (granted items)
 FitsArrays (arrays.StagedPatch at items) _ = ⊥
 
--- the transaction is committed, or it is said why it is not
+-- the transaction is committed, or the reply says why it is not
 abbrev pub FitsTransactions : TransactionPending → Reply → Type 0
 FitsTransactions (commits.Commit id) reply.Committed = Unit {0}
 FitsTransactions (commits.Commit id) (reply.Conflict place) = Unit {0}
 FitsTransactions (commits.Commit id) reply.JournalFull = Unit {0}
 FitsTransactions (commits.Commit id) _ = ⊥
 
--- the same of a request in a transaction, of which this is kept beside its keys
+-- the same for a request in a transaction, of which this is kept besides its keys
 abbrev pub FitsStaged : StagedPending → Reply → Type 0
 FitsStaged (staged.Objects kept) r = FitsObjects kept r
 FitsStaged (staged.Arrays kept) r = FitsArrays kept r
@@ -92,7 +92,7 @@ FitsPoints reply.JournalFull = Unit {0}
 FitsPoints (reply.Refused code) = Unit {0}
 FitsPoints _ = ⊥
 
--- what is known of each granted channel and no other, or a verdict on each
+-- what is known about each granted channel and no other, or a verdict on each
 abbrev pub FitsLoads : LoadPending → Reply → Type 0
 FitsLoads (loads.Open items) (reply.Metas metas) = keys_of metas ≡ keys_of (granted items)
 FitsLoads (loads.Open items) _ = ⊥
@@ -114,7 +114,7 @@ FitsSubscriptions subscribes.Ranges _ = ⊥
 FitsSubscriptions subscribes.News (reply.News upto lag changes) = Unit {0}
 FitsSubscriptions subscribes.News _ = ⊥
 
--- the same of the request that a session has in hand
+-- the same for the pending request of a session
 abbrev pub Fits : Reply → Pending → Type 0
 Fits r (pending.Dataspaces request kept) = FitsDataspaces kept r
 Fits r (pending.Objects request kept) = FitsObjects kept r
@@ -124,8 +124,7 @@ Fits r (pending.Transactions request kept) = FitsTransactions kept r
 Fits r (pending.Loads request kept) = FitsLoads kept r
 Fits r (pending.Subscriptions request kept) = FitsSubscriptions kept r
 
--- what a session keeps for a call is fit by the store's answer to that call, after whatever history; an event without a call
--- leaves what is kept
+-- the store's answer to a call fits what the session keeps for it, after any history; an event without a call leaves what is kept
 abbrev pub AnswersFit : Type 0
 AnswersFit = (config : Config) (h : List Entry) (s : State) (e : Event)
     → MatchOption (takes s e).call ((takes s e).state.pending ≡ s.pending) (λ call. IsSomeAnd (takes s e).state.pending (Fits (answered config h call).reply))

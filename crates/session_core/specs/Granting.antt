@@ -1,4 +1,4 @@
--- What an event adds to what a session sends: where its subscriptions begin, and by which reply, what they are told, and where they end.
+-- What an event adds to what a session sends: where its subscriptions begin, and with which reply, what they are sent, and where they end.
 use Rattle.std.specs.Prelude.{ℕ, ℤ, ◌≡◌, ◌⊎◌, Bool, true, false, List, [], ◌∷◌, ◌++◌, Option, Some, None, Ok, length, map}
 use Rattle.std.specs.List.{AllByRecursion}
 use Rattle.server_config.specs.declared.config.Config.{Config}
@@ -43,7 +43,7 @@ use Rattle.session_core.specs.Streams.{HasIds, is_spent_course}
 
 -- ---- messages
 
--- some key is there
+-- some key exists
 abbrev pub some_key : {A : Type 0} → List A → Bool
 some_key [] = false
 some_key (x ∷ xs) = true
@@ -56,7 +56,7 @@ subscribe_speaks (subscribe.SubscriptionsStopped m) = true
 subscribe_speaks (subscribe.SubscribeChannelsResponse m) = some_key m.success
 subscribe_speaks _ = false
 
--- a message speaks of subscriptions: it grants some, tells of their channels, or stops them
+-- a message concerns subscriptions: it grants some, sends changes of their channels, or stops them
 abbrev pub speaks : Message → Bool
 speaks (message.ChannelSubscribe m) = subscribe_speaks m
 speaks _ = false
@@ -65,7 +65,7 @@ abbrev pub is_receipt : Addressee → Bool
 is_receipt to.Receipt = true
 is_receipt _ = false
 
--- what is said does not speak of subscriptions, and is no receipt
+-- what is sent does not concern subscriptions, and is not a receipt
 abbrev pub IsAside : Saying → Type 0
 IsAside x = (speaks x.message ≡ false) × (is_receipt x.to ≡ false)
 
@@ -82,16 +82,16 @@ abbrev pub IsPoll : Event → Type 0
 IsPoll (Receives bytes moment) = ⊥
 IsPoll (Polls front) = Unit {0}
 
--- ---- what is said at an event, behind the receipt of its message
+-- ---- what is sent at an event, after the receipt of its message
 
 pub data Matter : Type 0 where
-  -- nothing of subscriptions
+  -- nothing about subscriptions
   Aside : (request : Request) (sayings : List Saying) → Matter
-  -- keys of a request for subscriptions are granted or refused, and the points are told that the subscriptions start with
+  -- keys of a request for subscriptions are granted or refused, and the points are sent that the subscriptions start with
   Begins : (header : Header) (asked : SubscribeChannels) (decided : List (List ℕ × Decision (List ℕ))) (changes : List ChannelChange) → Matter
   -- the client ends subscriptions
   Ends : (header : Header) (asked : UnsubscribeChannels) (decided : List (List ℕ × Decision ℤ)) → Matter
-  -- subscriptions are told changes
+  -- subscriptions are sent changes
   Tells : (changes : List ChannelChange) → Matter
   -- the session ends them all
   Stops : (lag : ℕ) (ids : List (List ℕ × ℤ)) → Matter
@@ -104,7 +104,7 @@ request_in (Ends h asked decided) = request_of h
 request_in (Tells changes) = unread
 request_in (Stops lag ids) = unread
 
--- what is said first
+-- what is sent first
 abbrev pub first_in : Matter → List Saying
 first_in (Aside r sayings) = sayings
 first_in (Begins h asked decided changes) = sayings_of message.ChannelSubscribe (request_reply subscribe_response decided)
@@ -112,13 +112,14 @@ first_in (Ends h asked decided) = sayings_of message.ChannelSubscribe (request_r
 first_in (Tells changes) = []
 first_in (Stops lag ids) = sayings_of message.ChannelSubscribe (Notice (stop_response (Lagged lag) ids) ∷ [])
 
--- the changes that are told behind that
+-- the changes that are sent after that
 abbrev pub changes_in : Matter → List ChannelChange
 changes_in (Begins h asked decided changes) = changes
 changes_in (Tells changes) = changes
 changes_in _ = []
 
--- This is sent of it: receipts, the parts of what is said first, and those of the notices of changes, each with own ids that reach.
+-- This is sent of it: receipts, the parts of what is sent first, and those of the notices of changes, each with own ids, of which there are
+-- enough.
 pub record IsSent (matter : Matter) (sent : List Outgoing) : Type 0 where
   pub limit : ℕ
   pub number : ℕ
@@ -135,7 +136,7 @@ pub record IsSent (matter : Matter) (sent : List Outgoing) : Type 0 where
 
 -- ---- what it means
 
--- a subscription starts at the index that was asked for, where one was
+-- a subscription starts at the index that was requested, if one was
 abbrev pub IsStartOf : Option Start → ℤ → Type 0
 IsStartOf (Some (At z)) start = start ≡ z
 IsStartOf _ start = Unit {0}
@@ -144,12 +145,12 @@ IsStartOf _ start = Unit {0}
 abbrev pub IsAskedBy : ChannelSubscribeInfo → Sub → Type 0
 IsAskedBy x s = (s.channel ≡ x.channel_id) × (s.all ≡ x.data_changes) × IsStartOf (start_at x.start_index x.request_latest_index_count) s.start
 
--- a key is granted where its channel had no subscription, and has the one that was asked for then
+-- a key is granted if its channel had no subscription, and then has the one that was requested
 abbrev pub IsKeyDecided : Subbed → Subbed → ChannelSubscribeInfo → Decision (List ℕ) → Type 0
 IsKeyDecided v w x (Granted text) = (text ≡ []) × (sub_of x.channel_id v.subs ≡ None) × ((s : Sub) × (sub_of x.channel_id w.subs ≡ Some s) × IsAskedBy x s)
 IsKeyDecided v w x (Refused code) = Unit {0}
 
--- so is each key, in their order
+-- the same for each key, in their order
 abbrev pub AreDecided : Subbed → Subbed → List (List ℕ × ChannelSubscribeInfo) → List (List ℕ × Decision (List ℕ)) → Type 0
 AreDecided v w [] [] = Unit {0}
 AreDecided v w [] (d ∷ ds) = ⊥
@@ -166,20 +167,20 @@ IsGranted channel [] ds = ⊥
 IsGranted channel (x ∷ xs) [] = ⊥
 IsGranted channel (x ∷ xs) (d ∷ ds) = IsGrantOf channel x.1 d.1 ⊎ IsGranted channel xs ds
 
--- no session tells of an append of nothing
+-- no session sends an append of nothing
 abbrev pub HasNews : What → Type 0
 HasNews (Append []) = ⊥
 HasNews _ = Unit {0}
 
--- a change is told of a channel that has a subscription
+-- a change is sent of a channel that has a subscription
 abbrev pub IsToldTo : Subbed → ChannelChange → Type 0
 IsToldTo w c = HasNews c.what × (has_sub c.channel w.subs ≡ true)
 
--- a change is told of a channel whose key is granted
+-- a change is sent of a channel whose key is granted
 abbrev pub IsFirstOf : Subbed → List (List ℕ × ChannelSubscribeInfo) → List (List ℕ × Decision (List ℕ)) → ChannelChange → Type 0
 IsFirstOf w xs ds c = IsToldTo w c × IsGranted c.channel xs ds
 
--- each subscription that an event makes is one that a key asked for that was granted, and no subscription ends
+-- each subscription that an event makes is one that a granted key asked for, and no subscription ends
 abbrev pub OnlyGranted : Subbed → Subbed → List (List ℕ × ChannelSubscribeInfo) → List (List ℕ × Decision (List ℕ)) → Type 0
 OnlyGranted v w xs ds =
     ((channel : ℤ) (s : Sub) → sub_of channel v.subs ≡ None → sub_of channel w.subs ≡ Some s → IsGranted channel xs ds)
@@ -189,7 +190,7 @@ OnlyGranted v w xs ds =
 abbrev pub NoneBegins : Subbed → Subbed → Type 0
 NoneBegins v w = (channel : ℤ) → sub_of channel v.subs ≡ None → sub_of channel w.subs ≡ None
 
--- the subscriptions before an event and after it, and what it sends, where this is said
+-- the subscriptions before an event and after it, and what it sends, if this is the matter
 abbrev pub IsMatter : Event → Subbed → Subbed → List Outgoing → Matter → Type 0
 IsMatter e v w sent (Aside r sayings) = (w ≡ v) × AllByRecursion IsAside sayings × AllByRecursion (λ (o : Outgoing). speaks o.message ≡ false) sent
 IsMatter e v w sent (Begins h asked decided changes) =
@@ -209,8 +210,8 @@ pub record IsReplied (config : Config) (n : ℕ) (h : List Entry) (places : List
   pub parts : IsSent matter sent
   pub means : IsMatter e (run config n h places es).state.subs (run config n h places (es ++ e ∷ [])).state.subs sent matter
 
--- Where an event makes a subscription, it is a request that names the channel under a key, and the reply to that request, which is
--- said before anything is told of the channel, grants that key. No other message grants a key.
+-- If an event makes a subscription, it is a request that names the channel under a key, and the reply to that request, which is sent before
+-- anything about the channel, grants that key. No other message grants a key.
 abbrev pub SubscriptionsAreReplied : Type 0
 SubscriptionsAreReplied = (config : Config) (n : ℕ) (h : List Entry) (places : List ℕ) (es : List Event) (e : Event) → HasIds config → Rises 0 places (length h)
     → is_spent_course (run config n h places (es ++ e ∷ [])) ≡ false → IsReplied config n h places es e

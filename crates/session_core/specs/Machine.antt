@@ -70,11 +70,11 @@ no_call s = record { state = s; call = None }
 abbrev pub asks : Pending → StoreCall → State → Taken
 asks p c s = record { state = record s { pending = Some p }; call = Some c }
 
--- a message is answered by one
+-- a message is answered by a single one
 abbrev pub replies_one : Request → Message → State → State
 replies_one r m s = said r (to_request m ∷ []) s
 
--- a message is refused whole
+-- a whole message is refused
 abbrev pub refuses : Request → ErrorCode → State → State
 refuses r c s = said r (to_request (refusal c) ∷ []) s
 
@@ -94,7 +94,7 @@ abbrev pub on_request_session : Live → Request → ℤ → RequestSession → 
 on_request_session live.Waiting r moment m s = opened r (opening_of s.config s.number moment m) s
 on_request_session live.Open r moment m s = refuses r code.InvalidState s
 
--- a Ping is answered by the moment at which it came
+-- a Ping is answered with the moment at which it came
 abbrev pub on_ping : Live → Request → ℤ → State → State
 on_ping live.Waiting r moment s = refuses r code.InvalidState s
 on_ping live.Open r moment s = replies_one r (message.Core (core.Pong (record { current_date_time = moment }))) s
@@ -109,14 +109,14 @@ on_core live r moment (core.Pong m) s = s
 on_core live r moment (core.ProtocolException m) s = s
 on_core live r moment (core.Acknowledge m) s = s
 
--- ---- the other protocols: each is handed what it needs to know, and answers its reply or a call
+-- ---- the other protocols: each is given what it needs to know, and returns its reply or a call
 
 -- the reply is sent, or the call is made and the request awaits its answer
 abbrev pub on_dataspaces : Request → DataspaceOutcome → State → Taken
 on_dataspaces r (Replies sendings) s = no_call (said r (sayings_of message.Dataspace sendings) s)
 on_dataspaces r (Calls c p) s = asks (pending.Dataspaces r p) c s
 
--- in a transaction the keys that the call looks at are kept beside what the request keeps
+-- in a transaction the keys that the call looks at are kept with what the request keeps
 abbrev pub objects_kept : Option Transaction → Request → StoreCall → ObjectPending → Pending
 objects_kept None r c p = pending.Objects r p
 objects_kept (Some x) r c p = pending.Staged r (keys_in c) (staged.Objects p)
@@ -150,13 +150,13 @@ on_subscriptions_by r (Calls c p) s = asks (pending.Subscriptions r p) c s
 
 -- ---- puts that await chunks
 
--- the code by which a joiner's refusal is answered
+-- the code with which a joiner's refusal is answered
 abbrev pub join_code : JoinError → ErrorCode
 join_code join.NoBlob = code.InvalidArgument
 join_code join.WrongBlob = code.InvalidArgument
 join_code join.Interleaved = code.InvalidArgument
 join_code join.TooLong = code.SizeExceeded
--- no message is refused so
+-- no message is refused with it
 join_code join.NoMemory = code.SizeExceeded
 
 -- a put that became whole by a chunk is answered as the put; any other message as itself
@@ -195,7 +195,7 @@ on_loads r l s = on_loads_by r l.outcome (record s { opens = l.opens })
 abbrev pub on_subscriptions : Request → Subscribing → State → Taken
 on_subscriptions r l s = on_subscriptions_by r l.outcome (record s { subs = l.subs })
 
--- a poll asks for News, where there are some
+-- a poll asks for News, if there is any
 abbrev pub on_poll : Option StoreCall → State → Taken
 on_poll None s = no_call s
 on_poll (Some c) s = asks (pending.Subscriptions unread subscribes.News) c s
@@ -210,12 +210,12 @@ on_row h moment (message.ChannelSubscribe m) s = on_subscriptions (request_of h)
 on_row h moment (message.ChannelDataLoad m) s = on_loads (request_of h) (load_outcome s.opens moment m) s
 on_row h moment _ s = no_call (refuses (request_of h) code.InvalidMessageType s)
 
--- why a message isn't taken that is none of Core: the session isn't open, or didn't accept the protocol
+-- why a message that is not of Core isn't accepted: the session isn't open, or didn't accept the protocol
 abbrev pub protocol_refusal : Live → List ℤ → ℤ → Option ErrorCode
 protocol_refusal live.Waiting accepted protocol = Some code.InvalidState
 protocol_refusal live.Open accepted protocol = if list_any (int_eq protocol) accepted then None else Some code.UnsupportedProtocol
 
--- a message that is none of Core, where this refuses it
+-- a message that is not of Core, if this refuses it
 abbrev pub on_protocol : Option ErrorCode → Header → ℤ → Message → State → Taken
 on_protocol (Some c) h moment m s = no_call (refuses (request_of h) c s)
 on_protocol None h moment m s = on_row h moment m s
@@ -227,14 +227,14 @@ on_message live h moment m s = on_protocol (protocol_refusal live s.accepted h.p
 
 -- ---- receipts
 
--- what answers nothing is not acknowledged
+-- messages that only answer are not acknowledged
 abbrev pub may_acknowledge : Message → Bool
 may_acknowledge (message.Core (core.Pong m)) = false
 may_acknowledge (message.Core (core.ProtocolException m)) = false
 may_acknowledge (message.Core (core.Acknowledge m)) = false
 may_acknowledge m = true
 
--- the receipt of a message is acknowledged before anything else is said of it, where its sender wants that
+-- the receipt of a message is acknowledged before anything else is sent about it, if its sender wants that
 abbrev pub acknowledged : Header → Message → State → State
 acknowledged h m s = if has_flag h.flags acknowledge && may_acknowledge m then said (request_of h) (receipt ∷ []) s else s
 
@@ -260,7 +260,7 @@ by_event live (arrives.Refused r c) s = no_call (refuses r c (accepting r s))
 by_event live (arrives.Fresh h moment m) s = on_fresh h moment m (acknowledged h m (accepting (request_of h) s))
 by_event live (arrives.Polled front) s = on_poll (news_call s.subs front) s
 
--- after the end nothing is taken
+-- after the end nothing is accepted
 abbrev pub by_phase : Phase → Arrived → State → Taken
 by_phase (phase.Live live) a s = by_event live a s
 by_phase (phase.Ended e) a s = no_call s
@@ -271,7 +271,7 @@ taken s e = by_phase s.phase (arrived s.last_id e) s
 
 -- ---- the second half: the store's answer to the call
 
--- what is said at the answer, and what it leaves
+-- what is sent when it is answered, and what it leaves
 abbrev pub on_objects_answered : Request → ObjectsAnswered → State → State
 on_objects_answered r a s = said r (sayings_of message.Store a.sendings) (record s { stage = a.stage })
 
@@ -284,7 +284,7 @@ on_loaded r l s = said r (sayings_of message.ChannelDataLoad l.sendings) (record
 abbrev pub on_told : Request → Told → State → State
 on_told r t s = said r (sayings_of message.ChannelSubscribe t.sendings) (record s { subs = t.subs })
 
--- the same of a request in a transaction
+-- the same for a request in a transaction
 abbrev pub on_noted : Request → StagedPending → Reply → State → State
 on_noted r (staged.Objects p) answer s = on_objects_answered r (object_reply s.stage p answer) s
 on_noted r (staged.Arrays p) answer s = on_arrays_answered r (array_reply s.limit s.stage p answer) s
@@ -293,7 +293,7 @@ on_noted r (staged.Arrays p) answer s = on_arrays_answered r (array_reply s.limi
 abbrev pub on_staged_answered : Request → List Key → StagedPending → Answer → State → State
 on_staged_answered r keys p a s = on_noted r p (reply_noted a.mark keys s.stage a.reply) (record s { stage = noting a.mark keys s.stage })
 
--- the answer is joined with the request that awaits it; where none does, it says nothing
+-- the answer is joined with the request that awaits it; if none does, nothing is sent
 abbrev pub given_to : Option Pending → Answer → State → State
 given_to None a s = s
 given_to (Some (pending.Dataspaces r p)) a s = said r (sayings_of message.Dataspace (dataspace_reply p a.reply)) s

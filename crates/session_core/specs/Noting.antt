@@ -1,4 +1,4 @@
--- In a transaction the keys that a request looks at are noted, before anything comes of what was found there.
+-- In a transaction the keys that a request looks at are noted, before what was found there is used.
 use Rattle.std.specs.Prelude.{ℕ, List, [], ◌∷◌, ◌++◌, Option, Some, None, drop, fold, map, option_map, take}
 use Rattle.etp_values.specs.declared.code.ErrorCode.{ErrorCode}
 use Rattle.request_scope.specs.Scope.{code_of}
@@ -38,7 +38,7 @@ noting mark keys stage = option_map (λ x. note_all mark x keys) stage
 abbrev pub key_refusal : Transaction → Key → Option ErrorCode
 key_refusal x key = option_map code_of (note_refusal x key)
 
--- what was found under a key that is refused is refused too
+-- what was found under a refused key is refused too
 abbrev pub found_by : Option ErrorCode → Looked → Looked
 found_by None found = found
 found_by (Some code) found = Refused code

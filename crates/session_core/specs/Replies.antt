@@ -1,4 +1,4 @@
--- What is said to a request, among it the exceptions by which it is refused.
+-- What is sent to a request, including the exceptions that refuse it.
 use Rattle.std.specs.Prelude.{ℕ, List, [], Some, None, map}
 use Rattle.etp_values.specs.Code.{number_of, text_of}
 use Rattle.etp_values.specs.declared.code.ErrorCode.{ErrorCode}
@@ -11,7 +11,7 @@ use Rattle.etp_frame.specs.declared.message.Message.TheVariants.{Core}
 use Rattle.session_core.specs.declared.state.Addressee.TheVariants as to
 use Rattle.session_core.specs.declared.state.Saying.{Saying}
 
--- a code beside its text
+-- a code with its text
 abbrev pub error_info : ErrorCode → ErrorInfo
 error_info code = record { message = text_of code; code = number_of code }
 
@@ -31,13 +31,13 @@ to_request m = record { to = to.Request; message = m }
 abbrev pub receipt : Saying
 receipt = record { to = to.Receipt; message = Core (Acknowledge (record {})) }
 
--- what a protocol sends, where this makes a message of one of its own
+-- what a protocol sends, if this makes a message of one of its own
 abbrev pub saying_of : {M : Type 0} → (M → Message) → Sending M → Saying
 saying_of wrapped (Reply m) = to_request (wrapped m)
 saying_of wrapped (Refusal code) = to_request (refusal code)
 saying_of wrapped (RefusedKeys keys) = to_request (refused_message keys)
 saying_of wrapped (Notice m) = record { to = to.Nobody; message = wrapped m }
 
--- all that a protocol answers a request, and tells behind it
+-- all that a protocol answers a request, and the notices after it
 abbrev pub sayings_of : {M : Type 0} → (M → Message) → List (Sending M) → List Saying
 sayings_of wrapped sendings = map (saying_of wrapped) sendings

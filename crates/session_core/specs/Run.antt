@@ -46,7 +46,7 @@ pub record Course : Type 0 where
   pub state : State
   -- the places that no call has used yet
   pub places : List ℕ
-  -- what was sent, and the session's own entries with their places, but for the one of its entering
+  -- what was sent, and the session's own entries with their places, except for the one that entered it
   pub sent : List Outgoing
   pub made : List (ℕ × Entry)
   -- a call has no place, and the run has stopped before its answer
@@ -62,15 +62,15 @@ first_course config n places = record { state = first_state config n (pos 1); pl
 abbrev pub tells : Course → State → List ℕ → List (ℕ × Entry) → ℕ → Course
 tells c s places made reach = record { state = drained s; places = places; sent = c.sent ++ s.out; made = made; short = false; reach = reach }
 
--- the course once no place is left for a call: what was said before it is sent
+-- the course once no place is left for a call: what was queued before it is sent
 abbrev pub stops_short : Course → State → Course
 stops_short c s = record { state = drained s; places = []; sent = c.sent ++ s.out; made = c.made; short = true; reach = c.reach }
 
--- an entry is numbered behind the session's earlier ones, of which the first is that of its entering
+-- an entry's number follows the session's earlier ones, of which the first is that of its entering
 abbrev pub own_number : List (ℕ × Entry) → ℕ
 own_number made = length made + 1
 
--- an event leaves the session's reach within the history that it was told of
+-- an event leaves the session's reach within the history that it was informed of
 abbrev pub IsHeeded : ℕ → Event → Type 0
 IsHeeded reach (Receives bytes moment) = Unit {0}
 IsHeeded reach (Polls front) = reach ≤ front
@@ -106,12 +106,12 @@ module _ (config : Config) (n : ℕ) (h : List Entry) where
   abbrev pub run : List ℕ → List Event → Course
   run places es = run_from (first_course config n places) es
 
-  -- each poll of these events tells of no less than was seen before
+  -- each poll of these events reports no less than was seen before
   abbrev pub HeedsFrom : Course → List Event → Type 0
   HeedsFrom c [] = Unit {0}
   HeedsFrom c (e ∷ es) = IsHeeded c.reach e × HeedsFrom (happens c e) es
 
-  -- the same of a whole run
+  -- the same for a whole run
   abbrev pub Heeds : List ℕ → List Event → Type 0
   Heeds places es = HeedsFrom (first_course config n places) es
 

@@ -1,4 +1,4 @@
--- What is said, in parts, with their headers.
+-- What is sent, in parts, with their headers.
 use Rattle.std.specs.Prelude.{ℕ, ℤ, pos, Bool, true, false, List, [], ◌∷◌, ◌++◌, ◌+◌, ◌-◌, ◌^◌, ◌==◌, min, nat_le, Option, Some, None, if◌then◌else◌}
 use Rattle.etp_schema.specs.Bodies.{is_protocol}
 use Rattle.msg_core.specs.declared.core_messages.CoreMessage.{CoreMessage}
@@ -23,11 +23,11 @@ use Rattle.session_core.specs.State.{State}
 abbrev pub max_id : ℕ
 max_id = 4611686018427387904
 
--- an exception and an Acknowledge go under the protocol of what they answer, where the profile has it; else under Core
+-- an exception and an Acknowledge are sent under the protocol of what they answer, if the profile has it; otherwise under Core
 abbrev pub common_protocol : ℤ → ℤ
 common_protocol protocol = if is_protocol protocol then protocol else pos 0
 
--- a message of Core goes under Core, but for those two
+-- a message of Core is sent under Core, except for those two
 abbrev pub core_protocol : ℤ → CoreMessage → ℤ
 core_protocol protocol (core.RequestSession m) = pos 0
 core_protocol protocol (core.OpenSession m) = pos 0
@@ -37,7 +37,7 @@ core_protocol protocol (core.Pong m) = pos 0
 core_protocol protocol (core.ProtocolException m) = common_protocol protocol
 core_protocol protocol (core.Acknowledge m) = common_protocol protocol
 
--- any other message goes under its own protocol
+-- any other message is sent under its own protocol
 abbrev pub sent_under : ℤ → Message → ℤ
 sent_under protocol (message.Core m) = core_protocol protocol m
 sent_under protocol m = pos (protocol_of m)
@@ -50,11 +50,11 @@ ended to [] = []
 ended to (m ∷ []) = record { to = to; message = m; last = true } ∷ []
 ended to (m ∷ n ∷ ms) = record { to = to; message = m; last = false } ∷ ended to (n ∷ ms)
 
--- how many blobs were sent after a message, where so many were before; the count stands still at the greatest number of 64 bits
+-- how many blobs were sent after a message, by how many were sent before; the count stops at the greatest 64-bit number
 abbrev pub blobs_after : ℕ → ℕ → Message → ℕ
 blobs_after limit blobs m = min (blobs + blobs_in limit m) (2 ^ 64 - 1)
 
--- the parts of all that is said, in a session of this number, where parts have at most `limit` bytes and so many blobs were sent
+-- the parts of all that is sent, in a session of this number, if parts have at most `limit` bytes and this many blobs were sent
 abbrev pub parts_of : ℕ → ℕ → ℕ → List Saying → List Part
 parts_of limit number blobs [] = []
 parts_of limit number blobs (x ∷ xs) = ended x.to (parts limit number blobs x.message) ++ parts_of limit number (blobs_after limit blobs x.message) xs
@@ -77,7 +77,7 @@ abbrev pub replies_in : List Part → ℕ
 replies_in [] = 0
 replies_in (p ∷ ps) = (if is_reply p.to then 1 else 0) + replies_in ps
 
--- the last part of a reply is final, 0x02, and so is that of a notice; a receipt is no part of a reply
+-- the last part of a reply is final, 0x02, and so is that of a notice; a receipt is not part of a reply
 abbrev pub flags_to : Addressee → Bool → ℕ → ℤ
 flags_to to.Receipt last left = pos 0
 flags_to to.Request last left = if left == 0 then pos 2 else pos 0
@@ -89,7 +89,7 @@ correlation_to to.Receipt id = id
 correlation_to to.Request id = id
 correlation_to to.Nobody id = pos 0
 
--- a part with this own id, with so many parts of the reply behind it
+-- a part with this own id, followed by this many parts of the reply
 abbrev pub outgoing : Request → ℕ → ℕ → Part → Outgoing
 outgoing r id left p = record {
   header = record {
@@ -122,7 +122,7 @@ abbrev pub spent_phase : Bool → Phase → Phase
 spent_phase true p = phase.Ended end.IdsSpent
 spent_phase false p = p
 
--- the state after this was said to a request, or unasked
+-- the state after this was sent to a request, or as notices
 abbrev pub said : Request → List Saying → State → State
 said r sayings s =
     let ps = parts_of s.limit s.number s.blobs sayings in

@@ -1,4 +1,4 @@
--- A transaction that was committed was answered as if it had stood alone at the place of its commit.
+-- A transaction that was committed was answered as if it had been alone at the place of its commit.
 use Rattle.std.specs.Prelude.{ℕ, ℤ, pos, Bool, true, false, ◌||◌, List, [], ◌∷◌, ◌++◌, ◌≡◌, ◌≤◌, ◌-◌, ◌^◌, Option, Some, None, map, take}
 use Rattle.std.specs.Ordering.{int_eq}
 use Rattle.server_config.specs.declared.config.Config.{Config}
@@ -25,7 +25,7 @@ use Rattle.session_core.specs.Run.{Course, drained, happens, hears, run, takes}
 
 -- ---- the requests of a transaction
 
--- the protocols whose requests stand in the open transaction: Store and DataArray
+-- the protocols whose requests belong to the open transaction: Store and DataArray
 abbrev pub is_staged : ℤ → Bool
 is_staged protocol = int_eq protocol (pos store_number) || int_eq protocol (pos data_array_number)
 
@@ -44,7 +44,7 @@ is_request s e = is_request_as (arrived s.last_id e)
 abbrev pub bodies : List Outgoing → List Message
 bodies out = map (λ o. o.message) out
 
--- these, where that holds
+-- these, if that holds
 abbrev pub where_so : {X : Type 0} → Bool → List X → List X
 where_so true xs = xs
 where_so false xs = []
@@ -94,8 +94,7 @@ abbrev pub keys_kept : Option Pending → List Key
 keys_kept (Some (pending.Staged r keys p)) = keys
 keys_kept _ = []
 
--- each of these keys can be noted after the ones before it: none is refused for there being too many, for which their marks
--- don't count
+-- each of these keys can be noted after the ones before it: none is refused because there are too many, for which their marks don't count
 abbrev pub AllNoted : Transaction → List Key → Type 0
 AllNoted x [] = Unit {0}
 AllNoted x (key ∷ keys) = (note_refusal x key ≡ Some Keys → ⊥) × AllNoted (note 0 x key) keys
@@ -106,7 +105,7 @@ CommitsAt config h p None places = ⊥
 CommitsAt config h p (Some call) [] = ⊥
 CommitsAt config h p (Some call) (q ∷ qs) = (q ≡ p) × ((answered config (take p h) call).reply ≡ reply.Committed)
 
--- an event either leaves the transaction open, where all keys that it looks at are noted, and the later ones end it; or it
+-- an event either leaves the transaction open, and all keys that it looks at are noted, and the later ones end it; or it
 -- ends it by a commit that succeeds
 abbrev pub EndsBy : Config → List Entry → ℕ → Option Transaction → Option Pending → Option StoreCall → List ℕ → Type 0 → Type 0
 EndsBy config h p (Some x) kept call places later = AllNoted x (keys_kept kept) × later
@@ -125,7 +124,7 @@ abbrev pub RisesFrom : ℕ → List ℕ → Type 0
 RisesFrom n [] = Unit {0}
 RisesFrom n (p ∷ ps) = (n ≤ p) × RisesFrom p ps
 
--- a session is open and has an open transaction, of which nothing was asked yet; nothing is left to hear or to send
+-- a session is open and has an open transaction, of which nothing was asked yet; nothing is pending or left to send
 pub record Begins (s : State) (x : Transaction) : Type 0 where
   pub phase : s.phase ≡ phase.Live live.Open
   pub stage : s.stage ≡ Some x
@@ -134,21 +133,21 @@ pub record Begins (s : State) (x : Transaction) : Type 0 where
   pub out : s.out ≡ []
   pub blobs : s.blobs ≤ 2 ^ 64 - 1
 
--- where a transaction is committed successfully after the entries below a place, its requests were answered as the session
--- alone answers them from its start on, all at that place, whatever others did in between
+-- if a transaction is committed successfully after the entries below a place, its requests were answered as the session alone answers them
+-- from its start on, all at that place, whatever others did in between
 abbrev pub CommittedIsSerial : Type 0
 CommittedIsSerial = (config : Config) (n : ℕ) (h : List Entry) (p : ℕ) (c : Course) (x : Transaction) (es : List Event)
     → c.short ≡ false → Begins c.state x → RisesFrom 0 c.places → Succeeds config n h p c es
     → replies config n h c es ≡ alone config (take p h) c.state (requests config n h c es)
 
--- in the run of these events, wherever it is split: a transaction that has just begun there, and is committed successfully by the
--- later ones after the entries below a place, was answered so
+-- in the run of these events, wherever it is split: a transaction that has just begun there, and is committed successfully by the later
+-- ones after the entries below a place, was answered this way
 abbrev pub IsSerial : Config → ℕ → List Entry → List ℕ → List Event → Type 0
 IsSerial config n h places es = (before later : List Event) (p : ℕ) (x : Transaction) → es ≡ before ++ later
     → let c = run config n h places before in
     c.state.stage ≡ Some x → x.touched ≡ [] → Succeeds config n h p c later
     → replies config n h c later ≡ alone config (take p h) c.state (requests config n h c later)
 
--- where the places never fall, each run is so
+-- if the places never fall, each run is serial
 abbrev pub RunIsSerial : Type 0
 RunIsSerial = (config : Config) (n : ℕ) (h : List Entry) (places : List ℕ) (es : List Event) → RisesFrom 0 places → IsSerial config n h places es

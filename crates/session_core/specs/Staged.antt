@@ -36,7 +36,7 @@ abbrev pub IsCommitOf : Transaction → StoreCall → Type 0
 IsCommitOf x (call.Commit staged) = staged ≡ to_commit x
 IsCommitOf x _ = ⊥
 
--- a call of channels alone
+-- a call that concerns only channels
 abbrev pub IsOfChannels : StoreCall → Type 0
 IsOfChannels (call.Append items) = Unit {0}
 IsOfChannels (call.Replace channels from to items) = Unit {0}
@@ -47,8 +47,8 @@ IsOfChannels (call.Subscribe items) = Unit {0}
 IsOfChannels (call.News cursor subs) = Unit {0}
 IsOfChannels _ = ⊥
 
--- the call of a request, by what is kept of it: one of Store or DataArray looks at the keys that it keeps, and does nothing else;
--- no dataspace is changed; a commit is that of the open transaction; the others are of channels
+-- the call of a request, by what is kept of it: one of Store or DataArray looks at the keys that it keeps, and does nothing else; no
+-- dataspace is changed; a commit is that of the open transaction; the others concern channels
 abbrev pub IsCallWithin : Transaction → StoreCall → Pending → Type 0
 IsCallWithin x c (pending.Staged r keys p) = IsLookAt keys c
 IsCallWithin x c (pending.Objects r p) = ⊥
@@ -58,7 +58,7 @@ IsCallWithin x c (pending.Transactions r p) = IsCommitOf x c
 IsCallWithin x c (pending.Loads r p) = IsOfChannels c
 IsCallWithin x c (pending.Subscriptions r p) = IsOfChannels c
 
--- each call of a session in which a transaction is open is such a one
+-- each call of a session in which a transaction is open is such a call
 abbrev pub CallsWithin : Type 0
 CallsWithin = (s : State) (e : Event) (x : Transaction) → s.stage ≡ Some x
     → MatchOption (takes s e).call (Unit {0}) (λ c. IsSomeAnd (takes s e).state.pending (IsCallWithin x c))
@@ -69,7 +69,7 @@ CallsWithin = (s : State) (e : Event) (x : Transaction) → s.stage ≡ Some x
 abbrev pub LooksAddNothing : Type 0
 LooksAddNothing = (config : Config) (h : List Entry) (by nth : ℕ) (at : ℤ) (wants : List Want) → added config h by nth at (call.Look wants) ≡ []
 
--- an act changes what stands at keys: dataspaces, objects or arrays
+-- an act changes what is at keys: dataspaces, objects or arrays
 abbrev pub changes_keys : Act → Bool
 changes_keys act.Enter = false
 changes_keys (act.PutSpaces puts) = true
@@ -80,7 +80,7 @@ changes_keys (act.Append items) = false
 changes_keys (act.Replace channels from to items) = false
 changes_keys (act.Truncate cuts) = false
 
--- those of a session's entries that change what stands at keys
+-- those of a session's entries that change what is at keys
 abbrev pub key_entries : List (ℕ × Entry) → List (ℕ × Entry)
 key_entries made = filter (λ m. changes_keys m.1.act) made
 
@@ -95,8 +95,8 @@ module _ (config : Config) (n : ℕ) (h : List Entry) where
   StaysUncommitted c [] = Unit {0}
   StaysUncommitted c (e ∷ es) = IsSome c.state.stage × MatchOption (takes c.state e).call (Unit {0}) CommitsNothing × StaysUncommitted (happens config n h c e) es
 
--- as long as a transaction is not committed, its session adds no entry that changes what stands at keys: whatever it stages, and
--- also where it is rolled back in the end, or stays open
+-- as long as a transaction is not committed, its session adds no entry that changes what is at keys: whatever it stages, and also if it is
+-- rolled back in the end, or stays open
 abbrev pub UncommittedIsUnseen : Type 0
 UncommittedIsUnseen = (config : Config) (n : ℕ) (h : List Entry) (c : Course) (es : List Event) → StaysUncommitted config n h c es
     → key_entries (run_from config n h c es).made ≡ key_entries c.made

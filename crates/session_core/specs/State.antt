@@ -25,7 +25,7 @@ pub record State : Type 0 where
   -- the protocols that were accepted, and the formats of objects
   pub accepted : List ℤ
   pub formats : List Format
-  -- how many bytes a part has at most that is sent, and how many blobs were sent
+  -- the maximum size of a part that is sent, in bytes, and how many blobs were sent
   pub limit : ℕ
   pub blobs : ℕ
   -- the open transaction, if any
@@ -64,7 +64,7 @@ first_state config number first_id = record {
   out = [];
 }
 
--- the subscriptions of a session that has had none to keep
+-- the subscriptions of a session that has none yet
 abbrev pub subbed : Option Subbed → Subbed
 subbed None = nothing
 subbed (Some v) = v

@@ -1,5 +1,5 @@
--- What a client hears of a channel in the messages that a session sent, and what it is to hear: of a subscription the points that
--- were there and each later change, in their order, of the one history.
+-- What a client hears about a channel in the messages that a session sent, and what it is to hear: for a subscription the points that
+-- existed and each later change, in their order, of the one history.
 use Rattle.std.specs.Prelude.{ℕ, ℤ, ◌≡◌, ◌<◌, ◌^◌, Bool, true, false, List, [], ◌∷◌, ◌++◌, Option, Some, None, fold, length, take, drop, max, if◌then◌else◌}
 use Rattle.std.specs.List.{flat_map, list_any}
 use Rattle.std.specs.Ordering.{int_eq}
@@ -39,19 +39,19 @@ use Rattle.session_core.specs.Run.{Course, Heeds, run, takes}
 
 -- ---- what a client hears
 
--- a subscription that was stopped: the reason that was given, and what was told of the channel up to then
+-- a subscription that was stopped: the reason that was given, and what was sent of the channel up to then
 pub record Stopped : Type 0 where
   pub reason : List ℕ
   pub told : List What
 
--- what is heard of a channel: the subscriptions that were stopped, the changes since the last stop, and the points of a notice
--- whose last part is to come
+-- what is heard about a channel: the subscriptions that were stopped, the changes since the last stop, and the points of a notice whose
+-- last part is to come
 pub record Heard : Type 0 where
   pub stops : List Stopped
   pub told : List What
   pub part : List Point
 
--- nothing was said yet
+-- nothing was sent yet
 abbrev pub silence : Heard
 silence = record { stops = []; told = []; part = [] }
 
@@ -64,7 +64,7 @@ point_in value _ = []
 abbrev pub points_in : ℤ → List DataItem → List Point
 points_in channel items = flat_map (λ x. if int_eq x.channel_id channel then point_in x.value x.indexes else []) items
 
--- a change of these points, when their last part came; else they are kept
+-- a change of these points, if their last part came; otherwise they are kept
 abbrev pub gathers : Bool → (List Point → List What) → List Point → Heard → Heard
 gathers false whole points k = record k { part = k.part ++ points }
 gathers true whole points k = record k { told = k.told ++ whole (k.part ++ points); part = [] }
@@ -87,11 +87,11 @@ cuts_in channel cuts = flat_map (λ x. if int_eq x.channel_id channel then cut_a
 abbrev pub stops_for : List ℕ → Heard → Heard
 stops_for reason k = record { stops = k.stops ++ record { reason = reason; told = k.told } ∷ []; told = []; part = [] }
 
--- the same where a stop names the channel
+-- the same if a stop names the channel
 abbrev pub hear_stops : ℤ → List ℕ → List (List ℕ × ℤ) → Heard → Heard
 hear_stops channel reason ids k = fold (λ k x. if int_eq x.1 channel then stops_for reason k else k) k ids
 
--- what is heard of a channel in a message of the ChannelSubscribe protocol, which may be the last part
+-- what is heard about a channel in a message of the ChannelSubscribe protocol, which may be the last part
 abbrev pub hear_notice : ℤ → Bool → ChannelSubscribeMessage → Heard → Heard
 hear_notice channel last (subscribe.ChannelData m) k = gathers last append_of (points_in channel m.payload) k
 hear_notice channel last (subscribe.RangeReplaced m) k =
@@ -100,7 +100,7 @@ hear_notice channel last (subscribe.ChannelsTruncated m) k = record k { told = k
 hear_notice channel last (subscribe.SubscriptionsStopped m) k = hear_stops channel m.reason m.channel_ids k
 hear_notice channel last _ k = k
 
--- any other message says nothing of it
+-- any other message says nothing about it
 abbrev pub hear_message : ℤ → Bool → Message → Heard → Heard
 hear_message channel last (message.ChannelSubscribe m) k = hear_notice channel last m k
 hear_message channel last _ k = k
@@ -123,13 +123,13 @@ abbrev pub owed_to : List Entry → ℕ → Option Sub → List What
 owed_to h cursor None = []
 owed_to h cursor (Some s) = stream_to h cursor s
 
--- of a channel the stream of its subscription up to the session's cursor, and without one nothing
+-- for a channel the stream of its subscription up to the session's cursor, and without one nothing
 abbrev pub owed : List Entry → Subbed → ℤ → List What
 owed h v channel = owed_to h v.cursor (sub_of channel v.subs)
 
 -- ---- the laws
 
--- a session's message ids are spent
+-- a session has used up its message ids
 abbrev pub is_spent_phase : Phase → Bool
 is_spent_phase (phase.Ended end.IdsSpent) = true
 is_spent_phase _ = false
@@ -141,8 +141,8 @@ is_spent_course r = is_spent_phase r.state.phase
 abbrev pub HasIds : Config → Type 0
 HasIds config = length config.channels < 2 ^ 63
 
--- of each channel a session has told what it owed, no more and no less, and each notice to its last part, as long as its ids are
--- not spent. So a subscription has been told the stream from its own start and place on, and after its stop nothing is told
+-- for each channel a session has sent what it owed, no more and no less, and each notice to its last part, as long as its ids last. So a
+-- subscription has been sent the stream from its own start and place on, and after its stop nothing is sent
 abbrev pub HasTold : Config → ℕ → List Entry → List ℕ → List Event → Type 0
 HasTold config n h places es =
     let r = run config n h places es in
@@ -153,7 +153,7 @@ abbrev pub IsAsked : StopCause → Type 0
 IsAsked Unsubscribed = Unit {0}
 IsAsked (Lagged k) = ⊥
 
--- a poll stops them where more entries are left to tell than may be, of those before the place at which it is answered
+-- a poll stops them if more entries are left to send than may be, of those before the place at which it is answered
 abbrev pub IsLate : Config → List Entry → Subbed → List ℕ → StopCause → Type 0
 IsLate config h v [] cause = ⊥
 IsLate config h v (p ∷ ps) Unsubscribed = ⊥
@@ -164,27 +164,27 @@ abbrev pub IsStopCause : Config → List Entry → Subbed → List ℕ → Event
 IsStopCause config h v places (Receives bytes moment) cause = IsAsked cause
 IsStopCause config h v places (Polls front) cause = IsLate config h v places cause
 
--- a subscription that one more event ends is stopped with its cause and what was told up to then; any other is not stopped, and
--- stays as it is
+-- a subscription that one more event ends is stopped with its cause and what was sent up to then; any other is not stopped, and stays as it
+-- is
 abbrev pub IsStopped : (StopCause → Type 0) → Option Sub → Option Sub → List What → List Stopped → List Stopped → Type 0
 IsStopped Causes None after told old new = new ≡ old
 IsStopped Causes (Some s) (Some t) told old new = (new ≡ old) × (t ≡ s)
 IsStopped Causes (Some s) None told old new = (cause : StopCause) × Causes cause × (new ≡ old ++ record { reason = reason_of cause; told = told } ∷ [])
 
--- so it is at an event that follows these
+-- the same at an event that follows these
 abbrev pub HasStopped : Config → ℕ → List Entry → List ℕ → List Event → Event → Type 0
 HasStopped config n h places es e =
     let r = run config n h places es in let t = run config n h places (es ++ e ∷ []) in
     is_spent_course t ≡ false → (channel : ℤ)
     → IsStopped (IsStopCause config h r.state.subs r.places e) (sub_of channel r.state.subs.subs) (sub_of channel t.state.subs.subs) (heard channel r.sent).told (heard channel r.sent).stops (heard channel t.sent).stops
 
--- what a channel was owed at most by an event: by the cursor after it where it leaves a subscription, else by the one before it
+-- what a channel was owed at most by an event: by the cursor after it if it leaves a subscription, otherwise by the one before it
 abbrev pub owed_by : List Entry → Subbed → Subbed → Option Sub → ℤ → List What
 owed_by h before after None channel = owed h before channel
 owed_by h before after (Some s) channel = stream_to h after.cursor s
 
--- messages that end within what an event sends say no more than the event does, which led from this course to these subscriptions:
--- what is told to its last part is a beginning of what was owed by the event, and no subscription is stopped but as it stops them
+-- messages that end within what an event sends say no more than the event does, which led from this course to these subscriptions: what is
+-- sent to its last part is a prefix of what was owed by the event, and no subscription is stopped except as the event stops them
 abbrev pub IsCut : Config → List Entry → Course → Event → Subbed → List Outgoing → Type 0
 IsCut config h r e after sent = (channel : ℤ)
     → IsPrefix (heard channel sent).told (owed_by h r.state.subs after (sub_of channel after.subs) channel)
@@ -192,7 +192,7 @@ IsCut config h r e after sent = (channel : ℤ)
     × IsStopped (IsStopCause config h r.state.subs r.places e) (sub_of channel r.state.subs.subs) (sub_of channel after.subs) (heard channel r.sent).told (heard channel r.sent).stops all
     × IsPrefix (heard channel sent).stops all)
 
--- where a run has spent its ids, one of its events did, and what was sent ends within what that event sends
+-- if a run has used up its ids, one of its events did, and what was sent ends within what that event sends
 abbrev pub HasSpent : Config → ℕ → List Entry → List ℕ → List Event → Type 0
 HasSpent config n h places es =
     let t = run config n h places es in
@@ -200,32 +200,32 @@ HasSpent config n h places es =
     → (before : List Event) × (e : Event) × (later : List Event) × (es ≡ before ++ e ∷ later) × (is_spent_course (run config n h places before) ≡ false)
     × IsCut config h (run config n h places before) e t.state.subs t.sent
 
--- in the run of these events: what was told is so before each of them and after all, each of them stops subscriptions so, and
--- where they spent the ids, it is so
+-- in the run of these events: `HasTold` holds before each of them and after all, `HasStopped` for each of them, and `HasSpent` if they
+-- used up the ids
 pub record IsStreamed (config : Config) (n : ℕ) (h : List Entry) (places : List ℕ) (es : List Event) : Type 0 where
   pub told : (before later : List Event) → es ≡ before ++ later → HasTold config n h places before
   pub stops : (before later : List Event) (e : Event) → es ≡ before ++ e ∷ later → HasStopped config n h places before e
   pub spent : HasSpent config n h places es
 
--- where the channels have ids of 64 bits, and the places never fall and lie within the history, each run is so
+-- if the channels have ids of 64 bits, and the places never fall and are within the history, that holds for each run
 abbrev pub RunIsStreamed : Type 0
 RunIsStreamed = (config : Config) (n : ℕ) (h : List Entry) (places : List ℕ) (es : List Event) → HasIds config → Rises 0 places (length h) → IsStreamed config n h places es
 
--- where a poll among these events asks nothing, its front is what the session has seen of the history, and each subscription was
--- told its stream up to there
+-- if a poll among these events asks nothing, its front is what the session has seen of the history, and each subscription was sent its
+-- stream up to there
 abbrev pub IsToldAtIdle : Config → ℕ → List Entry → List ℕ → List Event → Type 0
 IsToldAtIdle config n h places es = (before later : List Event) (front : ℕ) → es ≡ before ++ Polls front ∷ later
     → let r = run config n h places before in
     (live : Live) → r.state.phase ≡ phase.Live live → (takes r.state (Polls front)).call ≡ None → (channel : ℤ) (s : Sub) → sub_of channel r.state.subs.subs ≡ Some s
     → (front ≡ r.reach) × ((heard channel r.sent).told ≡ stream s.channel s.start s.all s.from (take front h))
 
--- with such ids and places, where each poll tells of no less than was seen before, each run is so
+-- with such ids and places, if each poll reports no less than was seen before, the same holds for each run
 abbrev pub RunIsToldAtIdle : Type 0
 RunIsToldAtIdle = (config : Config) (n : ℕ) (h : List Entry) (places : List ℕ) (es : List Event) → HasIds config → Rises 0 places (length h) → Heeds config n h places es
     → IsToldAtIdle config n h places es
 
--- a front of what the run of these events sends, as a link that fails leaves it, ends within what one of them sends, before which
--- the ids were not spent
+-- a front of what the run of these events sends, as a link that fails leaves it, ends within what one of them sends, before which ids were
+-- left
 pub record EndsWithin (config : Config) (n : ℕ) (h : List Entry) (places : List ℕ) (es : List Event) (front : List Outgoing) : Type 0 where
   pub before : List Event
   pub e : Event
@@ -241,7 +241,7 @@ abbrev pub HasFront : Config → ℕ → List Entry → List ℕ → List Event 
 HasFront config n h places [] front = front ≡ []
 HasFront config n h places (e ∷ es) front = EndsWithin config n h places (e ∷ es) front
 
--- with such ids and places, each front of what a run sends is so
+-- with such ids and places, the same holds for each front of what a run sends
 abbrev pub FrontIsStreamed : Type 0
 FrontIsStreamed = (config : Config) (n : ℕ) (h : List Entry) (places : List ℕ) (es : List Event) (front : List Outgoing) → HasIds config → Rises 0 places (length h)
     → IsPrefix front (run config n h places es).sent → HasFront config n h places es front

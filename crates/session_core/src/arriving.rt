@@ -9,7 +9,7 @@ use etp_schema::Side;
 use etp_values::{ErrorCode, NoMemory};
 use std::alloc::Global;
 
-/// The greatest number of bytes of a message.
+/// The maximum length of a message, in bytes.
 pub(crate) const MAX_MESSAGE_LEN: usize = 16_777_216;
 
 /// The message of these bytes, after one with the id `last_id`.
@@ -47,7 +47,7 @@ fn message_event(last_id: i64, moment: i64, header: Header, message: Message) ->
     stale(&header, message)
 }
 
-/// A message whose id doesn't follow, at whose content nobody looks.
+/// A message whose id doesn't follow, whose content is not looked at.
 fn stale(header: &Header, message: Message) -> Arrived
     ensures { result ≡ Arrived.Stale (request_of header.now) }
 {
@@ -65,7 +65,7 @@ pub(crate) fn request_of(header: &Header) -> Request
     }
 }
 
-/// Bytes that are no message.
+/// Bytes that are not a message.
 fn error_event(last_id: i64, error: FrameError) -> Result<Arrived, NoMemory>
     ensures value { IfOk result (λ a. a ≡ error_event last_id error) }
     ensures fault { OnOk result (IsFault error) }
@@ -100,7 +100,7 @@ fn error_event(last_id: i64, error: FrameError) -> Result<Arrived, NoMemory>
     }
 }
 
-/// A message that is refused for what its bytes are.
+/// A message that is refused because of its bytes.
 fn refused_event(last_id: i64, header: &Header, code: ErrorCode) -> Arrived
     ensures { result ≡ refused_event last_id header.now code }
 {
@@ -112,7 +112,7 @@ fn refused_event(last_id: i64, header: &Header, code: ErrorCode) -> Arrived
     }
 }
 
-/// Whether a message of this id may come after one of that.
+/// Whether a message of this id may come after one of that id.
 fn follows(last_id: i64, id: i64) -> bool
     ensures { result ≡ follows last_id id }
 {

@@ -33,7 +33,7 @@ use store_machine::{Answer, StoreCall};
 use subscribe_core::Subs;
 use tx_stage::Stage;
 
-/// All that is kept of a client. [`Session`](crate::session::Session) says how it is driven.
+/// Everything that is kept for a client. [`Session`](crate::session::Session) says how it is driven.
 pub(crate) struct Machine {
     config: Config,
     number: u64,
@@ -122,8 +122,8 @@ impl Machine {
         }
     }
 
-    /// The bytes of the client's next message, which came at this moment: microseconds since 1970-01-01 UTC. Answers the
-    /// call that the store has to answer before the session goes on, if there is one.
+    /// Takes the bytes of the client's next message, which came at this moment: microseconds since 1970-01-01 UTC. Returns the call that
+    /// the store has to answer before the session continues, if there is one.
     #[tactic(auto, unfolding(crate::specs::Run::takes))]
     pub(crate) fn take(
         &mut self,
@@ -139,8 +139,8 @@ impl Machine {
         self.by_phase(alloc, arrived)
     }
 
-    /// A poll, with the length of the store's journal. The store is asked for News where there is a subscription and the journal is
-    /// longer than what was told of.
+    /// A poll, with the length of the store's journal. The store is asked for News if there is a subscription and the journal is longer
+    /// than what was sent of it.
     #[tactic(auto, unfolding(crate::specs::Run::takes))]
     pub(crate) fn poll(&mut self, alloc: Global, front: u64) -> Result<Option<StoreCall>, NoMemory>
         ensures call { IfOk result (λ call. call ≡ (takes self.old (Polls front)).call) }
@@ -150,7 +150,7 @@ impl Machine {
         self.by_phase(alloc, Arrived::Polled(front))
     }
 
-    /// The store's answer to the call in hand.
+    /// Takes the store's answer to the pending call.
     #[tactic(auto, unfolding(crate::specs::Run::hears))]
     pub(crate) fn give(&mut self, alloc: Global, answer: Answer) -> Result<(), NoMemory>
         ensures { OnOk result (self.new ≡ hears self.old answer) }
@@ -159,7 +159,7 @@ impl Machine {
         self.give_to(alloc, pending, answer)
     }
 
-    /// The bytes of the next message to send, which is then taken as sent; none where nothing is left.
+    /// The bytes of the next message to send, which is then counted as sent; `None` if nothing is left.
     pub(crate) fn next_out(&mut self, alloc: Global) -> Result<Option<Blob>, NoMemory>
         ensures bytes { IfOk result (λ bytes. bytes ≡ next_bytes self.old.out) }
         ensures state { OnOk result (self.new ≡ sent_one self.old) }
@@ -231,7 +231,7 @@ impl Machine {
         }
     }
 
-    /// A message whose id follows: its receipt is acknowledged, where its sender wants that, and then it is taken.
+    /// A message whose id follows: its receipt is acknowledged, if its sender wants that, and then it is handled.
     fn on_fresh(
         &mut self,
         alloc: Global,
@@ -255,7 +255,7 @@ impl Machine {
         }
     }
 
-    /// Acknowledges the receipt of a message, where its sender wants that.
+    /// Acknowledges the receipt of a message, if its sender wants that.
     fn acknowledge(
         &mut self,
         alloc: Global,
@@ -272,7 +272,7 @@ impl Machine {
         Ok(())
     }
 
-    /// A poll asks the store for News, where there are some.
+    /// A poll asks the store for News, if there is any.
     fn on_poll(&mut self, alloc: Global, front: u64) -> Result<Option<StoreCall>, NoMemory>
         ensures call { let news = news_call self.old.subs front in
             IfOk result (λ call. call ≡ (on_poll news self.old).call) }
@@ -304,7 +304,7 @@ pub(crate) fn keep(place: &mut Option<Pending>, pending: Pending)
     *place = Some(pending);
 }
 
-/// A message that is let go calls for nothing.
+/// Drops the message; there is no store call.
 fn no_call(message: Message) -> Result<Option<StoreCall>, NoMemory>
     ensures { IfOk result (λ call. call ≡ None) }
 {
@@ -312,7 +312,7 @@ fn no_call(message: Message) -> Result<Option<StoreCall>, NoMemory>
     Ok(None)
 }
 
-/// What answers nothing is not acknowledged.
+/// Messages that only answer are not acknowledged.
 fn may_acknowledge(message: &Message) -> bool
     ensures { result ≡ may_acknowledge message.now }
 {
@@ -322,7 +322,7 @@ fn may_acknowledge(message: &Message) -> bool
     }
 }
 
-/// Whether a message of Core is none that only answers.
+/// Whether a message of Core does more than answer.
 fn may_acknowledge_core(message: &CoreMessage) -> bool
     ensures { result ≡ may_acknowledge (frame.Core message.now) }
 {

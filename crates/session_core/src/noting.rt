@@ -1,4 +1,4 @@
-//! In a transaction the keys that a request looks at are noted, before anything comes of what was found there.
+//! In a transaction the keys that a request looks at are noted, before what was found there is used.
 ghost use Rattle.std.specs.Prelude.{◌≡◌, ◌++◌, IfOk, IsOk, OnOk, Some, drop, map, take};
 ghost use Rattle.session_core.specs.Noting.{found_by, found_noted, key_refusal, keys_in, note, note_all, noting, reply_noted};
 ghost use Rattle.tx_stage.specs.Looks.{key_of};
@@ -45,7 +45,7 @@ pub(crate) fn keys_in(alloc: Global, call: &StoreCall) -> Result<List<Key>, NoMe
     }
 }
 
-/// Notes a key at a mark, or answers why it is refused.
+/// Notes a key at a mark, or returns why it is refused.
 fn note(stage: &mut Stage, key: Key, mark: u64) -> Result<Option<ErrorCode>, NoMemory>
     ensures refusal { IfOk result (λ code. code ≡ key_refusal stage.old key) }
     ensures stage { OnOk result (stage.new ≡ note mark stage.old key) }
@@ -71,7 +71,7 @@ fn found_by(refusal: Option<ErrorCode>, found: Looked) -> Looked
     }
 }
 
-/// Moves the first of what was found, or its key's refusal, behind the others.
+/// Moves the first of what was found, or its key's refusal, after the others.
 fn move_found(
     left: &mut VecDeque<Looked>,
     noted: &mut Vec<Looked>,
@@ -87,7 +87,7 @@ fn move_found(
     Ok(())
 }
 
-/// Notes keys at a mark, one after the other, and answers what was found under each: where the key is refused, its refusal.
+/// Notes keys at a mark, one after the other, and returns what was found under each, or the key's refusal.
 fn note_all(
     alloc: Global,
     stage: &mut Stage,
@@ -107,7 +107,7 @@ fn note_all(
     Ok(List::from_vec(noted))
 }
 
-/// A reply that is no look, where the keys could be noted.
+/// A reply that is not a look, if the keys could be noted.
 fn reply_beside(reply: Reply, noted: Result<List<Looked>, NoMemory>) -> Result<Reply, NoMemory>
     ensures reply { IfOk result (λ r. r ≡ reply) }
     ensures noted { OnOk result (IsOk noted) }
@@ -140,8 +140,8 @@ fn note_in(
     }
 }
 
-/// Notes these keys in the open transaction, if there is one, at the mark of the store's answer, of which this is the reply. Answers
-/// what the reply is then.
+/// Notes these keys in the open transaction, if there is one, at the mark of the store's answer, of which this is the reply. Returns what
+/// the reply is then.
 pub(crate) fn note_reply(
     alloc: Global,
     stage: &mut Option<Stage>,

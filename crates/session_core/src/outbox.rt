@@ -15,20 +15,20 @@ use std::marker::Model;
 /// The greatest message id.
 pub(crate) const MAX_ID: u64 = 4_611_686_018_427_387_904;
 
-/// How far one own id is above the one before: own ids are odd.
+/// How far each own id is above the previous one: own ids are odd.
 const OWN_ID_STEP: u64 = 2;
 
-/// The room that the first message is written in.
+/// The initial room for writing a message.
 const FIRST_ROOM: usize = 256;
 
-/// The most room that a message is written in before it has shown that it is longer.
+/// The greatest room that a message is written in before it has proved longer.
 const MOST_ROOM: usize = 4_096;
 
-/// Messages to send, first message first. Each has a header that it can be written with. A contract sees the messages.
+/// Messages to send, first message first. Each has a header with which it can be written. A contract sees the messages.
 #[derive(Drop)]
 pub(crate) struct Outbox {
     messages: VecDeque<Outgoing>,
-    /// The room to write the next message in: what the last one took, since like is sent after like.
+    /// The room for writing the next message: what the last one took, since similar messages follow each other.
     room: usize,
 }
 
@@ -68,7 +68,7 @@ impl Outbox {
         self.room
     }
 
-    /// Keeps how many bytes a message had that was written.
+    /// Keeps the size of a message that was written.
     pub(crate) fn note_size(&mut self, size: usize)
         ensures { self.new ≡ self.old }
     {
@@ -93,7 +93,7 @@ impl Outbox {
         Ok(())
     }
 
-    /// Adds parts of what is said to a request, each with the next own id. Where the ids end, so does what is added.
+    /// Adds parts of what is sent to a request, each with the next own id. When the ids run out, nothing more is added.
     pub(crate) fn number(
         &mut self,
         request: &Request,
@@ -148,7 +148,7 @@ fn replies_in(parts: &[Part]) -> usize
     count
 }
 
-/// The part with its header, where this own id is the next, and so many parts of the reply are left behind it.
+/// The part with its header, if this own id is the next, and this many parts of the reply are left after it.
 fn outgoing(request: &Request, id: u64, left: usize, part: Part) -> Outgoing
     requires { id ≤ max_id }
     ensures value { result ≡ outgoing request.now id left part }
@@ -186,7 +186,7 @@ fn flags_to(to: Addressee, last: bool, left: usize) -> i32
     if is_final { FINAL_PART } else { 0 }
 }
 
-/// The protocol under which a message goes that answers this request.
+/// The protocol under which a message that answers this request is sent.
 fn sent_under(request: &Request, message: &Message) -> i32
     ensures { result ≡ sent_under request.now.protocol message.now }
 {

@@ -1,4 +1,4 @@
-//! What is said, cut into parts.
+//! What is sent, cut into parts.
 ghost use Rattle.std.specs.Prelude.{◌≡◌, ◌++◌, IfOk, OnOk};
 ghost use Rattle.etp_frame.specs.Splitting.{parts as cut};
 ghost use Rattle.session_core.specs.Sending.{blobs_after, blobs_sent, ended, parts_of};
@@ -8,7 +8,7 @@ use etp_frame::{Message, blobs_in, split};
 use etp_values::{List, NoMemory};
 use std::alloc::Global;
 
-/// The parts of what is said, and how many blobs were sent with them and before.
+/// The parts of what is sent, and how many blobs were sent with them and before.
 #[derive(Drop)]
 pub(crate) struct Parted {
     pub(crate) parts: List<Part>,
@@ -31,14 +31,14 @@ fn push_ended(parts: &mut Vec<Part>, to: Addressee, messages: List<Message>) -> 
     Ok(())
 }
 
-/// How many blobs were sent after a message, where so many were before.
+/// How many blobs were sent after a message, by how many were sent before.
 fn blobs_after(limit: u64, blobs: u64, message: &Message) -> u64
     ensures { result ≡ blobs_after limit blobs message.now }
 {
     blobs.saturating_add(blobs_in(message, limit))
 }
 
-/// Adds the parts of what is said, and answers how many blobs were sent then.
+/// Adds the parts of what is sent, and returns how many blobs were then sent.
 fn push_parts(
     alloc: Global,
     parts: &mut Vec<Part>,
@@ -58,8 +58,7 @@ fn push_parts(
     Ok(after)
 }
 
-/// The parts of all that is said, in a session of this number, where parts have at most `limit` bytes and so many blobs were sent
-/// before.
+/// The parts of all that is sent, in a session of this number, if parts have at most `limit` bytes and `blobs` blobs were sent before.
 pub(crate) fn parts_of(
     alloc: Global,
     limit: u64,

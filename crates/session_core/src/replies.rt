@@ -1,4 +1,4 @@
-//! What is said to a request, among it the exceptions by which it is refused.
+//! What is sent to a request, including the exceptions that refuse it.
 ghost use Rattle.std.specs.Prelude.{◌≡◌, IfOk};
 ghost use Rattle.session_core.specs.Replies.{error_info, receipt, refusal, refused_message, saying_of, sayings_of, to_request};
 
@@ -125,7 +125,7 @@ fn refused_message(alloc: Global, keys: Named<ErrorCode>) -> Result<Message, NoM
     )?))
 }
 
-/// What a protocol sends, with whom it is for.
+/// What a protocol sends, with its addressee.
 fn saying_of<M: IntoMessage>(alloc: Global, sending: Sending<M>) -> Result<Saying, NoMemory>
     ensures { IfOk result (λ saying. saying ≡ saying_of M.wrapped sending) }
 {
@@ -160,7 +160,7 @@ pub(crate) fn receipt(alloc: Global) -> Result<Saying, NoMemory>
     })
 }
 
-/// What a protocol answers a request, and tells behind it.
+/// What a protocol answers a request, and the notices after it.
 pub(crate) fn sayings_of<M: IntoMessage + Drop>(
     alloc: Global,
     sendings: List<Sending<M>>,

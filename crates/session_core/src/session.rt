@@ -14,12 +14,12 @@ use std::alloc::Global;
 use std::marker::Model;
 use store_machine::{Answer, StoreCall};
 
-/// A session. Whoever drives it hands in one event at a time by [`take`](Session::take) or [`poll`](Session::poll), has the
-/// store answer the call that comes out, hands the answer in by [`give`](Session::give), and sends what
-/// [`next_out`](Session::next_out) has, before the next event.
+/// A session. Whoever drives it passes in one event at a time with [`take`](Session::take) or [`poll`](Session::poll), has the store answer
+/// the call that comes out, passes the answer in with [`give`](Session::give), and sends what [`next_out`](Session::next_out) has, before
+/// the next event.
 ///
-/// It takes the room of one pointer. After `NoMemory` the session has failed: no clause says what it holds, and its connection is
-/// to be ended.
+/// It takes the room of one pointer. After `NoMemory` the session has failed: no clause says what it holds, and its connection is to be
+/// ended.
 pub struct Session {
     machine: Boxed<Machine>,
 }
@@ -59,8 +59,8 @@ impl Session {
         })
     }
 
-    /// The bytes of the client's next message, which came at this moment: microseconds since 1970-01-01 UTC. Answers the
-    /// call that the store has to answer before the session goes on, if there is one.
+    /// Takes the bytes of the client's next message, which came at this moment: microseconds since 1970-01-01 UTC. Returns the call that
+    /// the store has to answer before the session continues, if there is one.
     pub fn take(
         &mut self,
         alloc: Global,
@@ -74,8 +74,8 @@ impl Session {
         self.machine.get_mut().take(alloc, bytes, now)
     }
 
-    /// A poll, with the length of the store's journal. The store is asked for News where there is a subscription and the journal is
-    /// longer than what was told of.
+    /// A poll, with the length of the store's journal. The store is asked for News if there is a subscription and the journal is longer
+    /// than what was sent of it.
     pub fn poll(&mut self, alloc: Global, front: u64) -> Result<Option<StoreCall>, NoMemory>
         ensures call { IfOk result (λ call. call ≡ (takes self.old (Polls front)).call) }
         ensures state { OnOk result (self.new ≡ (takes self.old (Polls front)).state) }
@@ -84,14 +84,14 @@ impl Session {
         self.machine.get_mut().poll(alloc, front)
     }
 
-    /// The store's answer to the call in hand.
+    /// Takes the store's answer to the pending call.
     pub fn give(&mut self, alloc: Global, answer: Answer) -> Result<(), NoMemory>
         ensures { OnOk result (self.new ≡ hears self.old answer) }
     {
         self.machine.get_mut().give(alloc, answer)
     }
 
-    /// The bytes of the next message to send, which is then taken as sent; none where nothing is left.
+    /// The bytes of the next message to send, which is then counted as sent; `None` if nothing is left.
     pub fn next_out(&mut self, alloc: Global) -> Result<Option<Blob>, NoMemory>
         ensures bytes { IfOk result (λ bytes. bytes ≡ next_bytes self.old.out) }
         ensures state { OnOk result (self.new ≡ sent_one self.old) }

@@ -17,20 +17,20 @@ pub enum End {
     IdsSpent,
 }
 
-/// How far a session has come that has not ended.
+/// The phase of a session that has not ended.
 #[derive(Clone, Copy, Debug, PartialEq, Eq, Drop)]
 pub enum Live {
     /// No RequestSession was accepted yet.
     Waiting,
-    /// The client's requests are taken.
+    /// The client's requests are accepted.
     Open,
 }
 
-/// How far a session has come.
+/// The phase of a session.
 #[derive(Clone, Copy, Debug, PartialEq, Eq, Drop)]
 pub enum Phase {
     Live(Live),
-    /// Nothing is taken any more.
+    /// Nothing is accepted any more.
     Ended(End),
 }
 
@@ -84,10 +84,10 @@ pub enum Pending {
     },
 }
 
-/// Whom a message is for.
+/// The addressee of a message.
 #[derive(Clone, Copy, Debug, PartialEq, Eq, Drop)]
 pub enum Addressee {
-    /// The request, of which it says only that it came.
+    /// The request, to acknowledge only that it came.
     Receipt,
     /// The request, as part of its reply.
     Request,
@@ -95,14 +95,14 @@ pub enum Addressee {
     Nobody,
 }
 
-/// A message that is said, of any size.
+/// A message to be sent, of any size.
 #[derive(Drop)]
 pub struct Saying {
     pub to: Addressee,
     pub message: Message,
 }
 
-/// A part of what is said, and whether it is the last one.
+/// A part of what is sent, and whether it is the last one.
 #[derive(Drop)]
 pub struct Part {
     pub to: Addressee,
@@ -124,7 +124,7 @@ pub enum Arrived {
     Unreadable(ErrorCode),
     /// A message whose id doesn't follow the last one.
     Stale(Request),
-    /// A message that is no message of its protocol.
+    /// A message that its protocol does not have.
     Refused {
         request: Request,
         code: ErrorCode,

@@ -38,7 +38,7 @@ use Rattle.subscribe_core.proofs.SubLemmas.{absent-has, found-push, has-absent, 
 use Rattle.session_core.proofs.StandingLemmas.{absent-push}
 use Rattle.session_core.proofs.StartingLemmas.{any_push, first_change, first_told, told_as}
 
--- ---- where the store lets a subscription start
+-- ---- if the store lets a subscription start
 
 abbrev IsFairStart : Start → StartReply → Type 0
 IsFairStart s (replied.Refused code) = Unit {0}
@@ -145,7 +145,7 @@ module _ (p : ℕ) (first : Subbed) where
     abbrev more : ℤ → Subbed
     more at = record b.subs { subs = b.subs.subs ++ new_sub at ∷ []; cursor = cursor_after b.subs.subs (new_sub at) b.subs.cursor }
 
-    -- what is to be shown of the keys behind it
+    -- what is to be shown about the keys after it
     abbrev ShowsFrom : Beginning → List (List ℕ × StartReply) → List ℕ → Type 0
     ShowsFrom w rs text = Decides b (ends w (asked_of going_on items) rs) (x ∷ items) ((x.0, Granted text) ∷ decides w (asked_of going_on items) rs)
 

@@ -92,7 +92,7 @@ use Rattle.session_core.proofs.TellingLemmas.{AreSolid, solid_told}
 use Rattle.session_core.proofs.WalkingLemmas.{IsAway, away_arrays, away_objects}
 use Rattle.session_core.proofs.ArrivalLemmas.{IsArrival}
 
--- ---- what is sent where ids reach
+-- ---- what is sent if ids are left
 
 abbrev LiveState : State → Type 0
 LiveState t = is_spent_phase t.phase ≡ false
@@ -102,7 +102,7 @@ pub record IsQuiet (v : Subbed) (m : State) : Type 0 where
   pub subs : m.subs ≡ v
   pub out : AllByRecursion IsReceipt m.out
 
--- what was sent by now, and what it means
+-- what was sent so far, and what it means
 pub record Says (e : Event) (v : Subbed) (t : State) : Type 0 where
   pub matter : Matter
   pub parts : IsSent matter t.out
@@ -111,7 +111,7 @@ pub record Says (e : Event) (v : Subbed) (t : State) : Type 0 where
 abbrev notices_of : List ChannelChange → List Saying
 notices_of cs = sayings_of message.ChannelSubscribe (map notice cs)
 
--- what is said first is all
+-- what is sent first is all
 sent_first : (matter : Matter) (m : State) → AllByRecursion IsReceipt m.out → changes_in matter ≡ [] → is_spent m.next_id (parts_in m (first_in matter)) ≡ false
     → IsSent matter (m.out ++ numbered (request_in matter) m.next_id (parts_in m (first_in matter)))
 sent_first matter m received none reaches =
@@ -130,7 +130,7 @@ sent_first matter m received none reaches =
       is = ap (λ l. m.out ++ l) (sym (append-nil whole) ∙ ap (λ cs. whole ++ numbered (request_in matter) m.next_id (parts_in m (notices_of cs))) (sym none));
     }
 
--- changes are told behind that
+-- changes are sent after that
 sent_both : (matter : Matter) (m : State) → AllByRecursion IsReceipt m.out → is_spent m.next_id (parts_in m (first_in matter ++ notices_of (changes_in matter))) ≡ false
     → IsSent matter (m.out ++ numbered (request_in matter) m.next_id (parts_in m (first_in matter ++ notices_of (changes_in matter))))
 sent_both matter m received reaches =
@@ -188,7 +188,7 @@ module _ (e : Event) (v : Subbed) where
     );
   }
 
--- messages of a protocol that do not speak of subscriptions
+-- messages of a protocol that do not concern subscriptions
 aside_sayings : {M : Type 0} (wrap : M → Message) → ((x : M) → speaks (wrap x) ≡ false) → (xs : List (Sending M)) → AllByRecursion IsAside (sayings_of wrap xs)
 aside_sayings wrap silent [] = tt
 aside_sayings wrap silent (Reply m ∷ xs) = ((silent m, refl), aside_sayings wrap silent xs)
@@ -316,7 +316,7 @@ module _ (e : Event) (v : Subbed) where
   core_leads l r moment (core.ProtocolException x) m q = quiet_leads m q
   core_leads l r moment (core.Acknowledge x) m q = quiet_leads m q
 
-  -- ---- requests about subscriptions that say nothing of them
+  -- ---- requests about subscriptions that send nothing of them
 
   aside_replies : {R : Type 0} (response : List (List ℕ × R) → ChannelSubscribeMessage) → ((g : List (List ℕ × R)) → subscribe_speaks (response g) ≡ false) → (gs : List (List ℕ × R)) (rs : List (List ℕ × ErrorCode))
       → AllByRecursion IsAside (sayings_of message.ChannelSubscribe (keyed_replies response gs rs))

@@ -1,4 +1,4 @@
--- Parts of messages that do not speak of subscriptions, and parts that are numbered in two pieces.
+-- Parts of messages that do not concern subscriptions, and parts that are numbered in two pieces.
 use Rattle.std.specs.Prelude.{ℕ, Bool, true, false, List, [], ◌∷◌, ◌++◌, ◌≡◌, ◌+◌, map, nat_le, if◌then◌else◌, refl}
 use Rattle.std.specs.List.{AllByRecursion}
 use Rattle.std.proofs.Common.{ap, sym, ◌∙◌, append_assoc, arith}
@@ -25,7 +25,7 @@ use Rattle.session_core.specs.Sending.{blobs_after, blobs_sent, ended, is_spent,
 use Rattle.session_core.proofs.TellingLemmas.{note}
 use Rattle.session_core.proofs.MessagePartLemmas.{all_map, array_each, core_each, load_each, object_each, space_each}
 
--- ---- parts that do not speak
+-- ---- parts that do not concern them
 
 abbrev pub IsSilent : Message → Type 0
 IsSilent m = speaks m ≡ false
@@ -88,7 +88,7 @@ replies_append : (ps qs : List Part) → replies_in (ps ++ qs) ≡ replies_in ps
 replies_append [] qs = omega arith
 replies_append (p ∷ ps) qs = let rest : replies_in (ps ++ qs) ≡ replies_in ps + replies_in qs = replies_append ps qs in omega (arith, rest)
 
--- parts that end with some of no reply are numbered as two lists
+-- parts that end with some that are not replies are numbered as two lists
 abbrev pub Splits : Request → ℕ → List Part → List Part → Type 0
 Splits r id ps qs = (is_spent id ps ≡ false) × (is_spent (next_after id ps) qs ≡ false) × (numbered r id (ps ++ qs) ≡ numbered r id ps ++ numbered r (next_after id ps) qs)
 
@@ -112,7 +112,7 @@ parts_append limit number blobs (x ∷ xs) ys =
     ap (λ l. ended x.to (parts limit number blobs x.message) ++ l) (parts_append limit number (blobs_after limit blobs x.message) xs ys)
     ∙ sym (append_assoc (ended x.to (parts limit number blobs x.message)) (parts_of limit number (blobs_after limit blobs x.message) xs) (parts_of limit number (blobs_sent limit (blobs_after limit blobs x.message) xs) ys))
 
--- ---- notices are no replies
+-- ---- notices are not replies
 
 ended_replies : (ms : List Message) → replies_in (ended to.Nobody ms) ≡ 0
 ended_replies [] = refl

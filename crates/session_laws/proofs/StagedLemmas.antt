@@ -78,7 +78,7 @@ use Rattle.session_core.proofs.ChannelCallLemmas.{CallsOfChannels, of_load_messa
 
 -- ---- the calls of a session in which this transaction is open
 
--- a look at whatever keys
+-- a look at any keys
 abbrev IsLook : StoreCall → Type 0
 IsLook (call.Look wants) = Unit {0}
 IsLook _ = ⊥
@@ -289,7 +289,7 @@ pub looks_add_nothing : LooksAddNothing
 unfolding added
 looks_add_nothing config h by nth at wants = refl
 
--- a call that adds no entry that changes what stands at keys
+-- a call that adds no entry that changes what is at keys
 abbrev AddsNoKeys : StoreCall → Type 0
 AddsNoKeys (call.Look wants) = Unit {0}
 AddsNoKeys (call.Spaces newer) = Unit {0}

@@ -41,13 +41,13 @@ second : (t : List ℕ) → uri_of t ≡ Ok (well 1) → Succeeds config 0 histo
 unfolding takes hears answered seen_after plain_number
 second t e = rw (e, commit_read) (refl, refl)
 
--- what is asked of an event and those behind it, by what arrived
+-- what is required of an event and those after it, by what arrived
 abbrev First : List Event → Arrived → Type 0
 First es a =
     let t = by_event live.Open a started in
     EndsBy config history 2 t.state.stage t.state.pending t.call (1 ∷ 2 ∷ []) (Succeeds config 0 history 2 (asked config 0 history (pos 3) course t.state t.call) es)
 
--- so it is with all bytes that are read as the get of the object that a text names
+-- the same with all bytes that are read as the get of the object that a text names
 get_is_committed : GetIsCommitted
 unfolding takes
 get_is_committed t bytes e read =

@@ -79,6 +79,6 @@ abbrev pub GetIsCommitted : Type 0
 GetIsCommitted = (t bytes : List ℕ) → uri_of t ≡ Ok (well 1) → arrived (pos 2) (Receives bytes (pos 3)) ≡ arrives.Fresh get_header (pos 3) (get t)
     → Succeeds config 0 history 2 course (Receives bytes (pos 3) ∷ Receives commit_bytes (pos 4) ∷ [])
 
--- so what the law on committed transactions asks for can be met
+-- hence what the law on committed transactions requires can be met
 abbrev pub SerialIsMet : Type 0
 SerialIsMet = Begins started transaction × GetIsCommitted

@@ -1,5 +1,5 @@
-//! Laws of a session's machine that no program calls: what a transaction asks before its commit, that what serial transactions are
-//! asked can be met, and which reply begins a subscription.
+//! Laws of a session's machine that no program calls: what a transaction asks before its commit, that what serial transactions require can
+//! be met, and which reply begins a subscription.
 #![tactic(auto)]
 
 mod laws;

@@ -1,4 +1,4 @@
--- A session is opened where neither its protocols nor its formats are none.
+-- A session is opened if it has a protocol and a format.
 use Rattle.std.specs.Prelude.{ℕ, ℤ, ◌≡◌, ◌≢◌, List, [], ◌∷◌, length, refl}
 use Rattle.server_config.specs.declared.config.Config.{Config}
 use Rattle.session_rows.specs.Opening.{opening_with, open_session}

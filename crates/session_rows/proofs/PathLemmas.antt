@@ -1,4 +1,4 @@
--- The paths of dataspaces go on by one text.
+-- The paths of dataspaces continue by one text.
 use Rattle.std.specs.Prelude.{ℕ, List, [], ◌∷◌, ◌++◌, ◌≡◌, refl}
 use Rattle.std.proofs.Common.{ap, sym, ◌∙◌, append_assoc}
 use Rattle.keyed_requests.specs.declared.keys.Decision.{Decision}
@@ -6,7 +6,7 @@ use Rattle.keyed_requests.specs.declared.keys.Decision.TheVariants.{Granted, Ref
 use Rattle.session_rows.specs.Spaces.{space_path}
 use Rattle.session_rows.specs.Transactions.{path_first, paths_after, space_paths}
 
--- paths behind these
+-- paths after these
 abbrev pub paths_behind : List (List ℕ) → Decision (List (List ℕ)) → Decision (List (List ℕ))
 paths_behind ps (Refused code) = Refused code
 paths_behind ps (Granted qs) = Granted (ps ++ qs)

@@ -62,12 +62,12 @@ put_granted custom (Refused code) = Refused code
 abbrev pub checked_put : Dataspace → Decision SpacePut
 checked_put d = put_granted d.custom_data (changeable_path d.uri)
 
--- what the store decided of a key: the empty text, or a refusal
+-- what the store decided about a key: the empty text, or a refusal
 abbrev pub decided : Verdict → Decision (List ℕ)
 decided verdict.Accepted = Granted []
 decided (verdict.Refused code) = Refused code
 
--- what the store decided of a key, beside the key
+-- what the store decided about a key, with the key
 abbrev pub decided_found : List ℕ × Verdict → Decision (List ℕ)
 decided_found found = decided found.1
 
@@ -104,12 +104,12 @@ abbrev pub delete_called : Outcome (List (List ℕ × List ℕ)) (List (List ℕ
 delete_called (Replies sendings) = Replies sendings
 delete_called (Calls items kept) = Calls (call.DropSpaces items) (pending.Delete kept)
 
--- a change of dataspaces isn't taken while a transaction is open
+-- a change of dataspaces isn't accepted while a transaction is open
 abbrev pub change_refusal : {A : Type 0} → Bool → List (List ℕ × A) → Option ErrorCode
 change_refusal true items = Some InvalidState
 change_refusal false items = keys_refusal items
 
--- what comes of a message, while a transaction is open or none is
+-- what comes of a message, by whether a transaction is open
 abbrev pub dataspace_outcome : DataspaceMessage → Bool → DataspaceOutcome
 dataspace_outcome (message.GetDataspaces m) in_transaction = Calls (call.Spaces m.store_last_write_filter) pending.Get
 dataspace_outcome (message.PutDataspaces m) in_transaction = unless_refused (change_refusal in_transaction m.dataspaces) (put_called (plain_outcome checked_put put_response m.dataspaces))
@@ -118,7 +118,7 @@ dataspace_outcome (message.GetDataspacesResponse m) in_transaction = Replies (re
 dataspace_outcome (message.PutDataspacesResponse m) in_transaction = Replies (refusal_alone InvalidMessageType)
 dataspace_outcome (message.DeleteDataspacesResponse m) in_transaction = Replies (refusal_alone InvalidMessageType)
 
--- ---- what comes of the store's answer to its call; an answer that is none to the call has no reply
+-- ---- what comes of the store's answer to its call; an answer that does not belong to the call has no reply
 
 -- the answer has verdicts
 abbrev pub verdicts_reply : DataspacePending → List (List ℕ × Verdict) → List (Sending DataspaceMessage)
@@ -132,7 +132,7 @@ records_reply pending.Get records = reply_alone (listed records)
 records_reply (pending.Put items) records = []
 records_reply (pending.Delete items) records = []
 
--- the reply to a request of which this is kept, at the store's answer
+-- the reply to a request of which this is kept, once the store has answered
 abbrev pub dataspace_reply : DataspacePending → Reply → List (Sending DataspaceMessage)
 dataspace_reply pending (answer.Spaces records) = records_reply pending records
 dataspace_reply pending (answer.Verdicts verdicts) = verdicts_reply pending verdicts

@@ -6,7 +6,7 @@ use Rattle.session_rows.specs.Once.{once}
 use Rattle.session_rows.specs.declared.formats.Format.{Format}
 use Rattle.session_rows.specs.declared.formats.Format.TheVariants.{Xml, Json}
 
--- the text by which a format goes on the wire
+-- a format's text on the wire
 abbrev pub format_text : Format → List ℕ
 format_text Xml = codes "xml"
 format_text Json = codes "json"
@@ -19,7 +19,7 @@ same_format a b = bytes_eq (format_text a) (format_text b)
 abbrev pub format_of : List ℕ → Option Format
 format_of text = if bytes_eq text (codes "xml") then Some Xml else (if bytes_eq text (codes "json") then Some Json else None)
 
--- the formats of a session, in the order in which they are asked for; no text at all stands for `xml`
+-- the formats of a session, in the order in which they are requested; no text at all means `xml`
 abbrev pub formats_of : List (List ℕ) → List Format
 formats_of [] = Xml ∷ []
 formats_of (t ∷ ts) = once same_format (filter_map format_of (t ∷ ts))

@@ -1,4 +1,4 @@
--- What is tested of the keys of a request for objects before the store is asked.
+-- What is tested about the keys of a request for objects before the store is asked.
 use Rattle.std.specs.Prelude.{ℕ, pos, ◌+◌, Bool, true, false, not, ◌||◌, List, [], ◌∷◌, ◌++◌, Option, Some, None, codes, length, nat_lt, if◌then◌else◌}
 use Rattle.std.specs.List.{list_any}
 use Rattle.std.specs.Str.{bytes_eq}
@@ -33,7 +33,7 @@ named_object stage text = in_space stage (object_uri text)
 
 -- ---- types
 
--- a filter takes an object by its type, or by its type's domain
+-- a filter accepts an object by its type, or by its type's domain
 abbrev pub takes_type : ObjectName → List ℕ → Bool
 takes_type n filter = bytes_eq filter (n.domain ++ (codes "." ++ n.name)) || bytes_eq filter (n.domain ++ codes ".*")
 
@@ -53,7 +53,7 @@ abbrev pub format_among : List Format → Option Format → Option Format
 format_among formats None = None
 format_among formats (Some f) = if list_any (same_format f) formats then Some f else None
 
--- the session's format of a text; the empty text stands for `xml`
+-- the session's format with this text; the empty text means `xml`
 abbrev pub session_format : List Format → List ℕ → Option Format
 session_format formats [] = format_among formats (Some Xml)
 session_format formats (c ∷ cs) = format_among formats (format_of (c ∷ cs))
@@ -67,7 +67,7 @@ extras_size r =
     + length (plain (text_form.as_value r.name))
     + length (plain ((named_form data_value_form).as_value r.custom_data))
 
--- what is stored of an object: when it was put is for the store
+-- what is stored of an object: the store sets when it was put
 abbrev pub object_record : Format → StoreUri → DataObject → ObjectRecord
 object_record f u o = record {
   uri = u;

@@ -55,7 +55,7 @@ ObjectOutcome = Outcome StoreCall ObjectPending StoreMessage
 abbrev pub ObjectsAnswered : Type 0
 ObjectsAnswered = Answered StoreMessage
 
--- a reply that leaves the transaction
+-- a reply that leaves the transaction unchanged
 abbrev pub says : Option Transaction → List (Sending StoreMessage) → ObjectsAnswered
 says stage sendings = record { stage = stage; sendings = sendings }
 
@@ -98,7 +98,7 @@ object_of r = record {
   payload = r.payload;
 }
 
--- an object that is there
+-- an object that exists
 abbrev pub object_there : Option ObjectRecord → Decision ObjectRecord
 object_there None = Refused NotFound
 object_there (Some r) = Granted r
@@ -168,7 +168,7 @@ abbrev pub put_outcome : List Format → Option (List (List ℕ)) → Option Tra
 put_outcome formats types None at objects = put_outside formats types None at objects
 put_outcome formats types (Some x) at objects = put_inside formats types (Some x) at objects
 
--- why a change of objects is refused as a whole: the transaction only reads, its keys don't pass the limits, or it is to prune
+-- why a change of objects is refused as a whole: the transaction only reads, its keys exceed the limits, or it asks for pruning
 abbrev pub prune_refusal : Bool → Option ErrorCode
 prune_refusal true = Some InvalidArgument
 prune_refusal false = None
@@ -176,12 +176,12 @@ prune_refusal false = None
 abbrev pub change_refusal : {A : Type 0} → Option Transaction → Bool → List (List ℕ × A) → Option ErrorCode
 change_refusal stage prune items = if is_read_only stage then Some RequestDenied else first_cause (keys_refusal items) (prune_refusal prune)
 
--- what the store decided of a put
+-- what the store decided about a put
 abbrev pub put_verdict : Verdict → Decision PutResponse
 put_verdict verdict.Accepted = Granted none_contained
 put_verdict (verdict.Refused code) = Refused code
 
--- the same beside its key
+-- the same with its key
 abbrev pub put_decided : List ℕ × Verdict → Decision PutResponse
 put_decided found = put_verdict found.1
 
@@ -223,7 +223,7 @@ abbrev pub delete_outcome : Option Transaction → ℤ → List (List ℕ × Lis
 delete_outcome None at uris = delete_outside None at uris
 delete_outcome (Some x) at uris = delete_inside (Some x) at uris
 
--- what the store decided of a removal
+-- what the store decided about a removal
 abbrev pub delete_decided : StoreUri → Verdict → Decision ArrayOfString
 delete_decided u verdict.Accepted = Granted (removed u)
 delete_decided u (verdict.Refused code) = Refused code
@@ -243,7 +243,7 @@ staged_delete at s key u found =
 
 -- ---- what comes of a message
 
--- a chunk stands for itself only where no joiner took it
+-- a chunk counts as itself only if no joiner took it
 abbrev pub object_outcome : List Format → Option (List (List ℕ)) → Option Transaction → ℤ → StoreMessage → ObjectOutcome
 object_outcome formats types stage at (message.GetDataObjects m) = unless_refused (keys_refusal m.uris) (get_outcome stage m.uris (session_format formats m.format))
 object_outcome formats types stage at (message.PutDataObjects m) = unless_refused (change_refusal stage m.prune_contained_objects m.data_objects) (put_outcome formats types stage at m.data_objects)
@@ -253,7 +253,7 @@ object_outcome formats types stage at (message.Chunk m) = Replies (refusal_alone
 object_outcome formats types stage at (message.PutDataObjectsResponse m) = Replies (refusal_alone InvalidMessageType)
 object_outcome formats types stage at (message.DeleteDataObjectsResponse m) = Replies (refusal_alone InvalidMessageType)
 
--- ---- what comes of the store's answer to its call; an answer that is none to the call has no reply
+-- ---- what comes of the store's answer to its call; an answer that does not belong to the call has no reply
 
 -- the answer has verdicts
 abbrev pub verdicts_reply : Option Transaction → ObjectPending → List (List ℕ × Verdict) → ObjectsAnswered
@@ -271,7 +271,7 @@ looks_reply stage (pending.StagedDelete at items) looks = scoped_reply (staged_d
 looks_reply stage (pending.Put items) looks = says stage []
 looks_reply stage (pending.Delete items) looks = says stage []
 
--- the reply to a request of which this is kept, at the store's answer, and what it leaves of the open transaction
+-- the reply to a request of which this is kept, once the store has answered, and what it leaves of the open transaction
 abbrev pub object_reply : Option Transaction → ObjectPending → Reply → ObjectsAnswered
 object_reply stage kept (answer.Verdicts verdicts) = verdicts_reply stage kept verdicts
 object_reply stage kept (answer.Looked looks) = looks_reply stage kept looks

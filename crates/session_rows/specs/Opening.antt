@@ -24,7 +24,7 @@ use Rattle.session_rows.specs.declared.opening.Opening.TheVariants.{Refused, Ope
 
 -- ---- protocols
 
--- the protocols that a session can have beside Core: Store, DataArray, Transaction, the two of channels, and Dataspace
+-- the protocols that a session can have besides Core: Store, DataArray, Transaction, the two of channels, and Dataspace
 abbrev pub offered : List ℤ
 offered = pos 4 ∷ pos 9 ∷ pos 18 ∷ pos 21 ∷ pos 22 ∷ pos 24 ∷ []
 
@@ -36,17 +36,17 @@ is_version_1_2 v = int_eq v.major (pos 1) && int_eq v.minor (pos 2)
 abbrev pub is_acceptable : SupportedProtocol → Bool
 is_acceptable p = list_any (int_eq p.protocol) offered && is_version_1_2 p.protocol_version && bytes_eq p.role (codes "store")
 
--- the accepted protocols, in the order in which they are asked for
+-- the accepted protocols, in the order in which they are requested
 abbrev pub accepted_protocols : List SupportedProtocol → List ℤ
 accepted_protocols asked = once int_eq (map (λ p. p.protocol) (filter is_acceptable asked))
 
 -- ---- the parts of what is sent
 
--- a client can ask for parts of at least 65,536 bytes, and for none of more than 16,777,216
+-- a client can ask for parts of at least 65,536 bytes, and of no more than 16,777,216
 abbrev pub limited : ℤ → ℕ
 limited asked = max 65536 (min (natural asked) 16777216)
 
--- a capability that is no long counts for nothing
+-- a capability that is not a long is ignored
 abbrev pub limit_in : DataValue → ℕ
 limit_in (Long asked) = limited asked
 limit_in _ = 16777216
@@ -55,7 +55,7 @@ abbrev pub limit_of : Option DataValue → ℕ
 limit_of None = 16777216
 limit_of (Some value) = limit_in value
 
--- how many bytes the parts of a session have at most, by its client's capabilities
+-- the maximum size of a session's parts in bytes, by its client's capabilities
 abbrev pub part_limit : List (List ℕ × DataValue) → ℕ
 part_limit asked = limit_of (lookup (bytes_eq (codes "MaxWebSocketMessagePayloadSize")) asked)
 
@@ -70,7 +70,7 @@ supported protocol = record {
   protocol_capabilities = [];
 }
 
--- the configured types of objects, where there are such
+-- the configured types of objects, if there are any
 abbrev pub data_objects : Option (List (List ℕ)) → List SupportedDataObject
 data_objects None = []
 data_objects (Some types) = map (λ t. record { qualified_type = t; data_object_capabilities = [] }) types
@@ -79,7 +79,7 @@ data_objects (Some types) = map (λ t. record { qualified_type = t; data_object_
 abbrev pub session_id : List ℕ → ℕ → List ℕ
 session_id instance number = version5 instance (codes "session:" ++ decimal number)
 
--- the greatest number of bytes of a message, which is all that the server states of itself
+-- the maximum size of a message in bytes, which is all that the server states about itself
 abbrev pub capabilities : List (List ℕ × DataValue)
 capabilities = (codes "MaxWebSocketMessagePayloadSize", Long (pos 16777216)) ∷ []
 

@@ -38,7 +38,7 @@ refuses stage starts code = leaves stage starts (Replies (refusal_alone code))
 
 -- ---- StartTransaction
 
--- the identifier of the transaction that the session of a number starts as so many-th
+-- the identifier of the transaction that the session of a number starts as its n-th
 abbrev pub transaction_id : List ℕ → ℕ → ℕ → List ℕ
 transaction_id instance number nth = version5 instance (codes "tx:" ++ decimal number ++ codes ":" ++ decimal nth)
 
@@ -56,7 +56,7 @@ abbrev pub space_paths : List (List ℕ) → Decision (List (List ℕ))
 space_paths [] = Granted []
 space_paths (text ∷ texts) = paths_after (space_paths texts) (space_path text)
 
--- one start more; the count stands still at the greatest number of 64 bits
+-- one more start; the count stops at the greatest 64-bit number
 abbrev pub one_more : ℕ → ℕ
 one_more starts = min (starts + 1) (2 ^ 64 - 1)
 
@@ -67,7 +67,7 @@ begun id read_only spaces = record { id = id; read_only = read_only; spaces = sp
 abbrev pub start_response : List ℕ → TransactionMessage
 start_response id = message.StartTransactionResponse (record { transaction_uuid = id; successful = true; failure_reason = [] })
 
--- a transaction for these dataspaces is open, where each text named one
+-- a transaction for these dataspaces is open, if each text named one
 abbrev pub start_with : List ℕ → ℕ → ℕ → Bool → Decision (List (List ℕ)) → Transacting
 start_with instance number starts read_only (Refused code) = refuses None starts code
 start_with instance number starts read_only (Granted spaces) =
@@ -81,7 +81,7 @@ start instance number None starts m = if nat_lt 1024 (length m.dataspace_uris) t
 
 -- ---- CommitTransaction and RollbackTransaction
 
--- the open transaction is over, by its identifier, and this comes of that
+-- the open transaction, named by its identifier, is over, and this comes of that
 abbrev pub ends : Option Transaction → ℕ → List ℕ → (Transaction → TransactionOutcome) → Transacting
 ends None starts id outcome = refuses None starts InvalidState
 ends (Some x) starts id outcome = if bytes_eq x.id id then leaves None starts (outcome x) else refuses (Some x) starts InvalidArgument
@@ -97,13 +97,13 @@ commit id x = Calls (call.Commit (to_commit x)) (pending.Commit id)
 abbrev pub rollback_response : List ℕ → TransactionMessage
 rollback_response id = message.RollbackTransactionResponse (record { transaction_uuid = id; successful = true; failure_reason = [] })
 
--- it is let go, and the store is asked nothing
+-- it is discarded, and the store is asked nothing
 abbrev pub rollback : List ℕ → Transaction → TransactionOutcome
 rollback id x = Replies (reply_alone (rollback_response id))
 
 -- ---- what comes of a message
 
--- of the session of a number, of the server `instance`, that has started so many transactions
+-- of the session of a number, of the server `instance`, that has started this many transactions
 abbrev pub transaction_request : List ℕ → ℕ → Option Transaction → ℕ → TransactionMessage → Transacting
 transaction_request instance number stage starts (message.StartTransaction m) = start instance number stage starts m
 transaction_request instance number stage starts (message.CommitTransaction m) = ends stage starts m.transaction_uuid (commit m.transaction_uuid)
@@ -112,7 +112,7 @@ transaction_request instance number stage starts (message.StartTransactionRespon
 transaction_request instance number stage starts (message.CommitTransactionResponse m) = refuses stage starts InvalidMessageType
 transaction_request instance number stage starts (message.RollbackTransactionResponse m) = refuses stage starts InvalidMessageType
 
--- ---- what comes of the store's answer to its call; an answer that is none to the call has no reply
+-- ---- what comes of the store's answer to its call; an answer that does not belong to the call has no reply
 
 abbrev pub commit_response : List ℕ → Bool → List ℕ → TransactionMessage
 commit_response id successful reason = message.CommitTransactionResponse (record { transaction_uuid = id; successful = successful; failure_reason = reason })

@@ -19,7 +19,7 @@ use object_store::SpaceRecord;
 use std::alloc::Global;
 use store_machine::{Reply, SpacePut, StoreCall, Verdict};
 
-/// The greatest number of bytes that a dataspace's custom data has on the wire.
+/// The maximum size of a dataspace's custom data on the wire, in bytes.
 pub const MAX_CUSTOM_SIZE: u64 = 16_384;
 
 /// What a request of the Dataspace protocol keeps while the store is asked.
@@ -27,16 +27,16 @@ pub const MAX_CUSTOM_SIZE: u64 = 16_384;
 pub enum DataspacePending {
     /// GetDataspaces.
     Get,
-    /// PutDataspaces, with what was decided of its keys.
+    /// PutDataspaces, with what was decided about its keys.
     Put(Named<Decision<()>>),
-    /// DeleteDataspaces, with what was decided of its keys.
+    /// DeleteDataspaces, with what was decided about its keys.
     Delete(Named<Decision<()>>),
 }
 
 /// What comes of a request of the Dataspace protocol.
 pub type DataspaceOutcome = Outcome<StoreCall, DataspacePending, DataspaceMessage>;
 
-/// The path of a dataspace that can be changed, which the default one can't.
+/// The path of a dataspace that can be changed; the default one can't.
 fn changeable_path(alloc: Global, uri: &str) -> Result<Decision<Text>, NoMemory>
     ensures { IfOk result (λ d. d ≡ changeable_path uri.now) }
 {
@@ -62,7 +62,7 @@ fn is_custom_large(alloc: Global, custom: &Named<DataValue>) -> Result<bool, NoM
     Ok(size > MAX_CUSTOM_SIZE)
 }
 
-/// What the store decided of a key.
+/// What the store decided about a key.
 fn decided(alloc: Global, verdict: &Verdict) -> Decision<Text>
     ensures { result ≡ decided verdict.now }
 {
@@ -218,7 +218,7 @@ fn delete_outcome(alloc: Global, items: Named<Text>) -> Result<DataspaceOutcome,
     Ok(delete_called(outcome))
 }
 
-/// Why a change of dataspaces is refused as a whole: a transaction is open, or its keys don't pass the limits.
+/// Why a change of dataspaces is refused as a whole: a transaction is open, or its keys exceed the limits.
 fn change_refusal<T>(in_transaction: bool, items: &Named<T>) -> Option<ErrorCode>
     ensures { result ≡ change_refusal in_transaction items.now }
 {
@@ -228,7 +228,7 @@ fn change_refusal<T>(in_transaction: bool, items: &Named<T>) -> Option<ErrorCode
     keys_refusal(items)
 }
 
-/// What comes of a message of the Dataspace protocol, while a transaction is open or none is.
+/// What comes of a message of the Dataspace protocol, by whether a transaction is open.
 pub fn dataspace_outcome(
     alloc: Global,
     message: DataspaceMessage,
@@ -351,7 +351,7 @@ fn verdicts_reply(
     }
 }
 
-/// Nothing is said of an answer that is none to the call.
+/// An answer that does not belong to the call has no reply.
 fn no_reply(alloc: Global, reply: Reply) -> List<Sending<DataspaceMessage>>
     ensures { result ≡ [] }
 {
@@ -359,7 +359,7 @@ fn no_reply(alloc: Global, reply: Reply) -> List<Sending<DataspaceMessage>>
     List::new(alloc)
 }
 
-/// The reply at the store's answer to the call of a request of the Dataspace protocol.
+/// The reply to a request of the Dataspace protocol, once the store has answered its call.
 pub fn dataspace_reply(
     alloc: Global,
     pending: DataspacePending,

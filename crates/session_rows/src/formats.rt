@@ -51,7 +51,7 @@ fn has_format(formats: &[Format], format: Format) -> bool
     false
 }
 
-/// The format, where it is one of these.
+/// The format, if it is one of these.
 pub(crate) fn among(formats: &[Format], format: Format) -> Option<Format>
     ensures { result ≡ format_among formats.now (Some format) }
 {
@@ -71,7 +71,7 @@ fn put_format(formats: &mut Vec<Format>, format: Format) -> Result<(), NoMemory>
     Ok(())
 }
 
-/// The formats that a session has of those that were asked for.
+/// The formats of a session, out of those that were asked for.
 pub(crate) fn formats_of(alloc: Global, texts: &[Text]) -> Result<List<Format>, NoMemory>
     ensures { IfOk result (λ l. l ≡ formats_of texts.now) }
 {

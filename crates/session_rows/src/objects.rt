@@ -31,7 +31,7 @@ pub enum ObjectPending {
         format: Format,
         items: Named<Decision<StoreUri>>,
     },
-    /// PutDataObjects outside a transaction, with what was decided of its keys.
+    /// PutDataObjects outside a transaction, with what was decided about its keys.
     Put {
         items: Named<Decision<()>>,
     },
@@ -63,8 +63,8 @@ fn prune_refusal(prune: bool) -> Option<ErrorCode>
     None
 }
 
-/// Why a change of objects is refused as a whole: the transaction only reads, its keys don't pass the limits, or it is to prune
-/// contained objects.
+/// Why a change of objects is refused as a whole: the transaction only reads, its keys exceed the limits, or it asks for contained objects
+/// to be pruned.
 fn change_refusal<T>(stage: &Option<Stage>, prune: bool, items: &Named<T>) -> Option<ErrorCode>
     ensures { result ≡ change_refusal stage.now prune items.now }
 {
@@ -126,7 +126,7 @@ pub fn object_outcome(
     }
 }
 
-/// A reply that leaves the transaction.
+/// A reply that leaves the transaction unchanged.
 fn says(stage: Option<Stage>, sendings: List<Sending<StoreMessage>>) -> Answered<StoreMessage>
     ensures { result ≡ says stage sendings }
 {
@@ -178,8 +178,8 @@ fn looks_reply(
     }
 }
 
-/// The reply at the store's answer to the call of a request of the Store protocol, and what it leaves of the open transaction. An
-/// answer that is none to the call has no reply.
+/// The reply to a request of the Store protocol, once the store has answered its call, and what it leaves of the open transaction. An
+/// answer that does not belong to the call has no reply.
 pub fn object_reply(
     alloc: Global,
     stage: Option<Stage>,
@@ -199,7 +199,7 @@ pub fn object_reply(
     }
 }
 
-/// Nothing is said of an answer that is none to the call.
+/// An answer that does not belong to the call has no reply.
 fn no_reply(alloc: Global, stage: Option<Stage>, reply: Reply) -> Answered<StoreMessage>
     ensures { result ≡ says stage [] }
 {

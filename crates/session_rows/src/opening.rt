@@ -13,13 +13,13 @@ use msg_core::{OpenSession, RequestSession, SupportedDataObject, SupportedProtoc
 use server_config::Config;
 use std::alloc::Global;
 
-/// The greatest number of bytes of a message, as the server states it.
+/// The maximum message size that the server states, in bytes.
 pub const PART_LIMIT: i64 = 16_777_216;
 
-/// The least number of bytes of a message that a client can ask for.
+/// The smallest maximum message size that a client can ask for, in bytes.
 const MIN_PART_LIMIT: u64 = 65_536;
 
-/// The capability by which a client or the server states the greatest number of bytes of a message.
+/// The capability with which a client or the server states the maximum size of a message in bytes.
 const LIMIT_NAME: &str = "MaxWebSocketMessagePayloadSize";
 
 /// What comes of a RequestSession.
@@ -36,7 +36,7 @@ pub enum Opening {
     },
 }
 
-/// Whether a protocol can be accepted as it is asked for.
+/// Whether a protocol can be accepted as it is requested.
 fn is_acceptable(asked: &SupportedProtocol) -> bool
     ensures { result ≡ is_acceptable asked.now }
 {
@@ -148,7 +148,7 @@ fn objects_of(alloc: Global, types: &[Text]) -> Result<List<SupportedDataObject>
     Ok(List::from_vec(all))
 }
 
-/// The identifier of the session of a number.
+/// The identifier of the session with a number.
 fn session_id(alloc: Global, instance: Id16, number: u64) -> Result<Id16, NoMemory>
     ensures { IfOk result (λ id. id ≡ session_id instance number) }
 {
@@ -166,21 +166,21 @@ fn capabilities(alloc: Global) -> Result<Named<DataValue>, NoMemory>
     Ok(Named::from_sorted(items))
 }
 
-/// The number that an integer is, 0 below it.
+/// The number that an integer is, 0 if it is negative.
 fn natural(number: i64) -> u64
     ensures { result ≡ natural number }
 {
     if number < 0 { 0 } else { number as u64 }
 }
 
-/// A number that a client states as the greatest of bytes, within those that it can ask for.
+/// A maximum size that a client states, clamped to what it can ask for.
 fn limited(asked: i64) -> u64
     ensures { result ≡ limited asked }
 {
     natural(asked).min(PART_LIMIT as u64).max(MIN_PART_LIMIT)
 }
 
-/// How many bytes the parts of a session have at most, by its client's capabilities.
+/// The maximum size of a session's parts in bytes, by its client's capabilities.
 fn part_limit(capabilities: &Named<DataValue>) -> u64
     ensures { result ≡ part_limit capabilities.now }
 {
@@ -224,7 +224,7 @@ fn open_session(
     })
 }
 
-/// What comes of a RequestSession to a session that waits for it, the session of this number.
+/// What comes of a RequestSession to a waiting session, the session of this number.
 pub fn opening_of(
     alloc: Global,
     config: &Config,

@@ -16,7 +16,7 @@ use std::alloc::Global;
 use store_machine::{Reply, StoreCall};
 use tx_stage::Stage;
 
-/// How many dataspaces a StartTransaction names at most.
+/// The greatest number of dataspaces in a StartTransaction.
 pub const MAX_SPACES: usize = 1_024;
 
 /// What a request of the Transaction protocol keeps while the store is asked.
@@ -29,8 +29,8 @@ pub enum TransactionPending {
 /// What comes of a request of the Transaction protocol.
 pub type TransactionOutcome = Outcome<StoreCall, TransactionPending, TransactionMessage>;
 
-/// What comes of a request of the Transaction protocol, the transaction that is open in the session then, and how many
-/// transactions the session has started.
+/// What comes of a request of the Transaction protocol, the transaction that is then open in the session, and how many transactions the
+/// session has started.
 #[derive(Drop)]
 pub struct Transacting {
     pub stage: Option<Stage>,
@@ -88,7 +88,7 @@ fn start_response(alloc: Global, transaction_uuid: Id16) -> TransactionMessage
     })
 }
 
-/// A transaction for these dataspaces is open, where each text named one.
+/// A transaction for these dataspaces is open, if each text named one.
 fn start_with(
     alloc: Global,
     instance: Id16,
@@ -114,7 +114,7 @@ fn start_with(
     }
 }
 
-/// Starts a transaction where none is open.
+/// Starts a transaction if none is open.
 fn start(
     alloc: Global,
     instance: Id16,
@@ -136,14 +136,14 @@ fn start(
     start_with(alloc, instance, number, starts, request.read_only, spaces)
 }
 
-/// Whether this is what a transaction is called.
+/// Whether this is the transaction's identifier.
 fn is_called(stage: &Stage, id: Id16) -> bool
     ensures { result ≡ bytes_eq stage.now.id id }
 {
     stage.id() == id
 }
 
-/// The open transaction is over, by its identifier, and the store is asked to commit it.
+/// The open transaction, named by its identifier, is over, and the store is asked to commit it.
 fn commit(
     alloc: Global,
     stage: Option<Stage>,
@@ -180,7 +180,7 @@ fn rollback_response(alloc: Global, transaction_uuid: Id16) -> TransactionMessag
     })
 }
 
-/// The open transaction is over, by its identifier, and let go.
+/// The open transaction, named by its identifier, is over, and is discarded.
 fn rollback(
     alloc: Global,
     stage: Option<Stage>,
@@ -203,8 +203,8 @@ fn rollback(
     })
 }
 
-/// What comes of a message of the Transaction protocol in the session of this number, of the server `instance`, in which this
-/// transaction is open, if one is, and so many were started.
+/// What comes of a message of the Transaction protocol in the session of this number, of the server `instance`, in which this transaction
+/// is open, if one is, and which has started `starts` transactions.
 ///
 /// A commit is over when the store is asked, whatever it answers.
 pub fn transaction_request(
@@ -254,7 +254,7 @@ fn commit_reply(
     )
 }
 
-/// Why a transaction is not committed of which a key was changed at this place.
+/// Why a transaction is not committed: one of its keys was changed at this place.
 fn conflict_reason(alloc: Global, place: u64) -> Result<Text, NoMemory>
     ensures { IfOk result (λ text. text ≡ codes "conflict " ++ decimal place) }
 {
@@ -262,8 +262,8 @@ fn conflict_reason(alloc: Global, place: u64) -> Result<Text, NoMemory>
     Ok(Text::from_string(reason))
 }
 
-/// The reply at the store's answer to the call of a request of the Transaction protocol. An answer that is none to the call has no
-/// reply.
+/// The reply to a request of the Transaction protocol, once the store has answered its call. An answer that does not belong to the call has
+/// no reply.
 pub fn transaction_reply(
     alloc: Global,
     pending: TransactionPending,
@@ -286,7 +286,7 @@ pub fn transaction_reply(
     }
 }
 
-/// Nothing is said of an answer that is none to the call.
+/// An answer that does not belong to the call has no reply.
 fn no_reply(alloc: Global, reply: Reply) -> List<Sending<TransactionMessage>>
     ensures { result ≡ [] }
 {

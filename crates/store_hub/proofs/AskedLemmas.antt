@@ -134,7 +134,7 @@ counts_fit n nth at_most len log is found more = let few = own_few n 0 log in om
 
 -- ---- the whole call
 
--- who has the turn is no matter once it is given
+-- who has the turn does not matter once it is given
 noted_held : (log es : List Entry) (v : Known) (h : Option (List Entry)) (k : ℕ) → noted log es (record v { held = h; missed = k }) ≡ noted log es (record v { missed = k })
 noted_held log [] v h k = refl
 noted_held log (e ∷ es) v h k = refl

@@ -61,7 +61,7 @@ begun_below n seen (first ∷ more) is h =
 pub number_below : (n : ℕ) (seen : List Entry) → begins_at n (own by_of n seen) ≡ true → n < length seen
 number_below n seen h = begun_below n seen (own by_of n seen) refl h
 
--- the session's next entry is as many behind its first as the book counts
+-- the session's next entry is as many after its first as the book counts
 pub is_next : (n nth : ℕ) (log : List Entry) → IsSettled by_of enters_of log n log → length (own by_of n log) ≡ nth → IsNext log n nth
 is_next n nth log t is = record {
   session = let P : Option Entry → Type 0 = λ o. IsSomeAnd o (λ (e : Entry). e.act ≡ Enter) in subst P (sym t.place) (enter-is t.entry.act t.entering);

@@ -57,7 +57,7 @@ longer_of : {X : Type 0} (xs ys : List X) → IsPrefix xs ys → (b : Bool) → 
 longer_of xs ys p true is = whole_of xs p.0 ys p.1 (grind (arith, nat_tests))
 longer_of xs ys p false is = refl
 
--- the longer of a beginning and the whole
+-- the longer of a prefix and the whole
 longer_whole : {X : Type 0} (xs ys : List X) → IsPrefix xs ys → longer xs ys ≡ ys
 longer_whole xs ys p = longer_of xs ys p (leb (length ys) (length xs)) refl
 

@@ -14,7 +14,7 @@ use Rattle.store_hub.specs.Notes.{noted, entering, Meets}
 use Rattle.store_hub.specs.Turns.{StaysKept}
 use Rattle.store_hub.proofs.CountLemmas.{number_below}
 
--- a place behind the number is not the number, and a second place is not alone
+-- a place after the number is not the number, and a second place is not alone
 alone_further : (n entries place : ℕ) (places : List ℕ) → n < place → is_alone n entries (places ++ place ∷ []) ≡ true
 alone_further n entries place [] low = let ne : place ≢ n = omega arith in ap (λ (b : Bool). if b then entries == 1 else true) (ne_eqb place n ne)
 alone_further n entries place (p ∷ []) low = refl
@@ -61,7 +61,7 @@ keeps_entered n at log u new places is own_none =
       ap (λ (ps : List ℕ). is_alone n 1 (ps ++ length log ∷ [])) places ∙ either (length log == n),
     )
 
--- what a look tells of a join before it
+-- what a look shows of a join before it
 met : (v w u : Known) (front : ℕ) → Hears by_of enters_of (joined v w) front u → Meets v w u
 met v w u front h =
     let t : Sound by_of enters_of (hearing front (joined v w)) = subst (λ (x : Known). Sound by_of enters_of x) h.view h.sound in record {

@@ -1,4 +1,4 @@
--- An answer read off what the pass sees afterwards, and what a fresh pass has; for the crates above too.
+-- An answer by what the pass sees afterwards, and what a fresh pass has; for the crates above too.
 use Rattle.std.proofs.Common.{◌≡◌, ◌==◌, ◌≤◌, ℕ, ℤ, Bool, true, List, [], ◌∷◌, ◌++◌, length, map, take, refl, ap, sym, ◌∙◌, subst, eq-eqb, arith}
 use Rattle.std.specs.Prelude.{if◌then◌else◌}
 use Rattle.std.proofs.lemmas.Bool.{false≢true, eqb-true, and_parts}

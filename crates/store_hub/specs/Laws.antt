@@ -21,7 +21,7 @@ pub record Reads (config : Config) (n nth : ℕ) (at : ℤ) (call : StoreCall) (
   pub seen : w.seen ≡ take a.mark w.seen ++ added config (take a.mark w.seen) n nth at call
   pub marks : w.marks ≡ (v.marks ++ a.mark ∷ []) ++ map (λ e. a.mark) (added config (take a.mark w.seen) n nth at call)
 
--- each answer that a call left in its pass is so
+-- each answer that a call left in its pass is read this way
 abbrev pub AnswersRead : Type 0
 AnswersRead = (config : Config) (n nth : ℕ) (at : ℤ) (call : StoreCall) (v : Known) (a : Answer) (w : Known)
     → Answers config n nth at call v a w → Reads config n nth at call v a w

@@ -14,7 +14,7 @@ use Rattle.store_hub.specs.declared.tried.Tried.{Tried}
 use Rattle.store_hub.specs.declared.tried.Tried.TheVariants.{Done, Busy}
 use Rattle.store_hub.specs.Words.{Known, by_of, enters_of}
 
--- the turn was had once: a look at the journal, and then the entry, if there is one
+-- the turn was taken once: a look at the journal, and then the entry, if there is one
 abbrev pub noted : List Entry → List Entry → Known → Known
 noted log [] v = released (marked log (length log) v)
 noted log (e ∷ es) v = wrote e (marked log (length log) v)
@@ -32,7 +32,7 @@ pub record Answers (config : Config) (n nth : ℕ) (at : ℤ) (call : StoreCall)
   pub answer : a ≡ answered config log call
   pub view : w ≡ noted log (added config log n nth at call) (record v { missed = missed })
 
--- there was no memory: the turn was had once, and nothing added
+-- memory ran out: the turn was taken once, and nothing added
 pub record Refuses (n : ℕ) (v w : Known) : Type 0 where
   pub log : List Entry
   pub missed : ℕ
@@ -53,8 +53,8 @@ Tries config n nth at call v (Busy c) w = (c ≡ call) × (w ≡ missing v)
 abbrev pub entering : ℕ → ℤ → Entry
 entering n at = record { by = n; nth = 0; at = at; act = Enter }
 
--- a session was let in by an entry behind all that was seen, at a journal that had room and in which nothing stands under
--- its number; its pass has seen as much
+-- a session was let in by an entry after all that was seen, at a journal that had room and in which there is nothing under its number; its
+-- pass has seen as much
 pub record Enters (config : Config) (at : ℤ) (v : Known) (n : ℕ) (w : Known) : Type 0 where
   pub log : List Entry
   pub missed : ℕ

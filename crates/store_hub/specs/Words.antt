@@ -1,4 +1,4 @@
--- What the turn's book is told of a store.
+-- What the turn's book learns of a store.
 use Rattle.std.specs.Prelude.{ℕ, Bool}
 use Rattle.server_config.specs.declared.config.Config.{Config}
 use Rattle.store_machine.specs.declared.journal.Entry.{Entry}

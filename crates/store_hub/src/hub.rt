@@ -26,8 +26,8 @@ impl Hub {
     ghost use Rattle.store_hub.specs.Notes.{Answers, Refuses, Tries, Enters, Widens, TurnsAway, Meets};
     ghost use Rattle.store_hub.specs.Passes.{known, config_of, IsPassOf, IsFresh};
 
-    /// A hub over a store, with the pass of the session 0, the door, which has seen the whole journal. Where memory is
-    /// refused, the store is dropped.
+    /// A hub over a store, with the pass of the session 0, the door, which has seen the whole journal. If allocation fails, the store is
+    /// dropped.
     pub fn new(alloc: Global, store: Store) -> Result<(Hub, Pass), NoMemory>
         ensures own { IfOk result (λ t. IsPassOf t.0 t.1) }
         ensures number { IfOk result (λ t. t.1.number ≡ 0) }
@@ -45,8 +45,8 @@ impl Hub {
         ))
     }
 
-    /// Lets a session in at a moment, and waits until the store is free. The new pass has seen what `pass` had, and then
-    /// the journal of that moment with its own entry. On a refusal `pass` has seen that journal.
+    /// Lets a session in at a moment, waiting until the store is free. The new pass has seen what `pass` had, and then the journal of that
+    /// moment with its own entry. On a refusal `pass` has seen that journal.
     pub fn enter<R: Wait>(
         &self,
         rt: &R,
@@ -73,7 +73,7 @@ impl Hub {
         }
     }
 
-    /// Asks the store at a moment, and waits until it is free.
+    /// Asks the store at a moment, waiting until it is free.
     pub fn ask<R: Wait>(
         &self,
         rt: &R,
@@ -101,8 +101,7 @@ impl Hub {
         )
     }
 
-    /// Asks the store at a moment, if it is free, and never waits. `Busy` exactly where its one attempt at the turn found
-    /// it taken.
+    /// Asks the store at a moment, if it is free, and never waits. `Busy` exactly if its one attempt at the turn found it taken.
     pub fn try_ask(
         &self,
         alloc: Global,
@@ -128,8 +127,8 @@ impl Hub {
         )
     }
 
-    /// How many entries the journal has, as one load finds it, without memory and without waiting. It may have more by the
-    /// time that the number is read.
+    /// How many entries the journal has, as one load finds it. It neither allocates nor waits. There may be more by the time that the
+    /// number is read.
     pub fn front(&self, pass: &mut Pass) -> u64
         requires own { IsPassOf self.now pass.old }
         ensures own { IsPassOf self.now pass.new × (pass.new.number ≡ pass.old.number) }
@@ -150,7 +149,7 @@ impl Hub {
         turns::meet(&self.book, &mut into.seat, seat);
     }
 
-    /// The store, once its turn was taken a last time. It waits for that.
+    /// The store, after its turn was taken a last time. It waits for that.
     pub fn close<R: Wait>(self, rt: &R, pass: Pass) -> Store
         requires own { IsPassOf self pass }
         ensures config { result.config ≡ config_of self }

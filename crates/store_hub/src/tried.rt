@@ -6,6 +6,6 @@ use store_machine::{Answer, StoreCall};
 pub enum Tried {
     /// The store was free, and answered.
     Done(Answer),
-    /// Another session had the store at that moment. The call is as it was given.
+    /// Another session had the store at that moment. The call is returned unchanged.
     Busy(StoreCall),
 }

@@ -51,7 +51,7 @@ fn door_entries(store: &Store) -> u64
     count
 }
 
-/// One where the entry is the door's, and else none.
+/// One if the entry is the door's, otherwise none.
 fn door_count(entry: &Entry) -> u64
     ensures is { result ≡ length (own by_of 0 (entry.now ∷ [])) }
     ensures small { result ≤ 1 }
@@ -59,7 +59,7 @@ fn door_count(entry: &Entry) -> u64
     if entry.by == 0 { 1 } else { 0 }
 }
 
-/// Asks at the journal of the moment at which the turn comes.
+/// Asks at the journal of the moment at which it gets the turn.
 pub(crate) fn ask<R: Wait>(
     rt: &R,
     alloc: Global,
@@ -162,7 +162,7 @@ fn ask_as(
     store.get_mut().ask(alloc, number, nth, at, call)
 }
 
-/// Lets a session in at the journal of the moment at which the turn comes, and answers its seat and number.
+/// Lets a session in at the journal of the moment at which it gets the turn, and returns its seat and number.
 pub(crate) fn enter<R: Wait>(
     rt: &R,
     alloc: Global,
@@ -219,7 +219,7 @@ fn let_in(
     entered
 }
 
-/// Lets a session in, and answers its number.
+/// Lets a session in, and returns its number.
 fn enter_store(store: &mut Boxed<Store>, alloc: Global, at: i64) -> Result<u64, EnterError>
     ensures config { store.new.config ≡ store.old.config }
     ensures ok { IfOk result (LetsIn store.old.config store.old.journal) }
@@ -252,7 +252,7 @@ pub(crate) fn front(book: &TurnBook<StoreBook>, seat: &mut Seat<StoreBook>) -> u
     book.look(seat)
 }
 
-/// Joins a seat, and then looks without the turn, which tells what the join made true.
+/// Joins a seat, and then looks without the turn, which shows what the join made true.
 pub(crate) fn meet(book: &TurnBook<StoreBook>, seat: &mut Seat<StoreBook>, ended: Seat<StoreBook>)
     requires own { IsSeatOf (λ b. b.store.config) book.now seat.old }
     requires ended { IsSeatOf (λ b. b.store.config) book.now ended }

@@ -52,12 +52,12 @@ tail-points : (o : Option Channel) (id start : ℤ) (points : List Point) → ta
 tail-points None id start points h = absurd (cc)
 tail-points (Some c) id start points h = cc
 
--- its points have no room
+-- there is no room for its points
 pub start_full : (o : Option Channel) (id start : ℤ) (size : PointSize) (room : Room) → Ok size ≡ sized (tail_in o id start) → ((points : List Point) → size ≡ size_of points → None ≡ room_with room points)
     → Refused LimitExceeded ≡ from_index start (past start (points_in o)) (room_with room (past start (points_in o)))
 start_full o id start size room is full = ap (from_index start (past start (points_in o))) (full (past start (points_in o)) (tail-size o id start size is))
 
--- they have
+-- there is
 pub start_fits : (o : Option Channel) (id start : ℤ) (size : PointSize) (room left : Room) (points : List Point) → Ok size ≡ sized (tail_in o id start)
     → ((xs : List Point) → size ≡ size_of xs → Some left ≡ room_with room xs) → tail_in o id start ≡ Ok points
     → From start points ≡ from_index start (past start (points_in o)) (room_with room (past start (points_in o)))
@@ -70,12 +70,12 @@ room_left o id start size room left points is fits given =
     ap (λ r. unwrap_or r room) (fits (past start (points_in o)) (tail-size o id start size is))
     ∙ ap (λ xs. unwrap_or (room_with room xs) room) (sym (tail-points o id start points given))
 
--- a channel that is not there
+-- a channel that does not exist
 pub begun_nowhere : (o : Option Channel) (room : Room) (s : Start) → is_some o ≡ false → Refused NotFound ≡ begun o room s
 begun_nowhere None room s h = refl
 begun_nowhere (Some c) room s h = absurd (cc)
 
--- a start that there can't be
+-- a start that is not possible
 pub begun_wrong : (o : Option Channel) (room : Room) (s : Start) → is_some o ≡ true → is_start s ≡ false → Refused InvalidArgument ≡ begun o room s
 begun_wrong None room s h wrong = absurd (cc)
 begun_wrong (Some c) room s h wrong = ap (λ b. if b then from_index (start_of c.points s) (past (start_of c.points s) c.points) (room_with room (past (start_of c.points s) c.points)) else Refused InvalidArgument) (sym wrong)

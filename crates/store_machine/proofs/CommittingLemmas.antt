@@ -1,4 +1,4 @@
--- What a call answers and adds that commits a transaction, and the plan of its operations.
+-- The answer and the entry of a call that commits a transaction, and the plan of its operations.
 use Rattle.std.specs.Prelude.{ℕ, ℤ, Bool, true, false, cond, ◌≡◌, ◌==◌, List, [], ◌∷◌, ◌++◌, Option, Some, None, filter, fold, map, refl, if◌then◌else◌, length}
 use Rattle.std.proofs.Common.{ap, sym, ◌∙◌, arith}
 use Rattle.std.proofs.lemmas.Bool.{false≢true}

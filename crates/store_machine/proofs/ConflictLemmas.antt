@@ -107,7 +107,7 @@ any-of t ts history place which rest =
     let here : 0 < length (t ∷ ts) = omega arith in
     ⊎_elim (λ e. (0, t, here, refl, e)) (λ e. one_on t ts history place (rest e)) which
 
--- where the least of some is from a place on, each is
+-- if the least of some is from a place on, each is
 later : (ts : List Touch) (history : List Entry) (place : ℕ) (o : Option ℕ) → conflict ts history ≡ o → IsFrom place o → AllByRecursion (λ (t : Touch). IsFrom place (clash t.key t.mark history)) ts
 later [] history place o e h = tt
 later (t ∷ ts) history place o e h =

@@ -40,7 +40,7 @@ fewer-one sub earlier x f = record {
 fewer-same : (earlier : List ℤ) → Fewer earlier earlier
 fewer-same earlier = record { lacks = λ id h. h }
 
--- what is not refused beside some channels is not refused beside fewer
+-- what is not refused together with some channels is not refused together with fewer
 tests : (a b c d : Bool) (e f g : ChannelError) → or_else (unless a e) (or_else (unless b f) (unless (not c) g)) ≡ None → (c ≡ false → d ≡ false)
     → or_else (unless a e) (or_else (unless b f) (unless (not d) g)) ≡ None
 tests true true true d e f g h k = absurd (cc)
@@ -85,7 +85,7 @@ unrefused cs sub earlier (c ∷ rest) f =
 pub cuts-unrefused : (cs : List Channel) (cuts : List Cutting) → truncate_refusal cs [] (map cut_of (cuts_accepted cs [] cuts)) ≡ None
 cuts-unrefused cs cuts = unrefused cs [] [] cuts (fewer-same [])
 
--- the channels beside their ends
+-- the channels paired with their ends
 pub zip-cuts : (cuts : List Cutting) → zip (map (λ (c : Cutting). c.channel) cuts) (map (λ (c : Cutting). c.end) cuts) ≡ map cut_of cuts
 zip-cuts [] = refl
 zip-cuts (c ∷ cs) = ap (λ l. cut_of c ∷ l) (zip-cuts cs)
@@ -95,12 +95,12 @@ pub lengths-cuts : (cuts : List Cutting) → length (map (λ (c : Cutting). c.ch
 lengths-cuts [] = refl
 lengths-cuts (c ∷ cs) = ap suc (lengths-cuts cs)
 
--- the verdicts stand under the names of the items
+-- the verdicts are under the names of the items
 pub names-cuts : (cs : List Channel) (earlier : List ℤ) (items : List (List ℕ × Cutting)) → keys_of (cut_verdicts cs earlier items) ≡ keys_of items
 names-cuts cs earlier [] = refl
 names-cuts cs earlier (i ∷ is) = ap (λ l. i.0 ∷ l) (names-cuts cs (earlier ++ i.1.channel ∷ []) is)
 
--- ---- cuts in the making
+-- ---- cuts in progress
 
 pub cutting-first : (cs : List Channel) (rest all : List (List ℕ × Cutting)) (given : List (List ℕ × Verdict)) (taken : List Cutting) (named : List ℤ)
     → rest ≡ all → given ≡ [] → taken ≡ [] → named ≡ [] → CutDrafting cs rest all given taken named

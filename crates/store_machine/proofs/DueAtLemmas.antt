@@ -35,7 +35,7 @@ use Rattle.store_machine.proofs.FollowingLemmas.{follows}
 pub at_place : ℕ → ChannelChange → Bool
 at_place p x = x.place == p
 
--- what an entry changed in a channel, where one stands there
+-- what an entry changed in a channel, if there is one there
 abbrev pub changed_by : ℕ → ℤ → Option Entry → List ChannelChange
 changed_by p id None = []
 changed_by p id (Some e) = change_by p id e
@@ -52,7 +52,7 @@ unfolding at_place
 skip-one p q id at None rest h = refl
 skip-one p q id at (Some w) rest h = let x : ChannelChange = record { place = q; channel = id; at = at; what = w } in ap (λ b. cond b (Some x) (find (λ y. y.place == p) rest)) h
 
--- none behind the place
+-- none after the place
 none-behind : (p q : ℕ) (id : ℤ) (es : List Entry) → p < q → find (at_place p) (changes_from q id es) ≡ None
 none-behind p q id [] h = refl
 none-behind p q id (e ∷ es) h =
@@ -116,7 +116,7 @@ kept-there config history k p within =
 
 -- ---- what is due, id by id
 
--- the changes of an entry that are followed, of so many ids from `m` on
+-- the changes of an entry that are followed, for this many ids from `m` on
 abbrev pub followed_from : List Followed → ℕ → Entry → ℕ → ℕ → List ChannelChange
 followed_from fs p e m count = filter (is_followed fs) (flat_map (λ k. change_by p (pos k) e) (range_with_len m count))
 
@@ -185,7 +185,7 @@ not-here cs f p is = by (nat_le f.from p)
     by true = ap (λ l. option_to_list (find (λ (x : ChannelChange). x.place == p) l)) is
     by false = refl
 
--- what the channels keep of an entry, of so many ids
+-- what the channels keep of an entry, for this many ids
 pub record Tie (cs : List Channel) (p : ℕ) (e : Entry) (n : ℕ) : Type 0 where
   pub here : (k : ℕ) → k < n → option_to_list (find (λ (x : ChannelChange). x.place == p) (changes_at cs (pos k))) ≡ change_by p (pos k) e
   pub beyond : (k : ℕ) → n ≤ k → changes_at cs (pos k) ≡ []
@@ -252,7 +252,7 @@ past-with : (m : ℕ) (f : Followed) (fs : List Followed) → int_lt (pos m) f.c
 unfolding IsPast
 past-with m f fs lt above = (lt, all-past m f.channel fs lt above)
 
--- of the ids from `m` on
+-- for the ids from `m` on
 due-ids : (cs : List Channel) (p : ℕ) (e : Entry) (n : ℕ) → Tie cs p e n → (count m : ℕ) → m + count ≡ n → (fs : List Followed) → Rise fs → IsFrom m fs → due_at cs fs p ≡ followed_from fs p e m count
 due-ids cs p e n tie zero m end fs rise from = none-due cs p e n tie fs (subst (λ k. IsFrom k fs) all from)
   where

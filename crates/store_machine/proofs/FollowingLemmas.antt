@@ -15,9 +15,9 @@ use Rattle.store_machine.specs.declared.news.Followed.{Followed}
 use Rattle.store_machine.specs.News.{is_due}
 use Rattle.store_machine.specs.Telling.{Follows, below, followed_by, followed_with, from_place, is_followed, same_from}
 
--- ---- one more subscription, as the code puts it in
+-- ---- one more subscription, as the code inserts it
 
--- behind those below it: in the place of the one that is its own, or between
+-- after those below it: in the place of the one that is its own, or between
 abbrev pub put_in : List Followed → ℕ → Sub → Option ℕ → List Followed
 put_in fs k s None = insert fs k (from_place s s.from)
 put_in fs k s (Some from) = slice_set fs k (from_place s (min from s.from))
@@ -103,7 +103,7 @@ all-due (s ∷ ss) fs c =
 
 -- ---- their order
 
--- all channels lie above an id
+-- all channels are above an id
 Above : ℤ → List Followed → Type 0
 Above id fs = AllByRecursion (λ (f : Followed). int_lt id f.channel ≡ true) fs
 

@@ -187,7 +187,7 @@ accepted-moment at late sofar before (p ∷ ps) =
     by true some none = ap (λ l. p ∷ l) some
     by false some none = none
 
--- ---- the verdicts stand under the names of the items
+-- ---- the verdicts are under the names of the items
 
 pub names-verdicts : {X : Type 0} (change : X → Change) (sofar : List Change) (items : List (List ℕ × X)) → keys_of (verdicts change sofar items) ≡ keys_of items
 names-verdicts change sofar [] = refl

@@ -1,4 +1,4 @@
--- How many entries have changes to be told of, by marks that are set channel by channel.
+-- How many entries have due changes, by marks that are set channel by channel.
 use Rattle.std.specs.Prelude.{ℕ, zero, suc, ◌≡◌, ◌+◌, ◌-◌, ◌<◌, ◌≤◌, ◌==◌, ◌&&◌, ◌||◌, nat_le, Bool, true, false, cond, List, [], ◌∷◌, ◌++◌, Option, Some, None, if◌then◌else◌, is_some, length, filter, find, replicate, refl}
 use Rattle.std.specs.Option.{option_to_list}
 use Rattle.std.proofs.Common.{get_or, ap, sym, ◌∙◌, arith}
@@ -61,7 +61,7 @@ count-due cs fs place zero = refl
 count-due cs fs place (suc count) =
     lag-next (due_at cs fs place) (dues_at cs fs (place + 1) count) (set_marks (with_due cs fs (place + 1) (replicate count false))) (count-due cs fs (place + 1) count)
 
--- what is counted of the marks of so many entries
+-- what is counted of the marks of this many entries
 pub lag_marked : (cs : List Channel) (fs : List Followed) (place count lags : ℕ) (marks : List Bool) → marks ≡ marks_at cs fs place count → lags ≡ set_marks marks → lags ≡ lag (dues_at cs fs place count)
 lag_marked cs fs place count lags marks same is =
     is ∙ ap set_marks (same ∙ marked-due cs fs place (replicate count false)) ∙ count-due cs fs place count
@@ -75,7 +75,7 @@ mark-there cs fs place (suc count) (suc k) d h =
     let there : (place + 1) + k ≡ place + suc k = omega arith in
     mark-there cs fs (place + 1) count k d (omega (arith, h)) ∙ ap (λ p. is_some_due (due_at cs fs p)) there
 
--- the mark of an entry tells whether something is due
+-- the mark of an entry says whether something is due
 pub mark_is : (cs : List Channel) (fs : List Followed) (place from mark : ℕ) (marks : List Bool) (d : Bool) → marks ≡ marks_at cs fs place (mark - place) → place ≤ from → from < mark
     → get_or marks (from - place) d ≡ is_some_due (due_at cs fs from)
 mark_is cs fs place from mark marks d same begun within =
@@ -93,7 +93,7 @@ pub marks_length : (cs : List Channel) (fs : List Followed) (place count : ℕ) 
 marks_length cs fs place count marks same =
     ap length (same ∙ marked-due cs fs place (replicate count false)) ∙ with_due-length cs fs place (replicate count false) ∙ length-replicate count false
 
--- ---- where there is nothing to count
+-- ---- if there is nothing to count
 
 pub lag_nobody : (cs : List Channel) (fs : List Followed) (place count : ℕ) → length fs ≡ 0 → 0 ≡ lag (dues_at cs fs place count)
 lag_nobody cs [] place zero h = refl

@@ -1,4 +1,4 @@
--- What a store keeps stays right through a further entry, and its journal legal.
+-- What a store keeps stays right after a further entry, and its journal legal.
 use Rattle.std.specs.Prelude.{ℕ, ℤ, pos, Bool, true, false, List, [], ◌∷◌, ◌++◌, ◌≡◌, ◌+◌, ◌≤◌, Option, Some, None, length, filter, map, refl, if◌then◌else◌}
 use Rattle.std.specs.Map.{values_of}
 use Rattle.std.proofs.Common.{ap, sym, ◌∙◌, subst, append_assoc, append-nil, arith, ◌⊎◌, inl, inr, ⊎_elim}
@@ -70,7 +70,7 @@ legal-push config (x ∷ xs) e h f = (h.0, legal_from-push config (x ∷ []) xs 
 
 -- ---- the entry of a call
 
--- an entry, where there is room for one that follows
+-- an entry, if there is room for one that follows
 legal-one : (config : Config) (history : List Entry) (e : Entry) (room : Bool) → Legal config history → (room ≡ true → Follows config history e) → Legal config (history ++ (if room then e ∷ [] else []))
 legal-one config history e true legal follows = legal-push config history e legal (follows refl)
 legal-one config history e false legal follows = subst (Legal config) (sym (append-nil history)) legal
@@ -121,7 +121,7 @@ makes-replace config history by nth at from to items next = record {
 pub makes-cuts : (config : Config) (history : List Entry) (by nth : ℕ) (at : ℤ) → IsNext history by nth → Makes Truncate (cuts_accepted (channels_of config history) []) config history by nth at
 makes-cuts config history by nth at next = record { grants = λ xs. refl; again = cuts-again (channels_of config history); enters = λ xs. refl; may = λ xs. next }
 
--- the entry of kept items follows, where there is room
+-- the entry of kept items follows, if there is room
 pub follows-items : {X : Type 0} (act : List X → Act) (kept : List X → List X) (config : Config) (history : List Entry) (by nth : ℕ) (at : ℤ) → Makes act kept config history by nth at
     → (asked : List X) (x : X) (xs : List X) → x ∷ xs ≡ kept asked → has_room_for config history (act (x ∷ xs)) ≡ true
     → Follows config history (record { by = by; nth = nth; at = at; act = act (x ∷ xs) })
@@ -250,7 +250,7 @@ pub keeps-drops : (config : Config) (journal : List Entry) (by nth : ℕ) (at : 
 keeps-drops config journal by nth at total t t' cs a a' p asked paths k next same pl some room does marks =
     keeps-items DropSpaces (accepted DropSpace (changes_of journal)) config journal by nth at (makes-drops config journal by nth at next) (λ xs id. refl) total t t' cs a a' p asked paths k same some room does pl marks
 
--- operations are done
+-- operations are applied
 pub keeps-ops : (config : Config) (journal : List Entry) (by nth : ℕ) (at : ℤ) (total : ℕ) (t t' : Contents) (cs : List Channel) (a a' : Alterations) (p : Plan) (asked ops : List Op)
     → Keeps config journal total t cs a → IsNext journal by nth → ops ≡ accepted Operate (changes_of journal) asked → Plans t p (changes_of journal ++ map Operate ops) → (ops ≡ [] → ⊥) → has_room_for config journal (Put ops) ≡ true
     → ((key : Key) → state_in t' key ≡ state_now t p key) → Marks a' (journal ++ record { by = by; nth = nth; at = at; act = Put ops } ∷ [])
@@ -271,7 +271,7 @@ keeps-channels act kept config journal by nth at m still total t cs cs' a asked 
     (subst (Holds t) (sym (ap (λ l. changes_of journal ++ l) (still (x ∷ xs)) ∙ append-nil (changes_of journal))) k.holds)
     (does ∙ ap (changed (length journal) at (what_of (act (x ∷ xs)))) k.channels ∙ channels-step config journal e) (marks-frame a journal e k.marks (still (x ∷ xs)))
 
--- channels are cut
+-- channels are truncated
 pub keeps-cuts : (config : Config) (journal : List Entry) (by nth : ℕ) (at : ℤ) (total : ℕ) (t : Contents) (cs cs' : List Channel) (a : Alterations) (asked cuts : List Cutting) → Keeps config journal total t cs a → IsNext journal by nth
     → cuts ≡ cuts_accepted cs [] asked → (cuts ≡ [] → ⊥) → has_room_for config journal (Truncate cuts) ≡ true → cs' ≡ changed (length journal) at (truncated (map cut_of cuts)) cs
     → Keeps config (journal ++ record { by = by; nth = nth; at = at; act = Truncate cuts } ∷ []) (total + counted_act (Truncate cuts)) t cs' a
@@ -295,13 +295,13 @@ pub keeps-kept : (config : Config) (journal journal' : List Entry) (total : ℕ)
 keeps-kept config journal journal' total t t' cs cs' a a' k kept same ch marks =
     subst (λ (l : List Entry). Keeps config l total t' cs' a') (sym kept) (record { legal = k.legal; bytes = k.bytes; limit = k.limit; holds = record { each = λ key. same key ∙ k.holds.each key }; channels = ch ∙ k.channels; marks = marks })
 
--- the door alone
+-- only the door
 pub keeps-first : (config : Config) (t : Contents) (cs : List Channel) (a : Alterations) → ((key : Key) → state_in t key ≡ first key) → cs ≡ map fresh config.channels → Marks a (door ∷ []) → Keeps config (door ∷ []) 64 t cs a
 keeps-first config t cs a starts made marks = record { legal = (refl, tt); bytes = refl; limit = omega arith; holds = record { each = starts }; channels = made ∙ channels-first config; marks = marks }
 
 -- ---- what the code knows
 
--- the sum with a further entry, where there is room
+-- the sum with a further entry, if there is room
 pub with_room : (config : Config) (journal : List Entry) (total bytes : ℕ) (a : Act) → total ≡ counted journal
     → Some bytes ≡ bytes_with config.journal (length journal) total a
     → (has_room_for config journal a ≡ true) × (bytes ≡ total + counted_act a)
@@ -321,7 +321,7 @@ no_room config journal total a e h = ap (λ n. is_room config.journal (length jo
     by true h = absurd (cc)
     by false h = refl
 
--- the same of an act that is made later, by what its items count
+-- the same for an act that is made later, by what its items count
 pub room_found : (config : Config) (journal : List Entry) (total bytes items mark : ℕ) (a : Act) → total ≡ counted journal → mark ≡ length journal → items ≡ capped (act_bytes a)
     → ((b : Act) → items ≡ capped (act_bytes b) → Some bytes ≡ bytes_with config.journal mark total b)
     → (has_room_for config journal a ≡ true) × (bytes ≡ total + counted_act a)

@@ -75,20 +75,20 @@ taken-kept : {X : Type 0} (act : List X → Act) (r : Option ChannelError) (x : 
 taken-kept act None x xs h = refl
 taken-kept act (Some e) x xs h = absurd (cc)
 
--- nothing is granted where no entry is made
+-- nothing is granted if no entry is made
 granted-none : (config : Config) (history : List Entry) (l : Load) → adds_entry l ≡ false → granted config history (load_act l) ≡ []
 granted-none config history (Append []) h = none-kept acts.Append (append_refusal (channels_of config history) [])
 granted-none config history (Append (x ∷ xs)) h = absurd (false≢true (sym h ∙ some_items x xs))
 granted-none config history (Replace [] from to items) h = none-kept (λ ids. acts.Replace ids from to items) (replace_refusal (channels_of config history) [] from to items)
 granted-none config history (Replace (x ∷ xs) from to items) h = absurd (false≢true (sym h ∙ some_items x xs))
 
--- nor where the channels refuse it
+-- nor if the channels refuse it
 granted-refused : (config : Config) (history : List Entry) (l : Load) (code : ErrorCode) → Some code ≡ option_map code_of (load_refusal (channels_of config history) l) → granted config history (load_act l) ≡ []
 granted-refused config history (Append items) code h = refused-kept acts.Append (append_refusal (channels_of config history) items) code items h
 granted-refused config history (Replace channels from to items) code h =
     refused-kept (λ ids. acts.Replace ids from to items) (replace_refusal (channels_of config history) channels from to items) code channels h
 
--- its act is where they don't
+-- its act is granted if they don't
 granted-taken : (config : Config) (history : List Entry) (l : Load) → adds_entry l ≡ true → None ≡ option_map code_of (load_refusal (channels_of config history) l) → granted config history (load_act l) ≡ load_act l ∷ []
 granted-taken config history (Append []) some h = absurd (false≢true some)
 granted-taken config history (Append (x ∷ xs)) some h = taken-kept acts.Append (append_refusal (channels_of config history) (x ∷ xs)) x xs h

@@ -1,4 +1,4 @@
--- By which entries a key was altered: by itself, or with what it stands in.
+-- Which entries altered a key: itself, or with its owner.
 use Rattle.std.specs.Prelude.{ℕ, ℤ, ◌≡◌, ◌+◌, ◌≤◌, ◌&&◌, ◌||◌, min, Bool, true, false, List, [], ◌∷◌, ◌++◌, Option, Some, None, Result, Ok, Err, IfOk, refl, if◌then◌else◌, drop, length, find, map, nat_le}
 use Rattle.std.specs.List.{flat_map, list_any}
 use Rattle.std.specs.Map.{lookup}
@@ -52,7 +52,7 @@ any-same p q same (x ∷ xs) = (λ j. same x j || any-same p q same xs j)
 
 -- ---- one change
 
--- a change removes what a key stands in, by the keys that it removes with all in them
+-- a change removes the owner of a key, by the keys that it removes with everything in them
 removed_in : List Key → Key → Bool
 removed_in whole key = list_any (λ w. list_any (same_key w) whole) (containers key)
 
@@ -86,7 +86,7 @@ op-is (Space p) Gone key = sym (none-removed key)
 op-is (Object u) Gone key = gone-is u key
 op-is (Array k) Gone key = sym (none-removed key)
 
--- a change alters a key by itself, or removes what it stands in
+-- a change alters a key itself, or removes its owner
 change-is : (c : Change) (key : Key) → alters c key ≡ (list_any (same_key key) (own_keys c) || removed_in (whole_keys c) key)
 unfolding removed_in
 change-is (SetSpace path custom at) (Space p) = sym (or-false (bytes_eq p path || false) ∙ or-false (bytes_eq p path))
@@ -99,7 +99,7 @@ change-is (Operate o) key = op-is o.key o.what key
 
 -- ---- one entry
 
--- an entry removes what a key stands in
+-- an entry removes the owner of a key
 owner_removed : Key → Entry → Bool
 owner_removed key e = list_any (λ w. entry_removes w e) (containers key)
 
@@ -182,7 +182,7 @@ clash-is key from history =
     ∙ first-or (entry_owns key) (owner_removed key) from (drop from history)
     ∙ ap (least (first_where (entry_owns key) from (drop from history))) (owner-is key from history)
 
--- what the index finds of a key by itself, and of what is removed whole
+-- what the index finds for a key itself, and for what is removed whole
 pub finds-own : (a : Alterations) (history : List Entry) (key : Key) (from : ℕ) → Marks a history → find (nat_le from) (places_of same_key a.own key) ≡ first_where (entry_owns key) from (drop from history)
 finds-own a history key from m = ap (find (nat_le from)) (m.own key) ∙ first-is-found (entry_owns key) from history
 
@@ -213,14 +213,14 @@ keys-dropped paths = record { own_is = own paths; whole_is = whole paths }
     whole [] = refl
     whole (p ∷ ps) = ap (λ l. Space p ∷ l) (whole ps)
 
--- what is known of the keys at no moment is known at each
+-- what is known about the keys at no moment is known at each
 pub at-all : (P : Altered → Type 0) (r : Result Altered NoMemory) → IfOk r P → IfOk r (λ a. (at : ℤ) → P a)
 at-all P (Ok a) h = λ at. h
 at-all P (Err e) h = tt
 
 -- ---- what an index keeps
 
--- of the door alone
+-- only the door
 pub marks-first : (a : Alterations) → a.own.places ≡ [] → a.whole.places ≡ [] → a.own.past ≡ 0 → a.whole.past ≡ 0 → Marks a (door ∷ [])
 marks-first a own whole own_past whole_past = record {
   own = λ key. ap (λ ps. unwrap_or (lookup (same_key key) ps) []) own;

@@ -132,7 +132,7 @@ pub enter-is : (a : Act) → is_enter a ≡ true → a ≡ Enter
 enter-is Enter h = refl
 enter-is _ h = absurd (false≢true h)
 
--- no more entries are one's own than there are
+-- a session has at most as many entries as there are
 pub own_few : (n : ℕ) (es : List Entry) → length (own n es) ≤ length es
 own_few n [] = omega arith
 own_few n (e ∷ es) = by (e.by == n) (own_few n es)

@@ -141,7 +141,7 @@ unfolding Brings
 replace-brings true from to points h = h
 replace-brings false from to points h = tt
 
--- an entry that follows brings points in range alone
+-- an entry that follows brings only points in range
 act-brings : (config : Config) (history : List Entry) (by nth : ℕ) (at : ℤ) (a : Act) (id : ℤ) → entered config history by nth at (granted config history a) ≡ record { by = by; nth = nth; at = at; act = a } ∷ []
     → Brings (what_of a id)
 unfolding Brings

@@ -12,7 +12,7 @@ counted-append : (history later : List Entry) → counted (history ++ later) ≡
 counted-append [] later = omega arith
 counted-append (e ∷ es) later = let rest = counted-append es later in omega (arith, rest)
 
--- where both sides grow, what is too much stays so
+-- if both sides grow, what is too much stays so
 still_none : (n n' limit b b' most : ℕ) → n ≤ n' → b ≤ b' → (nat_lt n limit && nat_le b most) ≡ false → (nat_lt n' limit && nat_le b' most) ≡ false
 still_none n n' limit b b' most longer more none = grind (arith, longer, more, none)
 

@@ -1,4 +1,4 @@
--- The dataspaces of the tables, sorted by their paths, stand for what the tables hold.
+-- The dataspaces of the tables, sorted by their paths, represent what the tables hold.
 use Rattle.std.specs.Prelude.{ℕ, suc, Bool, true, false, cond, List, [], ◌∷◌, ◌≡◌, ◌+◌, Option, Some, None, filter, refl, slice_index_or}
 use Rattle.std.specs.List.{AllByRecursion, IsDistinct}
 use Rattle.std.specs.List.Sorted.{IsPermutation, IsSortedBy, IsStrictlySortedBy}

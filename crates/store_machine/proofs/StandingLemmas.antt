@@ -1,4 +1,4 @@
--- The list that stands for the changes is the list of dataspaces that the definition makes.
+-- The list that represents the changes is the list of dataspaces that the definition makes.
 use Rattle.std.specs.Prelude.{ℕ, Bool, true, false, cond, List, [], ◌∷◌, ◌++◌, ◌≡◌, ◌||◌, Option, Some, None, fold, filter, map, refl, is_some}
 use Rattle.std.specs.List.{flat_map, list_any}
 use Rattle.std.specs.List.Sorted.{IsStrictlySortedBy}
@@ -60,7 +60,7 @@ of-first (c ∷ cs) = tt
 of-value : (path : List ℕ) (cs : List Change) → IsOf path (value (Space path) cs)
 of-value path cs = of-fold path cs (first (Space path)) (of-first path)
 
--- the paths of the definition's list are those at which something stands
+-- the paths of the definition's list are those at which something exists
 paths-dataspaces : (cs : List Change) (ps : List (List ℕ)) → paths_in (flat_map (λ path. dataspace_in (value (Space path) cs)) ps) ≡ filter (λ path. is_some (value (Space path) cs)) ps
 paths-dataspaces cs [] = refl
 paths-dataspaces cs (p ∷ ps) = by (value (Space p) cs) (of-value p cs) (paths-dataspaces cs ps)
@@ -173,14 +173,14 @@ all_found : (b : Bool) (path : List ℕ) (v : Option Value) → IsOf path v → 
 all_found true path v o h = value-record path v o
 all_found false path v o h = sym (h refl)
 
--- the definition's list stands for the changes
+-- the definition's list represents the changes
 pub stands-dataspaces : (cs : List Change) → Stands (dataspaces cs) cs
 stands-dataspaces cs = record {
   rise = subst (IsStrictlySortedBy path_cmp) (sym (paths-dataspaces cs (paths cs))) (IsStrictlySortedBy-filter path_cmp (λ path. is_some (value (Space path) cs)) (paths cs) (paths-rise cs));
   finds = λ q. ap (option_map valued.Space) (found-dataspaces cs q (paths cs)) ∙ all_found (list_any (bytes_eq q) (paths cs)) q (value (Space q) cs) (of-value q cs) (unput q cs);
 }
 
--- ---- two lists in order that have the same at each path are one
+-- ---- two lists in order that have the same at each path are equal
 
 abbrev pub by_path : List SpaceRecord → List (List ℕ × SpaceRecord)
 by_path rs = map (λ (r : SpaceRecord). (r.path, r)) rs

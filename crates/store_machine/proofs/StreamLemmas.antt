@@ -1,4 +1,4 @@
--- The stream of a channel, and what legal histories say of the changes in it; for the crates above too.
+-- The stream of a channel, and what legal histories say about the changes in it; for the crates above too.
 use Rattle.std.specs.Prelude.{ℕ, ℤ, ◌≡◌, ◌+◌, ◌≤◌, Bool, true, false, List, [], ◌∷◌, ◌++◌, Option, Some, None, length, map, take, drop, refl, if◌then◌else◌}
 use Rattle.std.specs.List.{AllByRecursion}
 use Rattle.std.proofs.Common.{ap, sym, ◌∙◌, subst, append_assoc, arith}
@@ -83,7 +83,7 @@ all-within law config (e ∷ es) id legal =
 
 -- ---- the stream
 
--- the changes of a history are those of its front and those behind
+-- the changes of a history are those of its front and those after it
 pub whats-split : (id : ℤ) (m : ℕ) (history : List Entry) → m ≤ length history
     → whats_of (channel_changes id (take m history)) ++ whats_of (changes_from m id (drop m history)) ≡ whats_of (channel_changes id history)
 whats-split id m history within =

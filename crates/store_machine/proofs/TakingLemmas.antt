@@ -105,7 +105,7 @@ pub takes_unmarked : (due old : List ChannelChange) → is_some_due due ≡ fals
 takes_unmarked [] old h = (refl, sym (append-nil old))
 takes_unmarked (c ∷ cs) old h = absurd (false≢true (sym h))
 
--- what is behind is not taken
+-- what follows is not taken
 ends : (ds : List (List ChannelChange)) (first place : ℕ) (xs : List ChannelChange) (rest : List (List ChannelChange)) → TakesOn ds first place xs rest → taken (length xs) (weigh change_bytes xs) rest ≡ []
     → (place ≡ first + length (taken 0 0 ds)) × (xs ≡ joined (taken 0 0 ds))
 ends ds first place xs rest t none =
@@ -141,7 +141,7 @@ news_told limit from mark count upto ds changes is within at told =
     below : (a b : ℕ) → b ≤ a → nat_lt a b ≡ false
     below a b h = grind (arith, nat_tests, h)
 
--- where nothing is due, all entries are taken and nothing of them
+-- if nothing is due, all entries are taken and nothing of them
 nothing_taken : (n b : ℕ) (ds : List (List ChannelChange)) → lag ds ≡ 0 → (length (taken n b ds) ≡ length ds) × (joined (taken n b ds) ≡ [])
 nothing_taken n b [] h = (refl, refl)
 nothing_taken n b ([] ∷ ds) h = let rest = nothing_taken (n + 0) (b + 0) ds h in (ap suc rest.0, rest.1)
@@ -158,7 +158,7 @@ news_untold cs fs limit from mark within none =
     let upto : mark ≡ from + length (taken 0 0 ds) = omega (arith, within, all.0, dues-length cs fs from (mark - from)) in
     news_told limit from mark 0 mark ds [] none (omega arith) upto (sym all.1)
 
--- where nobody follows, or there is no entry
+-- if nobody follows, or there is no entry
 pub news_nobody : (cs : List Channel) (fs : List Followed) (limit from mark : ℕ) → from ≤ mark → length fs ≡ 0 → replied.News mark 0 [] ≡ news_by limit from mark (dues_at cs fs from (mark - from))
 news_nobody cs fs limit from mark within none = news_untold cs fs limit from mark within (lag_nobody cs fs from (mark - from) none)
 

@@ -1,4 +1,4 @@
--- What a call answers and adds that cuts channels.
+-- The answer and the entry of a call that truncates channels.
 use Rattle.std.specs.Prelude.{ℕ, ℤ, Bool, true, false, ◌≡◌, ◌*◌, List, [], ◌∷◌, Some, None, length, refl, if◌then◌else◌}
 use Rattle.std.specs.Map.{values_of}
 use Rattle.std.proofs.Common.{ap, sym, ◌∙◌, subst}

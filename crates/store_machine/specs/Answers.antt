@@ -38,17 +38,17 @@ use Rattle.store_machine.specs.declared.call.RangeAsk.{RangeAsk}
 
 -- ---- verdicts
 
--- whether something stands at a key after these changes
+-- whether something exists at a key after these changes
 abbrev pub is_there : Key → List Change → Bool
 is_there key changes = is_some (value key changes)
 
--- the verdict by a refusal, where there is one
+-- the verdict by a refusal, if there is one
 abbrev pub verdict_of : Option ErrorCode → Verdict
 verdict_of None = Accepted
 verdict_of (Some code) = Refused code
 
--- the verdict on a change after those so far. The default dataspace is neither put nor dropped; only what is there is
--- dropped; an operation is judged by what the changes left at each key
+-- the verdict on a change after those so far. The default dataspace is neither put nor dropped; only what exists is dropped; an operation
+-- is judged by what the changes left at each key
 abbrev pub verdict : List Change → Change → Verdict
 verdict sofar (SetSpace path custom at) = if is_default path then Refused RequestDenied else Accepted
 verdict sofar (DropSpace path) =
@@ -60,7 +60,7 @@ abbrev pub is_accepted : Verdict → Bool
 is_accepted Accepted = true
 is_accepted (Refused code) = false
 
--- the changes so far, and a further one where it is accepted
+-- the changes so far, and a further one if it is accepted
 abbrev pub sofar_with : List Change → Change → List Change
 sofar_with sofar c = if is_accepted (verdict sofar c) then sofar ++ c ∷ [] else sofar
 
@@ -79,20 +79,19 @@ accepted change sofar (x ∷ xs) =
 
 -- ---- entries
 
--- an act of these items, where there are any
+-- an act of these items, if there are any
 abbrev pub act_of : {X : Type 0} → (List X → Act) → List X → List Act
 act_of act [] = []
 act_of act (x ∷ xs) = act (x ∷ xs) ∷ []
 
--- all items, or none where the channels refuse them
+-- all items, or none if the channels refuse them
 abbrev pub all_or_none : {X : Type 0} → Option ChannelError → List X → List X
 all_or_none None xs = xs
 all_or_none (Some e) xs = []
 
--- what is done of an act that is asked for at the end of a history: its accepted items, and nothing where there are none.
--- The moment decides no verdict on a dataspace, so what is put is judged as if put at 0. Points are added or replaced all or
--- none; a replacement is made in each channel that it lists, also without points. A transaction is committed whole, unless an
--- entry altered what it had touched before
+-- what is done of an act that is requested at the end of a history: its accepted items, and nothing if there are none. The moment decides
+-- no verdict on a dataspace, so what is put is judged as if put at 0. Points are added or replaced all or none; a replacement is made in
+-- each channel that it lists, even without points. A transaction is committed whole, unless an entry altered what it had touched before
 abbrev pub granted : Config → List Entry → Act → List Act
 granted config history Enter = Enter ∷ []
 granted config history (PutSpaces puts) = act_of PutSpaces (accepted (set_space (pos 0)) (changes_of history) puts)
@@ -116,21 +115,21 @@ wanted config history (call.Replace channels from to items) = granted config his
 wanted config history (call.Truncate items) = granted config history (Truncate (values_of items))
 wanted config history _ = []
 
--- whether the journal takes a further entry of this act
+-- whether the journal accepts a further entry of this act
 abbrev pub has_room_for : Config → List Entry → Act → Bool
 has_room_for config history a = is_room config.journal (length history) (counted history) a
 
--- whether the journal takes the entry of a call, which adds one act or none
+-- whether the journal accepts the entry of a call, which adds one act or none
 abbrev pub has_room : Config → List Entry → List Act → Bool
 has_room config history [] = true
 has_room config history (a ∷ more) = has_room_for config history a
 
--- the entry of an act: an Enter stands under its own place, with no entry before it
+-- the entry of an act: an Enter is under its own place, with no entry before it
 abbrev pub entry : List Entry → ℕ → ℕ → ℤ → Act → Entry
 entry history by nth at Enter = record { by = length history; nth = 0; at = at; act = Enter }
 entry history by nth at a = record { by = by; nth = nth; at = at; act = a }
 
--- the entry that these acts add, where the journal has room
+-- the entry that these acts add, if the journal has room
 abbrev pub entered : Config → List Entry → ℕ → ℕ → ℤ → List Act → List Entry
 entered config history by nth at acts = if has_room config history acts then map (entry history by nth at) acts else []
 
@@ -152,17 +151,17 @@ ranges_after config history asks = range_reply (ranged (channels_of config histo
 unfoldable pub starts_after : Config → List Entry → List (List ℕ × StartAsk) → Reply
 starts_after config history items = replied.Started (started (channels_of config history) whole_room items)
 
--- the reply to points that were given to channels, by the refusal where there is one
+-- the reply to points that were given to channels, by the refusal if there is one
 abbrev pub written : Option ErrorCode → Reply
 written None = replied.Written
 written (Some code) = replied.Refused code
 
--- the reply to a transaction, by the place of the conflict where there is one
+-- the reply to a transaction, by the place of the conflict if there is one
 abbrev pub commit_reply : Option ℕ → Reply
 commit_reply None = replied.Committed
 commit_reply (Some place) = replied.Conflict place
 
--- the reply where the journal has room
+-- the reply if the journal has room
 abbrev pub reply : Config → List Entry → StoreCall → Reply
 reply config history call.Enter = Entered (length history)
 reply config history (call.Spaces newer) = Spaces (filter (is_newer newer) (dataspaces (changes_of history)))

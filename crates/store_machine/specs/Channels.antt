@@ -23,8 +23,8 @@ use Rattle.store_machine.specs.declared.journal.Entry.{Entry}
 abbrev pub cut_of : Cutting → ℤ × ℤ
 cut_of c = (c.channel, c.end)
 
--- what an act does to the channel of an id: an append does something where it has an item for it, a replacement and a
--- truncation where they list it
+-- what an act does to the channel of an id: an append does something if it has an item for it, a replacement and a truncation if they list
+-- it
 abbrev pub what_of : Act → ℤ → Option What
 what_of act.Enter id = None
 what_of (act.PutSpaces puts) id = None
@@ -46,7 +46,7 @@ change_list place id at (Some w) = record { place = place; channel = id; at = at
 abbrev pub change_by : ℕ → ℤ → Entry → List ChannelChange
 change_by place id e = change_list place id e.at (what_of e.act id)
 
--- the changes of a channel by entries in order, the first of which stands at `place`
+-- the changes of a channel by entries in order, the first of which is at `place`
 abbrev pub changes_from : ℕ → ℤ → List Entry → List ChannelChange
 changes_from place id [] = []
 changes_from place id (e ∷ es) = change_by place id e ++ changes_from (place + 1) id es
@@ -62,13 +62,13 @@ channel_points id history = copy (whats_of (channel_changes id history))
 abbrev pub channel_by : ChannelDef → List ChannelChange → Channel
 channel_by d changes = record { uri = d.uri; kind = d.kind; points = copy (whats_of changes); changes = changes }
 
--- the channels of a configuration after a history; a channel's id is its place in the configuration
+-- the channels of a configuration after a history; a channel's id is its index in the configuration
 unfoldable pub channels_of : Config → List Entry → List Channel
 channels_of config history = by_number (λ k d. channel_by d (channel_changes (pos k) history)) 0 config.channels
 
 -- ---- refusals
 
--- the code by which a call is refused. Want of memory is no refusal, and has a code only so that each error has one
+-- the code with which a call is refused. Running out of memory is not a refusal, and has a code only so that each error has one
 abbrev pub code_of : ChannelError → ErrorCode
 code_of (fault.NoChannel id) = NotFound
 code_of (fault.Index id) = InvalidArgument

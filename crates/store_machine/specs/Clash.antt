@@ -10,7 +10,7 @@ use Rattle.store_machine.specs.declared.journal.Act.TheVariants.{Commit}
 use Rattle.store_machine.specs.declared.journal.Entry.{Entry}
 use Rattle.store_machine.specs.History.{entry_alters}
 
--- the lesser of two places, where there are two
+-- the lesser of two places, if there are two
 abbrev pub least : Option ℕ → Option ℕ → Option ℕ
 least None b = b
 least (Some a) None = Some a
@@ -25,12 +25,12 @@ abbrev pub conflict : List Touch → List Entry → Option ℕ
 conflict [] history = None
 conflict (t ∷ ts) history = least (clash t.key t.mark history) (conflict ts history)
 
--- an act of these operations, where there are any
+-- an act of these operations, if there are any
 abbrev pub act_with : List Op → Act → List Act
 act_with [] a = []
 act_with (o ∷ os) a = a ∷ []
 
--- a transaction makes one entry of all its operations, where there is no conflict and it has any
+-- a transaction makes one entry of all its operations, if there is no conflict and it has any
 abbrev pub commit_of : Option ℕ → Staged → List Act
 commit_of None staged = act_with staged.ops (Commit staged)
 commit_of (Some place) staged = []

@@ -8,15 +8,15 @@ use Rattle.store_machine.specs.declared.journal.Act.{Act}
 use Rattle.store_machine.specs.declared.journal.Act.TheVariants as act
 use Rattle.store_machine.specs.declared.journal.Entry.{Entry}
 
--- each item counts 64 besides what it holds: of a put the path and the custom data
+-- each item counts 64 in addition to what it holds: a put the path and the custom data
 abbrev pub put_bytes : SpacePut → ℕ
 put_bytes p = 64 + (length p.path + custom_weight_of p.custom)
 
--- and of a drop the path
+-- and a drop the path
 abbrev pub drop_bytes : List ℕ → ℕ
 drop_bytes path = 64 + length path
 
--- the items of an act; a channel whose points are replaced counts 32, and one that is cut 16
+-- the items of an act; a channel whose points are replaced counts 32, and one that is truncated 16
 abbrev pub act_bytes : Act → ℕ
 act_bytes act.Enter = 0
 act_bytes (act.PutSpaces puts) = weigh put_bytes puts
@@ -35,11 +35,11 @@ counted_act a = 64 + act_bytes a
 abbrev pub counted : List Entry → ℕ
 counted history = weigh (λ (e : Entry). counted_act e.act) history
 
--- whether a journal of so many entries and counted bytes takes a further entry of this act: it has fewer entries than its
--- limit, and stays within 512 MiB
+-- whether a journal with this many entries and counted bytes accepts a further entry of this act: it has fewer entries than its limit, and
+-- stays within 512 MiB
 abbrev pub is_room : ℕ → ℕ → ℕ → Act → Bool
 is_room limit entries bytes a = nat_lt entries limit && nat_le (bytes + counted_act a) 536870912
 
--- the counted bytes with that entry, where there is room for it
+-- the counted bytes with that entry, if there is room for it
 abbrev pub bytes_with : ℕ → ℕ → ℕ → Act → Option ℕ
 bytes_with limit entries bytes a = if is_room limit entries bytes a then Some (bytes + counted_act a) else None

@@ -8,17 +8,17 @@ use Rattle.store_machine.specs.declared.call.Verdict.{Verdict}
 use Rattle.store_machine.specs.declared.call.Verdict.TheVariants.{Accepted, Refused}
 use Rattle.store_machine.specs.Channels.{cut_of, code_of}
 
--- the verdict by a refusal, where there is one
+-- the verdict by a refusal, if there is one
 abbrev pub cut_verdict : Option ChannelError → Verdict
 cut_verdict None = Accepted
 cut_verdict (Some e) = Refused (code_of e)
 
--- the verdicts on the items of a call in order; each is judged beside the channels that earlier items name, also refused ones
+-- the verdicts on the items of a call in order; each is judged together with the channels that earlier items name, including refused ones
 abbrev pub cut_verdicts : List Channel → List ℤ → List (List ℕ × Cutting) → List (List ℕ × Verdict)
 cut_verdicts cs earlier [] = []
 cut_verdicts cs earlier (i ∷ is) = (i.0, cut_verdict (cut_refusal cs earlier (cut_of i.1))) ∷ cut_verdicts cs (earlier ++ i.1.channel ∷ []) is
 
--- a cut before others, where nothing refuses it
+-- a cut before others, unless it is refused
 abbrev pub unless_cut_refused : Option ChannelError → Cutting → List Cutting → List Cutting
 unless_cut_refused None c rest = c ∷ rest
 unless_cut_refused (Some e) c rest = rest

@@ -26,13 +26,13 @@ pub data Change : Type 0 where
 abbrev pub is_default : List ℕ → Bool
 is_default path = length path == 0
 
--- a put of a dataspace alters its own key, a drop also all that is in it, and an operation what it says
+-- a put of a dataspace alters its own key, a drop also everything in it, and an operation what it says
 abbrev pub alters : Change → Key → Bool
 alters (SetSpace p custom at) key = same_key key (Space p)
 alters (DropSpace p) key = bytes_eq (space_of key) p
 alters (Operate o) key = op_alters o key
 
--- what a change leaves at a key that it alters, from the value before. The default dataspace stays as it is from the first
+-- what a change leaves at a key that it alters, from the previous value. The default dataspace keeps its initial state
 abbrev pub left : Option Value → Change → Option Value
 left before (SetSpace path custom at) =
     if is_default path then before

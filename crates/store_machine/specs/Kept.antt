@@ -1,5 +1,5 @@
--- What a store keeps beside its journal: the counted bytes, the tables of what stands now, the channels, and by which
--- entries keys were altered.
+-- What a store keeps besides its journal: the counted bytes, the tables of the present state, the channels, and which entries altered which
+-- keys.
 use Rattle.std.specs.Prelude.{ℕ, ◌≡◌, ◌≤◌, List, [], ◌∷◌, ◌++◌, Option, find, if◌then◌else◌, filter, fold, map}
 use Rattle.std.specs.List.Sorted.{IsStrictlySortedBy}
 use Rattle.std.specs.Cmp.Lexicographic.{slice_cmp}
@@ -34,7 +34,7 @@ use Rattle.store_machine.specs.Marking.{Marks}
 pub record Holds (t : Contents) (changes : List Change) : Type 0 where
   pub each : (key : Key) → state_in t key ≡ value key changes
 
--- and so will they once a plan is done
+-- the same, once a plan is applied
 pub record Plans (t : Contents) (p : Plan) (changes : List Change) : Type 0 where
   pub each : (key : Key) → state_now t p key ≡ value key changes
 
@@ -49,34 +49,34 @@ pub record Stands (rs : List SpaceRecord) (changes : List Change) : Type 0 where
   pub rise : IsStrictlySortedBy (slice_cmp nat_cmp) (map (λ (r : SpaceRecord). r.path) rs)
   pub finds : (path : List ℕ) → option_map valued.Space (dataspace_at path rs) ≡ value (Space path) changes
 
--- ---- calls in the making
+-- ---- calls in progress
 
--- a change was judged after those so far, and is planned where it is accepted
+-- a change was judged after those so far, and is planned if it is accepted
 pub record Judged (t : Contents) (p : Plan) (v : Verdict) (sofar : List Change) (c : Change) : Type 0 where
   pub given : v ≡ verdict sofar c
   pub plan : Plans t p (sofar_with sofar c)
 
--- a plan went on by a change with this verdict, whatever the changes so far are
+-- a change with this verdict was added to a plan, whatever the changes so far are
 abbrev pub Judges : Contents → Plan → Plan → Verdict → Change → Type 0
 Judges t old new v c = (sofar : List Change) → Plans t old sofar → Judged t new v sofar c
 
--- a list with a further item, where it is accepted
+-- a list with a further item, if it is accepted
 abbrev pub with_accepted : {X : Type 0} → Verdict → List X → X → List X
 with_accepted v xs x = if is_accepted v then xs ++ x ∷ [] else xs
 
--- an item under a name was judged, and taken where it is accepted
+-- an item under a name was judged, and taken if it is accepted
 pub record Takes {X : Type 0} (t : Contents) (sofar : List Change) (name : List ℕ) (x : X) (c : Change) (given given' : List (List ℕ × Verdict)) (taken taken' : List X) (p : Plan) : Type 0 where
   pub told : given' ≡ given ++ (name, verdict sofar c) ∷ []
   pub item : taken' ≡ with_accepted (verdict sofar c) taken x
   pub plan : Plans t p (sofar_with sofar c)
 
--- the items so far judged and those left make the verdicts and the accepted ones of all, and the plan has the accepted ones
+-- the items judged so far and those left make the verdicts and the accepted ones of all, and the plan has the accepted ones
 pub record Drafting {X : Type 0} (change : X → Change) (t : Contents) (sofar : List Change) (rest all : List (List ℕ × X)) (given : List (List ℕ × Verdict)) (taken : List X) (p : Plan) : Type 0 where
   pub verdicts : given ++ verdicts change (sofar ++ map change taken) rest ≡ verdicts change sofar all
   pub items : taken ++ accepted change (sofar ++ map change taken) (values_of rest) ≡ accepted change sofar (values_of all)
   pub plan : Plans t p (sofar ++ map change taken)
 
--- the state of a key once these operations are done over a value
+-- the state of a key once these operations are applied to a value
 abbrev pub after_ops : Key → List Op → Option Value → Option Value
 after_ops key ops before = fold left before (filter (λ c. alters c key) (map Operate ops))
 

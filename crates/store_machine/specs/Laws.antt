@@ -35,7 +35,7 @@ abbrev pub is_enter : Act → Bool
 is_enter Enter = true
 is_enter _ = false
 
--- a list of at most one
+-- a list of at most one item
 abbrev pub OneOrNone : {X : Type 0} → List X → Type 0
 OneOrNone [] = Unit {0}
 OneOrNone (x ∷ []) = Unit {0}
@@ -56,12 +56,12 @@ abbrev pub ChangesLeaveOthers : Type 0
 ChangesLeaveOthers = (key : Key) (before later : List Change)
     → list_any (λ c. alters c key) later ≡ false → value key (before ++ later) ≡ value key before
 
--- so does an entry that doesn't alter it
+-- an entry that doesn't alter it leaves its value
 abbrev pub EntriesLeaveOthers : Type 0
 EntriesLeaveOthers = (key : Key) (history : List Entry) (e : Entry)
     → entry_alters key e ≡ false → value_after key (history ++ e ∷ []) ≡ value_after key history
 
--- the default dataspace is always there as it is from the first
+-- the default dataspace always exists in its initial state
 abbrev pub DefaultStays : Type 0
 DefaultStays = (changes : List Change) → value (Space []) changes ≡ Some (valued.Space default_dataspace)
 
@@ -75,12 +75,12 @@ DoorIsSession = (config : Config) (history : List Entry) → Legal config histor
 abbrev pub NumbersStay : Type 0
 NumbersStay = (history later : List Entry) (by : ℕ) → IsNumber history by → IsNumber (history ++ later) by
 
--- what a session's call adds stands under its number, as its next, at the moment of the call
+-- what a session's call adds is under its number, as its next, at the moment of the call
 abbrev pub EntriesAreTheSessions : Type 0
 EntriesAreTheSessions = (config : Config) (history : List Entry) (by nth : ℕ) (at : ℤ) (c : StoreCall)
     → IsCallAt history c → AllByRecursion (IsEntryOf by nth at) (entries_of config history by nth at c)
 
--- no entry stands under the number that the next session will have
+-- there is no entry under the number that the next session will have
 abbrev pub NextNumberIsFresh : Type 0
 NextNumberIsFresh = (config : Config) (history : List Entry) → Legal config history → own (length history) history ≡ []
 
@@ -111,45 +111,45 @@ FullStaysFull = (config : Config) (history later : List Entry)
 
 -- ---- streams and news
 
--- whoever was told the stream of a channel, with replacements and truncations, has the channel's points from its start on
+-- whoever was sent the stream of a channel, with replacements and truncations, has the channel's points from its start on
 abbrev pub StreamIsCopied : Type 0
 StreamIsCopied = (config : Config) (history : List Entry) (id start : ℤ) (m : ℕ)
     → Legal config history → m ≤ length history → copy (stream id start true m history) ≡ past start (channel_points id history)
 
--- news never go past the journal
+-- news never go past the end of the journal
 abbrev pub NewsStayWithin : Type 0
 NewsStayWithin = (config : Config) (history : List Entry) (subs : List Sub) (cursor : ℕ)
     → cursor ≤ length history → cursor + length (taken 0 0 (dues config subs cursor (drop cursor history))) ≤ length history
 
--- what is told are the due changes of the entries from the cursor on that were taken
+-- what is sent are the due changes of the entries from the cursor on that were taken
 abbrev pub NewsAreTheDue : Type 0
 NewsAreTheDue = (config : Config) (history : List Entry) (subs : List Sub) (cursor : ℕ)
     → joined (taken 0 0 (dues config subs cursor (drop cursor history)))
     ≡ joined (dues config subs cursor (take (length (taken 0 0 (dues config subs cursor (drop cursor history)))) (drop cursor history)))
 
--- of one channel they are its changes that are due
+-- for one channel they are its changes that are due
 abbrev pub NewsOfEach : Type 0
 NewsOfEach = (config : Config) (subs : List Sub) (k place : ℕ) (entries : List Entry)
     → k < length config.channels → filter (λ (c : ChannelChange). int_eq c.channel (pos k)) (joined (dues config subs place entries)) ≡ filter (is_due subs) (changes_from place (pos k) entries)
 
 -- ---- transactions
 
--- where no entry at or past a mark alters a key, its value is the same at every place from there on
+-- if no entry at or past a mark alters a key, its value is the same at every place from there on
 abbrev pub ValuesStayBetween : Type 0
 ValuesStayBetween = (key : Key) (mark more : ℕ) (history : List Entry)
     → clash key mark history ≡ None → value_after key (take (mark + more) history) ≡ value_after key history
 
--- where there is no conflict, none of the touched keys was altered
+-- if there is no conflict, none of the touched keys was altered
 abbrev pub NoConflictIsFree : Type 0
 NoConflictIsFree = (ts : List Touch) (history : List Entry)
     → conflict ts history ≡ None → AllByRecursion (λ (t : Touch). clash t.key t.mark history ≡ None) ts
 
--- a place, where there is one, is at or past another
+-- a place, if there is one, is at or past another
 abbrev pub IsFrom : ℕ → Option ℕ → Type 0
 IsFrom place None = Unit {0}
 IsFrom place (Some later) = place ≤ later
 
--- a conflict stands at the first place at which a touched key was altered
+-- a conflict is at the first place at which a touched key was altered
 abbrev pub ConflictIsFirst : Type 0
 ConflictIsFirst = (ts : List Touch) (history : List Entry) (place : ℕ) → conflict ts history ≡ Some place
     → Any (λ (t : Touch). clash t.key t.mark history ≡ Some place) ts × AllByRecursion (λ (t : Touch). IsFrom place (clash t.key t.mark history)) ts

@@ -12,7 +12,7 @@ use Rattle.store_machine.specs.Answers.{granted, entered}
 abbrev pub own : ℕ → List Entry → List Entry
 own by history = filter (λ (e : Entry). e.by == by) history
 
--- a number is a session's, and so many entries of it stand so far
+-- a number is a session's, and the session has this many entries so far
 pub record IsNext (history : List Entry) (by nth : ℕ) : Type 0 where
   pub session : IsSomeAnd (slice_get history by) (λ (e : Entry). e.act ≡ Enter)
   pub entries : nth ≡ length (own by history)

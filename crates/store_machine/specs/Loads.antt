@@ -43,7 +43,7 @@ abbrev pub adds_entry : Load → Bool
 adds_entry (Append items) = not (length items == 0)
 adds_entry (Replace channels from to items) = not (length channels == 0)
 
--- an error refuses a call by this code; want of memory refuses none
+-- an error refuses a call with this code; running out of memory refuses none
 abbrev pub IsRefusedBy : ChannelError → ErrorCode → Type 0
 IsRefusedBy (fault.NoChannel id) code = code ≡ code_of (fault.NoChannel id)
 IsRefusedBy (fault.Index id) code = code ≡ code_of (fault.Index id)
@@ -54,7 +54,7 @@ IsRefusedBy (fault.Order id) code = code ≡ code_of (fault.Order id)
 IsRefusedBy (fault.Outside id) code = code ≡ code_of (fault.Outside id)
 IsRefusedBy fault.NoMemory code = ⊥
 
--- an entry was added and did to the channels what it does, or a refusal left all as it was
+-- an entry was added and did to the channels what it does, or a refusal left everything as it was
 abbrev pub Adds : Option ErrorCode → Entry → List Entry → List Entry → List Channel → List Channel → Type 0
 Adds None e old new before after = (new ≡ old ++ e ∷ []) × (after ≡ changed (length old) e.at (what_of e.act) before)
 Adds (Some code) e old new before after = (new ≡ old) × (after ≡ before)
@@ -69,20 +69,20 @@ abbrev pub unless_refused : Option ErrorCode → List Entry → Entry → List E
 unless_refused None journal e = journal ++ e ∷ []
 unless_refused (Some code) journal e = journal
 
--- the reply where there is no room for the entry
+-- the reply if there is no room for the entry
 abbrev pub without_room : Option ErrorCode → Reply
 without_room None = replied.JournalFull
 without_room (Some code) = replied.Refused code
 
--- ---- truncations in the making
+-- ---- truncations in progress
 
--- a cut was judged beside the channels that earlier items name, and taken where it is accepted
+-- a cut was judged together with the channels that earlier items name, and taken if it is accepted
 pub record TakesCut (cs : List Channel) (name : List ℕ) (c : Cutting) (given given' : List (List ℕ × Verdict)) (taken taken' : List Cutting) (named named' : List ℤ) : Type 0 where
   pub told : given' ≡ given ++ (name, cut_verdict (cut_refusal cs named (cut_of c))) ∷ []
   pub item : taken' ≡ with_accepted (cut_verdict (cut_refusal cs named (cut_of c))) taken c
   pub names : named' ≡ named ++ c.channel ∷ []
 
--- the cuts so far judged and those left make the verdicts and the accepted ones of all
+-- the cuts judged so far and those left make the verdicts and the accepted ones of all
 pub record CutDrafting (cs : List Channel) (rest all : List (List ℕ × Cutting)) (given : List (List ℕ × Verdict)) (taken : List Cutting) (named : List ℤ) : Type 0 where
   pub verdicts : given ++ cut_verdicts cs named rest ≡ cut_verdicts cs [] all
   pub items : taken ++ cuts_accepted cs named (values_of rest) ≡ cuts_accepted cs [] (values_of all)

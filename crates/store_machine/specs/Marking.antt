@@ -1,4 +1,4 @@
--- What the code knows of the entries by which keys were altered.
+-- What the code knows about which entries altered which keys.
 use Rattle.std.specs.Prelude.{ℕ, ◌≡◌, ◌≤◌, ◌&&◌, Bool, true, false, List, [], ◌∷◌, Option, None, drop, length}
 use Rattle.std.specs.List.{flat_map, list_any}
 use Rattle.entry_index.specs.Index.{places_of}
@@ -15,7 +15,7 @@ use Rattle.store_machine.specs.declared.journal.Entry.{Entry}
 use Rattle.store_machine.specs.Clash.{least}
 use Rattle.store_machine.specs.History.{Change, SetSpace, DropSpace, Operate, entry_changes}
 
--- ---- the keys that a change alters by itself, and what it removes with all that is in it
+-- ---- the keys that a change alters itself, and what it removes with everything in it
 
 abbrev pub key_if : Bool → Key → List Key
 key_if true key = key ∷ []
@@ -41,7 +41,7 @@ whole_keys (Operate o) = key_if (is_removal o.what && suits o.key o.what) o.key
 abbrev pub put_key : SpacePut → Key
 put_key p = Space p.path
 
--- what a key stands in
+-- the owners of a key
 abbrev pub containers : Key → List Key
 containers (Space p) = []
 containers (Object u) = Space u.space ∷ []
@@ -49,25 +49,25 @@ containers (Array k) = Object k.uri ∷ Space k.uri.space ∷ []
 
 -- ---- entries
 
--- an entry alters a key by itself, and removes it with all that is in it
+-- an entry alters a key itself, or removes it with everything in it
 abbrev pub entry_owns : Key → Entry → Bool
 entry_owns key e = list_any (same_key key) (flat_map own_keys (entry_changes e))
 
 abbrev pub entry_removes : Key → Entry → Bool
 entry_removes key e = list_any (same_key key) (flat_map whole_keys (entry_changes e))
 
--- these changes alter these keys by themselves, and remove these with all that is in them
+-- these changes alter these keys themselves, and remove these with everything in them
 pub record Alters (changes : List Change) (own whole : List Key) : Type 0 where
   pub own_is : own ≡ flat_map own_keys changes
   pub whole_is : whole ≡ flat_map whole_keys changes
 
--- the first place whose entry removed what a key stands in, as it is looked up
+-- the first place whose entry removed the owner of a key, as it is looked up
 abbrev pub owner_clash : Key → ℕ → List Entry → Option ℕ
 owner_clash (Space p) from history = None
 owner_clash (Object u) from history = first_where (entry_removes (Space u.space)) from (drop from history)
 owner_clash (Array k) from history = least (first_where (entry_removes (Object k.uri)) from (drop from history)) (first_where (entry_removes (Space k.uri.space)) from (drop from history))
 
--- an index has the places of the entries that altered each key by itself, and of those that removed it with all that is in it
+-- an index has the places of the entries that altered each key itself, and of those that removed it with everything in it
 pub record Marks (a : Alterations) (history : List Entry) : Type 0 where
   pub own : (key : Key) → places_of same_key a.own key ≡ places_where (entry_owns key) 0 history
   pub whole : (key : Key) → places_of same_key a.whole key ≡ places_where (entry_removes key) 0 history

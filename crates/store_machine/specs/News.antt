@@ -1,4 +1,4 @@
--- What subscriptions are to be told of, entry by entry.
+-- What is due to subscriptions, entry by entry.
 use Rattle.std.specs.Prelude.{ℕ, ℤ, pos, min, ◌+◌, ◌&&◌, ◌||◌, not, nat_lt, nat_le, Bool, true, false, List, [], ◌∷◌, if◌then◌else◌, length, filter, take, drop}
 use Rattle.std.specs.List.{flat_map, list_any, range_with_len}
 use Rattle.std.specs.Ordering.{int_eq}
@@ -21,11 +21,11 @@ use Rattle.store_machine.specs.Channels.{change_by, changes_from, channel_points
 abbrev pub changes_at_entry : Config → ℕ → Entry → List ChannelChange
 changes_at_entry config place e = flat_map (λ k. change_by place (pos k) e) (range_with_len 0 (length config.channels))
 
--- a change is due where some subscription is of its channel and told of its place
+-- a change is due if some subscription is for its channel and is sent changes at its place
 abbrev pub is_due : List Sub → ChannelChange → Bool
 is_due subs c = list_any (λ (s : Sub). int_eq s.channel c.channel && nat_le s.from c.place) subs
 
--- the due changes of entries in order, entry by entry; the first stands at `place`
+-- the due changes of entries in order, entry by entry; the first is at `place`
 abbrev pub dues : Config → List Sub → ℕ → List Entry → List (List ChannelChange)
 dues config subs place [] = []
 dues config subs place (e ∷ es) = filter (is_due subs) (changes_at_entry config place e) ∷ dues config subs (place + 1) es
@@ -40,8 +40,8 @@ lag ds = length (filter is_some_due ds)
 
 -- ---- what is taken
 
--- an entry's due changes fit behind so many, whose points count so much, if all together are at most 256 and count at most
--- 64 MiB; an entry without any does, and so does the first
+-- an entry's due changes fit after this many others, of this size, if all together are at most 256 and count at most 64 MiB; an entry
+-- without any fits, and so does the first
 abbrev pub fits_behind : ℕ → ℕ → List ChannelChange → Bool
 fits_behind n b d = not (is_some_due d) || (nat_le n 0 || (nat_le (n + length d) 256 && nat_le (b + weigh change_bytes d) 67108864))
 
@@ -55,8 +55,7 @@ joined ds = flat_map (λ (d : List ChannelChange). d) ds
 
 -- ---- the reply
 
--- by the due changes of the entries from `from` on, of a journal of the length `mark`: none of them where more than `limit`
--- entries have any
+-- by the due changes of the entries from `from` on, of a journal of the length `mark`: none of them if more than `limit` entries have any
 abbrev pub news_by : ℕ → ℕ → ℕ → List (List ChannelChange) → Reply
 news_by limit from mark ds =
     if nat_lt limit (lag ds) then replied.News mark (lag ds) []
@@ -69,7 +68,7 @@ news_after config history cursor subs =
 
 -- ---- streams
 
--- what a subscription of a channel is told that was made when the journal had the length `m`: the points from its start on, and
--- then each later change, from its start on and by its kind
+-- what a subscription of a channel is sent that was made when the journal had the length `m`: the points from its start on, and then each
+-- later change, from its start on and by its kind
 abbrev pub stream : ℤ → ℤ → Bool → ℕ → List Entry → List What
 stream id start all m history = told.stream start all (channel_points id (take m history)) (whats_of (changes_from m id (drop m history)))

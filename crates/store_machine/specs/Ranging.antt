@@ -7,7 +7,7 @@ use Rattle.store_machine.specs.declared.call.RangeAsk.{RangeAsk}
 use Rattle.store_machine.specs.declared.reads.Room.{Room}
 use Rattle.store_machine.specs.Reads.{behind, ranged}
 
--- a range joined those before it, or is refused, whatever ranges come behind
+-- a range joined those before it, or is refused, whatever ranges follow
 abbrev pub JoinsRange : Option ErrorCode → List Channel → RangeAsk → Room → Room → List ChannelPoint → List ChannelPoint → Type 0
 JoinsRange None cs a room left items more = (later : List RangeAsk) → behind more (ranged cs left later) ≡ behind items (ranged cs room (a ∷ later))
 JoinsRange (Some code) cs a room left items more = (later : List RangeAsk) → ranged cs room (a ∷ later) ≡ Err code

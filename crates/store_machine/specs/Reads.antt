@@ -30,23 +30,23 @@ whole_room = record { points = 1048576; bytes = 67108864 }
 abbrev pub fits : Room → List Point → Bool
 fits room ps = nat_le (length ps) room.points && nat_le (weigh point_bytes ps) room.bytes
 
--- the room that is left with these points in it, where they fit
+-- the room that is left with these points in it, if they fit
 abbrev pub room_with : Room → List Point → Option Room
 room_with room ps = if fits room ps then Some (record { points = room.points - length ps; bytes = room.bytes - weigh point_bytes ps }) else None
 
 -- ---- ranges
 
--- these points and then those of the ranges behind, where none is refused
+-- these points and then those of the following ranges, if none is refused
 abbrev pub behind : List ChannelPoint → Result (List ChannelPoint) ErrorCode → Result (List ChannelPoint) ErrorCode
 behind items (Ok more) = Ok (items ++ more)
 behind items (Err code) = Err code
 
--- the same where the points fit; `later` are the ranges behind, by the room that is left for them
+-- the same if the points fit; `later` are the following ranges, by the room that is left for them
 abbrev pub behind_fitting : List ChannelPoint → Option Room → (Room → Result (List ChannelPoint) ErrorCode) → Result (List ChannelPoint) ErrorCode
 behind_fitting items None later = Err LimitExceeded
 behind_fitting items (Some room) later = behind items (later room)
 
--- the same of a range that may be refused
+-- the same for a range that may be refused
 abbrev pub range_then : Room → ℤ → Result (List Point) ChannelError → (Room → Result (List ChannelPoint) ErrorCode) → Result (List ChannelPoint) ErrorCode
 range_then room id (Err e) later = Err (code_of e)
 range_then room id (Ok ps) later = behind_fitting (map (of_channel id) ps) (room_with room ps) later
@@ -60,7 +60,7 @@ abbrev pub range_reply : Result (List ChannelPoint) ErrorCode → Reply
 range_reply (Ok items) = replied.Points items
 range_reply (Err code) = replied.Refused code
 
--- ---- what is known of channels
+-- ---- what is known about channels
 
 -- the channel of an id: the indexes of its first and last points
 abbrev pub meta_of : List Channel → Option ℤ → MetaReply

@@ -21,24 +21,24 @@ use Rattle.store_machine.specs.Reads.{room_with}
 abbrev pub least_index : ℤ
 least_index = negsuc 4611686018427387903
 
--- the number that an integer is, 0 below it
+-- the number that an integer is, 0 if it is negative
 abbrev pub natural : ℤ → ℕ
 natural (pos n) = n
 natural (negsuc n) = 0
 
--- the index past the last one, or the least where there is none
+-- the index past the last one, or the least if there is none
 abbrev pub past_last : Option ℤ → ℤ
 past_last None = least_index
 past_last (Some i) = i +ℤ pos 1
 
--- the index at which a subscription starts: one that it names; that of its k-th point from the end, or the least index where
--- it has fewer; or the one behind its last point
+-- the index at which a subscription starts: one that it names; that of its k-th point from the end, or the least index if it has fewer; or
+-- the one after its last point
 abbrev pub start_of : List Point → Start → ℤ
 start_of xs (At i) = i
 start_of xs (Latest k) = unwrap_or (index_from_end (natural k) xs) least_index
 start_of xs Live = past_last (last_of xs)
 
--- an index in range, and a count from 1 on
+-- an index in range, and a count of at least 1
 abbrev pub is_start : Start → Bool
 is_start (At i) = in_range i
 is_start (Latest k) = int_lt (pos 0) k
@@ -46,7 +46,7 @@ is_start Live = true
 
 -- ---- starts among others
 
--- the points from an index on, where they fit into the room
+-- the points from an index on, if they fit into the room
 abbrev pub from_index : ℤ → List Point → Option Room → StartReply
 from_index start ps None = Refused LimitExceeded
 from_index start ps (Some left) = From start ps
@@ -58,7 +58,7 @@ begun (Some c) room s =
     if is_start s then from_index (start_of c.points s) (past (start_of c.points s) c.points) (room_with room (past (start_of c.points s) c.points))
     else Refused InvalidArgument
 
--- the room that is left behind a reply
+-- the room that is left after a reply
 abbrev pub room_behind : Room → StartReply → Room
 room_behind room (Refused code) = room
 room_behind room (From start ps) = unwrap_or (room_with room ps) room
@@ -71,7 +71,7 @@ started cs room (i ∷ is) =
 
 -- ---- what the code relies on
 
--- an index, where there is one, has a next one in 64 bits
+-- an index, if there is one, has a next one in 64 bits
 abbrev pub IsEnded : Option ℤ → Type 0
 IsEnded None = Unit {0}
 IsEnded (Some i) = in_range i ≡ true

@@ -1,4 +1,4 @@
-//! By which entries keys were altered.
+//! Which entries altered which keys.
 ghost use Rattle.std.specs.Prelude.{◌≡◌, ◌≤◌, ◌<◌, ◌-◌, ◌^◌, ◌++◌, ◌∷◌, ◌&&◌, [], ℤ, IfOk, OnOk, List as Items, drop, length, map};
 ghost use Rattle.std.specs.List.{flat_map};
 ghost use Rattle.entry_index.specs.Where.{first_where};
@@ -18,14 +18,14 @@ use etp_values::{Copied, List, NoMemory, Text};
 use std::alloc::Global;
 use tx_stage::{Key, Op, OpWhat, Touch};
 
-/// The keys that an act alters: each that it sets or removes by itself, and those that it removes with all that is in them.
+/// The keys that an act alters: each that it sets or removes itself, and those that it removes with everything in them.
 #[derive(Drop)]
 pub(crate) struct Altered {
     own: List<Key>,
     whole: List<Key>,
 }
 
-/// The places of the entries that altered each key by itself, and that removed each dataspace and object with all that is in it.
+/// The places of the entries that altered each key itself, and that removed each dataspace and object with everything in it.
 #[derive(Drop)]
 pub(crate) struct Alterations {
     own: EntryIndex<Key>,
@@ -52,7 +52,7 @@ fn path_keys(alloc: Global, paths: &List<Text>) -> Result<List<Key>, NoMemory>
     Ok(List::from_vec(keys))
 }
 
-/// Adds a key to others, where it is altered.
+/// Adds a key to others, if it is altered.
 fn push_if(keys: &mut Vec<Key>, alloc: Global, altered: bool, key: &Key) -> Result<(), NoMemory>
     ensures { OnOk result (keys.new.items ≡ keys.old.items ++ key_if altered key.now) }
 {
@@ -63,7 +63,7 @@ fn push_if(keys: &mut Vec<Key>, alloc: Global, altered: bool, key: &Key) -> Resu
     Ok(())
 }
 
-/// The keys that operations alter by themselves.
+/// The keys that operations alter themselves.
 fn own_keys(alloc: Global, ops: &List<Op>) -> Result<List<Key>, NoMemory>
     ensures { IfOk result (λ k. k ≡ flat_map own_keys (map Operate ops.now)) }
 {
@@ -74,7 +74,7 @@ fn own_keys(alloc: Global, ops: &List<Op>) -> Result<List<Key>, NoMemory>
     Ok(List::from_vec(keys))
 }
 
-/// Whether an operation removes what is at its key with all that is in it.
+/// Whether an operation removes what is at its key with everything in it.
 fn removes(op: &Op) -> bool
     ensures { result ≡ (is_removal op.now.what && suits op.now.key op.now.what) }
 {
@@ -86,7 +86,7 @@ fn removes(op: &Op) -> bool
     }
 }
 
-/// The keys that operations remove with all that is in them.
+/// The keys that operations remove with everything in them.
 fn removed_keys(alloc: Global, ops: &List<Op>) -> Result<List<Key>, NoMemory>
     ensures { IfOk result (λ k. k ≡ flat_map whole_keys (map Operate ops.now)) }
 {
@@ -148,7 +148,7 @@ impl Altered {
 }
 
 impl Alterations {
-    /// Of the door's entry alone.
+    /// With only the door's entry.
     pub(crate) fn new(alloc: Global) -> Alterations
         ensures { Marks result (door ∷ []) }
     {
@@ -168,7 +168,7 @@ impl Alterations {
         self.whole.reserve(altered.whole.len())
     }
 
-    /// Notes the keys of the entry at a place. It takes no memory.
+    /// Notes the keys of the entry at a place. It does not allocate.
     pub(crate) fn note(&mut self, place: u64, altered: Altered)
         requires own_room { length altered.own ≤ self.old.own.spare }
         requires whole_room { length altered.whole ≤ self.old.whole.spare }
@@ -183,7 +183,7 @@ impl Alterations {
         self.whole.note(place, whole);
     }
 
-    /// The first place from a place on whose entry altered a key by itself.
+    /// The first place from a place on whose entry altered a key itself.
     fn own_first(&self, key: &Key, from: u64) -> Option<u64>
         ensures { (history : Items AnEntry) → Marks self.now history
             → result ≡ first_where (entry_owns key.now) from (drop from history) }
@@ -191,7 +191,7 @@ impl Alterations {
         self.own.first_from(key, from)
     }
 
-    /// The first place from a place on whose entry removed a dataspace or an object with all that is in it.
+    /// The first place from a place on whose entry removed a dataspace or an object with everything in it.
     fn removed_first(&self, key: &Key, from: u64) -> Option<u64>
         ensures { (history : Items AnEntry) → Marks self.now history
             → result ≡ first_where (entry_removes key.now) from (drop from history) }
@@ -199,7 +199,7 @@ impl Alterations {
         self.whole.first_from(key, from)
     }
 
-    /// The same of the dataspace of a path.
+    /// The same for the dataspace of a path.
     fn space_gone(&self, alloc: Global, path: &Text, from: u64) -> Result<Option<u64>, NoMemory>
         ensures { IfOk result (λ p. (history : Items AnEntry) → Marks self.now history
             → p ≡ first_where (entry_removes (keyed.Space path.now)) from (drop from history)) }
@@ -223,7 +223,7 @@ impl Alterations {
         Ok(earlier(self.removed_first(&Key::Object(uri), from), space))
     }
 
-    /// The first place from a place on whose entry removed what a key stands in.
+    /// The first place from a place on whose entry removed the owner of a key.
     fn owner_gone(&self, alloc: Global, key: &Key, from: u64) -> Result<Option<u64>, NoMemory>
         ensures { IfOk result (λ p. (history : Items AnEntry) → Marks self.now history → p ≡ owner_clash key.now from history) }
     {
@@ -242,8 +242,8 @@ impl Alterations {
         Ok(earlier(self.own_first(key, from), owner))
     }
 
-    /// The first place whose entry altered a key that was touched before. Each touched key costs three look-ups at most, each of
-    /// them the logarithm of how often its key was altered.
+    /// The first place whose entry altered a key that was touched before. Each touched key costs at most three look-ups, each of them the
+    /// logarithm of how often its key was altered.
     pub(crate) fn conflict(
         &self,
         alloc: Global,
@@ -259,7 +259,7 @@ impl Alterations {
     }
 }
 
-/// The lesser of two places, where there are two.
+/// The lesser of two places, if there are two.
 fn earlier(one: Option<u64>, other: Option<u64>) -> Option<u64>
     ensures { result ≡ least one other }
 {

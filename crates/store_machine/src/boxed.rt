@@ -1,4 +1,4 @@
-//! Points of channels behind a pointer, for acts whose other variants are small.
+//! Boxed points of channels, for acts whose other variants are small.
 ghost use Rattle.std.specs.Prelude.{◌≡◌, IfOk};
 
 use channel_points::ChannelPoints;
@@ -6,7 +6,7 @@ use etp_values::NoMemory;
 use std::alloc::Global;
 use std::marker::Model;
 
-/// [`ChannelPoints`] that take the room of one pointer where they stand. A contract sees the list of them.
+/// [`ChannelPoints`] that take the room of one pointer in whatever holds them. A contract sees the list of them.
 #[derive(Debug, Drop)]
 pub struct BoxedItems {
     inner: Box<ChannelPoints>,
@@ -22,7 +22,7 @@ impl Model for BoxedItems {
 }
 
 impl BoxedItems {
-    /// Moves points to the heap. Where memory is refused, they are dropped.
+    /// Moves points to the heap. If allocation fails, they are dropped.
     pub fn new(alloc: Global, items: ChannelPoints) -> Result<BoxedItems, NoMemory>
         ensures { IfOk result (λ b. b ≡ items) }
     {
@@ -31,14 +31,14 @@ impl BoxedItems {
         })
     }
 
-    /// The points, to be read.
+    /// Borrows the points.
     pub fn get(&self) -> &ChannelPoints
         ensures { result.now ≡ self.now }
     {
         &self.inner
     }
 
-    /// Puts points in the place of those that stand there. It takes no memory.
+    /// Replaces the points by these. It does not allocate.
     pub(crate) fn set(&mut self, items: ChannelPoints)
         ensures { self.new ≡ items }
     {

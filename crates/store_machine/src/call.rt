@@ -7,21 +7,21 @@ use object_store::SpaceRecord;
 use std::alloc::Global;
 use tx_stage::{Looked, Op, Staged, Want};
 
-/// A dataspace to be put: its path, and what its client says of it.
+/// A dataspace to be put: its path, and what its client says about it.
 #[derive(Debug, Drop, PartialEq, Eq)]
 pub struct SpacePut {
     pub path: Text,
     pub custom: Named<DataValue>,
 }
 
-/// A channel, and the index above which its points go.
+/// A channel, and the end above which its points are dropped.
 #[derive(Clone, Copy, Debug, Drop, PartialEq, Eq)]
 pub struct Cutting {
     pub channel: i64,
     pub end: i64,
 }
 
-/// A channel, and the interval of which the points are asked; both ends belong to it.
+/// A channel, and the interval whose points are requested, both ends included.
 #[derive(Clone, Copy, Debug, Drop, PartialEq, Eq)]
 pub struct RangeAsk {
     pub channel: i64,
@@ -34,13 +34,13 @@ pub struct RangeAsk {
 pub enum Start {
     /// At an index.
     At(i64),
-    /// At the last so many points.
+    /// At this many of the last points.
     Latest(i32),
     /// Past the last point.
     Live,
 }
 
-/// A subscription to be made: whether it is told of replacements and truncations too.
+/// A subscription to be made, with whether it is sent replacements and truncations too.
 #[derive(Clone, Copy, Debug, Drop, PartialEq, Eq)]
 pub struct StartAsk {
     pub channel: i64,
@@ -57,15 +57,15 @@ pub enum StoreCall {
     Spaces {
         newer: Option<i64>,
     },
-    /// Makes dataspaces, or replaces their custom data.
+    /// Creates dataspaces, or replaces their custom data.
     PutSpaces {
         items: Named<SpacePut>,
     },
-    /// Removes dataspaces by their paths, with all that is in them.
+    /// Removes dataspaces by their paths, with everything in them.
     DropSpaces {
         items: Named<Text>,
     },
-    /// Looks at what stands at keys.
+    /// Looks at what is at keys.
     Look {
         items: List<Want>,
     },
@@ -77,11 +77,11 @@ pub enum StoreCall {
     Commit {
         staged: Staged,
     },
-    /// Adds points behind the last ones of their channels.
+    /// Adds points after the last ones of their channels.
     Append {
         items: List<ChannelPoint>,
     },
-    /// Puts points in the place of those from `from` to `to`, in each of the channels.
+    /// Replaces the points from `from` to `to` by these, in each of the channels.
     Replace {
         channels: List<i64>,
         from: i64,
@@ -92,7 +92,7 @@ pub enum StoreCall {
     Truncate {
         items: Named<Cutting>,
     },
-    /// Gives the points of intervals.
+    /// Returns the points of intervals.
     Range {
         items: List<RangeAsk>,
     },
@@ -100,11 +100,11 @@ pub enum StoreCall {
     Meta {
         items: Named<StoreUri>,
     },
-    /// Finds where subscriptions start, and gives the points from there on.
+    /// Finds where subscriptions start, and returns the points from there on.
     Subscribe {
         items: Named<StartAsk>,
     },
-    /// Tells subscriptions of the changes from a place of the journal on.
+    /// Returns the changes, from a place of the journal on, that are due to subscriptions.
     News {
         cursor: u64,
         subs: List<Sub>,
@@ -113,16 +113,16 @@ pub enum StoreCall {
 
 /// What becomes of an item.
 ///
-/// A put or a drop of the default dataspace is refused by `RequestDenied`, a drop of one that is not there by `NotFound`. An
-/// operation that does not go with its key is refused by `InvalidArgument`, one without what it needs by `NotFound`, and a
-/// patch that does not fit by the code of its fault.
+/// Putting or dropping the default dataspace is refused by `RequestDenied`, dropping one that does not exist by `NotFound`. An operation
+/// that does not suit its key is refused by `InvalidArgument`, one without what it needs by `NotFound`, and a patch that does not fit by
+/// the code of its fault.
 #[derive(Clone, Copy, Debug, Drop, PartialEq, Eq)]
 pub enum Verdict {
     Accepted,
     Refused(ErrorCode),
 }
 
-/// What is known of a channel: its id, and the indexes of its first and last points.
+/// What is known about a channel: its id, and the indexes of its first and last points.
 #[derive(Clone, Copy, Debug, Drop, PartialEq, Eq)]
 pub enum MetaReply {
     Known {
@@ -157,17 +157,17 @@ pub enum Reply {
     Committed,
     /// An entry at this place changed a key that the transaction had touched before.
     Conflict(u64),
-    /// There is no room in the journal for the entry that the call would add.
+    /// The journal has no room for the entry that the call would add.
     JournalFull,
     /// The call is refused as a whole.
     Refused(ErrorCode),
     /// The points of the intervals, in order.
     Points(List<ChannelPoint>),
-    /// What is known of each channel.
+    /// What is known about each channel.
     Metas(Named<MetaReply>),
     /// Where each subscription starts.
     Started(Named<StartReply>),
-    /// The changes of the entries up to the place `upto`, and how many entries have changes to be told of.
+    /// The changes of the entries up to the place `upto`, and how many entries have due changes.
     News {
         upto: u64,
         lag: u64,
@@ -175,7 +175,7 @@ pub enum Reply {
     },
 }
 
-/// A reply, and the length of the journal that it was made from.
+/// A reply, and the length of the journal from which it was made.
 #[derive(Drop)]
 pub struct Answer {
     pub mark: u64,

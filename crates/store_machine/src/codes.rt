@@ -1,4 +1,4 @@
-//! The codes by which calls on channels are refused.
+//! The codes with which calls on channels are refused.
 ghost use Rattle.std.specs.Prelude.{◌≡◌, IfOk, Option as Maybe};
 ghost use Rattle.std.specs.Option.{option_map};
 ghost use Rattle.channel_store.specs.Refusals.{Refuses};
@@ -9,7 +9,7 @@ ghost use Rattle.store_machine.specs.Loads.{IsRefusedBy};
 use channel_store::ChannelError;
 use etp_values::{ErrorCode, NoMemory};
 
-/// The code of an error that refuses a call; want of memory refuses none.
+/// The code of an error that refuses a call; running out of memory refuses none.
 pub(crate) fn refusal_code(error: ChannelError) -> Result<ErrorCode, NoMemory>
     ensures { IfOk result (IsRefusedBy error) }
 {

@@ -11,13 +11,13 @@ use channel_points::point_bytes;
 use etp_values::{ChannelPoint, List, Text, custom_weight};
 use tx_stage::{ops_bytes, touched_bytes};
 
-/// How many bytes the entries of a journal count at most.
+/// The greatest number of bytes that the entries of a journal count.
 pub const MAX_JOURNAL_BYTES: u64 = 536_870_912;
 
-/// What an entry counts besides its items.
+/// What an entry counts, not including its items.
 pub(crate) const ENTRY_BYTES: u64 = 64;
 
-/// What an item counts besides its texts and values.
+/// What an item counts, not including its texts and values.
 const ITEM_BYTES: u64 = 64;
 
 fn puts_bytes(puts: &List<SpacePut>) -> u64
@@ -41,13 +41,13 @@ fn paths_bytes(paths: &List<Text>) -> u64
     sum
 }
 
-/// What a channel counts whose points are replaced.
+/// What a channel whose points are replaced counts.
 const REPLACED_BYTES: u64 = 32;
 
-/// What a channel counts that is cut.
+/// What a channel that is truncated counts.
 const CUT_BYTES: u64 = 16;
 
-/// As `ChannelPoints::bytes`, of points that are not kept yet.
+/// Like `ChannelPoints::bytes`, for points that are not kept yet.
 pub(crate) fn points_bytes(items: &List<ChannelPoint>) -> u64
     ensures { result ≡ capped (weigh item_bytes items.now) }
 {
@@ -67,7 +67,7 @@ pub(crate) fn replaced_bytes(channels: &List<i64>, items: &List<ChannelPoint>) -
         .saturating_add(points_bytes(items))
 }
 
-/// So many channels that are cut.
+/// This many channels that are truncated.
 pub(crate) fn cuts_bytes(cuts: usize) -> u64
     ensures { result ≡ capped (16 * cuts) }
 {
@@ -98,8 +98,8 @@ fn items_bytes(act: &Act) -> u64
     }
 }
 
-/// What the entries count together after a further one of this act, if the journal takes it. The journal has so many
-/// `entries` of at most `limit`, which count `bytes`.
+/// What the entries count together with one more entry of this act, if the journal accepts it. The journal has `entries` entries, at most
+/// `limit`, which count `bytes`.
 pub(crate) fn bytes_with(limit: u64, entries: u64, bytes: u64, act: &Act) -> Option<u64>
     requires { bytes ≤ MAX_JOURNAL_BYTES }
     ensures { result ≡ bytes_with limit entries bytes act.now }
@@ -107,7 +107,7 @@ pub(crate) fn bytes_with(limit: u64, entries: u64, bytes: u64, act: &Act) -> Opt
     bytes_after(limit, entries, bytes, items_bytes(act))
 }
 
-/// As [`bytes_with`], by what the act's items count.
+/// Like [`bytes_with`], by what the act's items count.
 pub(crate) fn bytes_after(limit: u64, entries: u64, bytes: u64, items: u64) -> Option<u64>
     requires { bytes ≤ MAX_JOURNAL_BYTES }
     ensures { (a : Acts) → items ≡ capped (act_bytes a) → result ≡ bytes_with limit entries bytes a }

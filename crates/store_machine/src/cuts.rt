@@ -1,4 +1,4 @@
-//! Truncations in the making, and done.
+//! Truncations, prepared and done.
 ghost use Rattle.std.specs.Prelude.{◌≡◌, ◌++◌, ◌∷◌, [], IfOk, OnErr, OnOk, None, length, map};
 ghost use Rattle.std.specs.Map.{values_of};
 ghost use Rattle.channel_store.specs.Refusals.{cut_refusal, truncate_refusal};
@@ -37,7 +37,7 @@ impl CutDraft {
         }
     }
 
-    /// Notes the verdict on a cut, and takes the cut where it is accepted.
+    /// Notes the verdict on a cut, and takes the cut if it is accepted.
     fn note(&mut self, name: Text, verdict: Verdict, cut: Cutting) -> Result<(), NoMemory>
         ensures verdicts { OnOk result (
             self.new.verdicts.items ≡ self.old.verdicts.items ++ (name, verdict) ∷ []) }
@@ -81,7 +81,7 @@ fn take_cut(
     Ok(())
 }
 
-/// Judges truncations, each beside all channels that an earlier item names.
+/// Judges truncations, each together with all channels that an earlier item names.
 pub(crate) fn draft_cuts(
     alloc: Global,
     channels: &ChannelStore,
@@ -98,7 +98,7 @@ pub(crate) fn draft_cuts(
     Ok(draft)
 }
 
-/// The channels that are cut.
+/// The channels that are truncated.
 fn channels_of(alloc: Global, cuts: &List<Cutting>) -> Result<List<i64>, NoMemory>
     ensures { IfOk result (λ l. l ≡ map (λ c. c.channel) cuts.now) }
 {
@@ -122,7 +122,7 @@ fn ends_of(alloc: Global, cuts: &List<Cutting>) -> Result<List<i64>, NoMemory>
     Ok(List::from_vec(ends))
 }
 
-/// Cuts channels, and adds the entry, once it has the memory for both.
+/// Truncates channels, and adds the entry, once it has allocated for both.
 pub(crate) fn add_cuts(
     alloc: Global,
     journal: &mut Vec<Entry>,

@@ -1,4 +1,4 @@
-//! A call in the making: its items judged over the tables as they stand, before anything changes.
+//! A call in progress: its items are judged over the present tables, before anything changes.
 ghost use Rattle.std.specs.Prelude.{◌≡◌, ◌++◌, ◌∷◌, [], IfOk, OnOk, List as Items, map, pos};
 ghost use Rattle.std.specs.Map.{values_of};
 ghost use Rattle.store_machine.specs.Answers.{verdicts, accepted};
@@ -32,7 +32,7 @@ impl<T: Drop> Draft<T> {
         }
     }
 
-    /// Notes the verdict on an item, and takes the item where it is accepted.
+    /// Notes the verdict on an item, and takes the item if it is accepted.
     fn note(&mut self, name: Text, verdict: Verdict, item: T) -> Result<(), NoMemory>
         ensures verdicts { OnOk result (
             self.new.verdicts.items ≡ self.old.verdicts.items ++ (name, verdict) ∷ []) }
@@ -202,7 +202,7 @@ pub(crate) fn draft_ops(
     Ok(draft)
 }
 
-/// Plans operations in order, whatever stands.
+/// Plans operations in order, whatever exists.
 pub(crate) fn plan_ops(alloc: Global, contents: &Contents, ops: &List<Op>) -> Result<Plan, NoMemory>
     ensures { IfOk result (λ p. (sofar : Items Change) → Holds contents.now sofar
         → Plans contents.now p (sofar ++ map Operate ops.now)) }

@@ -25,9 +25,9 @@ pub enum Act {
     Put(List<Op>),
     /// A transaction that was committed.
     Commit(Staged),
-    /// Points that were added behind the last ones of their channels.
+    /// Points that were added after the last ones of their channels.
     Append(ChannelPoints),
-    /// Points in the place of those from `from` to `to`, in each of the channels.
+    /// Points that replaced those from `from` to `to`, in each of the channels.
     Replace {
         channels: List<i64>,
         from: i64,
@@ -38,7 +38,7 @@ pub enum Act {
     Truncate(List<Cutting>),
 }
 
-/// One entry: the session's number, how many entries of that session stand before it, and the moment.
+/// One entry: the session's number, how many entries of that session come before it, and the moment.
 #[derive(Debug, Drop)]
 pub struct Entry {
     pub by: u64,
@@ -56,7 +56,7 @@ pub(crate) fn push_entry(journal: &mut Vec<Entry>, entry: Entry) -> Result<(), N
     Ok(())
 }
 
-/// Does a plan, and makes room for the entry of its act. It finds the keys that the act alters.
+/// Applies a plan, and makes room for the entry of its act. It finds the keys that the act alters.
 fn make_room(
     alloc: Global,
     journal: &mut Vec<Entry>,
@@ -81,7 +81,7 @@ fn make_room(
     Ok(altered)
 }
 
-/// Does a plan, and adds its entry, whose keys are noted, once it has the memory for the whole of it.
+/// Applies a plan, and adds its entry, whose keys are noted, once it has allocated for all of it.
 pub(crate) fn add_entry(
     alloc: Global,
     journal: &mut Vec<Entry>,

@@ -9,7 +9,7 @@ ghost use Rattle.store_machine.specs.Growth.{CallsKeepLegal};
 
 use channel_store::{accepted_calls, copy_is_points};
 
-/// The value of a key depends on the changes that alter it alone, and that of the default dataspace on none.
+/// The value of a key depends only on the changes that alter it, and that of the default dataspace on none.
 pub fn state_laws()
     ensures changes { ChangesLeaveOthers }
     ensures entries { EntriesLeaveOthers }
@@ -35,18 +35,18 @@ pub fn room_laws()
     ensures full { FullStaysFull }
 {}
 
-/// A journal stays legal with what the call adds of someone who may make it.
+/// A journal stays legal with what the call of someone who may make it adds.
 pub fn growth_laws()
     ensures legal { CallsKeepLegal }
 {}
 
-/// Where transactions conflict: with the first entry that altered a key which they had touched before.
+/// Where transactions conflict: with the first entry that altered a key that they had touched before.
 pub fn conflict_laws()
     ensures free { NoConflictIsFree }
     ensures first { ConflictIsFirst }
 {}
 
-/// What news tell: the due changes of the entries that were taken, which are in the journal; of each channel its own.
+/// What news contain: the due changes of the entries that were taken, which are in the journal; for each channel its own.
 pub fn news_laws()
     ensures bound { NewsStayWithin }
     ensures segment { NewsAreTheDue }

@@ -1,9 +1,8 @@
 //! The store: one journal of entries, and the answer to each call as a function of that journal.
 //!
-//! [`Store::ask`] answers a [`StoreCall`]. A call that changes the state adds one [`Entry`] to the journal, whose [`Act`]
-//! holds the accepted items; the state is what the changes of all entries left (`specs/History`), and what is answered
-//! depends on the journal and the call alone (`specs/Answers`). The tables of what stands now are kept beside the journal,
-//! and the invariant of [`Store`] ties them to it.
+//! [`Store::ask`] answers a [`StoreCall`]. A call that changes the state adds one [`Entry`] to the journal, whose [`Act`] holds the
+//! accepted items; the state is what the changes of all entries left (`specs/History`), and the answer depends only on the journal and the
+//! call (`specs/Answers`). Tables of the present state are kept besides the journal, and the invariant of [`Store`] ties them to it.
 #![tactic(auto)]
 
 mod alterations;

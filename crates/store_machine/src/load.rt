@@ -19,8 +19,7 @@ use channel_store::{ChannelError, ChannelStore};
 use etp_values::{ChannelPoint, ErrorCode, List, NoMemory};
 use std::alloc::Global;
 
-/// Points that go behind the last ones of their channels, or in the place of those from `from` to `to` in each channel of a
-/// list.
+/// Points that go after the last ones of their channels, or that replace those from `from` to `to` in each channel of a list.
 #[derive(Drop)]
 pub(crate) enum Load {
     Append(List<ChannelPoint>),
@@ -33,7 +32,7 @@ pub(crate) enum Load {
 }
 
 impl Load {
-    /// Whether it makes an entry where it is not refused: an append of items, a replacement in channels.
+    /// Whether it makes an entry if it is not refused: an append of items, a replacement in channels.
     pub(crate) fn adds_entry(&self) -> bool
         ensures { result ≡ adds_entry self.now }
     {
@@ -43,7 +42,7 @@ impl Load {
         }
     }
 
-    /// What its entry counts besides 64.
+    /// What its entry counts in addition to 64.
     pub(crate) fn bytes(&self) -> u64
         ensures { result ≡ capped (act_bytes (load_act self.now)) }
     {
@@ -57,7 +56,7 @@ impl Load {
         }
     }
 
-    /// Why the channels refuse it. Takes the memory that it would take, and changes nothing.
+    /// Why the channels refuse it. Allocates what the load would allocate, and changes nothing.
     pub(crate) fn refusal(&self, channels: &mut ChannelStore) -> Result<Option<ErrorCode>, NoMemory>
         ensures code { IfOk result (λ r. r ≡ option_map code_of (load_refusal channels.old self.now)) }
         ensures same { channels.new ≡ channels.old }
@@ -153,7 +152,7 @@ fn replace(
     }
 }
 
-/// Does what is loaded, and adds its entry, where the channels do not refuse it, once it has the memory for the whole of it.
+/// Performs the load, and adds its entry, if the channels do not refuse it, once it has allocated for all of it.
 pub(crate) fn add_load(
     alloc: Global,
     journal: &mut Vec<Entry>,

@@ -1,4 +1,4 @@
-//! The changes that subscriptions are to be told of.
+//! The changes that are due to subscriptions.
 ghost use Rattle.std.specs.Prelude.{ℕ, ◌≡◌, ◌≤◌, ◌++◌, ◌-◌, ◌+◌, [], IfOk, List as Items, OnOk, false, length, min, replicate, slice_get};
 ghost use Rattle.std.specs.Option.{option_copied};
 ghost use Rattle.etp_values.specs.Weight.{capped, weigh};
@@ -15,10 +15,10 @@ use channel_store::{ChannelChange, ChannelStore, Sub, change_bytes};
 use etp_values::{Copied, List, NoMemory};
 use std::alloc::Global;
 
-/// How many changes an answer has at most, unless they are one entry's.
+/// The greatest number of changes in an answer, unless they are one entry's.
 pub const MAX_CHANGES: usize = 256;
 
-/// What the points of these changes count at most, unless they are one entry's.
+/// The greatest size of the points of these changes, unless they are one entry's.
 pub const MAX_CHANGE_BYTES: u64 = 67_108_864;
 
 /// A channel that subscriptions follow from a place of the journal on.
@@ -28,7 +28,7 @@ struct Followed {
     from: u64,
 }
 
-/// How many of these channels lie below a subscription's.
+/// How many of these channels are below a subscription's.
 fn below(followed: &[Followed], sub: &Sub) -> usize
     ensures count { result ≡ below followed.now sub.now }
     ensures within { result ≤ length followed.now }
@@ -43,7 +43,7 @@ fn below(followed: &[Followed], sub: &Sub) -> usize
     count
 }
 
-/// The place from which on the channel at a place of these is followed, if it is the subscription's.
+/// The place from which the channel at an index of these is followed, if it is the subscription's.
 fn same_from(followed: &[Followed], place: usize, sub: &Sub) -> Option<u64>
     ensures { result ≡ same_from (slice_get followed.now place) sub.now }
 {
@@ -88,7 +88,7 @@ fn followed_by(alloc: Global, subs: &List<Sub>) -> Result<Vec<Followed>, NoMemor
     Ok(followed)
 }
 
-/// The change of a channel by the entry at a place, where it is followed there.
+/// The change of a channel by the entry at a place, if it is followed there.
 fn due_here<'a>(
     channels: &'a ChannelStore,
     each: &Followed,
@@ -102,7 +102,7 @@ fn due_here<'a>(
     channels.change_at(each.channel, place)
 }
 
-/// Sets the marks of the entries by which a channel that is followed is changed. The first mark is that of the entry at `place`.
+/// Sets the marks of the entries that change a followed channel. The first mark is that of the entry at `place`.
 fn mark_due(channels: &ChannelStore, each: &Followed, place: u64, marks: &mut [bool])
     ensures { marks.new
         ≡ marked each.now.from place (changes_at channels.now each.now.channel) marks.old }
@@ -110,7 +110,7 @@ fn mark_due(channels: &ChannelStore, each: &Followed, place: u64, marks: &mut [b
     channels.mark_changes(each.channel, each.from, place, marks);
 }
 
-/// Sets the marks of the entries with changes to be told of. The first mark is that of the entry at `place`.
+/// Sets the marks of the entries with due changes. The first mark is that of the entry at `place`.
 fn mark_all(channels: &ChannelStore, followed: &[Followed], place: u64, marks: &mut [bool])
     ensures { marks.new ≡ marked_by channels.now followed.now place marks.old }
 {
@@ -132,7 +132,7 @@ fn count_set(marks: &[bool]) -> u64
     count
 }
 
-/// So many marks, none of which is set.
+/// This many marks, none of which is set.
 fn no_marks(alloc: Global, count: u64) -> Result<Vec<bool>, NoMemory>
     ensures { IfOk result (λ m. m.items ≡ replicate count false) }
 {
@@ -141,8 +141,8 @@ fn no_marks(alloc: Global, count: u64) -> Result<Vec<bool>, NoMemory>
     Ok(marks)
 }
 
-/// The marks of the entries from `place` on, below `mark`, that have changes to be told of. Each change is visited once, and no
-/// entry is searched for.
+/// The marks of the entries from `place` on, below `mark`, that have due changes. Each change is visited once, and no entry is searched
+/// for.
 fn marks_from(
     alloc: Global,
     channels: &ChannelStore,
@@ -158,7 +158,7 @@ fn marks_from(
     Ok(marks)
 }
 
-/// The changes by the entry at a place that are to be told of, in the order of their channels.
+/// The due changes by the entry at a place, in the order of their channels.
 fn due_at(
     alloc: Global,
     channels: &ChannelStore,
@@ -194,7 +194,7 @@ struct Taken {
     bytes: u64,
 }
 
-/// Whether so many changes are taken behind others, if all of them then count so many bytes. The first always are.
+/// Whether this many changes are taken after others, if all of them then count this many bytes. The first always are.
 #[tactic(auto, using(crate::proofs::TakingLemmas::fits_empty, crate::proofs::TakingLemmas::fits_first, crate::proofs::TakingLemmas::fits_by_numbers))]
 fn fits(taken: usize, count: usize, bytes: u64) -> bool
     ensures { (b : ℕ) (due : Items AChange) → count ≡ length due → bytes ≡ capped (b + weigh change_bytes due)
@@ -206,7 +206,7 @@ fn fits(taken: usize, count: usize, bytes: u64) -> bool
     taken.saturating_add(count) <= MAX_CHANGES && bytes <= MAX_CHANGE_BYTES
 }
 
-/// Adds changes behind others.
+/// Adds changes after others.
 fn push_all(changes: &mut Vec<ChannelChange>, due: Vec<ChannelChange>) -> Result<(), NoMemory>
     ensures { OnOk result (changes.new.items ≡ changes.old.items ++ due.items) }
 {
@@ -217,7 +217,7 @@ fn push_all(changes: &mut Vec<ChannelChange>, due: Vec<ChannelChange>) -> Result
     Ok(())
 }
 
-/// Takes the changes by the entry at a place, where they fit.
+/// Takes the changes by the entry at a place, if they fit.
 fn take_entry(
     alloc: Global,
     channels: &ChannelStore,
@@ -240,7 +240,7 @@ fn take_entry(
     Ok(true)
 }
 
-/// Takes the changes by the entry at a place, where they fit. An entry that is not marked has none, and is not looked at.
+/// Takes the changes by the entry at a place, if they fit. An entry that is not marked has none, and is not looked at.
 fn take_marked(
     alloc: Global,
     channels: &ChannelStore,
@@ -261,8 +261,8 @@ fn take_marked(
     take_entry(alloc, channels, followed, place, taken)
 }
 
-/// Takes entries in order from `place` on as long as they fit, and answers the place up to which they were taken. It looks at the
-/// marked ones alone.
+/// Takes entries in order from `place` on as long as they fit, and returns the place up to which they were taken. It looks only at the
+/// marked ones.
 fn take_from(
     alloc: Global,
     channels: &ChannelStore,
@@ -293,7 +293,7 @@ fn take_from(
     Ok(from)
 }
 
-/// That nothing is told of.
+/// No changes.
 fn nothing(alloc: Global, upto: u64, lag: u64) -> Reply
     ensures { result ≡ replied.News upto lag [] }
 {
@@ -304,7 +304,7 @@ fn nothing(alloc: Global, upto: u64, lag: u64) -> Reply
     }
 }
 
-/// What the entries from `from` on tell those who follow these channels, by their marks.
+/// The changes of the entries from `from` on that are due to those who follow these channels, by their marks.
 #[tactic(auto, using(crate::proofs::LagLemmas::lag_marked, crate::proofs::TakingLemmas::news_lagged, crate::proofs::TakingLemmas::news_untold, crate::proofs::TakingLemmas::news_nobody, crate::proofs::TakingLemmas::news_here, crate::proofs::TakingLemmas::news_told))]
 fn news_from(
     alloc: Global,
@@ -345,8 +345,8 @@ fn news_from(
     })
 }
 
-/// What subscriptions are to be told of from `cursor` on, where the journal has the length `mark`. Where more than `limit`
-/// entries have such changes, it is none of them.
+/// The changes that are due to subscriptions from `cursor` on, if the journal has the length `mark`. If more than `limit` entries have such
+/// changes, none are returned.
 pub(crate) fn news(
     alloc: Global,
     channels: &ChannelStore,

@@ -13,13 +13,13 @@ use channel_store::{ChannelStore, PointSize};
 use etp_values::{ChannelPoint, ErrorCode, List, NoMemory, Point, StoreUri, Text};
 use std::alloc::Global;
 
-/// How many points an answer has at most.
+/// The greatest number of points in an answer.
 pub const MAX_POINTS: u64 = 1_048_576;
 
-/// What the points of an answer count at most.
+/// The greatest size of the points in an answer.
 pub const MAX_POINT_BYTES: u64 = 67_108_864;
 
-/// How much an answer may still have: points, and what they count.
+/// How much more an answer may hold: points, and what they count.
 #[derive(Clone, Copy, Debug, Drop)]
 pub(crate) struct Room {
     points: u64,
@@ -37,7 +37,7 @@ impl Room {
         }
     }
 
-    /// What is left once points of this size were put in, where they fit.
+    /// What is left once points of this size were put in, if they fit.
     pub(crate) fn without(self, size: PointSize) -> Option<Room>
         requires { self.bytes ≤ MAX_POINT_BYTES }
         ensures left { (points : Items APoint) → size ≡ size_of points → result ≡ room_with self points }
@@ -84,7 +84,7 @@ fn push_range(
     push_points(items, ask.channel, points)
 }
 
-/// Adds the points of a range to those of the ranges before it, where they fit; they are of this size.
+/// Adds the points of a range to those of the ranges before it, if they fit; they are of this size.
 fn take_sized(
     channels: &ChannelStore,
     ask: &RangeAsk,
@@ -155,7 +155,7 @@ fn meta(channels: &ChannelStore, uri: &StoreUri) -> MetaReply
     }
 }
 
-/// What is known of the channels of these URIs.
+/// What is known about the channels with these URIs.
 pub(crate) fn metas(
     alloc: Global,
     channels: &ChannelStore,

@@ -18,7 +18,7 @@ fn is_newer(newer: Option<i64>, dataspace: &SpaceRecord) -> bool
     }
 }
 
-/// Adds a copy of a dataspace to others, where it is newer.
+/// Adds a copy of a dataspace to others, if it is newer.
 fn push_newer(
     copies: &mut Vec<SpaceRecord>,
     alloc: Global,

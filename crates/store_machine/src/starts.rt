@@ -21,7 +21,7 @@ fn has(channels: &ChannelStore, channel: i64) -> bool
     channels.tail_size(channel, MAX_INDEX).is_ok()
 }
 
-/// Whether there can be such a start.
+/// Whether such a start is possible.
 fn is_start(start: Start) -> bool
     ensures { result ≡ is_start start }
 {
@@ -32,7 +32,7 @@ fn is_start(start: Start) -> bool
     }
 }
 
-/// The index of the last point but `count - 1`, or the least index where there are fewer points.
+/// The index of the last point but `count - 1`, or the least index if there are fewer points.
 fn latest(channels: &ChannelStore, channel: i64, count: i32) -> i64
     ensures { result ≡ unwrap_or (index_from_end (natural count) (points_at channels.now channel)) least_index }
 {
@@ -42,7 +42,7 @@ fn latest(channels: &ChannelStore, channel: i64, count: i32) -> i64
     }
 }
 
-/// The index past the last point, or the least index where there is none.
+/// The index past the last point, or the least index if there is none.
 fn past_last(channels: &ChannelStore, channel: i64) -> i64
     requires { IsEnded (last_of (points_at channels.now channel)) }
     ensures { result ≡ past_last (last_of (points_at channels.now channel)) }
@@ -65,7 +65,7 @@ fn start_of(channels: &ChannelStore, channel: i64, start: Start) -> i64
     }
 }
 
-/// The points from an index on, where they fit into the room of the answer; they are of this size.
+/// The points from an index on, if they fit into the room of the answer; they are of this size.
 fn from_sized(
     channels: &ChannelStore,
     channel: i64,
@@ -90,7 +90,7 @@ fn from_sized(
     Ok(StartReply::From { start, points })
 }
 
-/// The points of a channel that is there from an index on, where they fit into the room of the answer.
+/// The points of an existing channel from an index on, if they fit into the room of the answer.
 fn from_start(
     channels: &ChannelStore,
     channel: i64,

@@ -34,11 +34,11 @@ pub struct Store {
     journal: Vec<Entry>,
     /// What the entries count together.
     bytes: u64,
-    /// What stands now.
+    /// The present state.
     contents: Contents,
     /// The points and changes of the channels.
     channels: ChannelStore,
-    /// By which entries keys were altered.
+    /// Which entries altered which keys.
     alterations: Alterations,
 }
 
@@ -73,7 +73,7 @@ impl Model for Store {
 }
 
 impl Store {
-    /// A store whose journal has the door's entry alone.
+    /// A store whose journal has only the door's entry.
     pub fn new(alloc: Global, config: Config) -> Result<Store, NoMemory>
         ensures { IfOk result (λ s. s ≡ record { config = config; journal = door ∷ [] }) }
     {
@@ -113,8 +113,8 @@ impl Store {
         &self.journal[place as usize]
     }
 
-    /// Answers a call of a session, at a moment. `by` is the session's number and `nth` the number of its entries so
-    /// far; an Enter looks at neither.
+    /// Answers a call of a session, at a moment. `by` is the session's number and `nth` the number of its entries so far; an Enter uses
+    /// neither.
     pub fn ask(
         &mut self,
         alloc: Global,
@@ -409,7 +409,7 @@ impl Store {
         Ok(place)
     }
 
-    /// Commits a transaction of whose touched keys none was altered since.
+    /// Commits a transaction none of whose touched keys was altered since.
     fn commit_free(
         &mut self,
         alloc: Global,
@@ -461,7 +461,7 @@ impl Store {
         })
     }
 
-    /// Why the channels refuse what is loaded.
+    /// Why the channels refuse the load.
     fn load_refusal(&mut self, load: &Load) -> Result<Option<ErrorCode>, NoMemory>
         ensures code { IfOk result (λ r.
             r ≡ option_map code_of (load_refusal (channels_of self.old.config self.old.journal) load.now)) }
@@ -470,7 +470,7 @@ impl Store {
         load.refusal(&mut self.channels)
     }
 
-    /// Does what is loaded where the channels do not refuse it; `bytes` is what all entries then count.
+    /// Performs a load if the channels do not refuse it; `bytes` is what all entries then count.
     fn do_load(
         &mut self,
         alloc: Global,

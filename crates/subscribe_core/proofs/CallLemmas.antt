@@ -47,7 +47,7 @@ handed-told (c ∷ cs) v =
     ∙ ap (λ l. l ++ views_in cs (after c v)) (step-told c v)
     ∙ append_assoc v.pending (views_by c v) (views_in cs (after c v))
 
--- ---- at most so many
+-- ---- at most this many
 
 length-view : (start : ℤ) (all : Bool) (w : What) → length (view start all w) ≤ 1
 length-view start all (Append points) = by (past start points)

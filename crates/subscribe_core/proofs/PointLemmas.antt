@@ -1,4 +1,4 @@
--- The points of a list that are told, place by place.
+-- The points of a list that are sent, one by one.
 use Rattle.std.proofs.Common.{ℕ, zero, suc, ◌≡◌, ◌<◌, ℤ, true, false, cond, List, [], ◌∷◌, length, map, drop, Some, slice_get, ap, sym, subst, ◌∙◌, arith, add-one, append_assoc, ◌++◌, ◌+◌}
 use Rattle.std.proofs.lemmas.Option.{none-some, same_Some}
 use Rattle.etp_values.specs.declared.point.Point.{Point}
@@ -6,14 +6,14 @@ use Rattle.channel_store.specs.declared.change.What.TheVariants.{Append}
 use Rattle.channel_store.specs.Points.{at_most, append_of, past}
 use Rattle.subscribe_core.specs.Views.{IsTold, below}
 
--- the point at a place is not told
+-- the point at an index is not sent
 past-next : (s : ℤ) (xs : List Point) (k : ℕ) (i : ℤ) → slice_get (map (λ x. x.index) xs) k ≡ Some i → at_most s i ≡ false
     → past s (drop k xs) ≡ past s (drop (suc k) xs)
 past-next s [] k i h n = absurd (none-some i h)
 past-next s (x ∷ xs) zero i h n = ap (λ b. cond b (x ∷ past s xs) (past s xs)) (ap (at_most s) (same_Some x.index i h) ∙ n)
 past-next s (x ∷ xs) (suc k) i h n = past-next s xs k i h n
 
--- the point at a place is told
+-- the point at an index is sent
 past-told : (s : ℤ) (xs : List Point) (k : ℕ) (i : ℤ) (p : Point) → slice_get (map (λ x. x.index) xs) k ≡ Some i → slice_get xs k ≡ Some p
     → at_most s i ≡ true → past s (drop k xs) ≡ p ∷ past s (drop (suc k) xs)
 past-told s [] k i p h g n = absurd (none-some i h)
@@ -21,24 +21,24 @@ past-told s (x ∷ xs) zero i p h g n =
     ap (λ b. cond b (x ∷ past s xs) (past s xs)) (ap (at_most s) (same_Some x.index i h) ∙ n) ∙ ap (λ q. q ∷ past s xs) (same_Some x p g)
 past-told s (x ∷ xs) (suc k) i p h g n = past-told s xs k i p h g n
 
--- the points from the first on that is told
+-- the points from the first on that is sent
 pub first-told : (s : ℤ) (xs : List Point) (k : ℕ) (i : ℤ) → slice_get (map (λ x. x.index) xs) k ≡ Some i → at_most s i ≡ true → IsTold s (drop k xs)
 first-told s [] k i h n = absurd (none-some i h)
 first-told s (x ∷ xs) zero i h n = ap (at_most s) (same_Some x.index i h) ∙ n
 first-told s (x ∷ xs) (suc k) i h n = first-told s xs k i h n
 
--- where the first point is told, an append is left
+-- if the first point is sent, an append is left
 told-append : (s : ℤ) (xs : List Point) → IsTold s xs → 0 < length xs → Append (past s xs) ∷ [] ≡ append_of (past s xs)
 told-append s [] t n = let f : ⊥ = omega (arith, n) in absurd f
 told-append s (x ∷ xs) t n =
     ap (λ b. Append (cond b (x ∷ past s xs) (past s xs)) ∷ []) t ∙ sym (ap (λ b. append_of (cond b (x ∷ past s xs) (past s xs))) t)
 
--- behind the points that are skipped something is left
+-- after the points that are skipped something is left
 pub append-told : (s z : ℤ) → z ≡ s → (xs : List Point) (k : ℕ) → past z (drop k xs) ≡ past z xs → IsTold z (drop k xs) → 0 < length (drop k xs)
     → Append (past s (drop k xs)) ∷ [] ≡ append_of (past s xs)
 append-told s z e xs k h t n = subst (λ y. Append (past y (drop k xs)) ∷ [] ≡ append_of (past y xs)) e (told-append z (drop k xs) t n ∙ ap append_of h)
 
--- ---- one place further, with a start that went through a word
+-- ---- one index further, with a start that went through a word
 
 pub skipped-more : (s z : ℤ) → z ≡ s → (xs : List Point) (k : ℕ) (i : ℤ) → slice_get (map (λ x. x.index) xs) k ≡ Some i → at_most s i ≡ false
     → past z (drop k xs) ≡ past z xs → past z (drop (k + 1) xs) ≡ past z xs

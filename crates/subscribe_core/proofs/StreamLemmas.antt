@@ -1,4 +1,4 @@
--- What is told of one channel; for the crates above too.
+-- What is sent of one channel; for the crates above too.
 use Rattle.std.proofs.Common.{◌≡◌, ℤ, Bool, true, false, cond, ◌||◌, List, [], ◌∷◌, ◌++◌, length, map, filter, Option, Some, None, ap, sym, ◌∙◌, refl}
 use Rattle.std.specs.Prelude.{nat_le}
 use Rattle.std.specs.List.{flat_map, AllByRecursion}
@@ -85,7 +85,7 @@ with_sub-absent k s v n h = by (has_sub s.channel v.subs || nat_le 256 (length v
     by true = h
     by false = absent-push k v.subs s n h
 
--- a subscription stands after a call that doesn't end it
+-- a subscription exists after a call that doesn't end it
 stands : (k : ℤ) (x : Sub) (c : Call) (v : Subbed) → ends k c ≡ false → sub_of k v.subs ≡ Some x → sub_of k (after c v).subs ≡ Some x
 stands k x (Add s) v n h = with_sub-found k s x v h
 stands k x (Remove j) v n h = found-others k j n v.subs ∙ h

@@ -40,7 +40,7 @@ abbrev pub handed : List Call → Subbed → List ChannelChange
 handed [] v = []
 handed (c ∷ cs) v = handed_by c v ++ handed cs (after c v)
 
--- what the changes of a call are told as, each to the subscription that its channel has at that moment
+-- what the changes of a call are sent as, each to the subscription that its channel has at that moment
 abbrev pub views_by : Call → Subbed → List ChannelChange
 views_by (Add sub) v = []
 views_by (Remove channel) v = []
@@ -48,12 +48,12 @@ views_by RemoveAll v = []
 views_by (Fill upto changes) v = flat_map (told v.subs) changes
 views_by Next v = []
 
--- what the changes of calls are told as, in order
+-- what the changes of calls are sent as, in order
 abbrev pub views_in : List Call → Subbed → List ChannelChange
 views_in [] v = []
 views_in (c ∷ cs) v = views_by c v ++ views_in cs (after c v)
 
--- what was handed out, and then what is pending, is what was pending, and then what the changes that came in were told as
+-- what was handed out, followed by what is pending, is what was pending, followed by what the changes that came in are sent as
 abbrev pub HandedIsTold : Type 0
 HandedIsTold = (cs : List Call) (v : Subbed) → handed cs v ++ (after_all cs v).pending ≡ v.pending ++ views_in cs v
 
@@ -65,7 +65,7 @@ Fits RemoveAll v = Unit {0}
 Fits (Fill upto changes) v = length v.pending + length changes ≤ 256
 Fits Next v = Unit {0}
 
--- so do those of each call
+-- the changes of each call fit
 abbrev pub AllFit : List Call → Subbed → Type 0
 AllFit [] v = Unit {0}
 AllFit (c ∷ cs) v = Fits c v × AllFit cs (after c v)

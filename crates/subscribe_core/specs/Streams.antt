@@ -1,4 +1,4 @@
--- What is told of one channel.
+-- What is sent of one channel.
 use Rattle.std.specs.Prelude.{ℤ, ◌≡◌, Bool, true, false, List, [], ◌++◌, filter, Some, None}
 use Rattle.std.specs.List.{flat_map, AllByRecursion}
 use Rattle.std.specs.Ordering.{int_eq}
@@ -44,15 +44,15 @@ came_by Next = []
 abbrev pub came : List Call → List ChannelChange
 came cs = flat_map came_by cs
 
--- while a subscription stands, the stream from what was there at its beginning is those points, what was handed out since, and what
--- is pending
+-- while a subscription exists, the stream from what was there at its beginning is those points, what was handed out since, and what is
+-- pending
 abbrev pub StreamGoesOn : Type 0
 StreamGoesOn = (s : Sub) (there : List Point) (cs : List Call) (v : Subbed) → sub_of s.channel v.subs ≡ Some s
     → of_channel s.channel v.pending ≡ [] → AllByRecursion (λ c. ends s.channel c ≡ false) cs
     → append_of (past s.start there) ++ (of_channel s.channel (handed cs v) ++ of_channel s.channel (after_all cs v).pending)
     ≡ stream s.start s.all there (of_channel s.channel (came cs))
 
--- of a channel that has no subscription, and gets none, nothing is told
+-- nothing is sent of a channel that has no subscription, and gets none
 abbrev pub StaysSilent : Type 0
 StaysSilent = (channel : ℤ) (cs : List Call) (v : Subbed) → sub_of channel v.subs ≡ None → AllByRecursion (λ c. begins channel c ≡ false) cs
     → of_channel channel (views_in cs v) ≡ []

@@ -6,14 +6,14 @@ use Rattle.channel_store.specs.declared.change.ChannelChange.{ChannelChange}
 use Rattle.channel_store.specs.declared.subscription.Sub.{Sub}
 use Rattle.subscribe_core.specs.Views.{sub_of, told}
 
--- the subscriptions in the order in which they were added, the place of the journal up to which changes were asked for, and the
--- changes that are left to tell, as they are told
+-- the subscriptions in the order in which they were added, the place of the journal up to which changes were asked for, and the changes
+-- that are still to be sent, as they are sent
 pub record Subbed : Type 0 where
   pub subs : List Sub
   pub cursor : ℕ
   pub pending : List ChannelChange
 
--- no subscription, and nothing to tell
+-- no subscription, and nothing to send
 abbrev pub nothing : Subbed
 nothing = record { subs = []; cursor = 0; pending = [] }
 
@@ -30,7 +30,7 @@ abbrev pub cursor_with : List Sub → ℕ → Option ℕ
 cursor_with [] cursor = None
 cursor_with (s ∷ ss) cursor = Some cursor
 
--- from where on the store is to be asked for changes
+-- the place from which the store is to be asked for changes
 abbrev pub asked_from : Subbed → Option ℕ
 asked_from v = cursor_with v.subs v.cursor
 
@@ -39,7 +39,7 @@ abbrev pub cursor_after : List Sub → Sub → ℕ → ℕ
 cursor_after [] s cursor = s.from
 cursor_after (x ∷ xs) s cursor = cursor
 
--- one subscription more, unless its channel has one or there are 256
+-- one more subscription, unless its channel has one or there are 256
 abbrev pub with_sub : Sub → Subbed → Subbed
 with_sub s v = if has_sub s.channel v.subs || nat_le 256 (length v.subs) then v
     else record v { subs = v.subs ++ s ∷ []; cursor = cursor_after v.subs s v.cursor }

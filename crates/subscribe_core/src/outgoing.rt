@@ -1,4 +1,4 @@
-//! Changes as a subscription is told of them.
+//! Changes as a subscription is sent them.
 ghost use Rattle.std.specs.Prelude.{◌≡◌, ◌≤◌, ◌-ℤ◌, drop, length, option_map, pos, IfOk, IfSome};
 ghost use Rattle.std.specs.Int.{int_max};
 ghost use Rattle.channel_store.specs.Points.{append_of, past, view};
@@ -11,15 +11,15 @@ use channel_store::{ChannelChange, Sub, What};
 use etp_values::{List, NoMemory, Point};
 use std::alloc::Global;
 
-/// A change of which a subscription is to be told, from the subscription's start on.
+/// A change that a subscription is to be sent, from the subscription's start on.
 ///
-/// Its points are those of the change at or past the start. A replacement is told of its interval from `from` to `end`, and a
-/// truncation says that the points above `end` went.
+/// Its points are those of the change at or past the start. A replacement has its interval from `from` to `end`, and a truncation says that
+/// the points above `end` were dropped.
 #[derive(Debug, Drop, PartialEq, Eq)]
 pub struct Outgoing {
     /// The change as the store has it.
     pub change: ChannelChange,
-    /// How many of its first points lie below the start. They are not told, nor is a later one that lies below it.
+    /// How many of its first points are below the start. They are not sent, nor is a later one that is below it.
     pub skip: u64,
     /// The subscription's start.
     pub start: i64,
@@ -39,7 +39,7 @@ struct Clip {
 }
 
 impl Outgoing {
-    /// Copies of the points that are told, in their order. A truncation has none.
+    /// Copies of the points that are sent, in their order. A truncation has none.
     pub fn points(&self, alloc: Global) -> Result<List<Point>, NoMemory>
         ensures { IfOk result (λ r. r ≡ told_by (shown self.now).what) }
     {
@@ -53,7 +53,7 @@ impl Outgoing {
     }
 }
 
-/// Copies of the points at or past the start, behind the first `skip`.
+/// Copies of the points at or past the start, after the first `skip`.
 fn copy_told(alloc: Global, points: &Points, skip: u64, start: i64) -> Result<List<Point>, NoMemory>
     ensures { IfOk result (λ r. r ≡ past start (drop skip points.now)) }
 {
@@ -66,7 +66,7 @@ fn copy_told(alloc: Global, points: &Points, skip: u64, start: i64) -> Result<Li
     Ok(List::from_vec(copies))
 }
 
-/// How many of the first points lie below the start.
+/// How many of the first points are below the start.
 fn count_skipped(points: &Points, start: i64) -> usize
     ensures rest { past start (drop result points.now) ≡ past start points.now }
     ensures first { IsTold start (drop result points.now) }
@@ -81,7 +81,7 @@ fn count_skipped(points: &Points, start: i64) -> usize
     points.len()
 }
 
-/// An append, where a point is left of it.
+/// An append, if a point is left of it.
 fn clip_append(points: &Points, start: i64) -> Option<Clip>
     ensures told { listed (option_map (λ k. append_at start k.skip points.now) result)
         ≡ append_of (past start points.now) }
@@ -98,7 +98,7 @@ fn clip_append(points: &Points, start: i64) -> Option<Clip>
     })
 }
 
-/// A change, where something is left of it for a subscription.
+/// A change, if something is left of it for a subscription.
 fn clipped(what: &What, start: i64, all: bool) -> Option<Clip>
     ensures told { listed (option_map (λ k. clipped start k.skip k.from k.end what.now) result)
         ≡ view start all what.now }
@@ -129,14 +129,14 @@ fn clipped(what: &What, start: i64, all: bool) -> Option<Clip>
     }
 }
 
-/// The last index that a truncation leaves, where the points below the start are none of the subscription's.
+/// The last index that a truncation leaves, as the points below the start are not the subscription's.
 fn clip_end(end: i64, start: i64) -> i64
     ensures { result ≡ int_max end (start -ℤ pos 1) }
 {
     if end < start { start - 1 } else { end }
 }
 
-/// A change as the subscription of its channel is told of it, where there is one and something is left.
+/// A change as the subscription of its channel is sent it, if there is one and something is left.
 pub(crate) fn told(subs: &[Sub], change: ChannelChange) -> Option<Outgoing>
     ensures told { listed (option_map shown result) ≡ told subs.now change }
     ensures exact { IfSome result IsExact }

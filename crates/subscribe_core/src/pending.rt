@@ -1,4 +1,4 @@
-//! The changes that are left to tell.
+//! The changes that are still to be sent.
 ghost use Rattle.std.specs.Prelude.{◌≡◌, ◌<◌, ◌≤◌, ◌+◌, ◌-◌, ◌++◌, ◌∷◌, [], drop, length, option_map, slice_get, IfOk, IfSome};
 ghost use Rattle.std.specs.List.{flat_map};
 ghost use Rattle.subscribe_core.specs.Views.{IsExact, shown, told};
@@ -10,10 +10,10 @@ use etp_values::NoMemory;
 use std::alloc::Global;
 use std::marker::Model;
 
-/// The most changes that can be pending.
+/// The greatest number of changes that can be pending.
 pub const MAX_PENDING: u32 = 256;
 
-/// Changes to be told, first change first, in a ring whose room is made at once. A contract sees them as they are told.
+/// Changes to be sent, first change first, in a ring that is allocated at once. A contract sees them as they are sent.
 #[derive(Drop)]
 pub(crate) struct Pending {
     ring: HeapCircularBuffer<Outgoing>,
@@ -67,7 +67,7 @@ impl Pending {
         let _ = self.ring.push_back(outgoing);
     }
 
-    /// Adds a change as it is told.
+    /// Adds a change as it is sent.
     fn tell(&mut self, subs: &[Sub], change: ChannelChange)
         requires { length self.old < 256 }
         ensures told { self.new ≡ self.old ++ told subs.now change }
@@ -78,7 +78,7 @@ impl Pending {
         }
     }
 
-    /// Adds changes as they are told. Takes no memory.
+    /// Adds changes as they are sent. It does not allocate.
     pub(crate) fn tell_all(&mut self, subs: &[Sub], changes: Vec<ChannelChange>)
         requires { length self.old + length changes.items ≤ 256 }
         ensures { self.new ≡ self.old ++ flat_map (told subs.now) changes.items }

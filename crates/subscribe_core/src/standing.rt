@@ -1,4 +1,4 @@
-//! The list of the subscriptions that stand.
+//! The list of the subscriptions.
 ghost use Rattle.std.specs.Prelude.{◌≡◌, ◌++◌, ◌∷◌, [], OnErr, OnOk, not};
 ghost use Rattle.std.specs.Ordering.{int_eq};
 ghost use Rattle.subscribe_core.specs.Subscriptions.{others};
@@ -21,7 +21,7 @@ pub(crate) fn sub_of(subs: &[Sub], channel: i64) -> Option<Sub>
     None
 }
 
-/// Adds a subscription behind the last one.
+/// Adds a subscription after the last one.
 pub(crate) fn push(alloc: Global, subs: &mut List<Sub>, sub: Sub) -> Result<(), NoMemory>
     ensures ok { OnOk result (subs.new ≡ subs.old ++ sub ∷ []) }
     ensures err { OnErr result (subs.new ≡ subs.old) }

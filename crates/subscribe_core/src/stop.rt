@@ -7,11 +7,11 @@ ghost use Rattle.subscribe_core.specs.declared.stop.StopCause.TheVariants.{Lagge
 pub enum StopCause {
     /// Its client ended it.
     Unsubscribed,
-    /// This many entries were left of which the session's subscriptions had not been told, more than the server allows.
+    /// This many entries were left that the session's subscriptions had not been sent, more than the server allows.
     Lagged(u64),
 }
 
-/// Whether a session's subscriptions end because of the entries of which they have not been told, of which `limit` are allowed.
+/// Whether a session's subscriptions end because of the entries that they have not been sent, of which `limit` are allowed.
 pub fn stop_cause(lag: u64, limit: u64) -> Option<StopCause>
     ensures { result ≡ (if nat_lt limit lag then Some (Lagged lag) else None) }
 {

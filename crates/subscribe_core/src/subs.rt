@@ -12,10 +12,10 @@ use etp_values::{List, NoMemory};
 use std::alloc::Global;
 use std::marker::Model;
 
-/// The most subscriptions that a session can have.
+/// The greatest number of subscriptions that a session can have.
 pub const MAX_SUBS: usize = 256;
 
-/// The subscriptions of a session, their cursor, and the changes that are left to tell. A contract sees the three as `Subbed`.
+/// The subscriptions of a session, their cursor, and the changes that are still to be sent. A contract sees the three as `Subbed`.
 pub struct Subs {
     alloc: Global,
     subs: List<Sub>,
@@ -23,7 +23,7 @@ pub struct Subs {
     pending: Pending,
 }
 
-/// Written out, so that whoever holds one drops it by one call.
+/// Written out, so that whatever holds one drops it by a single call.
 impl Drop for Subs {
     fn drop(self) {
         let Subs {
@@ -67,8 +67,8 @@ impl Subs {
         &self.subs
     }
 
-    /// The place of the journal up to which the store was asked for changes, where there is a subscription: at first that from which
-    /// on the first subscription is told, and then that of the last answer.
+    /// The place of the journal up to which the store was asked for changes, if there is a subscription: at first that from which the first
+    /// subscription is sent changes, and then that of the last answer.
     pub fn cursor(&self) -> Option<u64>
         ensures { result ≡ asked_from self.now }
     {
@@ -86,7 +86,7 @@ impl Subs {
         self.pending.room()
     }
 
-    /// Adds a subscription. Where its channel has one, or there are 256, nothing changes.
+    /// Adds a subscription. If its channel has one, or there are 256, nothing changes.
     pub fn add(&mut self, sub: Sub) -> Result<(), NoMemory>
         ensures ok { OnOk result (self.new ≡ with_sub sub self.old) }
         ensures err { OnErr result (self.new ≡ self.old) }
@@ -102,7 +102,7 @@ impl Subs {
         Ok(())
     }
 
-    /// Takes the subscription of a channel out, and answers whether there was one. What is pending is still handed out.
+    /// Takes the subscription of a channel out, and returns whether there was one. What is pending is still handed out.
     pub fn remove(&mut self, channel: i64) -> bool
         ensures there { result ≡ has_sub channel self.old.subs }
         ensures rest { self.new ≡ without channel self.old }
@@ -119,8 +119,8 @@ impl Subs {
         self.subs = List::new(self.alloc);
     }
 
-    /// Takes in the changes that the store answered, up to a place of the journal. A change of a channel without a subscription is
-    /// let go, as is one of which nothing is left from the subscription's start on. It takes no memory.
+    /// Takes in the changes that the store answered, up to a place of the journal. A change of a channel without a subscription is dropped,
+    /// and so is one of which nothing is left from the subscription's start on. It does not allocate.
     pub fn fill(&mut self, upto: u64, changes: List<ChannelChange>)
         requires { length self.old.pending + length changes ≤ 256 }
         ensures { self.new ≡ filled upto changes self.old }
@@ -130,7 +130,7 @@ impl Subs {
             .tell_all(self.subs.as_slice(), changes.into_vec());
     }
 
-    /// Takes the first of the pending changes out. It takes no memory.
+    /// Takes the first of the pending changes out. It does not allocate.
     pub fn next(&mut self) -> Option<Outgoing>
         ensures first { option_map shown result ≡ slice_get self.old.pending 0 }
         ensures rest { self.new ≡ record self.old { pending = drop 1 self.old.pending } }

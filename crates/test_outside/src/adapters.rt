@@ -5,7 +5,7 @@ use etp_outside::{Clock, ReadOutcome, Sink, Source, StdSink, StdSource, WallCloc
 use std::io::{self, ErrorKind, Read, Write};
 use std::process::Abort;
 
-/// What a signal interrupts so many times, before it reads and writes all that it is asked to.
+/// What a signal interrupts this many times, before it reads and writes all that it is asked to.
 #[derive(Drop)]
 struct Interrupted {
     times: u32,
@@ -39,7 +39,7 @@ impl Write for Interrupted {
     }
 }
 
-/// That a read of so many interruptions gives this, and a write that.
+/// That a read with this many interruptions gives this, and a write that.
 fn interrupts(rt: &impl Abort, times: u32, read: ReadOutcome, wrote: WriteOutcome) {
     let mut input = StdSource::new(Interrupted { times });
     assert!(rt; input.read(&mut [0u8; 3]) == read);

@@ -1,12 +1,11 @@
-//! The writer of captures, which the tool gathers by itself.
+//! The writer of captures; the tool gathers them itself.
 use etp_capture::{CaptureWriter, Frame, PutError};
 use etp_outside::MemSink;
 use etp_values::{Blob, List};
 use std::alloc::Global;
 use std::test::Fail;
 
-/// Writes the magic and a message with a payload of so many bytes, and answers how many bytes the sink has, or `None` after a
-/// fault.
+/// Writes the magic and a message with a payload of this size, and returns how many bytes the sink has, or `None` after a fault.
 fn written(alloc: Global, size: usize, fails: u64) -> Result<Option<usize>, Fail> {
     let frame = Frame {
         kind: 17,
@@ -28,7 +27,7 @@ fn written(alloc: Global, size: usize, fails: u64) -> Result<Option<usize>, Fail
 #[test]
 fn a_fault_of_the_sink_is_answered(rt: HostRuntime) -> Result<(), Fail> {
     let a = rt.alloc();
-    // a payload that is copied behind its head is one write with it, and a longer one is a write of its own
+    // a payload that is copied after its head is one write with it, and a longer one is a write of its own
     assert!(rt; written(a, 3, 9)? == Some(28));
     assert!(rt; written(a, 65_537, 9)? == Some(65_562));
     assert!(rt; written(a, 3, 1)? == None);

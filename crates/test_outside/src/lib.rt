@@ -1,4 +1,4 @@
-//! Tests of what touches the outside, and of what is read from there, where no program shows it.
+//! Tests of what touches the outside, and of what is read from there, as far as no program shows it.
 #![tactic(auto)]
 
 #[cfg(test)]

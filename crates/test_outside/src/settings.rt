@@ -12,7 +12,7 @@ use std::test::Fail;
 const WITH_CHANNEL: &[u8] =
     b"instance = \"00000000-0000-0000-0000-000000000001\"\nname = \"rig\"\n[[channel]]\nuri = \"eml:///witsml21.Channel(00000000-0000-0000-0000-000000000001)\"\nname = \"c1\"\nkind = \"long\"\n";
 
-/// Reads the configuration `wd` from a host whose only file has this name and content, and fails at a read of its own.
+/// Reads the configuration `wd` from a host whose only file has this name and content; its reads with the numbers in `fails` fail.
 fn read(alloc: Global, content: &[u8], fails: &[u64]) -> Result<Result<Config, Status>, NoMemory> {
     let mut files = Vec::new(alloc);
     files.push(MemFile {
@@ -79,6 +79,6 @@ fn a_refusal_has_its_text(rt: HostRuntime) -> Result<(), Fail> {
         key: 10,
     };
     let text = key.to_string(rt.alloc())?;
-    assert!(rt; text.as_str() == "key 10 of channel 2 is missing or not in its form");
+    assert!(rt; text.as_str() == "key 10 of channel 2 is missing or malformed");
     Ok(())
 }

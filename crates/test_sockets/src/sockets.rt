@@ -1,5 +1,5 @@
-//! Clients over the loopback, with the bytes that they send and get written out. Requests, keys and frames are those of RFC
-//! 6455, sections 1.3 and 5.7, with binary frames in the place of texts.
+//! Clients over the loopback, with the bytes that they send and receive as literals. Requests, keys and frames are those of RFC 6455,
+//! sections 1.3 and 5.7, with binary frames instead of texts.
 use etp_outside::{Link, Listened, Listener, Next, Recv, Sent};
 use etp_values::Blob;
 use outside_net::{ServerLink, TcpDoor};
@@ -19,7 +19,7 @@ const HELLO_FRONT: &[u8] = &[0x82, 0x85, 0x37, 0xfa, 0x21, 0x3d, 0x7f];
 
 const HELLO_REST: &[u8] = &[0x9f, 0x4d, 0x51, 0x58];
 
-/// A message has to be masked by a client.
+/// A client has to mask its messages.
 const UNMASKED: &[u8] = b"\x82\x05Hello";
 
 /// The same as a text.
@@ -58,9 +58,9 @@ enum Step {
     Waits,
     /// The link gets this message.
     Gets(&'static [u8]),
-    /// The link is told that the client has ended it.
+    /// The link reports that the client has ended it.
     Ends,
-    /// The link is told of a fault.
+    /// The link reports a fault.
     Fails,
     /// The link sends "Hello", with this answer.
     Sends(Sent),
@@ -171,7 +171,7 @@ fn welcomed<R: Net<Listener = TcpListener, Stream = TcpStream> + Clock>(
     }
 }
 
-/// The next item that is not idle, in so many turns that any wait is over.
+/// The next item that is not idle, within enough turns for any wait to be over.
 fn item(alloc: Global, link: &mut ServerLink) -> Recv {
     for _ in 0..1000 {
         match link.recv(alloc) {
@@ -190,7 +190,7 @@ fn gets(rt: &impl Abort, alloc: Global, link: &mut ServerLink, expected: &[u8]) 
     }
 }
 
-/// That so much comes to a client, and that it is this.
+/// That this much comes to a client, and that it is this.
 fn hears(rt: &impl Abort, client: &mut TcpStream, expected: &[u8]) -> io::Result<()> {
     let mut buf = [0u8; 32];
     let size = expected.len().min(32);
@@ -224,7 +224,7 @@ fn is_answered(rt: &impl Abort, alloc: Global, client: &mut TcpStream) -> Result
     Ok(())
 }
 
-/// That the link is told of the end.
+/// That the link reports the end.
 fn ends(rt: &impl Abort, alloc: Global, link: &mut ServerLink) {
     match item(alloc, link) {
         Recv::End => {}
@@ -232,7 +232,7 @@ fn ends(rt: &impl Abort, alloc: Global, link: &mut ServerLink) {
     }
 }
 
-/// That the link is told of a fault.
+/// That the link reports a fault.
 fn fails(rt: &impl Abort, alloc: Global, link: &mut ServerLink) {
     match item(alloc, link) {
         Recv::Failed => {}

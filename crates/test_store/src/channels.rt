@@ -96,7 +96,7 @@ fn append(
     Ok(())
 }
 
-/// Takes away what a channel has above an index, as the change of the entry at a place.
+/// Removes what a channel has above an index, as the change of the entry at a place.
 fn truncate(
     alloc: Global,
     store: &mut ChannelStore,
@@ -110,14 +110,14 @@ fn truncate(
     Ok(())
 }
 
-/// One item that lies at the last index of its channel refuses all items.
+/// One item that is at the last index of its channel refuses all items.
 #[test]
 fn appends_all_items_or_none(rt: HostRuntime) -> Result<(), Fail> {
     let alloc = rt.alloc();
     let mut store = two_channels(alloc)?;
     append(alloc, &mut store, 0, &[(0, 100, 1)])?;
     let refused = store.append(1, 20, &items(alloc, &[(1, 50, 2), (0, 100, 3)])?);
-    // The next append stands at the same place, by what the macro says of the error.
+    // The next append is at the same place, by what the macro says about the error.
     assert_eq!(rt; refused, Err(ChannelError::Order(0)));
     equal(&rt, store.last_index(1), None);
     append(alloc, &mut store, 1, &[(1, 50, 2), (0, 101, 3)])?;
@@ -231,7 +231,7 @@ fn refuses_intervals_and_what_lies_outside(rt: HostRuntime) -> Result<(), Fail> 
     Ok(())
 }
 
-/// Takes what may be moved to another thread.
+/// Accepts only what may be moved to another thread.
 fn crossing<T: Send>(value: T) -> T {
     value
 }

@@ -1,4 +1,4 @@
-//! What tests claim. A call is proved sooner than the macro behind it, whose every step is one of the function that it stands in.
+//! What tests claim. A call is proved faster than the macro behind it, each step of which belongs to the function that it is in.
 use std::fmt::Debug;
 use std::process::Abort;
 

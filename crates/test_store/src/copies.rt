@@ -1,4 +1,4 @@
-//! What a copy of a channel has after changes, in whatever order they are told.
+//! What a copy of a channel has after changes, in whatever order they come.
 use channel_points::{BoxedPoints, Points};
 use channel_store::{ChannelCopy, What};
 use etp_values::{DataValue, NoMemory, Point};
@@ -38,7 +38,7 @@ fn takes_in(
     Ok(())
 }
 
-/// Points out of order are kept as they came, and a replacement goes before the first that lies above it.
+/// Points out of order are kept as they came, and a replacement goes before the first that is above it.
 #[test]
 fn a_copy_takes_in_what_it_is_told(rt: HostRuntime) -> Result<(), Fail> {
     let alloc = rt.alloc();

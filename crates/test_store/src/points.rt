@@ -18,7 +18,7 @@ fn text(alloc: Global, index: i64, value: &str) -> Result<Point, NoMemory> {
     })
 }
 
-/// Takes what may be moved to another thread, and be seen there by several.
+/// Accepts only what may be moved to another thread, and seen there by several.
 fn crossing<T: Send + Sync>(value: T) -> T {
     value
 }

@@ -1,4 +1,4 @@
-//! Changes that are let in, and told again by what subscriptions ask for.
+//! Changes that are let in, and what subscriptions are sent of them.
 use crate::claims::{equal, holds};
 use channel_points::{BoxedPoints, Points};
 use channel_store::{ChannelChange, Sub, What};
@@ -31,7 +31,7 @@ fn replace(alloc: Global, from: i64, to: i64, indexes: &[i64]) -> Result<What, N
     })
 }
 
-/// A subscription from index 200 on, made where the journal had this length.
+/// A subscription from index 200 on, made when the journal had this length.
 fn from_200(channel: i64, from: u64, all: bool) -> Sub {
     Sub {
         channel,
@@ -41,7 +41,7 @@ fn from_200(channel: i64, from: u64, all: bool) -> Sub {
     }
 }
 
-/// Lets a change in, as an answer up to the place behind its own; false where there is no room.
+/// Lets a change in, as an answer up to the place after its own; false if there is no room.
 fn let_in(
     alloc: Global,
     subs: &mut Subs,
@@ -71,7 +71,7 @@ fn has_indexes(rt: &impl Abort, points: &[Point], indexes: &[i64]) {
     }
 }
 
-/// The next change that is told is of this channel, and has these ends and points.
+/// The next change that is sent is of this channel, and has these ends and points.
 fn check(
     rt: &impl Abort,
     alloc: Global,
@@ -87,10 +87,10 @@ fn check(
     Ok(())
 }
 
-/// What happens to subscriptions, or what they are to tell then.
+/// What happens to subscriptions, or what they are then to send.
 #[derive(Clone, Copy)]
 enum Step {
-    /// A channel is subscribed from index 200 on, where the journal has this length: for all changes, or for appended points alone.
+    /// A channel is subscribed to from index 200 on, when the journal has this length: for all changes, or only for appended points.
     Subscribe(i64, u64, bool),
     /// A channel's subscription ends, if there was one.
     Unsubscribe(i64, bool),
@@ -99,12 +99,12 @@ enum Step {
     Append(u64, i64, &'static [i64]),
     /// The entry at this place puts points with these indexes between two indexes of channel 0.
     Replace(u64, (i64, i64), &'static [i64]),
-    /// The entry at this place takes away what channel 0 has above this index.
+    /// The entry at this place removes what channel 0 has above this index.
     Truncate(u64, i64),
-    /// The next change that is told is of this channel, and has these ends and points.
+    /// The next change that is sent is of this channel, and has these ends and points.
     Tells(i64, (i64, i64), &'static [i64]),
     TellsNothing,
-    /// So many channels are subscribed, and this is the place of the journal that they are told from.
+    /// This many channels are subscribed to, and this is the place of the journal from which they are sent changes.
     Has(usize, Option<u64>),
 }
 
@@ -164,7 +164,7 @@ fn change(
     Ok(())
 }
 
-/// A step of the journal's.
+/// A step of the journal.
 fn step_journal(alloc: Global, subs: &mut Subs, step: Step) -> Result<(), NoMemory> {
     match step {
         Step::Append(place, channel, indexes) => {

@@ -1,5 +1,5 @@
-//! Tests of what threads share: the turns of `turn_book`, and a hub of `store_hub`. Sessions in threads that share a store are shown by
-//! the program `check_server`.
+//! Tests of what threads share: the turns of `turn_book`, and a hub of `store_hub`. The program `check_server` shows sessions in threads
+//! that share a store.
 #![tactic(auto)]
 
 #[cfg(test)]

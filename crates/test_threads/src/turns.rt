@@ -85,7 +85,7 @@ fn open(alloc: Global) -> Result<(TurnBook<Numbers>, Seat<Numbers>), NoMemory>
     TurnBook::new(alloc, Numbers { title: 7, lines })
 }
 
-/// Enters a new seat, and answers its number.
+/// Enters a new seat, and returns its number.
 fn enter<R: Wait>(
     rt: &R,
     book: &TurnBook<Numbers>,
@@ -263,7 +263,7 @@ fn tries_only_while_the_turn_is_free(rt: HostRuntime) -> Result<(), Fail> {
     Ok(())
 }
 
-// The places among the marks 2 2 4 4 7 7 9, where the seat's own entries stand at 2 and 4; 7 was found twice.
+// The places among the marks 2 2 4 4 7 7 9, when the seat's own entries are at 2 and 4; 7 was found twice.
 fn worked_places()
     ensures { without_each (2 ∷ 4 ∷ []) (2 ∷ 2 ∷ 4 ∷ 4 ∷ 7 ∷ 7 ∷ 9 ∷ []) ≡ 2 ∷ 4 ∷ 7 ∷ 7 ∷ 9 ∷ [] }
 {}

@@ -36,7 +36,7 @@ meets_new s c d h i f n st r j before after same kept grown new place meets =
     ∙ ap (λ (x : State). effect_open c (entered_journal c h f) (open_session x) f) new ∙ sym (ap (effect_entered c (entered_journal c h f) f) place) in
     subst (λ (e : Effect). IfOk r (λ state. Meets e state j before after)) effect meets
 
--- a session that the journal has no room for
+-- a session for which the journal has no room
 pub meets_full : (s c : Config) (h i : List Entry) (f : Frame) (before after : List Frame) → s ≡ c → i ≡ entered_journal s h f → entered_place c h ≡ None → after ≡ before ++ end_frame f JournalFull ∷ []
     → Meets (effect_new c h f) Ended i before after
 meets_full s c h i f before after same grown place answers =
@@ -47,7 +47,7 @@ meets_full s c h i f before after same grown place answers =
 
 -- ---- ending
 
--- a session whose client has no more to say
+-- a session whose client has nothing more to say
 pub meets_ended : (c : Config) (h : List Entry) (s : OpenSession) (f : Frame) (before after : List Frame) → f.kind ≡ 3 → after ≡ before ++ end_frame f PeerEnd ∷ [] → Meets (effect_open c h s f) Ended h before after
 meets_ended c h s f before after kind answers =
     let ended : Effect = record { journal = h; tag = Ended; answers = end_frame f PeerEnd ∷ [] } in

@@ -79,7 +79,7 @@ next_more stay n k h es by next =
       entries = ap (λ x. x + length es) next.entries ∙ sym (length-append (own n h) es) ∙ ap length (sym all);
     }
 
--- the count of own entries, and of what was added, is a number of the machine where the journal's length is
+-- the count of own entries, and of what was added, is a number of the machine if the journal's length is
 pub own_fits : (n entries : ℕ) (h h' : List Entry) (before after : ℕ) (es : List Entry) → h' ≡ h ++ es → entries ≡ length (own n h) → before ≡ length h → after ≡ length h' → after < 18446744073709551616
     → entries + (after - before) < 18446744073709551616
 own_fits n entries h h' before after es grown own_is before_is after_is small =

@@ -20,7 +20,7 @@ goes : (m : Option ℕ) → is_none m ≡ true → m ≡ None
 goes None is = refl
 goes (Some o) is = absurd (false≢true is)
 
--- what happens to a run that goes on
+-- what happens to a run that continues
 happens_is : (p : Played) (f : Frame) (w : World) (b : Bool) → p.refused ≡ None → p.world ≡ w → is_refused w f ≡ b → happens p f ≡ next_played p b f
 happens_is p f w b going world is =
     ap (λ (m : Option ℕ). happens_to m p f) going ∙ ap (λ (v : World). next_played p (is_refused v f) f) world ∙ ap (λ (r : Bool). next_played p r f) is
@@ -51,7 +51,7 @@ stops (Some o) p (f ∷ fs) is none =
     let here : happens p f ≡ p = ap (λ (m : Option ℕ). happens_to m p f) is in
     ap (λ (q : Played). play_from q fs) here ∙ stops (Some o) p fs is none
 
--- behind a refused frame nothing happens
+-- after a refused frame nothing happens
 pub stopped : (p : Played) (fs : List Frame) (w : World) (t : Tally) → IsAt p false w t → play_from p fs ≡ p
 stopped p fs w t at = stops p.refused p fs refl at.goes_is
 
@@ -69,7 +69,7 @@ pub second_counted : {A E : Type 0} (refused_of : A → Bool) (tally_of : A → 
 second_counted refused_of tally_of (Ok a) f g old mid new before between first second = λ p at. second (happens p f) (first p at)
 second_counted refused_of tally_of (Err e) f g old mid new before between first second = tt
 
--- what is left of a load, behind what was played of it
+-- what is left of a load, after what was played of it
 abbrev pub Left : Played → World → Tally → List Frame → Played → Type 0
 Left p w t left end = (q : Played) × IsAt q true w t × (play_from q left ≡ end)
 

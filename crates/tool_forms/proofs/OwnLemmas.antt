@@ -50,7 +50,7 @@ pub values-placed : (p : ℕ) (es : List Entry) → values_of (at_place p es) �
 values-placed p [] = refl
 values-placed p (e ∷ es) = ap (λ l. e ∷ l) (values-placed p es)
 
--- what a session wrote stands in a longer journal
+-- what a session wrote is in a longer journal
 stands_on : (h h' : List Entry) (n : ℕ) (made made' : List (ℕ × Entry)) → IsPrefix h h' → ((e : Entry) → own n h ≡ e ∷ values_of made → own n h' ≡ e ∷ values_of made') → Wrote h n made → Wrote h' n made'
 stands_on h h' n made made' pre more is = from (slice_get h n) (slice_get h' n) (λ e at. prefix_get h h' n e pre at) is
   where
@@ -69,7 +69,7 @@ wrote-more h es n made more by same is =
     stands_on h (h ++ es) n made (made ++ more) (prefix-append h es)
     (λ e own_is. own_more n h es ∙ ap (λ l. l ++ own n es) own_is ∙ ap (λ l. e ∷ (values_of made ++ l)) (own_all n es by ∙ sym same) ∙ ap (λ l. e ∷ l) (sym (values-append made more))) is
 
--- a session that has just entered wrote that alone
+-- a session that has just entered wrote only that
 wrote-first : (h : List Entry) (at : ℤ) (n : ℕ) (b : Bool) → own (length h) h ≡ [] → place_in (let_in h b) ≡ Some n → Wrote (h ++ entering h at b) n []
 wrote-first h at n true fresh is =
     let same : length h ≡ n = cc in
@@ -114,7 +114,7 @@ alone_here tag q n m h tags None alone below at is same = absurd (omega (arith, 
 alone_here tag q n m h tags (Some (Open s)) alone below at is same = alone q s at (sym is ∙ same)
 alone_here tag q n m h tags (Some Ended) alone below at is same = absurd (omega (arith, is, same))
 
--- a number that stood alone does so after a frame
+-- a number that was alone stays alone after a frame
 alone_after : (tag n : ℕ) (h h' : List Entry) (tags : List (ℕ × TagState)) (at : ℕ) (state : TagState) → IsAlone tag n tags → n < length h → TagFits (number_in h (state_of at tags)) h' state → IsAlone tag n (with_tag at state tags)
 alone_after tag n h h' tags at state alone below fits = λ q s open_is same.
     let found = put_found at state q tags in
@@ -125,7 +125,7 @@ alone_after tag n h h' tags at state alone below fits = λ q s open_is same.
     alone_here tag at n s.number h tags (state_of at tags) alone below refl number same ∙ at_same at q here)
     (λ other. alone q s (sym (ap (λ b. cond b (Some state) (state_of q tags)) other) ∙ sym found ∙ open_is) same)
 
--- a number that is new stands alone
+-- a number that is new is alone
 alone_new : (tag : ℕ) (w : World) (state : TagState) → IsSound w → IsAlone tag (length w.journal) (with_tag tag state w.tags)
 alone_new tag w state sound = λ q s open_is same.
     let found = put_found tag state q w.tags in

@@ -14,18 +14,18 @@ play_from-append : (p : Played) (fs gs : List Frame) → play_from p (fs ++ gs) 
 play_from-append p [] gs = refl
 play_from-append p (f ∷ fs) gs = play_from-append (happens p f) fs gs
 
--- one more frame behind frames that are played without a refusal
+-- one more frame after frames that are played without a refusal
 next : (w : World) (fs : List Frame) (f : Frame) → Leads fs w → play w.config (fs ++ f ∷ []) ≡ next_played (play w.config fs) (is_refused w f) f
 next w fs f leads =
     let p : Played = play w.config fs in
     play_from-append (first w.config) fs (f ∷ []) ∙ ap (λ m. happens_to m p f) leads.accepted ∙ ap (λ (v : World). next_played p (is_refused v f) f) leads.world_is
 
--- the bytes of frames and of those behind them
+-- the bytes of frames and of those after them
 bytes_both : (xs ys : List Frame) → frames_bytes (xs ++ ys) ≡ frames_bytes xs ++ frames_bytes ys
 bytes_both [] ys = refl
 bytes_both (x ∷ xs) ys = ap (λ l. frame_bytes x ++ l) (bytes_both xs ys) ∙ sym (append_assoc (frame_bytes x) (frames_bytes xs) (frames_bytes ys))
 
--- what is written of a run is what was written before and what answers its last frame
+-- what is written for a run is what was written before and what answers its last frame
 written_more : (p q : List Frame) → magic ++ frames_bytes (p ++ q) ≡ (magic ++ frames_bytes p) ++ frames_bytes q
 written_more p q = ap (λ l. magic ++ l) (bytes_both p q) ∙ sym (append_assoc magic (frames_bytes p) (frames_bytes q))
 

@@ -50,7 +50,7 @@ pub record EffectFits (n : ℕ) (h : List Entry) (e : Effect) : Type 0 where
   pub grows : Grows n h e.journal
   pub tag : TagFits n e.journal e.tag
 
--- where no session is open yet, nothing is to be known
+-- if no session is open yet, nothing needs to be known
 pub sound_first : (config : Config) (h : List Entry) (tags : List (ℕ × TagState)) → tags ≡ [] → IsSound (record { config = config; journal = h; tags = tags })
 sound_first config h tags none = subst (λ (t : List (ℕ × TagState)). IsSound (record { config = config; journal = h; tags = t })) (sym none) begun
   where
@@ -71,7 +71,7 @@ by_kind : (n : ℕ) (h : List Entry) (b : Bool) (x y : Effect) → EffectFits n 
 by_kind n h true x y a b = a
 by_kind n h false x y a b = b
 
--- the entries and the reply where there is room to enter, or none
+-- the entries and the reply if there is room to enter, or none
 abbrev pub entering : List Entry → ℤ → Bool → List Entry
 entering h at b = if b then record { by = length h; nth = 0; at = at; act = act.Enter } ∷ [] else []
 

@@ -41,7 +41,7 @@ at_self tag = ap is_eq (same_tag tag)
 pub at_other : (tag other : ℕ) → (tag == other) ≡ false → is_at (nat_cmp tag) other ≡ false
 at_other tag other is = grind (arith, nat_tests)
 
--- a state that was put stands at its tag, and the others are where they were
+-- a state that was put is at its tag, and the others are where they were
 abbrev pub IsPut : ℕ → TagState → List (ℕ × TagState) → List (ℕ × TagState) → Type 0
 IsPut tag state old new = (q : ℕ) → state_of q new ≡ cond (is_at (nat_cmp tag) q) (Some state) (state_of q old)
 
@@ -73,7 +73,7 @@ found_behind tag x q e tags Greater is more =
     ap (λ o. cond (is_at (nat_cmp q) e.0) (Some e.1) o) more
     ∙ swapped (is_at (nat_cmp tag) q) (is_at (nat_cmp q) e.0) (Some x) (Some e.1) (state_of q tags) (not_both tag e.0 q is)
 
--- so it is where a state is put
+-- the same holds where a state is put
 pub put_found : (tag : ℕ) (x : TagState) (q : ℕ) (tags : List (ℕ × TagState)) → state_of q (with_tag tag x tags) ≡ cond (is_at (nat_cmp tag) q) (Some x) (state_of q tags)
 put_found tag x q [] = ap (λ b. cond b (Some x) None) (flipped q tag)
 put_found tag x q (e ∷ es) = found_behind tag x q e es (nat_cmp tag e.0) refl (put_found tag x q es)

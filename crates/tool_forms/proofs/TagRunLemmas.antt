@@ -55,7 +55,7 @@ to_both kind tag xs ys =
     ap (map (λ (f : Frame). f.bytes)) (filter-append (λ (f : Frame). f.kind == kind && f.tag == tag) xs ys)
     ∙ map-append (λ (f : Frame). f.bytes) (filter (λ (f : Frame). f.kind == kind && f.tag == tag) xs) (filter (λ (f : Frame). f.kind == kind && f.tag == tag) ys)
 
--- one frame in front, by the test of its kind and tag
+-- one frame before, by the test of its kind and tag
 abbrev in_front : Bool → Frame → List Frame → List (List ℕ)
 in_front b x xs = map (λ (g : Frame). g.bytes) (cond b (x ∷ xs) xs)
 
@@ -270,7 +270,7 @@ first_sound c = record { fits = λ tag. tt; apart = λ tag other s t at_tag at_o
     none_open : (o : Option TagState) (s : OpenSession) → o ≡ None → o ≡ Some (Open s) → ⊥
     none_open o s none_is open_is = cc
 
--- a session's own entry of entering stands in the journal
+-- a session's own entry of entering is in the journal
 wrote_below : (h : List Entry) (n : ℕ) (made : List (ℕ × Entry)) → Wrote h n made → n < length h
 wrote_below h n made is = below_length (λ (e : Entry). (e.act ≡ act.Enter) × (own n h ≡ e ∷ values_of made)) h n is
 

@@ -1,4 +1,4 @@
--- What is told of a text by the status of what came of it.
+-- What is written of a text, by the status of what came of it.
 use Rattle.std.proofs.Common.{◌≡◌, List, ℕ, refl, Option}
 use Rattle.std.proofs.KnownBytes.{Keeps-refl}
 use Rattle.etp_outside.specs.declared.status.Status.{Status}
@@ -10,11 +10,11 @@ use Rattle.gathered_text.specs.declared.writing.Wrote.{Wrote}
 use Rattle.gathered_text.specs.declared.writing.Wrote.TheVariants.{Whole, WriteFault, NoMemory}
 use Rattle.tool_forms.specs.Top.{Tells, status_of}
 
--- the text of which this came was told
+-- the text of which this came was written
 pub tells : (text : List ℕ) (wrote : Wrote) (result : Status) (input old new : Option (List ℕ)) → result ≡ status_of wrote → Writes wrote text old new → Tells text result (between input input) (between old new)
 tells text wrote result input old new is written = record { end = wrote; status_is = is; written = written; unread = Keeps-refl input }
 
--- memory was refused before anything was written
+-- memory ran out before anything was written
 pub unwritten : (text : List ℕ) (input held : Option (List ℕ)) → Tells text status.NoMemory (between input input) (between held held)
 unwritten text input held = tells text NoMemory status.NoMemory input held held refl (nothing_written text held)
 

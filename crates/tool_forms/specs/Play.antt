@@ -52,8 +52,7 @@ world_with w tag e = record { config = w.config; journal = e.journal; tags = wit
 abbrev pub world_after : World → Frame → World
 world_after w f = world_with w f.tag (effect w f)
 
--- a run so far: the offset behind the frames that were played, the frames that answer them, and the offset of the frame that was
--- refused
+-- a run so far: the offset after the frames that were played, the frames that answer them, and the offset of the frame that was refused
 pub record Played : Type 0 where
   pub world : World
   pub at : ℕ
@@ -69,7 +68,7 @@ abbrev pub next_played : Played → Bool → Frame → Played
 next_played p true f = record { world = p.world; at = p.at; answers = p.answers; refused = Some p.at }
 next_played p false f = record { world = world_after p.world f; at = p.at + (17 + length f.bytes); answers = p.answers ++ (effect p.world f).answers; refused = None }
 
--- behind a refused frame nothing happens
+-- after a refused frame nothing happens
 abbrev pub happens_to : Option ℕ → Played → Frame → Played
 happens_to (Some o) p f = p
 happens_to None p f = next_played p (is_refused p.world f) f

@@ -6,7 +6,7 @@ use Rattle.tool_forms.specs.Turns.{Effect}
 use Rattle.tool_forms.specs.Play.{World, effect, world_after, is_refused}
 use Rattle.tool_forms.specs.declared.tag.TagState.{TagState}
 
--- a refused frame leaves all as it was; another changes the world and adds the frames that answer it
+-- a refused frame leaves everything as it was; any other changes the world and adds the frames that answer it
 abbrev pub Plays : Bool → World → Frame → World → List Frame → List Frame → Type 0
 Plays true old f new before after = (is_refused old f ≡ true) × (new ≡ old) × (after ≡ before)
 Plays false old f new before after = (is_refused old f ≡ false) × (new ≡ world_after old f) × (after ≡ before ++ (effect old f).answers)

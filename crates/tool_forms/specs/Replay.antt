@@ -11,7 +11,7 @@ abbrev pub is_none : Option ℕ → Bool
 is_none None = true
 is_none (Some offset) = false
 
--- the frames are played, and the frames that answer them are written; at the end nothing follows
+-- the frames are played, and the frames that answer them are written; nothing follows at the end
 abbrev pub replay_plan : Config → Plan
 replay_plan config = record {
   accepts = λ fs. is_none (play config fs).refused;

@@ -6,6 +6,6 @@ use Rattle.load_forms.specs.Tally.{tally}
 use Rattle.load_forms.specs.Summary.{summary_lines}
 use Rattle.tool_forms.specs.Play.{play}
 
--- the five lines of a load of so many messages, played under its configuration
+-- the five lines of a load of this many messages, played under its configuration
 unfoldable pub summary : ℕ → List ℕ
 summary size = let p = play generator_config (frames size) in summary_lines size (length p.world.journal) (tally p.answers)

@@ -20,7 +20,7 @@ use Rattle.tool_forms.specs.declared.tag.TagState.TheVariants.{Ended, Open}
 use Rattle.tool_forms.specs.declared.tag.OpenSession.{OpenSession}
 use Rattle.tool_forms.specs.declared.tag.Ending.TheVariants.{PeerEnd, JournalFull}
 
--- what a tag's session was handed: its number, its events, and the lengths of the journal at which its calls were answered
+-- what a tag's session was given: its number, its events, and the lengths of the journal at which its calls were answered
 pub record TagRun : Type 0 where
   pub number : ℕ
   pub events : List Event
@@ -30,7 +30,7 @@ pub record TagRun : Type 0 where
 abbrev pub first_run : ℕ → TagRun
 first_run n = record { number = n; events = []; places = [] }
 
--- an open session takes a frame; its client's end is no event
+-- an open session takes a frame; its client's end is not an event
 abbrev pub run_with : Config → List Entry → OpenSession → Frame → TagRun → TagRun
 run_with c h s f r =
     if f.kind == kind_end then r
@@ -66,7 +66,7 @@ next_followed tag w false f =
       run = if f.tag == tag then run_after world.config world.journal f w.run (state_of tag world.tags) else w.run;
     }
 
--- behind a refused frame nothing happens
+-- after a refused frame nothing happens
 abbrev pub follow_to : Option ℕ → ℕ → Followed → Frame → Followed
 follow_to (Some o) tag w f = w
 follow_to None tag w f = next_followed tag w (is_refused w.played.world f) f
@@ -83,12 +83,12 @@ followed c tag frames = fold (follow tag) (first_followed c) frames
 abbrev pub payloads_to : ℕ → ℕ → List Frame → List (List ℕ)
 payloads_to kind tag answers = map (λ f. f.bytes) (filter (λ f. f.kind == kind && f.tag == tag) answers)
 
--- each of these entries stands in the journal at its place
+-- each of these entries is in the journal at its place
 abbrev pub AllStand : List Entry → List (ℕ × Entry) → Type 0
 AllStand h [] = Unit {0}
 AllStand h (x ∷ xs) = (slice_get h x.0 ≡ Some x.1) × AllStand h xs
 
--- all that a session wrote: the entry of its entering, which stands at its number, and then these
+-- all that a session wrote: the entry of its entering, which is at its number, and then these
 abbrev pub Wrote : List Entry → ℕ → List (ℕ × Entry) → Type 0
 Wrote h n made = IsSomeAnd (slice_get h n) (λ (e : Entry). (e.act ≡ Enter) × (own n h ≡ e ∷ values_of made))
 
@@ -96,9 +96,9 @@ Wrote h n made = IsSomeAnd (slice_get h n) (λ (e : Entry). (e.act ≡ Enter) ×
 abbrev pub run_of : Config → List Entry → TagRun → Course
 run_of c h r = run c r.number h r.places r.events
 
--- the messages are what the run sends. Each call has its place, no place is left, and none is past the journal; the places
--- never fall, from the session's entering on; each poll tells of no less than was seen; and the entries that the run makes
--- stand at their places and are all that the session wrote
+-- the messages are what the run sends. Each call has its place, no place is left, and none is past the journal; the places never fall, from
+-- the session's entering on; each poll reports no less than was seen; and the entries that the run makes are at their places and are all
+-- that the session wrote
 pub record IsRun (c : Config) (h : List Entry) (messages : List (List ℕ)) (r : TagRun) : Type 0 where
   pub sent : messages ≡ map bytes_of (run_of c h r).sent
   pub used : (run_of c h r).places ≡ []
@@ -127,6 +127,6 @@ pub record IsFollowed (c : Config) (tag : ℕ) (frames : List Frame) : Type 0 wh
   pub legal : Legal c (play c frames).world.journal
   pub sent : let p = play c frames in IsSent c p.world.journal (payloads_to kind_out tag p.answers) (payloads_to kind_ended tag p.answers) (followed c tag frames).run
 
--- the same of every play and every tag
+-- the same for every play and every tag
 abbrev pub PlayIsRuns : Type 0
 PlayIsRuns = (c : Config) (tag : ℕ) (frames : List Frame) → IsFollowed c tag frames

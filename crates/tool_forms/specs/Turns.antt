@@ -121,7 +121,7 @@ effect_entered c h f None = record { journal = h; tag = Ended; answers = end_fra
 abbrev pub effect_new : Config → List Entry → Frame → Effect
 effect_new c h f = effect_entered c (entered_journal c h f) f (entered_place c h)
 
--- a frame by the state of its tag, which a new tag does not have: a session that has ended is left so
+-- a frame by the state of its tag, which a new tag does not have: a session that has ended is left as it is
 abbrev pub effect_at : Config → List Entry → Frame → Option TagState → Effect
 effect_at c h f None = effect_new c h f
 effect_at c h f (Some (Open s)) = effect_open c h s f

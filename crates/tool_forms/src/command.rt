@@ -17,13 +17,13 @@ pub enum Command<'a> {
     Show,
     /// To check a capture.
     Check,
-    /// To write the capture of a load of so many messages.
+    /// To write the capture of a load of this many messages.
     Capture(u32),
-    /// To play a load of so many messages.
+    /// To play a load of this many messages.
     Generate(u32),
 }
 
-/// The command of these words, where they are in a form.
+/// The command of these words, if they are well formed.
 pub fn command_of<'a>(words: &[&'a str]) -> Option<Command<'a>>
     ensures { as_option result ≡ command_of (map (λ w. w.now) words.now) }
 {
@@ -35,7 +35,7 @@ pub fn command_of<'a>(words: &[&'a str]) -> Option<Command<'a>>
     }
 }
 
-/// The command of two words, where they are in a form.
+/// The command of two words, if they are well formed.
 fn command_with<'a>(command: &'a str, word: &'a str) -> Option<Command<'a>>
     ensures { as_option result ≡ command_with command.now word.now }
 {

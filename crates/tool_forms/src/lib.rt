@@ -6,14 +6,14 @@
 //! - `check` writes a line for each of its messages that is refused, and then how many frames, messages and refused messages
 //!   there were.
 //! - `capture N` writes the capture of a load of N messages, 24 to 1,000,000, and `generate N` plays it and writes how many messages,
-//!   sessions, entries and answers that comes to.
+//!   sessions, entries and answers that results in.
 //!
 //! [`run_tool`] does that over any host, source and sink; what it promises is in `specs/Top`. [`run_program`] does it over the
 //! system, and is all that a `main` calls.
 //!
-//! [`run_form`](capture_run::run_form) runs each form over the frames of its input. What is written of a list of frames is
+//! [`run_form`](capture_run::run_form) runs each form over the frames of its input. What is written for a list of frames is
 //! `replay_plan` of `specs/Replay`, over `play` of `specs/Play`, or `show_plan` or `check_plan` of `capture_listing`. A replay
-//! goes on through `player`, the sessions by their tags, and `turns`, one frame on its session and the store.
+//! continues through `player`, the sessions by their tags, and `turns`, one frame on its session and the store.
 #![tactic(auto)]
 
 mod command;

@@ -1,4 +1,4 @@
-//! The forms that make a load: its capture, and a summary of what playing it comes to.
+//! The forms that make a load: its capture, and a summary of what playing it results in.
 ghost use Rattle.std.specs.Prelude.{◌≡◌, ◌≢◌, ◌+◌, ◌++◌, ◌∷◌, [], true, not, IfOk, OnOk, List, ℕ};
 ghost use Rattle.std.specs.declared.option.Option.{Option};
 ghost use Rattle.etp_capture.specs.Capture.{frames_bytes};
@@ -23,7 +23,7 @@ use generator::{Generator, generator_config};
 use load_forms::{Tally, count_answers, push_summary, write_load};
 use std::alloc::Global;
 
-/// Writes the capture of a load of so many messages.
+/// Writes the capture of a load of this many messages.
 pub(crate) fn capture<W: Sink>(alloc: Global, size: u32, out: &mut W) -> Status
     ensures told { (input : Option (List ℕ)) → Tells (magic ++ frames_bytes (frames size)) result (between input input) (between (W.held out.old) (W.held out.new)) }
     ensures form { result ≢ status.Usage }
@@ -33,7 +33,7 @@ pub(crate) fn capture<W: Sink>(alloc: Global, size: u32, out: &mut W) -> Status
     status_of(write_load(alloc, size, out))
 }
 
-/// Plays a load of so many messages, and writes what came of it.
+/// Plays a load of this many messages, and writes what came of it.
 pub(crate) fn generate<W: Sink>(alloc: Global, size: u32, out: &mut W) -> Status
     ensures told { (input : Option (List ℕ)) → Tells (summary size) result (between input input) (between (W.held out.old) (W.held out.new)) }
     ensures form { result ≢ status.Usage }
@@ -57,7 +57,7 @@ fn status_of(wrote: Wrote) -> Status
     }
 }
 
-/// The five lines of a load of so many messages.
+/// The five lines of a load of this many messages.
 fn summary(alloc: Global, size: u32) -> Result<Vec<u8>, NoMemory>
     ensures { IfOk result (λ text. text.items ≡ summary size) }
 {
@@ -89,7 +89,7 @@ fn play_load(alloc: Global, size: u32, player: &mut Player) -> Result<Tally, NoM
     Ok(counted)
 }
 
-/// What playing frames came to: whether one was refused, and the messages that were counted by then.
+/// What playing frames resulted in: whether one was refused, and the messages that were counted by then.
 #[derive(Clone, Copy)]
 pub struct Counted {
     pub refused: bool,

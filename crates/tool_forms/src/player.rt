@@ -56,8 +56,8 @@ impl Player {
         self.store.entries()
     }
 
-    /// Plays a frame, and appends the frames that answer it. Answers whether the frame is refused. After `NoMemory` nothing
-    /// is said of what the player holds and what was appended.
+    /// Plays a frame, and appends the frames that answer it. Returns whether the frame is refused. After `NoMemory` what the player holds
+    /// and what was appended is unspecified.
     pub fn play(
         &mut self,
         alloc: Global,
@@ -74,8 +74,7 @@ impl Player {
         {
             return Ok(true);
         }
-        // These are for the proof alone: what the tags' sessions know stays right, and no entry is of the number that the
-        // next session will have.
+        // For the proof only: what the tags' sessions know stays right, and no entry has the number that the next session will have.
         number_laws();
         steps();
         let _entries = self.store.entries();

@@ -20,11 +20,11 @@ const USAGE: &[u8] =
 /// How much of the input is read at a time.
 const READ_AHEAD: usize = 65_536;
 
-/// So much memory is taken once and given back before the run. The C library then keeps what is freed, where it would else
-/// give the tree of each large message back to the system, and take it again page by page for the next.
+/// This much memory is allocated once and freed before the run. The C library then keeps what is freed; otherwise it would return the tree
+/// of each large message to the system, and request it again page by page for the next.
 const KEPT_MEMORY: usize = 16_777_216;
 
-/// Runs the tool with the program's words, its input and its output, and tells `errors` how that ended, as [`finish`] does.
+/// Runs the tool with the program's words, its input and its output, and writes to `errors` how that ended, as [`finish`] does.
 pub fn run_program<R, W>(rt: &R, errors: &mut W) -> ExitCode
 where
     R: AllocGlobal + Env + Files + Input + Print,
@@ -55,7 +55,7 @@ fn run_words<R: AllocGlobal + Env + Files + Input + Print>(rt: &R) -> Status {
     run_tool(alloc, words.as_slice(), &mut host, &mut input, &mut out)
 }
 
-/// Tells `errors` how the tool has ended, and gives its exit status. What can't be told is lost.
+/// Writes to `errors` how the tool has ended, and returns its exit status. What can't be written is lost.
 pub fn finish<W: Sink>(alloc: Global, status: Status, errors: &mut W) -> ExitCode
     ensures number { exit_status result ≡ number_of status }
     ensures told { IsTold status (told status) (W.held errors.old) (W.held errors.new) (W.faults errors.old) (W.faults errors.new) }

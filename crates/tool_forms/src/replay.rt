@@ -71,7 +71,7 @@ fn room_of(frames: &[Frame]) -> usize {
     room
 }
 
-/// Appends the bytes of frames, or nothing where memory is refused.
+/// Appends the bytes of frames, or nothing if memory runs out.
 fn push_all(into: &mut Vec<u8>, frames: Vec<Frame>) -> Result<(), NoMemory>
     ensures ok { OnOk result (into.new.items ≡ into.old.items ++ frames_bytes frames.items) }
     ensures err { OnErr result (into.new.items ≡ into.old.items) }
@@ -87,7 +87,7 @@ fn push_all(into: &mut Vec<u8>, frames: Vec<Frame>) -> Result<(), NoMemory>
     }
 }
 
-/// Appends the bytes of frames, and lets go of each behind its own. Where memory is refused, some of them may have been appended.
+/// Appends the bytes of frames, and drops each after its own. If memory runs out, some of them may have been appended.
 #[tactic(auto, using(std::proofs::Transfers::starts_with_trans))]
 fn push_frames(into: &mut Vec<u8>, frames: Vec<Frame>) -> Result<(), NoMemory>
     ensures ok { OnOk result (into.new.items ≡ into.old.items ++ frames_bytes frames.items) }

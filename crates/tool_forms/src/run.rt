@@ -17,14 +17,13 @@ use config_file::read_config;
 use etp_outside::{Host, Sink, Source, Status};
 use std::alloc::Global;
 
-/// Does what the words say, and answers how that ended. The forms are:
+/// Does what the words say, and returns how that ended. The forms are:
 ///
-/// - `replay CONFIG`: the configuration of that name is read, and then the capture that the input is; what answers it goes to
-///   the output;
-/// - `show`: a line for each frame of the input goes to the output;
-/// - `check`: a line for each message of the input that is refused goes to the output, and at the end one with the counts;
-/// - `capture N`: the capture of a load of N messages goes to the output;
-/// - `generate N`: that load is played, and how many messages, sessions, entries and answers there were goes to the output.
+/// - `replay CONFIG`: the configuration of that name is read, and then the input as a capture; what answers it is written to the output;
+/// - `show`: a line for each frame of the input is written to the output;
+/// - `check`: a line for each message of the input that is refused is written to the output, and at the end one with the counts;
+/// - `capture N`: the capture of a load of N messages is written to the output;
+/// - `generate N`: that load is played, and how many messages, sessions, entries and answers there were is written to the output.
 pub fn run_tool<H: Host, R: Source, W: Sink>(
     alloc: Global,
     words: &[String],

@@ -8,7 +8,7 @@ use session_core::{End, Session};
 pub enum Ending {
     /// It ended by its own rules.
     Session(End),
-    /// Its client has no more to say.
+    /// Its client has nothing more to say.
     PeerEnd,
     /// The journal had no room for it to enter.
     JournalFull,
@@ -19,12 +19,12 @@ pub enum Ending {
 pub struct OpenSession {
     /// The place of its entering in the journal.
     pub number: u64,
-    /// How many entries are its own, the one of entering with them.
+    /// How many entries are its own, including the one of entering.
     pub entries: u64,
     pub session: Session,
 }
 
-/// What a tag has from its first frame on. An open session stands in a box, so that a tag that has ended keeps a few bytes.
+/// What a tag has from its first frame on. An open session is boxed, so that a tag that has ended keeps a few bytes.
 #[derive(Drop)]
 pub enum TagState {
     /// An open session.

@@ -81,7 +81,7 @@ fn place_in(reply: Reply) -> Option<u64>
     }
 }
 
-/// A frame of an open session, which stays where it stands.
+/// A frame of an open session, which is not moved.
 fn play_open(
     alloc: Global,
     store: &mut Store,
@@ -102,7 +102,7 @@ fn play_open(
     play_after(alloc, open_session, frame, answers)
 }
 
-/// What a session sends after a turn, and its end where it has ended.
+/// What a session sends after a turn, and its end if it has ended.
 fn play_after(
     alloc: Global,
     open_session: Boxed<OpenSession>,
@@ -148,7 +148,7 @@ fn make_turn(
     ensures journal { OnOk result (store.new.journal ≡ (turn store.old.config store.old.journal open_session.old frame.now).journal) }
     ensures session { OnOk result (open_session.new ≡ (turn store.old.config store.old.journal open_session.old frame.now).session) }
 {
-    // For the proof alone: whoever is next may make each of its calls.
+    // For the proof only: whoever is next may make each of its calls.
     number_laws();
     let before = store.entries();
     let Some(call) = take_event(alloc, &mut open_session.session, frame, before)? else {

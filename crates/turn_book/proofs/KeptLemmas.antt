@@ -292,7 +292,7 @@ module _ {B E F : Type 0} (journal : B → List E) (fixed : B → F) (by : E →
 
   -- Publishing an entry
 
-  -- its writer is no number of another seat, nor one that another seat met
+  -- its writer is not the number of another seat, nor one that another seat met
   strange : (s : St) (r : Rule s) (id : ℕ) (v : V) → get_elem? s.views id ≡ some v → (e : E) (k : Option ℕ) → v.number ≡ k → IsOwn by enters k (length r.log) e
       → (j : ℕ) (u : V) → j ≢ id → get_elem? s.views j ≡ some u → Each (λ n. by e ≢ n) (numbers u)
   strange s r id v at e None none_yet mine j u ne found i n here = let b = numbers_below by enters r.log u (r.fits j u found) i n here in let m = mine.0 in λ is. omega arith

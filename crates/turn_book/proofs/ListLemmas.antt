@@ -66,7 +66,7 @@ each_append P xs ys a b i x at = ⊎_elim (λ here. a i x here) (λ t. b t.0 x t
 pub each_snoc : {X : Type 0} (P : X → Type 0) (xs : List X) (y : X) → Each P xs → P y → Each P (xs ++ y ∷ [])
 each_snoc P xs y a p i x at = ⊎_elim (λ here. a i x here) (λ e. subst P e p) (at_snoc xs y x i at)
 
--- what holds of each element of two lists in a row holds of those of the second
+-- what holds for each element of two joined lists holds for those of the second
 pub each_right : {X : Type 0} (P : X → Type 0) (xs ys : List X) → Each P (xs ++ ys) → Each P ys
 each_right P [] ys all = all
 each_right P (x ∷ xs) ys all = each_right P xs ys (λ i y at. all (suc i) y at)
@@ -90,7 +90,7 @@ at_within [] i x at = absurd (some-ne-none x (sym at))
 at_within (y ∷ l) zero x at = omega arith
 at_within (y ∷ l) (suc i) x at = let r = at_within l i x at in omega arith
 
--- what holds of each element at its place, and of one more at the end
+-- what holds for each element at its place, and for one more at the end
 pub at_new : {X : Type 0} (P : ℕ → X → Type 0) (l : List X) (y : X) → P (length l) y → ((j : ℕ) (x : X) → get_elem? l j ≡ some x → P j x) → (j : ℕ) (x : X) → get_elem? (l ++ y ∷ []) j ≡ some x → P j x
 at_new P [] y p all zero x at = subst (P 0) (some-injective y x at) p
 at_new P [] y p all (suc j) x at = absurd (some-ne-none x (sym at))

@@ -1,4 +1,4 @@
--- One writer's entries in a journal and in its beginnings; for the crates above too.
+-- One writer's entries in a journal and in its prefixes; for the crates above too.
 use Rattle.std.proofs.Common.{◌≡◌, ◌≢◌, ◌==◌, ℕ, ◌+◌, Bool, true, false, eq-eqb, ne_eqb, List, [], ◌∷◌, ◌++◌, length, refl, ap, sym, ◌∙◌, arith, append_assoc, length-append, if◌then◌else◌}
 use Rattle.std.proofs.lemmas.List.{append-nil}
 use mathlib.Core.List.{IsPrefix}
@@ -19,7 +19,7 @@ pub own_other : {E : Type 0} (by : E → ℕ) (n k : ℕ) (log : List E) (e : E)
 own_other by n k [] e ne = ap (λ (b : Bool). if b then (k, e) ∷ [] else []) (ne_eqb (by e) n ne)
 own_other by n k (x ∷ log) e ne = rw (own_other by n (k + 1) log e ne) refl
 
--- an entry of the writer comes behind its others
+-- an entry of the writer comes after its others
 pub own_grown : {E : Type 0} (by : E → ℕ) (n : ℕ) (log : List E) (e : E) → by e ≡ n → own by n (log ++ e ∷ []) ≡ own by n log ++ (length log, e) ∷ []
 own_grown {E} by n log e is =
     let one : own_from by n (0 + length log) (e ∷ []) ≡ (0 + length log, e) ∷ [] = ap (λ (b : Bool). if b then (0 + length log, e) ∷ [] else []) (eq-eqb (by e) n is) in
@@ -33,7 +33,7 @@ append_empty : {X : Type 0} (xs ys : List X) → xs ++ ys ≡ [] → xs ≡ []
 append_empty [] ys e = refl
 append_empty (x ∷ xs) ys e = absurd (cc e)
 
--- a writer's entries that are the same in a journal and in a beginning are the same in between
+-- a writer's entries that are the same in a journal and in a prefix are the same in between
 pub own_between : {E : Type 0} (by : E → ℕ) (n : ℕ) (seen all log : List E) → IsPrefix seen all → IsPrefix all log → own by n log ≡ own by n seen → own by n log ≡ own by n all
 own_between {E} by n seen all log p q same =
     let more : List E = p.0 in

@@ -100,7 +100,7 @@ places_marked by number seen log marks places n is same known =
     let known' : places ≡ without_each (own_places by number log) marks = known ∙ ap (λ ps. without_each ps marks) (sym (own_places_same by number seen log same)) in
     ap (λ l. l ++ n ∷ []) known' ∙ sym (without_each_snoc (own_places by number log) marks n (λ i p at. let b = places_below by number log i p at in λ e. omega arith))
 
--- an own entry adds to the marks alone
+-- an own entry adds only to the marks
 pub places_own : {E : Type 0} (by : E → ℕ) (number : ℕ) (seen : List E) (e : E) (marks places : List ℕ) → by e ≡ number → Rises 0 places (length seen)
     → places ≡ without_each (own_places by (Some number) seen) marks → places ≡ without_each (own_places by (Some number) (seen ++ e ∷ [])) (marks ++ length seen ∷ [])
 places_own {E} by number seen e marks places is rises known =
@@ -139,7 +139,7 @@ dated_grown by log e marks within early dated i m at =
     (λ is. subst (P m) (sym (ap (slice_get (log ++ e ∷ [])) is ∙ get_last log e)) (let b = early in omega arith))
     (λ other. subst (P m) (sym (get_before log e m (omega arith))) (dated i m at))
 
--- the same, where its place becomes a mark
+-- the same, if its place becomes a mark
 pub dated_own : {E : Type 0} (by : E → ℕ) (log : List E) (e : E) (marks : List ℕ) → Each (λ m. m ≤ length log) marks → by e ≤ length log → IsDated by log marks → IsDated by (log ++ e ∷ []) (marks ++ length log ∷ [])
 dated_own by log e marks within early dated = each_snoc (λ m. IfSome (slice_get (log ++ e ∷ []) m) (λ x. by x ≤ m)) marks (length log) (dated_grown by log e marks within early dated)
     (subst (λ o. IfSome o (λ x. by x ≤ length log)) (sym (get_last log e)) early)

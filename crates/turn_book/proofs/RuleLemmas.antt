@@ -99,7 +99,7 @@ module _ {E : Type 0} (by : E → ℕ) (enters : E → Bool) where
   number_below log (Some q) seen pre t (suc i) n at = absurd (some-ne-none n (sym at))
 
 module _ {E : Type 0} (by : E → ℕ) where
-  -- an entry that gives the seat its number n stands behind all that was joined, so n is no place there
+  -- an entry that gives the seat its number n comes after all that was joined, so n is not a place there
   mine_grown : (seen : List E) (k : Option ℕ) (olds : List (List E)) → Each (λ o. IsPrefix o seen) olds → IfSome k (λ n. IsMine by n olds) → IfSome (number_or k (length seen)) (λ n. IsMine by n olds)
   mine_grown seen None [] pre t = tt
   mine_grown seen None (o ∷ []) pre t = tt

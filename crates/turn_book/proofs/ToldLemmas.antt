@@ -1,4 +1,4 @@
--- What a seat's next step may rest on, from what its last steps told.
+-- What a seat's next step may rely on, by what its last steps showed.
 use Rattle.std.proofs.Common.{◌≡◌, ℕ, Bool, List, [], ◌∷◌, ◌++◌, length, Option, Some, ap, sym, ◌∙◌, subst}
 use mathlib.Core.Option.{some}
 use Rattle.atomic_table.specs.Table.{Me, Final, Seen}
@@ -11,7 +11,7 @@ use Rattle.turn_book.proofs.ListLemmas.{last_snoc}
 use Rattle.turn_book.proofs.KeptLemmas.{my_turn}
 
 module _ {B E F : Type 0} (m : Me (Option B) (View E F)) (n : ℕ) (m' : Me (Option B) (View E F)) (entry : Option E) (log : List E) where
-  -- the step was told an entry, and the journal ends with it
+  -- the step showed an entry, and the journal ends with it
   pub published_view : ((e : E) → entry ≡ Some e → (n ≡ length m.0.seen) × (m' ≡ (grown e n m.0, m.1))) → entry ≡ last log → (e : E) → log ≡ m.0.seen ++ e ∷ [] → m' ≡ (grown e (length m.0.seen) m.0, m.1)
   published_view tells said e whole =
       let t = tells e (said ∙ (ap last whole ∙ last_snoc m.0.seen e)) in
@@ -26,7 +26,7 @@ module _ {B E F : Type 0} (m : Me (Option B) (View E F)) (n : ℕ) (m' : Me (Opt
   pub published_length : ((e : E) → entry ≡ Some e → (n ≡ length m.0.seen) × (m' ≡ (grown e n m.0, m.1))) → entry ≡ last log → (e : E) → log ≡ m.0.seen ++ e ∷ [] → (k : ℕ) → k ≡ length log → held_len m'.0.held k ≡ k
   published_length tells said e whole k is = ap (λ h. held_len h k) (published_held tells said e whole) ∙ sym is
 
--- takes that missed the turn change nothing of what a seat knows
+-- takes that missed the turn change nothing that a seat knows
 pub knows_missed : {E F : Type 0} (by : E → ℕ) (enters : E → Bool) (log : List E) (v u : View E F) (k : ℕ) → u ≡ record v { missed = k } → Knows by enters log u → Knows by enters log v
 knows_missed {E} {F} by enters log v u k is knows =
     let t : Knows by enters log (record v { missed = k }) = subst (λ (w : View E F). Knows by enters log w) is knows in

@@ -31,11 +31,11 @@ IsBegun {E} by enters log = (e : E) × (slice_get log 0 ≡ Some e) × (enters e
 abbrev pub IsOneMore : {E F : Type 0} → View E F → E → List E → Type 0
 IsOneMore v e log = (v.held ≡ Some v.seen) × (log ≡ v.seen ++ e ∷ [])
 
--- the journal has one entry of the seat's own more
+-- the journal has one more entry of the seat's own
 abbrev pub MayAdd : {E F : Type 0} → (E → ℕ) → (E → Bool) → View E F → List E → Type 0
 MayAdd {E} by enters v log = (e : E) × IsOneMore v e log × IsOwn by enters v.number (length v.seen) e
 
--- the journal is the one taken, or has one entry of the seat's own more
+-- the journal is the one taken, or has one more entry of the seat's own
 abbrev pub MayGive : {E F : Type 0} → (E → ℕ) → (E → Bool) → View E F → List E → Type 0
 MayGive by enters v log = (v.held ≡ Some log) ⊎ MayAdd by enters v log
 
@@ -43,7 +43,7 @@ MayGive by enters v log = (v.held ≡ Some log) ⊎ MayAdd by enters v log
 abbrev pub Waits : {E F : Type 0} → View E F → List E → View E F → Type 0
 Waits v log w = (k : ℕ) × (v.missed ≤ k) × (w ≡ record v { held = Some log; missed = k })
 
--- the table was last in a state that meets the rule, with this journal, in which the seat with the view v has the turn
+-- the table was last in a state that satisfies the rule, with this journal, in which the seat with the view v has the turn
 pub record EndsAt {B E F : Type 0} (journal : B → List E) (fixed : B → F) (by : E → ℕ) (enters : E → Bool) (key : F) (v : View E F) (log : List E) : Type 0 where
   pub state : State (Option B) (View E F)
   pub rule : Ruled journal fixed by enters key state

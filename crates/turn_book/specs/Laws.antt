@@ -1,4 +1,4 @@
--- What the rule says of the turn, word by word.
+-- What the rule says about the turn, word by word.
 use Rattle.std.specs.Prelude.{◌≡◌, ◌⊎◌, ℕ, Bool, List, [], ◌∷◌, length, Option, Some, None}
 use mathlib.Core.Option.{some, none}
 use lib.ListN.{get_elem?}
@@ -25,6 +25,6 @@ pub record IsTaken {B E F : Type 0} (s : State (Option B) (View E F)) : Type 0 w
   pub held : view.held ≡ Some log
   pub others : (i : ℕ) (v : View E F) → ¬ (i ≡ place) → get_elem? s.views i ≡ some v → v.held ≡ None
 
--- in each state that meets the rule the turn is free, or one seat has it
+-- in each state that satisfies the rule the turn is free, or one seat has it
 abbrev pub TurnIsWithOne : {B E F : Type 0} → (B → List E) → (B → F) → (E → ℕ) → (E → Bool) → Type 0
 TurnIsWithOne {B} {E} {F} journal fixed by enters = (key : F) (s : State (Option B) (View E F)) → Ruled journal fixed by enters key s → IsFree journal fixed key s ⊎ IsTaken s

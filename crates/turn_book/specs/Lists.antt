@@ -4,15 +4,15 @@ use mathlib.Core.Option.{some}
 use lib.ListN.{get_elem?}
 use Rattle.etp_values.specs.Weight.{weigh}
 
--- P holds of each element
+-- P holds for each element
 abbrev pub Each : {X : Type 0} → (X → Type 0) → List X → Type 0
 Each {X} P xs = (i : ℕ) (x : X) → get_elem? xs i ≡ some x → P x
 
--- 1 where x is n, else 0
+-- 1 if x is n, else 0
 abbrev pub one_if : ℕ → ℕ → ℕ
 one_if n x = if x == n then 1 else 0
 
--- how often n stands in the list
+-- how often n occurs in the list
 abbrev pub occurrences : ℕ → List ℕ → ℕ
 occurrences n xs = weigh (one_if n) xs
 
@@ -21,7 +21,7 @@ abbrev pub without : ℕ → List ℕ → List ℕ
 without n [] = []
 without n (x ∷ xs) = if x == n then xs else x ∷ without n xs
 
--- the list without one of each of these, where it is there
+-- the list without one of each of these, if it is there
 abbrev pub without_each : List ℕ → List ℕ → List ℕ
 without_each [] xs = xs
 without_each (n ∷ ns) xs = without_each ns (without n xs)

@@ -63,11 +63,10 @@ numbers v = numbers_of v.number ++ map (λ m. m.number) v.met
 abbrev pub IsDated : {E : Type 0} → (E → ℕ) → List E → List ℕ → Type 0
 IsDated by log marks = Each (λ m. IfSome (slice_get log m) (λ e. by e ≤ m)) marks
 
--- the view is one of a journal: what was seen is a beginning of it; marks never fall and are at most the length seen;
--- no length that was heard is above the journal's; the number, and each that was met, is settled by what its seat had
--- seen; what was met and what was seen before a join is a beginning of what is seen now, and the join brought no entry
--- under the seat's own number; no entry at a mark has a later writer; and places, which never fall either, are the marks
--- with one left out for each own entry
+-- the view is one of a journal: what was seen is a prefix of it; marks never fall and are at most the length seen; no length that was heard
+-- is above the journal's; the number, and each that was met, is settled by what its seat had seen; what was met and what was seen before a
+-- join is a prefix of what is seen now, and the join brought no entry under the seat's own number; no entry at a mark has a later writer;
+-- and places, which never fall either, are the marks with one left out for each own entry
 pub record Fits {E F : Type 0} (by : E → ℕ) (enters : E → Bool) (log : List E) (v : View E F) : Type 0 where
   pub seen : IsPrefix v.seen log
   pub marks : Rises 0 v.marks (length v.seen)

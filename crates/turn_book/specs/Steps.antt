@@ -1,4 +1,4 @@
--- The view after each kind of step, and what the step tells.
+-- The view after each kind of step, and what the step shows.
 use Rattle.std.specs.Prelude.{◌≡◌, ◌≢◌, ℕ, ◌+◌, ◌≤◌, Bool, true, List, [], ◌∷◌, ◌++◌, length, Option, Some, None, IfSome}
 use mathlib.Core.List.{IsPrefix}
 use Rattle.atomic_table.specs.Table.{Step, Me}
@@ -11,7 +11,7 @@ use Rattle.turn_book.specs.Rules.{Knows, Sound}
 abbrev pub first_view : {E F : Type 0} → List E → F → View E F
 first_view log fixed = record { fixed = Some fixed; number = Some 0; seen = log; marks = []; places = []; held = None; heard = []; missed = 0; met = []; olds = [] }
 
--- a seat that has only seen a beginning of the journal
+-- a seat that has only seen a prefix of the journal
 abbrev pub fresh_view : {E F : Type 0} → Option F → List E → View E F
 fresh_view fixed seen = record { fixed = fixed; number = None; seen = seen; marks = []; places = []; held = None; heard = []; missed = 0; met = []; olds = [] }
 
@@ -40,7 +40,7 @@ abbrev pub number_or : Option ℕ → ℕ → Option ℕ
 number_or None n = Some n
 number_or (Some k) n = Some k
 
--- an entry of the seat's own was published at n, behind all that it had seen
+-- an entry of the seat's own was published at n, after all that it had seen
 abbrev pub grown : {E F : Type 0} → E → ℕ → View E F → View E F
 grown e n v = record v { number = number_or v.number n; seen = v.seen ++ e ∷ []; held = Some (v.seen ++ e ∷ []); marks = v.marks ++ n ∷ [] }
 
@@ -93,7 +93,7 @@ module _ {B E F : Type 0} (by : E → ℕ) (enters : E → Bool) where
   abbrev pub gave : Step (Option B) → Me (Option B) (View E F) → ℕ → Me (Option B) (View E F) → Type 0
   gave st m n m' = (m' ≡ (released m.0, [])) × ((log : List E) → m.0.held ≡ Some log → Knows by enters log m'.0)
 
-  -- publishing an entry: the number found is its place, behind all that was seen
+  -- publishing an entry: the number found is its place, after all that was seen
   abbrev pub published : Option E → Step (Option B) → Me (Option B) (View E F) → ℕ → Me (Option B) (View E F) → Type 0
   published entry st m n m' = (e : E) → entry ≡ Some e → (n ≡ length m.0.seen) × (m' ≡ (grown e n m.0, m.1))
 

@@ -10,7 +10,7 @@ pub trait Book: Drop {
     /// The entries, in order.
     ghost journal: { Self → List Self.Entry };
 
-    /// What every book that comes out has in common with the one that was put in first.
+    /// What every book that comes out shares with the one that was put in first.
     ghost fixed: { Self → Self.Fixed };
 
     /// Whose entry it is: the place of the entry by which its writer entered.

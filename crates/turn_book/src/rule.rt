@@ -1,4 +1,4 @@
-//! The rule that every step keeps, and what each kind of step tells its seat.
+//! The rule that every step keeps, and what a seat learns from each kind of step.
 //!
 //! Word 0 is the turn, 0 or 1. Word 1 is the journal's length. The one slot has the book while the turn is 0. There are
 //! eight kinds of step, and [`crate::TurnBook`] makes each of them at one place:
@@ -51,8 +51,7 @@ impl<B: Book> Play<Option<B>, View<B::Entry, B::Fixed>> for Give<B> {
     ghost then = { gave B.by B.enters };
 }
 
-/// The entry that a seat publishes. A step's operands are numbers alone, so the call itself picks the entry, as a fact
-/// for the proof.
+/// The entry that a seat publishes. A step's operands are only numbers, so the call itself picks the entry, as a fact for the proof.
 pub(crate) trait Says<E> {
     ghost use Rattle.std.specs.Prelude.{Option};
 
@@ -83,7 +82,7 @@ impl<B: Book> Play<Option<B>, View<B::Entry, B::Fixed>> for Look<B> {
     ghost then = { looked B.by B.enters };
 }
 
-/// Splits a new seat off, which has seen as much and has no number.
+/// Splits off a new seat, which has seen as much and has no number.
 pub(crate) struct Cut;
 
 impl<E, F> Split<View<E, F>> for Cut {

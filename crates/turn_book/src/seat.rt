@@ -5,7 +5,7 @@ ghost use Rattle.turn_book.specs.Hands.{hand_of, held_len};
 use crate::book::Book;
 use crate::view::View;
 
-/// A seat at the book that it came from. While it has the turn it remembers how long the journal was that it took.
+/// A seat at the book that it came from. While it has the turn it remembers how long the journal was when it took it.
 #[derive(Drop)]
 pub struct Seat<B: Book> {
     pub(crate) seat: atomic_table::Seat<Option<B>, View<B::Entry, B::Fixed>>,

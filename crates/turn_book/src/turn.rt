@@ -18,13 +18,13 @@ use std::sync::Wait;
 use std::thread;
 use std::time::Duration;
 
-/// How many tries follow one another without a sleep, as most turns are over in microseconds.
+/// How many tries are made without sleeping, as most turns are over in microseconds.
 const YIELDS: u32 = 200;
 
-/// How long the first sleep of a waiting thread is, in microseconds.
+/// The length of a waiting thread's first sleep, in microseconds.
 const FIRST_SLEEP: u64 = 64;
 
-/// How many of the sleeps after it are twice as long as the one before. The longest is four milliseconds.
+/// How many of the following sleeps are each twice as long as the previous one. The longest is four milliseconds.
 const DOUBLINGS: u32 = 6;
 
 type Room<B> = Table<
@@ -54,8 +54,7 @@ fn only<B: Drop>(alloc: Global, book: B) -> Result<Vec<Option<B>>, AllocError>
 impl<B: Book> TurnBook<B> {
     ghost use Rattle.turn_book.specs.Words.{fixed_of, view, IsSeatOf};
 
-    /// A book with its first seat, which has the number 0 and has seen the whole journal. Where memory is refused, the book
-    /// is dropped.
+    /// A book with its first seat, which has the number 0 and has seen the whole journal. If allocation fails, the book is dropped.
     pub fn new(alloc: Global, book: B) -> Result<(TurnBook<B>, Seat<B>), NoMemory>
         requires { IsBegun B.by B.enters (B.journal book) }
         ensures own { IfOk result (λ t. IsSeatOf B.fixed t.0 t.1) }
@@ -73,8 +72,8 @@ impl<B: Book> TurnBook<B> {
         Ok((TurnBook { table }, Seat { seat, taken: 0 }))
     }
 
-    /// Takes the turn, and waits for it. The book is as it last went in. Between the first tries other threads may run; between
-    /// later ones the thread sleeps, for four milliseconds at most.
+    /// Takes the turn, waiting for it. The book is as it was last put in. Between the first tries other threads may run; between later ones
+    /// the thread sleeps, for at most four milliseconds.
     pub fn take<R: Wait>(&self, rt: &R, seat: &mut Seat<B>) -> B
         requires own { IsSeatOf B.fixed self.now seat.old }
         requires idle { (view seat.old).held ≡ None }
@@ -94,8 +93,8 @@ impl<B: Book> TurnBook<B> {
         unreachable!()
     }
 
-    // Waits before a further try, after so many have missed the turn: lets other threads run at first, and later sleeps, unless the
-    // turn has been given back meanwhile.
+    // Waits before another try, after this many have missed the turn: at first lets other threads run, and later sleeps, unless the turn
+    // has been given back meanwhile.
     fn rest<R: Wait>(&self, rt: &R, missed: u32) {
         if missed < YIELDS {
             thread::yield_now();
@@ -108,7 +107,7 @@ impl<B: Book> TurnBook<B> {
         }
     }
 
-    /// Takes the turn if it is free. None where its own compare and exchange found the turn taken, which `missed` counts.
+    /// Takes the turn if it is free. `None` if its own compare and exchange found the turn taken, which `missed` counts.
     pub fn try_take(&self, seat: &mut Seat<B>) -> Option<B>
         requires own { IsSeatOf B.fixed self.now seat.old }
         requires idle { (view seat.old).held ≡ None }
@@ -128,8 +127,8 @@ impl<B: Book> TurnBook<B> {
         Some(book)
     }
 
-    /// The length of the journal, as a load finds it. With the turn, the seat has then seen the whole journal; without,
-    /// the length may have passed by the time that it is read.
+    /// The length of the journal, as a load finds it. With the turn, the seat has then seen the whole journal; without, the journal may be
+    /// longer by the time that the length is read.
     pub fn look(&self, seat: &mut Seat<B>) -> u64
         requires own { IsSeatOf B.fixed self.now seat.old }
         ensures own { IsSeatOf B.fixed self.now seat.new }
@@ -141,8 +140,8 @@ impl<B: Book> TurnBook<B> {
         self.table.shared.load::<Look<B>>(&mut seat.seat, 1)
     }
 
-    /// Gives the turn back with the book. The journal is the one that was taken, or has one entry of the seat's own more;
-    /// before such an entry the seat has looked with the turn.
+    /// Gives the turn back with the book. The journal is the one that was taken, or has one more entry of the seat's own; before such an
+    /// entry the seat has looked with the turn.
     pub fn give(&self, seat: &mut Seat<B>, book: B)
         requires own { IsSeatOf B.fixed self.now seat.old }
         requires fixed { B.fixed book ≡ fixed_of B.fixed self.now }
@@ -160,7 +159,7 @@ impl<B: Book> TurnBook<B> {
         self.put(seat, book);
     }
 
-    // Makes the book's last entry known to the others.
+    // Makes the book's last entry visible to the others.
     fn publish<N: Says<B::Entry>>(&self, seat: &mut Seat<B>, book: &B)
         requires own { IsSeatOf B.fixed self.now seat.old }
         requires said { N.entry ≡ last (B.journal book.now) }
@@ -215,8 +214,8 @@ impl<B: Book> TurnBook<B> {
         self.table.shared.join_seat::<Meet>(&mut seat.seat, other);
     }
 
-    /// The book, once the turn was taken a last time. It waits for the turn. The journal begins with all that any seat
-    /// has seen: `rule` is the whole rule, at the last state of the table.
+    /// The book, after the turn was taken a last time. It waits for the turn. The journal begins with everything that any seat has seen:
+    /// `rule` is the whole rule, at the last state of the table.
     pub fn close<R: Wait>(self, rt: &R, seat: Seat<B>) -> B
         requires own { IsSeatOf B.fixed self seat }
         requires idle { (view seat).held ≡ None }

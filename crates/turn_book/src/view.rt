@@ -1,4 +1,4 @@
-//! What a seat knows. No value of these types is made: they are the types of ghost fields.
+//! What a seat knows. No value of these types exists: they are the types of ghost fields.
 use std::collections::LinkedList;
 
 /// What a numbered seat knew when it was joined into another.
@@ -15,11 +15,11 @@ pub struct View<E, F> {
     pub fixed: Option<F>,
     /// The place of the entry by which the seat entered, once it did.
     pub number: Option<u64>,
-    /// The beginning of the journal that the seat has seen.
+    /// The prefix of the journal that the seat has seen.
     pub seen: LinkedList<E>,
     /// The journal's lengths that it found with the turn, and the places of its own entries, in the order of its steps.
     pub marks: LinkedList<u64>,
-    /// The lengths alone that it found with the turn.
+    /// Only the lengths that it found with the turn.
     pub places: LinkedList<u64>,
     /// The whole journal, while the seat has the turn.
     pub held: Option<LinkedList<E>>,

@@ -1,4 +1,4 @@
--- The keys that operations alter are found, and where none is found nothing is done; for the crates above too.
+-- The keys that operations alter are found, and if none is found nothing is done; for the crates above too.
 use Rattle.std.proofs.Common.{Bool, true, false, cond, ◌&&◌, ◌||◌, List, [], ◌∷◌, ◌++◌, ◌≡◌, Option, refl, sym, ap, ◌∙◌, filter, fold, true≢false}
 use Rattle.std.specs.List.{list_any}
 use Rattle.std.proofs.lemmas.Bool.{or_parts}
@@ -79,7 +79,7 @@ finds-next a ops o found key none =
     let last : op_alters o key ≡ false = (λ j. suits o.key o.what && (own.1 j || gone.1 j)) ∙ and-false (suits o.key o.what) in
     any-none (λ (o : Op). op_alters o key) ops o (found key before) last
 
--- ---- where none is found
+-- ---- if none is found
 
 pub overlay-untouched : (a : Altered) (ops : List Op) (key : Key) (base : Option Value) → FindsAltered a ops → may_alter a key ≡ false → base ≡ overlay ops key base
 overlay-untouched a ops key base found none = sym (ap (fold (λ v (o : Op). op_left o v) base) (none-pass (λ (o : Op). op_alters o key) ops (found key none)))

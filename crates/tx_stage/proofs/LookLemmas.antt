@@ -40,7 +40,7 @@ pub given-heavy : (room bytes : ℕ) (refusal : Option ArrayError) (values : Any
 given-heavy room bytes refusal values is few e h =
     ap (λ b. cond b (Refused LimitExceeded) (Slice values)) (sym (has_more room bytes (size_of values) few e h)) ∙ ap (λ r. given room (elements_seen r values)) (sym is)
 
--- elements that have room
+-- elements that fit
 pub given-light : (room bytes : ℕ) (refusal : Option ArrayError) (values : AnyArray) → refusal ≡ None → room ≤ 67108864 → bytes ≡ capped (size_of values) → bytes ≤ room
     → Slice values ≡ given room (elements_seen refusal values)
 given-light room bytes refusal values is few e h =

@@ -1,4 +1,4 @@
--- What stands after operations, step by step.
+-- What exists after operations, step by step.
 use Rattle.std.proofs.Common.{ℕ, suc, ◌+◌, ◌<◌, ℤ, Bool, true, false, cond, not, List, [], ◌∷◌, ◌++◌, ◌≡◌, Option, Some, None, refl, sym, ap, ◌∙◌, fold, filter, length, drop, get_or, add-one, drop-cons}
 use Rattle.std.specs.Prelude.{is_some}
 use Rattle.std.specs.Option.{option_map}
@@ -44,7 +44,7 @@ overlay-goes ops k o key before after within is done =
     ∙ ap (λ n. overlay (o ∷ drop n ops) key before) (add-one k)
     ∙ ap (λ os. overlay os key before) (sym (drop-cons ops k o within ∙ ap (λ p. p ∷ drop (suc k) ops) (sym is)))
 
--- ---- whether something stands
+-- ---- whether something exists
 
 mapped-some : {A B : Type 0} (f : A → B) (v : Option A) → is_some (option_map f v) ≡ is_some v
 mapped-some f None = refl

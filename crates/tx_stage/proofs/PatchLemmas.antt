@@ -85,9 +85,9 @@ idle key (o ∷ ops) before h =
     let n = or_parts (concerns key o) (list_any (concerns key) ops) h in
     ap (λ x. fold (array_after key) x ops) (idle-op key o before n.0) ∙ idle key ops before n.1
 
--- ---- what stands at the key
+-- ---- what is at the key
 
--- the operation, and what stands at the key after all of them
+-- the operation, and what is at the key after all of them
 pub record Stands (key : ArrayKey) (op : ArrayOp) (after : Option ArrayRecord) : Type 0 where
   pub own : ArrayKey
   pub array : ArrayRecord
@@ -210,7 +210,7 @@ unpatched (PatchArray k when starts counts values) e at ss cs vs h = refl
 unpatched (DropArraysOf u) e at ss cs vs h = refl
 unpatched (DropArraysIn p) e at ss cs vs h = refl
 
--- a list written where it has the same is as it was, also as a `Vec`
+-- a list written with what it already has is unchanged, also as a `Vec`
 vec-same : {X Z : Type 0} (v : Vec X Z) (place : ℕ) (x : X) → set v.items place x ≡ v.items → with_item v place x ≡ v
 vec-same v place x e = λ j. record {
   ptr = v.ptr;
@@ -225,7 +225,7 @@ vec-same v place x e = λ j. record {
 pub written-same : {X Z : Type 0} (v : Vec X Z) (place : ℕ) (x new : X) → x ≡ get_or v.items place x → new ≡ x → with_item v place new ≡ v
 written-same v place x new read same = vec-same v place new (ap (set v.items place) (same ∙ read) ∙ set-get_or v.items place x)
 
--- what the plan has of the array is what stands, but for when it was made
+-- what the plan has of the array is what exists, except for its time of creation
 alike : (k : ArrayKey) (o : ArrayOp) (after : Option ArrayRecord) (s : Stands k o after) → undated (Some s.array) ≡ undated after
 alike k o after s = ap undated (sym s.after_is)
 
@@ -235,7 +235,7 @@ planned-code k before ops place o ss cs vs is read =
     let s = stands k before ops place o is read in
     ap (λ x. option_map code_of (set_refusal ss cs vs x)) s.is ∙ patch-misfit (fold (array_after k) before ops) s.array ss cs vs (alike k o (fold (array_after k) before ops) s)
 
--- the plan with the operation at a place written
+-- the plan with the operation at an index written
 abbrev pub written : Plan → ℕ → ArrayOp → Plan
 written p place new = record { objects = p.objects; arrays = with_item p.arrays place new }
 
@@ -267,7 +267,7 @@ kept (Ok code) p place o new at ss cs vs read made coded = λ some.
     let why = refused-some (set_refusal ss cs vs o) (sym (ap (λ (c : Option ErrorCode). is_some c) coded) ∙ some) in
     refused-same p place o new why.0 at ss cs vs read made why.1
 
--- ---- the array as it was given, where an operation sets it and no later one concerns it
+-- ---- the array as it was given, if an operation sets it and no later one concerns it
 
 idle-given-op : (key : ArrayKey) (o : ArrayOp) (before : Option ArrayRecord) → concerns key o ≡ false → array_given key before o ≡ before
 idle-given-op key (SetArray k r) before h = ap (λ b. cond b (Some r) before) (or_parts (same_key key k && is_none (record_refusal r)) false h).0

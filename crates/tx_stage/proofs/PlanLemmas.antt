@@ -83,7 +83,7 @@ never : {A : Type 0} (b : Bool) (x y : A) → y ≡ cond (b && false) x y
 never true x y = refl
 never false x y = refl
 
--- what goes is none of its kind either
+-- what is removed is not of its kind either
 gone : {A B : Type 0} (f : A → B) (b : Bool) (before : Option A) → option_map f (cond b None before) ≡ cond b None (option_map f before)
 gone f true before = refl
 gone f false before = refl
@@ -156,7 +156,7 @@ sets-array t p q k r at same sets (Space x) = spaces-same t p q x same ∙ never
 sets-array t p q k r at same sets (Object x) = objects-same t p q x same ∙ never (is_none (record_refusal r)) _ _
 sets-array t p q k r at same sets (Array x) = arrays-next t p q x _ sets ∙ array-put (record_refusal r) (table.same_key x k) at r _
 
--- ---- patches: what stands, and what the plan has of it, differ at most in when the array was made
+-- ---- patches: what exists, and what the plan has of it, differ at most in the array's time of creation
 
 abbrev pub undated : Option ArrayRecord → Option ArrayRecord
 undated before = option_map (λ (r : ArrayRecord). record r { created = pos 0 }) before
@@ -179,7 +179,7 @@ undated-gone : (b : Bool) (x y : Option ArrayRecord) → undated x ≡ undated y
 undated-gone true x y same = refl
 undated-gone false x y same = same
 
--- a patch in place does not look at when the array was made
+-- a patch in place does not look at the array's time of creation
 patch-dated : (bytes : Bool) (e : Option ArrayError) (b whole : ArrayRecord) (made : ℤ)
     → cond bytes (record b { created = made }) (unless_refused e (record b { created = made }) (record whole { created = made })) ≡ record (cond bytes b (unless_refused e b whole)) { created = made }
 patch-dated true e b whole made = refl
@@ -207,7 +207,7 @@ pub undated-after : (key : ArrayKey) (sets : List ArrayOp) (x y : Option ArrayRe
 undated-after key [] x y same = same
 undated-after key (o ∷ sets) x y same = undated-after key sets (array_given key x o) (array_after key y o) (undated-next key o x y same)
 
--- something stands in both
+-- something exists in both
 pub undated-some : (x : Option ArrayRecord) → is_some (undated x) ≡ is_some x
 undated-some None = refl
 undated-some (Some r) = refl
@@ -230,7 +230,7 @@ pub none-alike : (y : Option ArrayRecord) → undated None ≡ undated y → y �
 none-alike None same = refl
 none-alike (Some r) same = absurd cc
 
--- an array is refused a patch whenever it was made
+-- an array refuses a patch regardless of its time of creation
 pub write-alike : (s b : ArrayRecord) (ss cs : List ℤ) (vs : AnyArray) → undated (Some s) ≡ undated (Some b) → write_refusal s ss cs vs ≡ write_refusal b ss cs vs
 write-alike s b ss cs vs same = ap (λ r. write_refusal r ss cs vs) (dated s b same)
 
@@ -242,7 +242,7 @@ patch-misfit (Some s) b ss cs vs same = ap (option_map code_of) (write-alike b s
 pub no-patch : (y : Option ArrayRecord) (ss cs : List ℤ) (vs : AnyArray) → y ≡ None → None ≡ misfit (Patch ss cs vs) (option_map value.Array y)
 no-patch y ss cs vs none = ap (λ o. misfit (Patch ss cs vs) (option_map value.Array o)) (sym none)
 
--- a patch that fits: what is put is what the patch leaves of what stands
+-- a patch that fits: what is put is what the patch leaves of what exists
 pub accepted-patch : (e : Option ArrayError) (b s : ArrayRecord) (at : ℤ) (ss cs : List ℤ) (vs : AnyArray) → e ≡ None → s ≡ record b { created = s.created } → write_refusal b ss cs vs ≡ e
     → record (patched_at at ss cs vs b) { created = s.created } ≡ patched_at at ss cs vs s
 accepted-patch None b s at ss cs vs none dated fits =
@@ -275,7 +275,7 @@ patches-array t p q k b new at ss cs vs alike made fits sound same sets (Array x
     let own = λ (h : table.same_key x k ≡ true). alike ∙ ap (λ y. undated (fold (array_after y) (array_in t.arrays y) p.arrays.items)) (sym (same_key-is x k h)) in
     arrays-next t p q x _ sets ∙ patch-put (table.same_key x k) _ b new at ss cs vs made fits sound own
 
--- a patch that leaves what stands
+-- a patch that leaves what exists
 left-alone : (same : Bool) (before : Option ArrayRecord) (at : ℤ) (ss cs : List ℤ) (vs : AnyArray)
     → (same ≡ true → option_map (patched_value at ss cs vs) (option_map value.Array before) ≡ option_map value.Array before)
     → option_map value.Array before ≡ cond (same || false) (option_map (patched_value at ss cs vs) (option_map value.Array before)) (option_map value.Array before)
@@ -311,7 +311,7 @@ pub leaves-refused : (t : Contents) (p : Plan) (k : ArrayKey) (b : ArrayRecord) 
     → Advances t p p (Array k) (Patch ss cs vs) at
 leaves-refused t p k b e at ss cs vs alike refused = leaves-array t p k at ss cs vs (patched-refused _ b e at ss cs vs alike refused)
 
--- ---- what does not go with its key
+-- ---- what does not suit its key
 
 object-misfit : (what : OpWhat) (y : Option ObjectRecord) → None ≡ misfit what (option_map value.Object y)
 object-misfit (SetObject r) y = refl
@@ -342,7 +342,7 @@ space-unaltered t p own Gone at key = refl
 pub space-stays : (t : Contents) (p : Plan) (key : Key) (path : List ℕ) (what : OpWhat) (at : ℤ) → key ≡ Space path → Advances t p p key what at
 space-stays t p key path what at is = subst (λ k. Advances t p p k what at) (sym is) (space-unaltered t p path what at)
 
--- what does not go with an object's key, and with an array's
+-- what does not suit an object's key, and an array's
 pub object-stays : (t : Contents) (p : Plan) (u : StoreUri) (what : OpWhat) (at : ℤ) → suits (Object u) what ≡ false → Advances t p p (Object u) what at
 object-stays t p u what at other key = unsuited (suits (Object u) what) _ other _ _
 

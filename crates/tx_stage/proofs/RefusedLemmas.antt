@@ -1,4 +1,4 @@
--- Refusals of arrays, their codes, and want of memory; for the crates above too.
+-- Refusals of arrays, their codes, and running out of memory; for the crates above too.
 use Rattle.std.proofs.Common.{◌≡◌, ℤ, List, Option, Some, None, Result, Ok, refl, sym, ap, ◌∙◌, subst}
 use Rattle.std.specs.Prelude.{IfOk}
 use Rattle.std.specs.Option.{option_map, unwrap_or}

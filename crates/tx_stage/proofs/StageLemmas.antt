@@ -1,4 +1,4 @@
--- What a transaction keeps beside its operations and touched keys.
+-- What a transaction keeps besides its operations and touched keys.
 use Rattle.std.proofs.Common.{ℕ, ◌+◌, Bool, true, false, cond, not, ◌||◌, Some, None, Ok, Err, length, List, [], ◌∷◌, ◌++◌, ◌≡◌, refl, sym, ap, ◌∙◌, map, arith}
 use Rattle.std.specs.Prelude.{nat_le}
 use Rattle.std.specs.List.{list_any}
@@ -17,7 +17,7 @@ any-map : {A B : Type 0} (test : B → Bool) (f : A → B) (xs : List A) → lis
 any-map test f [] = refl
 any-map test f (x ∷ xs) = ap (λ b. test (f x) || b) (any-map test f xs)
 
--- a key is found exactly where it was touched
+-- a key is found exactly if it was touched
 pub found-touched : (key : Key) (keys : List Key) (touched : List Touch) → keys ≡ map (λ (t : Touch). t.key) touched → list_any (same_key key) keys ≡ is_touched touched key
 found-touched key keys touched listed = ap (list_any (same_key key)) listed ∙ any-map (same_key key) (λ (t : Touch). t.key) touched
 

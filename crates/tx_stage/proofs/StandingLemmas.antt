@@ -1,4 +1,4 @@
--- What stands after operations, by whether it did before.
+-- What exists after operations, by whether it did before.
 use Rattle.std.proofs.Common.{ℕ, Bool, true, false, cond, not, ◌&&◌, ◌||◌, List, [], ◌∷◌, ◌≡◌, Option, Some, None, refl, sym, ap, ◌∙◌, fold, Bor}
 use Rattle.std.specs.Prelude.{is_none, is_some}
 use Rattle.std.specs.Option.{option_copied, option_map}
@@ -82,7 +82,7 @@ pub array-stands : (f : ArrayRecord → Value) (key : ArrayKey) (ops : List Arra
     → fold (array_stands key) (is_some before) ops ≡ is_some (option_map f (fold (array_after key) before ops))
 array-stands f key ops before = array-stood key ops before ∙ mapped f _
 
--- something is lent exactly where something is there
+-- something is borrowed exactly if something is there
 pub copied-some : {A : Type 0} (o : Option (Bor A)) → is_some o ≡ is_some (option_copied o)
 copied-some None = refl
 copied-some (Some x) = refl

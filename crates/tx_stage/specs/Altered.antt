@@ -26,7 +26,7 @@ is_array_of_any gone (Space p) = false
 is_array_of_any gone (Object u) = false
 is_array_of_any gone (Array k) = list_any (same_uri k.uri) gone
 
--- an operation may alter a key: it is one's own, or goes along with an object that one removes
+-- an operation may alter a key: it is one's own, or is taken along with an object that one removes
 abbrev pub may_alter : Altered → Key → Bool
 may_alter a key = list_any (same_key key) a.own || is_array_of_any a.gone key
 

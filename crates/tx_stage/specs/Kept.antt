@@ -1,4 +1,4 @@
--- What a transaction keeps beside what is seen of it.
+-- What a transaction keeps besides what is seen of it.
 use Rattle.std.specs.Prelude.{ℕ, ◌≡◌, ◌≤◌, List, map}
 use Rattle.etp_values.specs.Weight.{weigh}
 use Rattle.tx_stage.specs.declared.key.Key.{Key}

@@ -1,4 +1,4 @@
--- Keys: which are the same, and what each stands in.
+-- Keys: which are the same, and what each belongs to.
 use Rattle.std.specs.Prelude.{ℕ, Bool, false, List}
 use Rattle.std.specs.Str.{bytes_eq}
 use Rattle.etp_values.specs.SameUri.{same_uri}
@@ -19,13 +19,13 @@ same_key (Array k) (Space q) = false
 same_key (Array k) (Object v) = false
 same_key (Array k) (Array l) = table.same_key k l
 
--- the path of the dataspace that a key is of or stands in
+-- the path of the dataspace that a key is or belongs to
 abbrev pub space_of : Key → List ℕ
 space_of (Space p) = p
 space_of (Object u) = u.space
 space_of (Array k) = k.uri.space
 
--- what has to stand where a key is set: for an object its dataspace, for an array its object
+-- what has to exist if a key is set: for an object its dataspace, for an array its object
 abbrev pub owner : Key → Key
 owner (Space p) = Space p
 owner (Object u) = Space u.space

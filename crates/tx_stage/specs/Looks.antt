@@ -84,7 +84,7 @@ payload_of (looked.Slice a) = size_of a
 payload_of (looked.Shape ds ps b l c w m) = 0
 payload_of (looked.Refused c) = 0
 
--- what is given of something seen, where so many bytes of payload are left to give
+-- what is given of something seen, if this many bytes of payload are left to give
 abbrev pub given : ℕ → Looked → Looked
 given room l = if nat_lt room (payload_of l) then looked.Refused LimitExceeded else l
 
@@ -99,7 +99,7 @@ looks_within state room (w ∷ ws) =
 abbrev pub looks : (Key → Option Value) → List Want → List Looked
 looks state ws = looks_within state 67108864 ws
 
--- ---- how a refusal is seen; want of memory is none
+-- ---- how a refusal is seen; running out of memory is not one
 
 abbrev pub memory_or_refused : ArrayError → Result Looked NoMemory
 memory_or_refused error.Rank = Ok (looked.Refused (code_of error.Rank))

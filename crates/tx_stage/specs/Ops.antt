@@ -16,7 +16,7 @@ use Rattle.tx_stage.specs.Keys.{same_key, is_array_of}
 
 -- ---- which keys an operation alters
 
--- what is done goes with the key: an object's record says its key, and an array's is one that a put accepts
+-- what is done suits the key: an object's record says its key, and an array's is one that a put accepts
 abbrev pub suits : Key → OpWhat → Bool
 suits (Space p) (SetObject r) = false
 suits (Space p) (SetArray r) = false
@@ -38,7 +38,7 @@ takes_along own (SetArray r) key = false
 takes_along own (Patch ss cs vs) key = false
 takes_along own Gone key = is_array_of own key
 
--- what is done at a key that it goes with alters that key, and what goes along
+-- what is done at a key that it suits alters that key, and what is taken along
 abbrev pub alters_by : Key → OpWhat → Key → Bool
 alters_by own what key = suits own what && (same_key key own || takes_along own what key)
 
@@ -48,7 +48,7 @@ op_alters o key = alters_by o.key o.what key
 
 -- ---- what it leaves there
 
--- when a value was made; one that was not there is made now
+-- when a value was created; one that did not exist is created now
 abbrev pub made_at : ℤ → Option Value → ℤ
 made_at at None = at
 made_at at (Some (value.Space r)) = r.created
@@ -60,7 +60,7 @@ patched_value at ss cs vs (value.Space r) = value.Space r
 patched_value at ss cs vs (value.Object r) = value.Object r
 patched_value at ss cs vs (value.Array r) = value.Array (patched_at at ss cs vs r)
 
--- what stands at a key that is altered, from the value before
+-- what is at a key that is altered, from the previous value
 abbrev pub left_by : ℤ → OpWhat → Option Value → Option Value
 left_by at (SetObject r) before = Some (value.Object (record r { written = at; created = made_at at before }))
 left_by at (SetArray r) before = Some (value.Array (record r { written = at; created = made_at at before }))

@@ -1,4 +1,4 @@
--- Operations over a state: what stands after them, and why a further one is refused.
+-- Operations over a state: what exists after them, and why a further one is refused.
 use Rattle.std.specs.Prelude.{ℤ, Bool, true, false, not, List, Option, Some, None, is_some, if◌then◌else◌, fold, filter}
 use Rattle.std.specs.Option.{option_map}
 use Rattle.etp_values.specs.declared.code.ErrorCode.{ErrorCode}
@@ -16,26 +16,26 @@ use Rattle.tx_stage.specs.Keys.{owner}
 use Rattle.tx_stage.specs.Ops.{suits, op_alters, op_left}
 use Rattle.tx_stage.specs.Values.{as_array}
 
--- ---- what stands after operations
+-- ---- what exists after operations
 
--- the value at a key: what those that alter it left, one after the other, of the one before them
+-- the value at a key: what those that alter it left, one after the other, of the previous one
 abbrev pub overlay : List Op → Key → Option Value → Option Value
 overlay ops key base = fold (λ v o. op_left o v) base (filter (λ o. op_alters o key) ops)
 
--- whether something stands where an operation was done, by whether something did
+-- whether something exists where an operation was applied, by whether something did before
 abbrev pub leaves : OpWhat → Bool → Bool
 leaves (SetObject r) before = true
 leaves (SetArray r) before = true
 leaves (Patch ss cs vs) before = before
 leaves Gone before = false
 
--- whether something stands at a key, by whether something did before the operations
+-- whether something exists at a key, by whether something did before the operations
 abbrev pub there : List Op → Key → Bool → Bool
 there ops key base = fold (λ b o. leaves o.what b) base (filter (λ o. op_alters o key) ops)
 
 -- ---- why an operation is refused
 
--- what has to stand: where something is set, what it stands in, and else what is patched or removed
+-- what has to exist: if something is set, its owner, and otherwise what is patched or removed
 abbrev pub needed : Key → OpWhat → Key
 needed key (SetObject r) = owner key
 needed key (SetArray r) = owner key
@@ -47,7 +47,7 @@ abbrev pub patch_misfit : List ℤ → List ℤ → AnyArray → Option ArrayRec
 patch_misfit ss cs vs None = None
 patch_misfit ss cs vs (Some r) = option_map code_of (write_refusal r ss cs vs)
 
--- why what is done does not fit what stands at its key; only a patch may not
+-- why what is done does not fit what is at its key; only a patch may not
 abbrev pub misfit : OpWhat → Option Value → Option ErrorCode
 misfit (SetObject r) v = None
 misfit (SetArray r) v = None

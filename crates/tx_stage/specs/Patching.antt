@@ -50,7 +50,7 @@ SetsLater key [] place = ⊥
 SetsLater key (o ∷ os) zero = (sets key o ≡ true) × (list_any (concerns key) os ≡ false)
 SetsLater key (o ∷ os) (suc place) = SetsLater key os place
 
--- so it does, and there is an array before it, where this is the key's array before all of them
+-- the same, and there is an array before it, if this is the key's array before all of them
 abbrev pub SetsOver : ArrayKey → Option ArrayRecord → List ArrayOp → ℕ → Type 0
 SetsOver key before [] place = ⊥
 SetsOver key before (o ∷ os) zero = (is_some before ≡ true) × (sets key o ≡ true) × (list_any (concerns key) os ≡ false)

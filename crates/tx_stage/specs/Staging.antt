@@ -20,7 +20,7 @@ pub record Transaction : Type 0 where
   pub ops : List Op
   pub touched : List Touch
 
--- whether it may touch a dataspace: one that it was started for, and without any the default one
+-- whether it may touch a dataspace: one that it was started for, or the default one if there are none
 abbrev pub has_space : List (List ℕ) → List ℕ → Bool
 has_space spaces path = if length spaces == 0 then length path == 0 else list_any (bytes_eq path) spaces
 
@@ -54,7 +54,7 @@ put_refusal x o =
 abbrev pub staged : Transaction → Op → Transaction
 staged x o = record x { ops = x.ops ++ o ∷ [] }
 
--- a call that is refused for this or for nothing
+-- a call that is refused for this reason, if any
 abbrev pub unless : Option StageError → Result Unit StageError
 unless None = Ok tt
 unless (Some e) = Err e

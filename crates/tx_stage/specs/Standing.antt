@@ -1,4 +1,4 @@
--- What stands while operations are done, for look-ups that go through a plan.
+-- What exists while operations are applied, for look-ups that go through a plan.
 use Rattle.std.specs.Prelude.{ℕ, Bool, ◌&&◌, ◌||◌, not, Option, Some, None, is_none, if◌then◌else◌}
 use Rattle.std.specs.Option.{option_map}
 use Rattle.std.specs.Str.{bytes_eq}
@@ -15,7 +15,7 @@ use Rattle.object_store.specs.declared.op.ObjectOp.TheVariants as op
 use Rattle.std.specs.Prelude.{List}
 use Rattle.tx_stage.specs.Patching.{sets, takes_away}
 
--- whether a dataspace stands after an operation, by whether it did before
+-- whether a dataspace exists after an operation, by whether it did before
 abbrev pub space_stands : List ℕ → Bool → ObjectOp → Bool
 space_stands path before (op.SetSpace r) = bytes_eq path r.path || before
 space_stands path before (op.DropSpace p) = not (bytes_eq path p) && before
@@ -33,7 +33,7 @@ object_stands uri before (op.DropObject u) = not (same_uri uri u) && before
 abbrev pub array_stands : ArrayKey → Bool → ArrayOp → Bool
 array_stands key before o = sets key o || (not (takes_away key o) && before)
 
--- the array that an operation leaves as it was given, so not yet with the moment when it was made
+-- the array that an operation leaves as it was given, that is, not yet with its time of creation
 abbrev pub array_given : ArrayKey → Option ArrayRecord → ArrayOp → Option ArrayRecord
 array_given key before (set.SetArray k r) = if same_key key k && is_none (record_refusal r) then Some r else before
 array_given key before (set.PatchArray k at ss cs vs) = if same_key key k then option_map (patched_in_place at ss cs vs) before else before

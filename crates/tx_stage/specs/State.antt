@@ -1,4 +1,4 @@
--- The state of a store's dataspaces, objects and arrays, and that state with a plan done.
+-- The state of a store's dataspaces, objects and arrays, and that state with a plan applied.
 use Rattle.std.specs.Prelude.{ℕ, ℤ, ◌≡◌, List, [], Option, Some, None, if◌then◌else◌, fold}
 use Rattle.std.specs.Option.{option_map}
 use Rattle.std.specs.Str.{bytes_eq}
@@ -32,11 +32,11 @@ state_by tables arrays ops sets (Array k) = option_map value.Array (fold (array_
 abbrev pub state_in : Contents → Key → Option Value
 state_in t = state_by t.objects t.arrays [] []
 
--- what each key will have once a plan is done
+-- what each key will have once a plan is applied
 abbrev pub state_now : Contents → Plan → Key → Option Value
 state_now t p = state_by t.objects t.arrays p.objects.items p.arrays.items
 
--- what each key has from the first: the default dataspace is there
+-- what each key has initially: the default dataspace exists
 abbrev pub first : Key → Option Value
 first (Space q) = if bytes_eq q [] then Some (value.Space default_dataspace) else None
 first (Object u) = None
@@ -44,19 +44,19 @@ first (Array k) = None
 
 -- ---- what is added to a plan
 
--- a plan leaves in another one's place what is done at a key besides
+-- a plan replaces another one and also does this at a key
 abbrev pub Advances : Contents → Plan → Plan → Key → OpWhat → ℤ → Type 0
 Advances t old new own what at = (key : Key)
     → state_now t new key ≡ (if alters_by own what key then left_by at what (state_now t old key) else state_now t old key)
 
--- a dataspace is put besides
+-- a dataspace is put as well
 abbrev pub PutsSpace : Contents → Plan → Plan → List ℕ → List (List ℕ × DataValue) → ℤ → Type 0
 PutsSpace t old new path custom at = (key : Key)
     → state_now t new key
     ≡ (if same_key key (Space path) then Some (value.Space (record { path = path; written = at; created = made_at at (state_now t old key); custom = custom }))
     else state_now t old key)
 
--- a dataspace is dropped besides, with all that is in it
+-- a dataspace is dropped as well, with everything in it
 abbrev pub DropsSpace : Contents → Plan → Plan → List ℕ → Type 0
 DropsSpace t old new path = (key : Key) → state_now t new key ≡ (if bytes_eq (space_of key) path then None else state_now t old key)
 

@@ -30,7 +30,7 @@ as_array (Some (Space r)) = None
 as_array (Some (Object r)) = None
 as_array (Some (Array r)) = Some r
 
--- the code of a refusal; want of memory is none
+-- the code of a refusal; running out of memory is not one
 abbrev pub memory_or_code : ArrayError → Result ErrorCode NoMemory
 memory_or_code error.Rank = Ok (code_of error.Rank)
 memory_or_code error.Outside = Ok (code_of error.Outside)

@@ -12,7 +12,8 @@ use indexmap::IndexSet;
 use std::alloc::Global;
 use std::marker::Model;
 
-/// The keys that operations alter, to be found by hash: however many operations there are, a key that none of them alters is told at once.
+/// The keys that operations alter, to be found by hash: however many operations there are, it is known at once if none of them alters a
+/// key.
 #[derive(Drop)]
 pub(crate) struct AlteredKeys {
     /// The operations' own keys.

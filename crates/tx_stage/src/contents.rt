@@ -1,4 +1,4 @@
-//! The dataspaces, objects and arrays of a store, and how operations on them are judged, planned and done.
+//! The dataspaces, objects and arrays of a store, and how operations on them are judged, planned and applied.
 ghost use Rattle.std.specs.Prelude.{◌≡◌, ◌≤◌, IfOk, IfSome, IsSome, OnOk, OnErr, is_some, fold};
 ghost use Rattle.std.specs.Option.{option_copied, option_map};
 ghost use Rattle.array_store.specs.Table.{array_in};
@@ -47,14 +47,14 @@ impl Contents {
         })
     }
 
-    /// The dataspace of a path.
+    /// The dataspace with a path.
     pub fn space(&self, path: &Text) -> Option<&SpaceRecord>
         ensures { option_map value.Space (option_copied result) ≡ state_in self.now (keyed.Space path.now) }
     {
         self.objects.space(path)
     }
 
-    /// The object of a URI.
+    /// The object with a URI.
     pub fn object(&self, uri: &StoreUri) -> Option<&ObjectRecord>
         ensures { option_map value.Object (option_copied result) ≡ state_in self.now (keyed.Object uri.now) }
     {
@@ -68,14 +68,14 @@ impl Contents {
         self.arrays.get(key)
     }
 
-    /// The dataspaces, in no order that is promised.
+    /// The dataspaces, in no particular order.
     pub fn spaces(&self) -> &[SpaceRecord]
         ensures { ListsSpaces self.now.objects result.now }
     {
         self.objects.spaces()
     }
 
-    /// Whether the dataspace of a path will stand once a plan is done.
+    /// Whether the dataspace of a path will exist once a plan is applied.
     pub fn has_space(&self, plan: &Plan, path: &Text) -> bool
         ensures { result ≡ is_some (state_now self.now plan.now (keyed.Space path.now)) }
     {
@@ -104,7 +104,7 @@ impl Contents {
         array_after(plan.arrays.as_slice(), key, self.arrays.get(key).is_some())
     }
 
-    /// A copy of the array of a key as a plan has it, so not yet with the moment when it was made.
+    /// A copy of the array of a key as a plan has it, that is, not yet with its time of creation.
     fn planned_copy(
         &self,
         alloc: Global,
@@ -120,7 +120,7 @@ impl Contents {
         array_made(alloc, self.arrays.weighed(key), plan.arrays.as_slice(), key)
     }
 
-    /// The array of a key in the tables, where it has numbers and no operation of a plan concerns it.
+    /// The array of a key in the tables, if it has numbers and no operation of a plan concerns it.
     fn untouched_numbers<'a>(&'a self, plan: &Plan, key: &ArrayKey) -> Option<&'a ArrayRecord>
         ensures { IfSome (option_copied result)
             (λ r. IsUntouched key.now (array_in self.now.arrays key.now) plan.now.arrays.items r) }
@@ -137,7 +137,7 @@ impl Contents {
         Some(array)
     }
 
-    /// Whether what an operation needs will stand once a plan is done.
+    /// Whether what an operation needs will exist once a plan is applied.
     fn has_needed(&self, plan: &Plan, op: &Op) -> bool
         ensures { result ≡ is_some (state_now self.now plan.now (needed op.now.key op.now.what)) }
     {
@@ -149,7 +149,7 @@ impl Contents {
         }
     }
 
-    /// Whether something will stand at a key.
+    /// Whether something will exist at a key.
     fn has(&self, plan: &Plan, key: &Key) -> bool
         ensures { result ≡ is_some (state_now self.now plan.now key.now) }
     {
@@ -160,7 +160,7 @@ impl Contents {
         }
     }
 
-    /// Whether what a key stands in will stand.
+    /// Whether the owner of a key will exist.
     fn has_owner(&self, plan: &Plan, key: &Key) -> bool
         ensures { result ≡ is_some (state_now self.now plan.now (owner key.now)) }
     {
@@ -171,7 +171,7 @@ impl Contents {
         }
     }
 
-    /// Judges an operation by what will stand once a plan is done, and plans it where it is not refused.
+    /// Judges an operation by what will exist once a plan is applied, and plans it if it is not refused.
     pub fn judge(
         &self,
         alloc: Global,
@@ -191,7 +191,7 @@ impl Contents {
         self.add(alloc, plan, op)
     }
 
-    /// Plans an operation, whatever stands.
+    /// Plans an operation, whatever exists.
     pub fn plan(&self, alloc: Global, plan: &mut Plan, op: &Op) -> Result<(), NoMemory>
         ensures { OnOk result (Advances self.now plan.old plan.new op.now.key op.now.what op.now.at) }
     {
@@ -248,7 +248,7 @@ impl Contents {
         Ok(None)
     }
 
-    /// Plans what is done at an array's key; what does not go with the key alters nothing.
+    /// Plans what is done at an array's key; what does not suit the key alters nothing.
     fn add_array(
         &self,
         alloc: Global,
@@ -273,7 +273,7 @@ impl Contents {
         }
     }
 
-    /// The place of the operation of a plan that sets the array of a key last, where an array stands before it.
+    /// The index of the operation of a plan that sets the array of a key last, if there is an array before it.
     fn place_to_patch(&self, plan: &Plan, key: &ArrayKey) -> Option<usize>
         ensures { IfSome result (SetsOver key.now (array_in self.now.arrays key.now) plan.now.arrays.items) }
     {
@@ -288,8 +288,8 @@ impl Contents {
         Some(place)
     }
 
-    /// Plans a patch, where there is an array that it fits. An array that the plan has a copy of is patched there, and one of
-    /// numbers that no operation of the plan concerns will be patched in place.
+    /// Plans a patch, if there is an array that it fits. An array of which the plan has a copy is patched there, and one of numbers that no
+    /// operation of the plan concerns will be patched in place.
     fn add_patch(
         &self,
         alloc: Global,
@@ -315,7 +315,7 @@ impl Contents {
         }
     }
 
-    /// Plans a patch of an array that the plan has no copy of to patch.
+    /// Plans a patch of an array of which the plan has no copy to patch.
     fn patch_unset(
         &self,
         alloc: Global,
@@ -368,8 +368,7 @@ impl Contents {
         Ok(None)
     }
 
-    /// Plans a patch of the array that the operation at a place sets. It is written there: what stands before it keeps the moment
-    /// when the array was made.
+    /// Plans a patch of the array that the operation at an index sets. It is written there: the array before it keeps its time of creation.
     fn patch_planned(
         &self,
         alloc: Global,
@@ -392,7 +391,7 @@ impl Contents {
         patch_set(alloc, &mut plan.arrays[place], at, starts, counts, values)
     }
 
-    /// Plans a patch of a copy of the array that will stand.
+    /// Plans a patch of a copy of the array that will exist.
     fn patch_copy(
         &self,
         alloc: Global,
@@ -422,7 +421,7 @@ impl Contents {
         Ok(None)
     }
 
-    /// Does a plan, once it has the memory for the whole of it.
+    /// Applies a plan, after allocating for the whole of it.
     pub fn apply(&mut self, plan: Plan) -> Result<(), NoMemory>
         ensures ok { OnOk result ((key : AKey) → state_in self.new key ≡ state_now self.old plan key) }
         ensures err { OnErr result ((key : AKey) → state_in self.new key ≡ state_in self.old key) }
@@ -451,7 +450,7 @@ impl Contents {
         Ok(List::from_vec(seen))
     }
 
-    /// What is seen of one, where so many bytes of payload are left to give.
+    /// What is seen of one key, if this many bytes of payload may still be given.
     fn look_within(&self, alloc: Global, want: &Want, room: u64) -> Result<Looked, NoMemory>
         requires { room ≤ MAX_PAYLOAD }
         ensures { IfOk result (λ l. l ≡ given room (seen_of want.now (state_in self.now (key_of want.now)))) }

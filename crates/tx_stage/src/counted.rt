@@ -11,22 +11,22 @@ use crate::touch::Touch;
 use array_store::array_bytes;
 use etp_values::{ID_TEXT_LEN, List, ObjectName, StoreUri, Text, custom_weight};
 
-/// How long the text of the default dataspace is, `eml:///`.
+/// The length of the text of the default dataspace, `eml:///`.
 const DEFAULT_LEN: u64 = 7;
 
-/// How long the text of another dataspace is besides its path, `eml:///dataspace('')`.
+/// The length of the text of another dataspace without its path, `eml:///dataspace('')`.
 const SPACE_PARTS: u64 = 20;
 
-/// What an operation counts that sets or patches, besides texts and values.
+/// What a setting or patching operation counts, not including texts and values.
 const SET_BYTES: u64 = 256;
 
-/// What a removal counts besides the texts of its key.
+/// What a removal counts, not including the texts of its key.
 const REMOVAL_BYTES: u64 = 64;
 
-/// What a touched key counts besides its texts.
+/// What a touched key counts, not including its texts.
 const TOUCH_BYTES: u64 = 64;
 
-/// How long a path is with its quotes doubled.
+/// The length of a path with its quotes doubled.
 fn doubled_len(path: &[u8]) -> u64
     ensures { result ≡ capped (length (doubled path.now)) }
 {
@@ -37,14 +37,14 @@ fn doubled_len(path: &[u8]) -> u64
     sum
 }
 
-/// How long a byte of a path is: a quote is doubled.
+/// The length of a byte of a path: a quote is doubled.
 fn byte_len(byte: u8) -> u64
     ensures { result ≡ length (doubled (byte ∷ [])) }
 {
     if byte == b'\'' { 2 } else { 1 }
 }
 
-/// How long the part of an object is, with its identifier in the hyphenated form.
+/// The length of the part of an object, with its identifier in the hyphenated form.
 fn object_len(name: &ObjectName) -> u64
     ensures { result ≡ capped (length (object_part name.now (id_text name.now.id))) }
 {
@@ -54,7 +54,7 @@ fn object_len(name: &ObjectName) -> u64
     names.saturating_add(id.saturating_add(3))
 }
 
-/// How long the text of a dataspace's URI is.
+/// The length of the text of a dataspace's URI.
 fn space_len(path: &Text) -> u64
     ensures { result ≡ capped (length (space_text path.now)) }
 {
@@ -64,7 +64,7 @@ fn space_len(path: &Text) -> u64
     doubled_len(path.as_bytes()).saturating_add(SPACE_PARTS)
 }
 
-/// How long the canonical text of a URI is.
+/// The length of the canonical text of a URI.
 fn uri_bytes(uri: &StoreUri) -> u64
     ensures { result ≡ capped (length (plain_uri uri.now)) }
 {
@@ -79,7 +79,7 @@ fn uri_bytes(uri: &StoreUri) -> u64
     part.saturating_add(1)
 }
 
-/// How long the texts of a key are.
+/// The length of the texts of a key.
 pub fn key_bytes(key: &Key) -> u64
     ensures { result ≡ capped (counted.key_bytes key.now) }
 {
@@ -100,7 +100,7 @@ fn text_bytes(texts: &List<Text>) -> u64
     sum
 }
 
-/// What is done at a key.
+/// What the action at a key counts.
 fn what_bytes(what: &OpWhat) -> u64
     ensures { result ≡ capped (counted.what_bytes what.now) }
 {

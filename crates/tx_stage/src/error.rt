@@ -2,7 +2,7 @@
 use etp_values::{NoMemory, Text};
 use thiserror::Error;
 
-/// Why a key isn't noted, or an operation isn't staged. The transaction is then as before.
+/// Why a key isn't noted, or an operation isn't staged. The transaction is then unchanged.
 #[derive(Debug, Drop, PartialEq, Eq, Error)]
 pub enum StageError {
     /// The transaction only reads.
@@ -20,7 +20,7 @@ pub enum StageError {
     /// There are 16,384 touched keys.
     #[error("the transaction has touched 16384 keys")]
     Keys,
-    /// Memory was refused.
+    /// Out of memory.
     #[error("out of memory")]
     NoMemory,
 }

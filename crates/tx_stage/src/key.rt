@@ -1,4 +1,4 @@
-//! What the store keeps values at.
+//! The keys of the store's values.
 ghost use Rattle.std.specs.Prelude.{◌≡◌};
 ghost use Rattle.std.specs.Cmp.{partial_equiv_from_equiv};
 ghost use Rattle.tx_stage.specs.Keys.{same_key, space_of};
@@ -24,7 +24,7 @@ impl Key {
         *self == *other
     }
 
-    /// The path of the dataspace that it is or stands in.
+    /// The path of the dataspace that it is or belongs to.
     pub fn space(&self) -> &Text
         ensures { result.now ≡ space_of self.now }
     {

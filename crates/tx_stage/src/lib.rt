@@ -1,12 +1,12 @@
 //! What the calls of a store and the steps of a transaction are made of: keys, operations at them, and looks.
 //!
-//! An [`Op`] says what is done at a [`Key`], and [`left`] what it leaves there; what a list of them leaves is the same for the
-//! store, for a call in the making and for a transaction. A [`Want`] says what is asked of a value, and [`see`] what is
-//! seen. [`op_bytes`] and its kin count what limits look at.
+//! An [`Op`] says what is done at a [`Key`], and [`left`] what it leaves there; what a list of them leaves is the same for the store, for a
+//! call in progress and for a transaction. A [`Want`] says what is asked about a value, and [`see`] what is seen. [`op_bytes`] and related
+//! functions count what limits apply to.
 //!
-//! [`Contents`] are the tables of a store. A call is made over them without a change: [`Contents::judge`] says why an
-//! operation is refused, by what will stand once the [`Plan`] so far is done, or adds it to the plan. [`Contents::apply`]
-//! takes the memory for a whole plan first and then does it.
+//! [`Contents`] are the tables of a store. A call is prepared on them without a change: [`Contents::judge`] says why an operation is
+//! refused, by what will exist once the [`Plan`] so far is applied, or adds it to the plan. [`Contents::apply`] first allocates for a whole
+//! plan and then applies it.
 #![tactic(auto)]
 
 mod altered;

@@ -1,4 +1,4 @@
-//! What is asked of a value, and what is seen of it.
+//! What is asked about a value, and what is seen of it.
 ghost use Rattle.std.specs.Prelude.{◌≡◌, ◌≤◌, IfOk, None, Some};
 ghost use Rattle.std.specs.Option.{option_copied};
 ghost use Rattle.etp_values.specs.Weight.{capped};
@@ -15,7 +15,7 @@ use etp_values::{AnyArray, Copied, DataValue, ErrorCode, List, Named, NoMemory, 
 use object_store::{ObjectRecord, SpaceRecord};
 use std::alloc::Global;
 
-/// How many bytes of payload the looks of one call give at most.
+/// The greatest number of bytes of payload that the looks of one call give.
 pub const MAX_PAYLOAD: u64 = 67_108_864;
 
 /// What is asked.
@@ -42,7 +42,7 @@ pub enum Want {
 /// What is seen.
 #[derive(Drop)]
 pub enum Looked {
-    /// Nothing stands there.
+    /// Nothing exists there.
     Missing,
     Space(SpaceRecord),
     Known {
@@ -54,7 +54,7 @@ pub enum Looked {
     Shape {
         dims: List<i64>,
         preferred: List<i64>,
-        /// The place of the elements' kind among the kinds.
+        /// The index of the elements' kind among the kinds.
         branch: u32,
         logical: u32,
         custom: Named<DataValue>,
@@ -65,7 +65,7 @@ pub enum Looked {
     Refused(ErrorCode),
 }
 
-/// How many bytes of payload something seen has: an object its data, an array or its region what the elements count, and
+/// How many bytes of payload something seen has: for an object its data, for an array or its region the size of the elements, and for
 /// anything else none. A number above `u64::MAX` is `u64::MAX`.
 pub fn payload_of(looked: &Looked) -> u64
     ensures { result ≡ capped (payload_of looked.now) }
@@ -120,7 +120,7 @@ fn see_array(alloc: Global, array: Option<&ArrayRecord>) -> Result<Looked, NoMem
     Ok(Looked::Array(array.copy(alloc)?))
 }
 
-/// How a refusal is seen; want of memory is none.
+/// How a refusal is seen; running out of memory is not one.
 fn memory_or_refused(error: ArrayError) -> Result<Looked, NoMemory>
     ensures { result ≡ memory_or_refused error }
 {
@@ -182,7 +182,7 @@ pub fn see(alloc: Global, want: &Want, value: Option<&Value>) -> Result<Looked, 
     }
 }
 
-// ---- with so many bytes of payload left to give
+// ---- with this many bytes of payload left to give
 
 /// An object, unless its data is more than what is left; then it is not copied.
 pub(crate) fn give_object(
@@ -201,7 +201,7 @@ pub(crate) fn give_object(
     Ok(Looked::Object(object.copy(alloc)?))
 }
 
-/// An array, unless its elements count more than what is left; then they are not copied.
+/// An array, unless its elements are larger than what is left; then they are not copied.
 pub(crate) fn give_array(
     alloc: Global,
     array: Option<&WeighedArray>,
@@ -219,7 +219,7 @@ pub(crate) fn give_array(
     Ok(Looked::Array(array.as_record().copy(alloc)?))
 }
 
-/// The elements of a region, unless they count more than what is left; then they are not copied.
+/// The elements of a region, unless they are larger than what is left; then they are not copied.
 pub(crate) fn give_slice(
     alloc: Global,
     array: Option<&WeighedArray>,
@@ -240,7 +240,7 @@ pub(crate) fn give_slice(
     }
 }
 
-/// The elements of a region that the array has, of which it is known what they count.
+/// The elements of a region that the array has, whose size is known.
 fn give_region(
     alloc: Global,
     array: &WeighedArray,

@@ -1,4 +1,4 @@
-//! What is done at a key.
+//! What the action at a key counts.
 ghost use Rattle.std.specs.Prelude.{◌≡◌};
 ghost use Rattle.tx_stage.specs.Ops.{suits, takes_along, op_alters};
 ghost use Rattle.tx_stage.specs.Keys.{is_array_of};
@@ -9,12 +9,12 @@ use etp_values::{AnyArray, Copied, List, NoMemory};
 use object_store::ObjectRecord;
 use std::alloc::Global;
 
-/// What an operation does. What a record says of when it was written and made is not looked at.
+/// What an operation does. The times of writing and creation in a record are ignored.
 #[derive(Debug, Drop, PartialEq, Eq)]
 pub enum OpWhat {
-    /// Sets an object, in place of the one of its key.
+    /// Sets an object, in place of the one with its key.
     SetObject(ObjectRecord),
-    /// Sets an array, in place of the one of its key.
+    /// Sets an array, in place of the one with its key.
     SetArray(ArrayRecord),
     /// Writes values into a region of an array.
     Patch {
@@ -26,7 +26,7 @@ pub enum OpWhat {
     Gone,
 }
 
-/// An operation at a key, and its moment.
+/// An operation at a key, and its time.
 #[derive(Debug, Drop, PartialEq, Eq)]
 pub struct Op {
     pub key: Key,
@@ -35,7 +35,7 @@ pub struct Op {
 }
 
 impl Op {
-    /// Whether the operation goes with its key. One that doesn't alters nothing.
+    /// Whether the operation suits its key. One that doesn't alters nothing.
     pub fn suits(&self) -> bool
         ensures { result ≡ suits self.now.key self.now.what }
     {
@@ -70,7 +70,7 @@ impl Op {
         self.suits() && (key.same(&self.key) || self.takes_along(key))
     }
 
-    /// Whether a removal takes a key along that is an array of the removed object.
+    /// Whether a removal takes along a key that is an array of the removed object.
     fn takes_along(&self, key: &Key) -> bool
         ensures { result ≡ takes_along self.now.key self.now.what key.now }
     {

@@ -41,7 +41,7 @@ pub fn overlay(
     Ok(value)
 }
 
-/// Whether something stands where an operation was done, by whether something did.
+/// Whether something exists where an operation was applied, by whether something did before.
 fn leaves(what: &OpWhat, before: bool) -> bool
     ensures { result ≡ over.leaves what.now before }
 {
@@ -53,7 +53,7 @@ fn leaves(what: &OpWhat, before: bool) -> bool
     }
 }
 
-/// Whether something stands at a key after an operation, by whether something did before it.
+/// Whether something exists at a key after an operation, by whether something did before it.
 fn there_one(op: &Op, key: &Key, before: bool) -> bool
     ensures { result ≡ (if op_alters op.now key.now then over.leaves op.now.what before else before) }
 {
@@ -63,7 +63,7 @@ fn there_one(op: &Op, key: &Key, before: bool) -> bool
     before
 }
 
-/// Whether something stands at a key after operations, by whether something did before them.
+/// Whether something exists at a key after operations, by whether something did before them.
 pub fn there(ops: &[Op], key: &Key, base: bool) -> bool
     ensures { result ≡ over.there ops.now key.now base }
 {

@@ -65,7 +65,7 @@ pub(crate) fn is_concerned(ops: &[ArrayOp], key: &ArrayKey) -> bool
     false
 }
 
-/// The place of the operation that sets the array of a key last; none, where a later one takes it away or patches it.
+/// The index of the operation that sets the array of a key last; `None` if a later one removes or patches it.
 pub(crate) fn place_of_set(ops: &[ArrayOp], key: &ArrayKey) -> Option<usize>
     ensures { IfSome result (λ place. SetsLater key.now ops.now place) }
 {
@@ -82,7 +82,7 @@ pub(crate) fn place_of_set(ops: &[ArrayOp], key: &ArrayKey) -> Option<usize>
     None
 }
 
-/// The operations before a place.
+/// The operations before an index.
 pub(crate) fn before(ops: &[ArrayOp], place: usize) -> &[ArrayOp]
     requires { place ≤ length ops.now }
     ensures { result.now ≡ take place ops.now }
@@ -103,8 +103,8 @@ pub(crate) fn copy_of_set(alloc: Global, op: &ArrayOp) -> Result<Option<WeighedA
     }
 }
 
-/// Patches the array that an operation sets. Where the patch does not fit, the operation stays as it was, and the code of the
-/// refusal is answered.
+/// Patches the array that an operation sets. If the patch does not fit, the operation stays as it was, and the code of the refusal is
+/// returned.
 pub(crate) fn patch_set(
     alloc: Global,
     op: &mut ArrayOp,

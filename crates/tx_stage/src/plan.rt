@@ -1,4 +1,4 @@
-//! What is to be done to the tables, made before anything changes.
+//! What is to be done to the tables, prepared before anything changes.
 ghost use Rattle.std.specs.Prelude.{◌≡◌, ◌++◌, ◌∷◌, [], OnOk};
 ghost use Rattle.array_store.specs.declared.op.ArrayOp.TheVariants as set;
 ghost use Rattle.tx_stage.specs.State.{state_in, state_now, Advances, PutsSpace, DropsSpace};
@@ -31,7 +31,7 @@ impl Plan {
         }
     }
 
-    /// Plans to put a dataspace, in place of the one of its path.
+    /// Plans to put a dataspace, in place of the one with its path.
     pub fn put_space(
         &mut self,
         alloc: Global,
@@ -52,7 +52,7 @@ impl Plan {
         Ok(())
     }
 
-    /// Plans to drop the dataspace of a path, and all that is in it.
+    /// Plans to drop the dataspace of a path, and everything in it.
     pub fn drop_space(&mut self, alloc: Global, path: &Text) -> Result<(), NoMemory>
         ensures { OnOk result ((t : Contents) → DropsSpace t self.old self.new path.now) }
     {
@@ -63,7 +63,7 @@ impl Plan {
         Ok(())
     }
 
-    /// Plans to set an object whose record says this URI; another record alters nothing.
+    /// Plans to set an object whose record has this URI; another record alters nothing.
     fn set_object(
         &mut self,
         alloc: Global,
@@ -96,7 +96,7 @@ impl Plan {
         Ok(())
     }
 
-    /// Plans what is done at an object's key; what does not go with the key alters nothing.
+    /// Plans what is done at an object's key; what does not suit the key alters nothing.
     pub(crate) fn add_object(
         &mut self,
         alloc: Global,
@@ -115,7 +115,7 @@ impl Plan {
         }
     }
 
-    /// Plans to set an array; a record that is no array alters nothing.
+    /// Plans to set an array; a record that is not an array alters nothing.
     pub(crate) fn set_array(
         &mut self,
         alloc: Global,

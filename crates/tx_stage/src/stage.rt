@@ -1,4 +1,4 @@
-//! A transaction in the making.
+//! A transaction in progress.
 ghost use Rattle.std.specs.Prelude.{◌≡◌, ◌≢◌, ◌+◌, ◌≤◌, [], IfOk, IfErr, OnOk, OnErr, Some, None, MatchResult, false};
 
 use crate::altered::AlteredKeys;
@@ -32,7 +32,7 @@ pub struct Stage {
     noted: IndexSet<Key>,
 }
 
-/// Written out, so that whoever holds one drops it by one call.
+/// Written out, so that whatever holds one drops it by a single call.
 impl Drop for Stage {
     fn drop(self) {
         let Stage {
@@ -72,7 +72,7 @@ impl Stage {
     ghost use Rattle.tx_stage.specs.Overlay.{overlay, there};
     ghost use Rattle.tx_stage.specs.Staging.{has_space, is_touched, note_refusal, noted, put_refusal, staged, unless};
 
-    /// A transaction that may touch these dataspaces; none means the default one alone.
+    /// A transaction that may touch these dataspaces; none means only the default one.
     pub fn begin(alloc: Global, id: Id16, read_only: bool, spaces: List<Text>) -> Stage
         ensures { result ≡ record { id = id; read_only = read_only; spaces = spaces; ops = []; touched = [] } }
     {
@@ -89,7 +89,7 @@ impl Stage {
         }
     }
 
-    /// What the transaction is called.
+    /// The transaction's identity.
     pub fn id(&self) -> Id16
         ensures { result ≡ self.now.id }
     {
@@ -110,7 +110,7 @@ impl Stage {
         has_space(self.spaces.as_slice(), path)
     }
 
-    /// Notes that a key is read or written, where the journal is so long. The first such length is kept.
+    /// Notes that a key is read or written when the journal has this length. The first such length is kept.
     pub fn note_look(&mut self, key: &Key, mark: u64) -> Result<(), StageError>
         ensures answer { Gives StageError.NoMemory result (unless (note_refusal self.old key.now)) }
         ensures stage { MatchResult result (λ _. self.new ≡ noted mark self.old key.now) (λ _. self.new ≡ self.old) }
@@ -147,7 +147,7 @@ impl Stage {
         Ok(())
     }
 
-    /// Stages an operation. That its keys were noted is for the caller.
+    /// Stages an operation. The caller has to note its keys.
     pub fn put(&mut self, op: Op) -> Result<(), StageError>
         ensures answer { Gives StageError.NoMemory result (unless (put_refusal self.old op)) }
         ensures stage { MatchResult result (λ _. self.new ≡ staged self.old op) (λ _. self.new ≡ self.old) }
@@ -176,7 +176,7 @@ impl Stage {
         Ok(())
     }
 
-    /// What the operations count with a further one, or why that is refused.
+    /// What the operations count with one more, or why that is refused.
     fn bytes_with(&self, op: &Op) -> Result<u64, StageError>
         ensures ok { IfOk result (λ n. (put_refusal self.now op.now ≡ None) × (n ≡ weigh op_bytes self.now.ops + op_bytes op.now) × (n ≤ MAX_STAGED_BYTES)) }
         ensures err { IfErr result (λ e. e ≢ StageError.NoMemory → put_refusal self.now op.now ≡ Some e) }
@@ -197,7 +197,7 @@ impl Stage {
         Ok(bytes)
     }
 
-    /// What stands at a key: the operations over what stands in the store.
+    /// What is at a key: the operations over what is in the store.
     pub fn overlay(&self, key: &Key, base: Option<Value>) -> Result<Option<Value>, NoMemory>
         ensures { IfOk result (λ v. v ≡ overlay self.now.ops key.now base) }
     {
@@ -207,7 +207,7 @@ impl Stage {
         overlay(self.alloc, self.ops.as_slice(), key, base)
     }
 
-    /// Whether something stands at a key, by whether something does in the store.
+    /// Whether something exists at a key, by whether something does in the store.
     pub fn there(&self, key: &Key, base: bool) -> bool
         ensures { result ≡ there self.now.ops key.now base }
     {

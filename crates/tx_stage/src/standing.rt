@@ -1,4 +1,4 @@
-//! What stands while operations are done one after the other.
+//! What exists while operations are applied one after the other.
 ghost use Rattle.std.specs.Prelude.{◌≡◌, IfOk, fold};
 ghost use Rattle.std.specs.Option.{option_copied, option_map};
 ghost use Rattle.array_store.specs.Table.{patched_in_place};
@@ -11,7 +11,7 @@ use etp_values::{AnyArray, Copied, List, NoMemory, StoreUri, Text};
 use object_store::ObjectOp;
 use std::alloc::Global;
 
-/// Whether the dataspace of a path stands after an operation.
+/// Whether the dataspace of a path exists after an operation.
 fn space_stands(op: &ObjectOp, path: &Text, before: bool) -> bool
     ensures { result ≡ space_stands path.now before op.now }
 {
@@ -23,7 +23,7 @@ fn space_stands(op: &ObjectOp, path: &Text, before: bool) -> bool
     }
 }
 
-/// Whether the dataspace of a path stands after operations.
+/// Whether the dataspace of a path exists after operations.
 pub(crate) fn space_after(ops: &[ObjectOp], path: &Text, before: bool) -> bool
     ensures { result ≡ fold (space_stands path.now) before ops.now }
 {
@@ -34,7 +34,7 @@ pub(crate) fn space_after(ops: &[ObjectOp], path: &Text, before: bool) -> bool
     stands
 }
 
-/// Whether the object of a URI stands after an operation.
+/// Whether the object of a URI exists after an operation.
 fn object_stands(op: &ObjectOp, uri: &StoreUri, before: bool) -> bool
     ensures { result ≡ object_stands uri.now before op.now }
 {
@@ -46,7 +46,7 @@ fn object_stands(op: &ObjectOp, uri: &StoreUri, before: bool) -> bool
     }
 }
 
-/// Whether the object of a URI stands after operations.
+/// Whether the object of a URI exists after operations.
 pub(crate) fn object_after(ops: &[ObjectOp], uri: &StoreUri, before: bool) -> bool
     ensures { result ≡ fold (object_stands uri.now) before ops.now }
 {
@@ -57,14 +57,14 @@ pub(crate) fn object_after(ops: &[ObjectOp], uri: &StoreUri, before: bool) -> bo
     stands
 }
 
-/// Whether the array of a key stands after an operation.
+/// Whether the array of a key exists after an operation.
 fn array_stands(op: &ArrayOp, key: &ArrayKey, before: bool) -> bool
     ensures { result ≡ array_stands key.now before op.now }
 {
     sets(op, key) || (!takes_away(op, key) && before)
 }
 
-/// Whether the array of a key stands after operations.
+/// Whether the array of a key exists after operations.
 pub(crate) fn array_after(ops: &[ArrayOp], key: &ArrayKey, before: bool) -> bool
     ensures { result ≡ fold (array_stands key.now) before ops.now }
 {
@@ -97,7 +97,7 @@ fn patch_given(
     Ok(Some(array))
 }
 
-/// The array of a key that an operation leaves as it was given, made of the one before.
+/// The array of a key that an operation leaves as it was given, made from the previous one.
 fn array_given(
     alloc: Global,
     before: Option<WeighedArray>,
@@ -140,7 +140,7 @@ fn array_given(
     }
 }
 
-/// A copy of an array that is lent.
+/// A copy of a borrowed array.
 fn copy_of_lent(
     alloc: Global,
     array: Option<&WeighedArray>,
@@ -170,8 +170,7 @@ fn array_through(
     Ok(made)
 }
 
-/// The array of a key that operations leave as it was given. It is copied once where an operation sets it and no later one
-/// patches it.
+/// The array of a key that operations leave as it was given. It is copied once if an operation sets it and no later one patches it.
 pub(crate) fn array_made(
     alloc: Global,
     before: Option<&WeighedArray>,

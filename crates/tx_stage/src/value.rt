@@ -1,4 +1,4 @@
-//! What can stand at a key, and what an operation leaves of it.
+//! What can be at a key, and what an operation leaves of it.
 ghost use Rattle.std.specs.Prelude.{◌≡◌, IfOk, OnOk, None};
 ghost use Rattle.std.specs.Option.{option_copied, option_map};
 ghost use Rattle.array_store.specs.Codes.{code_of};
@@ -63,7 +63,7 @@ pub(crate) fn as_array(value: Option<&Value>) -> Option<&ArrayRecord>
     }
 }
 
-/// When a value was made; one that was not there is made now.
+/// When a value was created; one that did not exist is created now.
 fn made_at(at: i64, before: &Option<Value>) -> i64
     ensures { result ≡ made_at at before.now }
 {
@@ -77,7 +77,7 @@ fn made_at(at: i64, before: &Option<Value>) -> i64
     }
 }
 
-/// The code of a refusal; want of memory is none.
+/// The code of a refusal; running out of memory is not one.
 pub fn memory_or_code(error: ArrayError) -> Result<ErrorCode, NoMemory>
     ensures { result ≡ memory_or_code error }
 {
@@ -91,8 +91,7 @@ pub fn memory_or_code(error: ArrayError) -> Result<ErrorCode, NoMemory>
     }
 }
 
-/// Writes values into a region of an array, at this moment; where they do not fit it stays as it was, and the code of the refusal
-/// is answered.
+/// Writes values into a region of an array, at this time; if they do not fit it stays as it was, and the code of the refusal is returned.
 pub(crate) fn patch_in_place(
     alloc: Global,
     array: &mut WeighedArray,
@@ -119,7 +118,7 @@ pub(crate) fn patch_in_place(
     }
 }
 
-/// An array with values in a region, written at this moment; or as it was, with the code of the refusal.
+/// An array with values in a region, written at this time; or as it was, with the code of the refusal.
 pub(crate) fn patch_array(
     alloc: Global,
     mut array: WeighedArray,
@@ -137,7 +136,7 @@ pub(crate) fn patch_array(
     Ok((array, code))
 }
 
-/// A value with a patch, where it is an array that the patch fits.
+/// A value with a patch, if it is an array that the patch fits.
 fn patch_value(
     alloc: Global,
     value: Value,
@@ -159,7 +158,7 @@ fn patch_value(
     }
 }
 
-/// What a patch leaves of the value before.
+/// What a patch leaves of the previous value.
 fn patch_before(
     alloc: Global,
     before: Option<Value>,
@@ -176,7 +175,7 @@ fn patch_before(
     }
 }
 
-/// What an operation leaves at a key that it alters, from the value before.
+/// What an operation leaves at a key that it alters, from the previous value.
 pub fn left(alloc: Global, op: &Op, before: Option<Value>) -> Result<Option<Value>, NoMemory>
     ensures { IfOk result (λ v. v ≡ op_left op.now before) }
 {

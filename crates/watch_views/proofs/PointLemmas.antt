@@ -19,7 +19,7 @@ use Rattle.watch_views.specs.Turns.{turned}
 pub keep_short : {X : Type 0} (n : ℕ) (xs : List X) → length xs ≤ n → keep_last n xs ≡ xs
 keep_short n xs h = let e : length xs - n ≡ 0 = omega arith in ap (λ k. drop k xs) e
 
--- what stands in front of enough does not matter
+-- what comes before enough does not matter
 keep_cons : {X : Type 0} (n : ℕ) (x : X) (xs : List X) → n ≤ length xs → keep_last n (x ∷ xs) ≡ keep_last n xs
 keep_cons n x xs h = let e : length (x ∷ xs) - n ≡ suc (length xs - n) = omega arith in ap (λ k. drop k (x ∷ xs)) e
 
@@ -36,7 +36,7 @@ keep_keep n xs ys =
     let e : k + a ≡ length (xs ++ ys) - n = omega (arith, length-append (drop k xs) ys, length-drop k xs, length-append xs ys) in
     drop_front k a xs ys (omega arith) ∙ ap (λ m. drop m (xs ++ ys)) e
 
--- of what is appended the last ones are enough
+-- of what is appended the last ones suffice
 pub keep_later : {X : Type 0} (n : ℕ) (xs ys : List X) → keep_last n (xs ++ keep_last n ys) ≡ keep_last n (xs ++ ys)
 keep_later n xs ys = by (length ys - n) refl
   where
@@ -89,7 +89,7 @@ push_next done xs whole k x h e =
 pub push_kept : {X : Type 0} (n : ℕ) (held rest all : List X) (x : X) → keep_last n (held ++ x ∷ rest) ≡ all → keep_last n (keep_last n (held ++ x ∷ []) ++ rest) ≡ all
 push_kept n held rest all x h = keep_keep n (held ++ x ∷ []) rest ∙ ap (keep_last n) (append_assoc held (x ∷ []) rest) ∙ h
 
--- ---- what a change leaves, turned about
+-- ---- what a change leaves, by rotation
 
 pub turned_none : (w : What) (xs : List Point) → slice_get xs 0 ≡ None → drop 1 xs ≡ turned w xs
 turned_none w [] h = refl

@@ -3,7 +3,7 @@ use Rattle.std.proofs.Common.{ℕ, ◌≡◌, List, ◌++◌, length, take, ◌�
 use Rattle.std.specs.Prelude.{Result, Ok, Err, OnOk, OnErr}
 use Rattle.avro_bin.specs.Plain.{Writes}
 
--- what is written, and taken back where memory was refused, is appended whole or not at all
+-- what is written, and taken back if memory ran out, is appended whole or not at all
 pub whole_ok : {E : Type 0} (text old mid new : List ℕ) (w r : Result (Unit {0}) E) → Writes text old mid w → r ≡ w → OnOk r (new ≡ mid) → OnOk r (new ≡ old ++ text)
 whole_ok text old mid new (Ok x) (Ok y) written same ok = ok ∙ written
 whole_ok text old mid new (Ok x) (Err e) written same ok = tt

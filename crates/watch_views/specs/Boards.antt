@@ -1,4 +1,4 @@
--- What changes do to the shelves of a board. It speaks of any shelves: how one is read is handed in.
+-- What changes do to the shelves of a board. It applies to any shelves: how one is read is a parameter.
 use Rattle.std.specs.Prelude.{◌≡◌, ℕ, zero, suc, ℤ, List, [], ◌∷◌, map, Result, Ok, Err, if◌then◌else◌}
 use Rattle.std.specs.Ordering.{int_eq}
 use Rattle.std.specs.List.{flat_map}
@@ -13,11 +13,11 @@ pub record Reading (B : Type 0) : Type 0 where
   pub step : B → Held → What → Held
   pub shown : B → Held → List ℕ
 
--- shelves that are read so
+-- shelves that are read this way
 abbrev pub reading : {B : Type 0} → (B → ℤ) → (B → Held) → (B → Held → What → Held) → (B → Held → List ℕ) → Reading B
 reading channel held step shown = record { channel = channel; held = held; step = step; shown = shown }
 
--- shelves that are changed so, each
+-- shelves each of which is changed this way
 abbrev pub each : {B : Type 0} → List B → (B → B) → List B
 each xs f = map f xs
 
@@ -29,14 +29,14 @@ module _ {B : Type 0} (r : Reading B) where
     pub step_same : (h : Held) (w : What) → r.step b h w ≡ r.step a h w
     pub shown_same : (h : Held) → r.shown b h ≡ r.shown a h
 
-  -- what a shelf keeps after a change: where the change is of its channel, its own step of it
+  -- what a shelf keeps after a change: its own step, if the change is of its channel
   abbrev pub held_after : ChangeMsg → B → Held
   held_after c a = if int_eq (r.channel a) c.channel then r.step a (r.held a) c.what else r.held a
 
   abbrev pub IsFed : ChangeMsg → B → B → Type 0
   IsFed c a b = Keeps (held_after c a) a b
 
-  -- shelves that were fed, place by place
+  -- shelves that were fed, one by one
   abbrev pub AllFed : ChangeMsg → List B → List B → Type 0
   AllFed c [] [] = Unit {0}
   AllFed c (a ∷ xs) (b ∷ ys) = IsFed c a b × AllFed c xs ys
@@ -48,18 +48,18 @@ module _ {B : Type 0} (r : Reading B) where
   AllKept (a ∷ xs) (b ∷ ys) = Keeps (r.held a) a b × AllKept xs ys
   AllKept xs ys = ⊥
 
-  -- the first `count` are fed; the next one, which is of the channel, and those behind it keep what they kept
+  -- the first `count` are fed; the next one, which is of the channel, and those after it keep what they kept
   abbrev pub AreFed : ℕ → ChangeMsg → List B → List B → Type 0
   AreFed zero c (a ∷ xs) (b ∷ ys) = (r.channel a ≡ c.channel) × (Keeps (r.held a) a b × AllKept xs ys)
   AreFed (suc count) c (a ∷ xs) (b ∷ ys) = IsFed c a b × AreFed count c xs ys
   AreFed count c xs ys = ⊥
 
-  -- what feeding leaves: all are fed, or those in front of one that was refused memory
+  -- what feeding leaves: all are fed, or those before one for which memory ran out
   abbrev pub Feeds : {E : Type 0} → ChangeMsg → List B → List B → Result (Unit {0}) E → Type 0
   Feeds c xs ys (Ok x) = AllFed c xs ys
   Feeds c xs ys (Err e) = (count : ℕ) × AreFed count c xs ys
 
-  -- the same of one shelf
+  -- the same for one shelf
   abbrev pub FeedsOne : {E : Type 0} → ChangeMsg → B → B → Result (Unit {0}) E → Type 0
   FeedsOne c a b (Ok x) = IsFed c a b
   FeedsOne c a b (Err e) = (r.channel a ≡ c.channel) × Keeps (r.held a) a b

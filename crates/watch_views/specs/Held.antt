@@ -18,7 +18,7 @@ of_points xs = record { points = xs; numbers = [] }
 abbrev pub of_numbers : List ℕ → Held
 of_numbers ns = record { points = []; numbers = ns }
 
--- the last n of the points that were appended: a replacement takes those in its interval, a truncation those above its end
+-- the last n of the points that were appended: a replacement drops those in its interval, a truncation those above its end
 abbrev pub points_after : ℕ → List Point → What → List Point
 points_after n xs (Append points) = keep_last n (xs ++ points)
 points_after n xs (Replace from to points) = outside from to xs
@@ -28,7 +28,7 @@ points_after n xs (Truncate end) = up_to end xs
 abbrev pub window_step : ℕ → Held → What → Held
 window_step n h w = of_points (points_after n h.points w)
 
--- how many appends, how many points they had, how many replacements, how many truncations; each stays at the greatest number
+-- how many appends, how many points they had, how many replacements, how many truncations; each stops at the greatest number
 abbrev pub counted : List ℕ → What → List ℕ
 counted (appends ∷ points ∷ replaces ∷ truncates ∷ []) (Append more) = capped (appends + 1) ∷ capped (points + length more) ∷ replaces ∷ truncates ∷ []
 counted (appends ∷ points ∷ replaces ∷ truncates ∷ []) (Replace from to more) = appends ∷ points ∷ capped (replaces + 1) ∷ truncates ∷ []

@@ -15,7 +15,7 @@ latest_line (x ∷ xs) = codes "latest " ++ point_line x
 abbrev pub window_lines : List Point → List ℕ
 window_lines xs = codes "window " ++ decimal (length xs) ++ codes "\n" ++ flat_map point_line xs
 
--- a number behind a space
+-- a number after a space
 abbrev pub spaced : ℕ → List ℕ
 spaced n = codes " " ++ decimal n
 

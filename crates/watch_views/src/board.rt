@@ -68,7 +68,7 @@ fn remove_all(shelves: &mut Vec<Shelf>, channel: i64) -> u64
     (before - shelves.len()) as u64
 }
 
-/// Has all shelves watch this channel.
+/// Makes all shelves watch this channel.
 fn watch_all(shelves: &mut Vec<Shelf>, channel: i64)
     ensures { shelves.new.items ≡ each shelves.old.items (λ s. record s { channel = channel }) }
 {
@@ -93,7 +93,7 @@ impl Board {
         }
     }
 
-    /// A board of these views, each of this channel. Where memory is refused, the views are dropped.
+    /// A board of these views, each of this channel. If allocation fails, the views are dropped.
     pub fn of(alloc: Global, channel: i64, views: Vec<Box<dyn View>>) -> Result<Board, NoMemory>
         ensures { IfOk result (λ b. b.shelves.items ≡ map (λ v. record { channel = channel; view = v }) views.items) }
     {
@@ -104,7 +104,7 @@ impl Board {
         Ok(Board { shelves })
     }
 
-    /// Adds a view of a channel. Where memory is refused, the view is dropped and the board is as before.
+    /// Adds a view of a channel. If allocation fails, the view is dropped and the board is unchanged.
     pub fn add(&mut self, channel: i64, view: Box<dyn View>) -> Result<(), NoMemory>
         ensures ok { OnOk result (self.new.shelves.items ≡ self.old.shelves.items ++ (record { channel = channel; view = view }) ∷ []) }
         ensures err { OnErr result (self.new.shelves.items ≡ self.old.shelves.items) }
@@ -113,14 +113,14 @@ impl Board {
         Ok(())
     }
 
-    /// Has all views watch this channel.
+    /// Makes all views watch this channel.
     pub fn watch(&mut self, channel: i64)
         ensures { self.new.shelves.items ≡ each self.old.shelves.items (λ s. record s { channel = channel }) }
     {
         watch_all(&mut self.shelves, channel);
     }
 
-    /// Each view of the change's channel takes the change in. Where memory is refused to one of them, those that were added before it have
+    /// Each view of the change's channel takes the change in. If memory runs out for one of them, those that were added before it have
     /// taken the change in, and the others have not.
     pub fn feed(&mut self, alloc: Global, change: &ChangeMsg) -> Result<(), NoMemory>
         ensures { Feeds (reading (λ s. s.channel) (λ s. (⟦<dyn View as View>⟧ s.view.vtable).held s.view.value) (λ s. (⟦<dyn View as View>⟧ s.view.vtable).step s.view.value) (λ s. (⟦<dyn View as View>⟧ s.view.vtable).shown s.view.value)) change.now self.old.shelves.items self.new.shelves.items result }
@@ -136,7 +136,7 @@ impl Board {
         remove_all(&mut self.shelves, channel)
     }
 
-    /// Appends the lines of all views. Where memory is refused, nothing is appended.
+    /// Appends the lines of all views. If memory runs out, nothing is appended.
     #[tactic(auto, using(crate::proofs::TextLemmas::whole_ok, crate::proofs::TextLemmas::whole_err))]
     pub fn print(&self, alloc: Global, into: &mut Vec<u8>) -> Result<(), NoMemory>
         ensures ok { OnOk result (into.new.items ≡ into.old.items ++ lines_of (reading (λ s. s.channel) (λ s. (⟦<dyn View as View>⟧ s.view.vtable).held s.view.value) (λ s. (⟦<dyn View as View>⟧ s.view.vtable).step s.view.value) (λ s. (⟦<dyn View as View>⟧ s.view.vtable).shown s.view.value)) self.now.shelves.items) }

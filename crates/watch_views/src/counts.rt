@@ -11,8 +11,8 @@ use channel_store::{ChangeMsg, What};
 use etp_values::NoMemory;
 use std::alloc::Global;
 
-/// How many appends, replacements and truncations there were, and how many points were appended. Each number stops at the greatest
-/// `u64`. The line is `counts APPENDS POINTS REPLACES TRUNCATES`.
+/// How many appends, replacements and truncations there were, and how many points were appended. Each number stops at `u64::MAX`. The line
+/// is `counts APPENDS POINTS REPLACES TRUNCATES`.
 #[derive(Clone, Copy, Debug, Drop, PartialEq, Eq)]
 pub struct Counts {
     appends: u64,
@@ -22,7 +22,7 @@ pub struct Counts {
 }
 
 impl Counts {
-    /// The view of a channel of which nothing was told yet.
+    /// The view of a channel before any change was received.
     pub fn new() -> Counts
         ensures { numbers_of result ≡ 0 ∷ 0 ∷ 0 ∷ 0 ∷ [] }
     {

@@ -15,21 +15,22 @@ use channel_store::{ChangeMsg, What};
 use etp_values::{NoMemory, Point};
 use std::alloc::Global;
 
-/// Keeps the last point that was appended, until a replacement or a truncation takes it. Its line is `latest INDEX VALUE`, or `latest none`.
+/// Keeps the last point that was appended, until a replacement or a truncation drops it. Its line is `latest INDEX VALUE`, or `latest
+/// none`.
 #[derive(Debug, Drop)]
 pub struct Latest {
     point: Option<Point>,
 }
 
 impl Latest {
-    /// The view of a channel of which nothing was told yet.
+    /// The view of a channel before any change was received.
     pub fn new() -> Latest
         ensures { option_to_list result.point ≡ [] }
     {
         Latest { point: None }
     }
 
-    /// Keeps the last of these points, where there are any.
+    /// Keeps the last of these points, if there are any.
     #[tactic(auto, using(crate::proofs::PointLemmas::one_none, crate::proofs::PointLemmas::one_some))]
     fn append(&mut self, alloc: Global, points: &Points) -> Result<(), NoMemory>
         ensures ok { OnOk result (option_to_list self.new.point ≡ keep_last 1 (option_to_list self.old.point ++ points.now)) }
@@ -42,7 +43,7 @@ impl Latest {
         Ok(())
     }
 
-    /// Lets the point go where a change takes it.
+    /// Drops the point if a change drops it.
     fn leave(&mut self, what: &What)
         ensures { option_to_list self.new.point ≡ left_by what.now (option_to_list self.old.point) }
     {

@@ -2,8 +2,8 @@
 //!
 //! A [`View`] keeps points and numbers, changes them by a step of its own with each change of its channel, and shows them as lines.
 //! [`Latest`], [`Window`] and [`Counts`] are views. A [`Board`] has views on shelves, each with the channel that it watches: a change of a
-//! channel reaches the views of that channel and no others. Who draws up a board makes and boxes the views; the contracts of the board speak of
-//! any view by what it keeps, its step and its lines.
+//! channel reaches the views of that channel and no others. Whoever sets up a board creates and boxes the views; the contracts of the board
+//! describe any view by what it keeps, its step and its lines.
 #![tactic(auto)]
 
 mod board;

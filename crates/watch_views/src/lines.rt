@@ -1,4 +1,4 @@
-//! Lines in the making.
+//! Lines under construction.
 ghost use Rattle.std.specs.Prelude.{◌≡◌, OnErr, OnOk, take};
 ghost use Rattle.std.specs.Fmt.{decimal};
 ghost use Rattle.std.specs.List.{flat_map};
@@ -33,7 +33,7 @@ fn put_spaced(into: &mut Vec<u8>, n: u64) -> Result<(), NoMemory>
     put_number(into, n)
 }
 
-/// Appends numbers, each behind a space.
+/// Appends numbers, each after a space.
 #[tactic(auto, using(std::proofs::Transfers::starts_with_trans))]
 pub fn put_numbers(into: &mut Vec<u8>, numbers: &[u64]) -> Result<(), NoMemory>
     ensures { Writes (flat_map spaced numbers.now) into.old.items into.new.items result }
@@ -44,7 +44,7 @@ pub fn put_numbers(into: &mut Vec<u8>, numbers: &[u64]) -> Result<(), NoMemory>
     Ok(())
 }
 
-/// Takes back what was appended behind the first `len` bytes, where memory was refused on the way.
+/// Takes back what was appended after the first `len` bytes, if memory ran out on the way.
 pub fn whole_or_nothing(
     into: &mut Vec<u8>,
     len: usize,

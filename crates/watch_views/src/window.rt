@@ -41,7 +41,7 @@ fn copy_last(alloc: Global, points: &Points, most: usize) -> Result<Vec<Point>, 
     Ok(copies)
 }
 
-/// Appends these points, and lets the first ones go where there is no room.
+/// Appends these points, and drops the first ones if there is no room.
 #[tactic(auto, using(crate::proofs::PointLemmas::push_kept, crate::proofs::PointLemmas::keep_within, crate::proofs::PointLemmas::keep_short))]
 fn push_all(ring: &mut HeapCircularBuffer<Point>, points: Vec<Point>)
     requires { length ring.old.items ≤ ring.old.capacity }
@@ -53,7 +53,7 @@ fn push_all(ring: &mut HeapCircularBuffer<Point>, points: Vec<Point>)
     }
 }
 
-/// Takes the first point off, and puts it behind the last one where the change leaves it.
+/// Takes the first point off, and puts it after the last one if the change leaves it.
 #[tactic(auto, using(crate::proofs::PointLemmas::turned_none, crate::proofs::PointLemmas::turned_gone, crate::proofs::PointLemmas::turned_kept, crate::proofs::PointLemmas::turned_within))]
 fn turn(ring: &mut HeapCircularBuffer<Point>, what: &What)
     requires { length ring.old.items ≤ ring.old.capacity }
@@ -69,7 +69,7 @@ fn turn(ring: &mut HeapCircularBuffer<Point>, what: &What)
     }
 }
 
-/// Lets those points go that the change takes.
+/// Drops the points that the change drops.
 #[tactic(auto, using(crate::proofs::PointLemmas::left_step, crate::proofs::PointLemmas::left_end))]
 fn leave(ring: &mut HeapCircularBuffer<Point>, what: &What)
     ensures items { ring.new.items ≡ left_by what.now ring.old.items }
@@ -104,15 +104,15 @@ fn put_ring(
     put_points(alloc, back, into)
 }
 
-/// Keeps the last points that were appended, as many as it was made for, until replacements and truncations take them. Its lines
-/// are `window K` and then `INDEX VALUE` for each of the K points, the oldest first.
+/// Keeps the last points that were appended, as many as it was made for, until replacements and truncations drop them. Its lines are
+/// `window K` and then `INDEX VALUE` for each of the K points, the oldest first.
 #[derive(Drop)]
 pub struct Window {
     ring: HeapCircularBuffer<Point>,
 }
 
 impl Window {
-    /// The view of a channel of which nothing was told yet, for at most `most` points.
+    /// The view of a channel before any change was received, for at most `most` points.
     pub fn new(alloc: Global, most: u64) -> Result<Window, NoMemory>
         ensures { IfOk result (λ w. w.ring ≡ buffer [] most) }
     {

@@ -9,7 +9,7 @@ pub(crate) enum FeedError {
     Full,
     /// The store refuses it.
     Refused(ChannelError),
-    /// Memory was refused.
+    /// Out of memory.
     NoMemory,
 }
 

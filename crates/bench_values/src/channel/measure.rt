@@ -26,7 +26,7 @@ fn append(alloc: Global, feed: &mut Feed, count: u32, at_once: u32) -> Result<()
     feed.append(points.as_slice())
 }
 
-/// Reads them all, and says how many there were.
+/// Reads them all, and returns how many there were.
 fn read(feed: &Feed, count: u32) -> Result<u64, FeedError> {
     let mut found = 0u64;
     for part in 0..count.div_ceil(READ) {
@@ -37,7 +37,7 @@ fn read(feed: &Feed, count: u32) -> Result<u64, FeedError> {
     Ok(found)
 }
 
-/// Appends so many points and reads them by ranges, and prints the time that a point took.
+/// Appends this many points and reads them by ranges, and prints the time that a point took.
 pub(crate) fn measure_points(rt: &HostRuntime, count: u32, at_once: u32) -> io::Result<()> {
     let Ok(mut feed) = Feed::new(rt.alloc()) else {
         return println!(rt; "no memory for the store");

@@ -2,7 +2,7 @@
 use crate::channel::changes::Change;
 use etp_values::{DataValue, NoMemory, Point};
 
-/// Puts points in the place of those from `from` to `to`.
+/// Replaces the points from `from` to `to` by these.
 fn replace(
     list: &mut Vec<(i64, i64)>,
     from: i64,

@@ -6,7 +6,7 @@ use etp_capture::{Frame, kinds};
 use etp_values::{Blob, NoMemory};
 use std::alloc::Global;
 
-/// The longest message of random bytes, behind its header.
+/// The longest message of random bytes, after its header.
 const NOISE: u64 = 63;
 
 /// The frame of a message at a random moment.
@@ -54,7 +54,7 @@ fn push_noise(random: &mut Random, bytes: &mut Vec<u8>) -> Result<(), NoMemory> 
     Ok(())
 }
 
-/// A message of random bytes behind the header of a sample.
+/// A message of random bytes after the header of a sample.
 pub(crate) fn headed(
     alloc: Global,
     random: &mut Random,
@@ -88,7 +88,7 @@ fn header_of(bytes: &[u8]) -> &[u8] {
     bytes
 }
 
-/// A sample that is damaged in one to three places. One of eight is shown as the other side's.
+/// A sample that is damaged in one to three places. One in eight is shown as the other side's.
 pub(crate) fn damaged(
     alloc: Global,
     random: &mut Random,
@@ -109,7 +109,7 @@ pub(crate) fn damaged(
     frame_of(random, kind, bytes)
 }
 
-/// Changes, takes out or doubles a byte, or cuts off all from it on.
+/// Changes, removes or doubles a byte, or cuts off everything from it on.
 fn damage(random: &mut Random, bytes: &mut Vec<u8>) -> Result<(), NoMemory> {
     if bytes.is_empty() {
         return Ok(());

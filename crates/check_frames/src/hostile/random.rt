@@ -8,7 +8,7 @@ pub(crate) struct Random {
 }
 
 impl Random {
-    /// The generator that begins with this seed. From 0 there would be nothing but 0, so 1 stands for it.
+    /// The generator that begins with this seed. From 0 there would be nothing but 0, so 1 is used instead.
     pub(crate) fn new(seed: u64) -> Random {
         Random { state: seed.max(1) }
     }
@@ -31,7 +31,7 @@ impl Random {
         self.next() % limit
     }
 
-    /// Any byte half of the time, and else one of the first eight, which lengths, counts and branches mostly are.
+    /// Any byte half of the time, and otherwise one of the first eight, which lengths, counts and branches mostly are.
     pub(crate) fn byte(&mut self) -> u8 {
         let number = self.next();
         if number & 0x100 == 0 {

@@ -28,7 +28,7 @@ impl Tally {
         }
     }
 
-    /// Shows and checks the message of a frame, and leaves its lines in `lines`. Frames stand 100 bytes apart.
+    /// Shows and checks the message of a frame, and leaves its lines in `lines`. Frames are 100 bytes apart.
     pub(crate) fn add(
         &mut self,
         alloc: Global,

@@ -4,7 +4,7 @@ use etp_values::{Copied, DataValue, Named, NoMemory, custom_weight};
 use message_trees::read_back;
 use std::alloc::Global;
 
-/// The values that these digits spell, read straight from the bytes.
+/// The values that these digits denote, read directly from the bytes.
 pub(crate) fn values(alloc: Global, digits: &str) -> Result<String, NoMemory> {
     let Ok(bytes) = hex::decode(alloc, digits) else {
         return Ok(String::new(alloc));
@@ -24,7 +24,7 @@ fn show(alloc: Global, values: &Named<DataValue>, length: usize) -> Result<Strin
     Ok(format!(in alloc; "{length} {size} nodes {nodes} weight {weight} {written}")?)
 }
 
-/// How a copy of the values is written that went through a tree.
+/// How a copy of the values that went through a tree is written.
 fn written(alloc: Global, values: &Named<DataValue>) -> Result<String, NoMemory> {
     let copy = read_back(alloc, &values.copy(alloc)?)?;
     let mut bytes = Vec::new(alloc);

@@ -2,7 +2,7 @@
 use etp_values::{Boxed, Copied, Id16, Named, NoMemory, Shared, StoreUri, Text, UriError};
 use std::alloc::Global;
 
-/// The canonical text of a URI's copy, or why the text is none.
+/// The canonical text of a URI's copy, or why the text is not one.
 pub(crate) fn uri(alloc: Global, text: &str) -> Result<String, NoMemory> {
     match StoreUri::read(alloc, text) {
         Ok(uri) => canonical(alloc, &uri),
@@ -35,7 +35,7 @@ pub(crate) fn id(alloc: Global, text: &str) -> Result<String, NoMemory> {
     }
 }
 
-/// The identifier of a text in a name space: the identifier, and the text behind it.
+/// The identifier of a text in a name space: the identifier, and the text after it.
 pub(crate) fn named(alloc: Global, words: &str) -> Result<String, NoMemory> {
     let Some((space, text)) = words.split_once(' ') else {
         return Ok(String::new(alloc));
@@ -73,7 +73,7 @@ fn show_pairs(alloc: Global, named: &Named<i64>) -> Result<String, NoMemory> {
     Ok(text)
 }
 
-/// Takes what may be moved to another thread, and be seen there by several.
+/// Accepts only what may be moved to another thread, and seen there by several.
 fn crossing<T: Send + Sync>(value: T) -> T {
     value
 }

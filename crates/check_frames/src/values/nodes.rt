@@ -39,7 +39,7 @@ fn length(alloc: Global, id: u32, bytes: &[u8]) -> Result<usize, Refusal> {
     span(alloc, &NODES, id % 18, bytes)
 }
 
-/// What these digits spell as a value of a node, whose place stands before them.
+/// What these digits denote as a value of a node, whose place comes before them.
 pub(crate) fn node(alloc: Global, words: &str) -> Result<String, NoMemory> {
     let Some((place, digits)) = words.split_once(' ') else {
         return Ok(String::new(alloc));
@@ -68,7 +68,7 @@ fn show_read(alloc: Global, id: u32, bytes: &[u8]) -> Result<String, NoMemory> {
     }
 }
 
-/// How much was read, and how it is written behind what was there.
+/// How much was read, and how it is written after what was there.
 fn show_tree(alloc: Global, id: u32, tree: &Tree, length: usize) -> Result<String, NoMemory> {
     let mut bytes = b"x".to_vec(alloc)?;
     encode(&NODES, id, tree, &mut bytes)?;
@@ -80,7 +80,7 @@ fn show_tree(alloc: Global, id: u32, tree: &Tree, length: usize) -> Result<Strin
     }
 }
 
-/// So many times the same bytes.
+/// The same bytes, repeated.
 fn copies(blob: &Blob, count: usize, alloc: Global) -> Result<List<Tree>, NoMemory> {
     let mut items = Vec::new(alloc);
     for _ in 0..count {

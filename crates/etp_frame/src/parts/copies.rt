@@ -6,7 +6,7 @@ use msg_channel::{IndexInterval, IndexValue, PassIndexedDepth};
 use msg_core::ErrorInfo;
 use std::alloc::Global;
 
-/// An equal error, where there is one.
+/// An equal error, if there is one.
 pub(crate) fn copied_error(
     alloc: Global,
     error: &Option<ErrorInfo>,

@@ -74,7 +74,7 @@ pub(crate) fn put_parts(
     Ok(List::from_vec(parts))
 }
 
-/// The parts of a reply with objects, each with the chunks of its objects' long data behind it.
+/// The parts of a reply with objects, each followed by the chunks of its objects' long data.
 pub(crate) fn reply_parts(
     alloc: Global,
     reply: GetDataObjectsResponse,

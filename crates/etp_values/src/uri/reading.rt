@@ -1,5 +1,5 @@
-//! The parts of a URI's text, from the left. A function that is given `whole`, the length of the text, names the places of
-//! what it refuses in it.
+//! The parts of a URI's text, from the left. A function that is given `whole`, the length of the text, reports what it refuses by its
+//! offset in the text.
 ghost use Rattle.std.specs.Prelude.{◌≡◌, ◌<◌, ◌≤◌, length, nat_eq, false, option_map, string_bytes, IfOk, codes};
 ghost use Rattle.std.specs.List.{common_prefix_len, list_all};
 ghost use Rattle.etp_values.specs.Gives.{Gives};
@@ -18,7 +18,7 @@ pub fn after<'a>(text: &'a str, prefix: &str) -> Option<&'a str>
     text.strip_prefix(prefix)
 }
 
-/// How many bytes two texts agree in, from the front on.
+/// The length of the longest common prefix of two texts, in bytes.
 pub fn agreeing(a: &[u8], b: &[u8]) -> usize
     ensures count { result ≡ common_prefix_len nat_eq a.now b.now }
     ensures bound { result ≤ length a.now }
@@ -32,7 +32,7 @@ pub fn agreeing(a: &[u8], b: &[u8]) -> usize
     }
 }
 
-/// The parts round the first mark, an ASCII character.
+/// The text before and after the first mark, which is an ASCII character.
 fn parted(text: &str, mark: char) -> Option<(&str, &str)>
     requires { mark < 128 }
     ensures { option_map (λ p. (p.0.now, p.1.now)) result ≡ parts_at mark text.now }
@@ -40,7 +40,7 @@ fn parted(text: &str, mark: char) -> Option<(&str, &str)>
     text.split_once(mark)
 }
 
-/// Where what is left of a text begins.
+/// The offset at which the rest of a text begins.
 fn place(whole: usize, rest: &str) -> usize
     ensures { result ≡ place_of whole rest.now }
 {
@@ -84,7 +84,7 @@ fn is_type_name(text: &[u8]) -> bool
     }
 }
 
-/// Whether a text names types of objects: `DOMAIN.NAME` names one, and `DOMAIN.*` each of a domain.
+/// Whether a text names types of objects: `DOMAIN.NAME` names one, and `DOMAIN.*` all of a domain.
 pub fn is_type_filter(text: &str) -> bool
     ensures { result ≡ is_filter_text text.now }
 {
@@ -96,7 +96,7 @@ pub fn is_type_filter(text: &str) -> bool
     }
 }
 
-/// What a quoted text says up to its closing quote, with its doubled quotes made single, and what follows that.
+/// A quoted text up to its closing quote, with doubled quotes made single, and what follows it.
 fn read_quoted(alloc: Global, text: &str) -> Result<Option<(String, &str)>, NoMemory>
     ensures { IfOk result (λ r. option_map (λ p. (string_bytes p.0, p.1.now)) r ≡ unquoted false text.now) }
 {
@@ -113,7 +113,7 @@ fn read_quoted(alloc: Global, text: &str) -> Result<Option<(String, &str)>, NoMe
     Ok(None)
 }
 
-/// What a quoted path in parentheses says, from its opening quote to its closing parenthesis, and what follows that.
+/// A quoted path in parentheses, from its opening quote to its closing parenthesis, and what follows it.
 fn read_path(alloc: Global, text: &str) -> Result<Option<(Text, &str)>, NoMemory>
     ensures { IfOk result (λ r. option_map (λ p. (p.0, p.1.now)) r ≡ path_of text.now) }
 {
@@ -134,7 +134,7 @@ fn read_path(alloc: Global, text: &str) -> Result<Option<(Text, &str)>, NoMemory
     }
 }
 
-/// The domain before the first dot, the type's name before the parenthesis after it, and what follows that.
+/// The domain before the first dot, the type's name before the next parenthesis, and what follows it.
 fn read_type(text: &str) -> Option<(&str, &str, &str)>
     ensures { option_map (λ p. (p.0.now, (p.1.now, p.2.now))) result ≡ type_at text.now }
 {
@@ -149,7 +149,7 @@ fn read_type(text: &str) -> Option<(&str, &str, &str)>
     Some((domain, name, rest))
 }
 
-/// The identifier before the first closing parenthesis, and what follows that.
+/// The identifier before the first closing parenthesis, and what follows it.
 fn read_id(text: &str) -> Option<(Id16, &str)>
     ensures { option_map (λ p. (p.0, p.1.now)) result ≡ id_at text.now }
 {

@@ -1,4 +1,4 @@
-//! Paths of dataspaces, with what names the dataspace on the wire.
+//! Paths of dataspaces, together with the URI that names the dataspace on the wire.
 ghost use Rattle.std.specs.Prelude.{◌≡◌, IfOk};
 ghost use Rattle.std.specs.Bool.{nat_eq};
 ghost use Rattle.std.specs.Cmp.{partial_equiv_from_equiv};
@@ -16,14 +16,14 @@ use std::fmt;
 use std::fmt::{Debug, Formatter, Write};
 use std::marker::Model;
 
-/// A dataspace's path, and with it the canonical text of the dataspace's URI. A contract sees the path. A copy asks for no
-/// memory: copies share both texts.
+/// A dataspace's path, and with it the canonical text of the dataspace's URI. A contract sees the path. Copying does not allocate: copies
+/// share both texts.
 pub struct SpacePath {
     path: Shared<Text>,
     uri: Shared<Text>,
 }
 
-/// Written out, so that whoever holds one drops it by one call.
+/// Written out, so that whatever holds one drops it by a single call.
 impl Drop for SpacePath {
     fn drop(self) {
         let SpacePath { path, uri } = self;
@@ -65,7 +65,7 @@ impl SpacePath {
         })
     }
 
-    /// The path, to be read.
+    /// Borrows the path.
     pub fn as_text(&self) -> &Text
         ensures { result.now ≡ self.now }
     {
@@ -105,7 +105,7 @@ impl Eq for SpacePath {
     ghost laws = { nat_list_eq_equiv };
 }
 
-/// A path is printed as its text is.
+/// A path prints as its text.
 impl Debug for SpacePath {
     fn fmt<W: Write>(&self, f: &mut Formatter<W>) -> fmt::Result {
         Debug::fmt(self.path.get(), f)

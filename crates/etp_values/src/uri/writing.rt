@@ -7,7 +7,7 @@ use crate::id_text::ID_TEXT_LEN;
 use crate::memory::NoMemory;
 use crate::uri::ObjectName;
 
-/// Puts a path with its quotes doubled.
+/// Appends a path with its quotes doubled.
 fn put_doubled(out: &mut String, path: &str) -> Result<(), NoMemory>
     ensures { OnOk result (string_bytes out.new ≡ string_bytes out.old ++ doubled path.now) }
 {
@@ -21,7 +21,7 @@ fn put_doubled(out: &mut String, path: &str) -> Result<(), NoMemory>
     Ok(())
 }
 
-/// Puts `eml:///` and the part of a dataspace.
+/// Appends `eml:///` and the part of a dataspace.
 pub fn put_space(out: &mut String, path: &str) -> Result<(), NoMemory>
     ensures { OnOk result (string_bytes out.new ≡ string_bytes out.old ++ space_text path.now) }
 {
@@ -35,7 +35,7 @@ pub fn put_space(out: &mut String, path: &str) -> Result<(), NoMemory>
     Ok(())
 }
 
-/// Puts the part of an object.
+/// Appends the part of an object.
 fn put_name(out: &mut String, name: &ObjectName) -> Result<(), NoMemory>
     ensures { OnOk result (string_bytes out.new ≡ string_bytes out.old ++ object_part name.now (id_text name.now.id)) }
 {
@@ -49,7 +49,7 @@ fn put_name(out: &mut String, name: &ObjectName) -> Result<(), NoMemory>
     Ok(())
 }
 
-/// Puts the part of an object, behind a slash where a dataspace's part stands before it.
+/// Appends the part of an object, with a slash before it if there is a dataspace's part.
 pub fn put_object(out: &mut String, path: &str, name: &ObjectName) -> Result<(), NoMemory>
     ensures { OnOk result (string_bytes out.new ≡ string_bytes out.old ++ behind path.now (object_part name.now (id_text name.now.id))) }
 {

@@ -21,7 +21,7 @@ use store_machine::{Answer, Reply};
 use tx_stage::{Key, Stage};
 
 impl Machine {
-    /// The answer is joined with the request that awaits it; where none does, it says nothing.
+    /// The answer is joined with the request that awaits it; if none does, nothing is sent.
     pub(crate) fn give_to(
         &mut self,
         alloc: Global,

@@ -103,7 +103,7 @@ impl Machine {
     }
 }
 
-/// A message that is let go calls for nothing.
+/// Drops the message; there is no store call.
 fn let_go(message: Message) -> Result<Option<StoreCall>, NoMemory>
     ensures { IfOk result (λ call. call ≡ None) }
 {
@@ -111,7 +111,7 @@ fn let_go(message: Message) -> Result<Option<StoreCall>, NoMemory>
     Ok(None)
 }
 
-/// What a message is answered as: a put that becomes whole by a chunk as the put, any other as itself.
+/// The message that is answered: for a put that becomes whole by a chunk the put, for any other the message itself.
 fn put_request(header: &Header, awaited: Option<i64>) -> Request
     ensures { result ≡ request_awaited header.now awaited }
 {
@@ -124,7 +124,7 @@ fn put_request(header: &Header, awaited: Option<i64>) -> Request
     }
 }
 
-/// The code by which a joiner's refusal is answered; want of memory is none.
+/// The code with which a joiner's refusal is answered; running out of memory is not one.
 fn join_code(error: JoinError) -> Result<ErrorCode, NoMemory>
     ensures value { IfOk result (λ code. code ≡ join_code error) }
     ensures fault { OnOk result (IsJoinFault error) }

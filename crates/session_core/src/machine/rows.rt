@@ -160,7 +160,7 @@ impl Machine {
         }
     }
 
-    /// Asks the store for a request of Store. In a transaction the keys that are looked at are kept, to be noted at the answer.
+    /// Asks the store for a request of Store. In a transaction the keys that are looked at are kept, to be noted when it answers.
     fn ask_objects(
         &mut self,
         alloc: Global,
@@ -200,7 +200,7 @@ impl Machine {
         }
     }
 
-    /// Asks the store for a request of DataArray. In a transaction the keys that are looked at are kept, to be noted at the answer.
+    /// Asks the store for a request of DataArray. In a transaction the keys that are looked at are kept, to be noted when it answers.
     fn ask_arrays(
         &mut self,
         alloc: Global,
@@ -396,7 +396,7 @@ impl Machine {
     }
 }
 
-/// The subscriptions of a session, which has none before the first message of ChannelSubscribe.
+/// The subscriptions of a session; there are none before the first message of ChannelSubscribe.
 pub(crate) fn taken_subs(alloc: Global, subs: Option<Subs>) -> Result<Subs, NoMemory>
     ensures { IfOk result (λ v. v ≡ subbed subs) }
 {
@@ -406,7 +406,7 @@ pub(crate) fn taken_subs(alloc: Global, subs: Option<Subs>) -> Result<Subs, NoMe
     }
 }
 
-/// Why a message of a protocol other than Core isn't taken, if it isn't.
+/// Why a message of a protocol other than Core isn't accepted, if it isn't.
 fn protocol_refusal(live: Live, accepted: &[i32], protocol: i32) -> Option<ErrorCode>
     ensures { result ≡ protocol_refusal live accepted.now protocol }
 {

@@ -1,4 +1,4 @@
-//! What a session says.
+//! What a session sends.
 ghost use Rattle.std.specs.Prelude.{◌≡◌, None, IfOk, OnOk};
 ghost use Rattle.session_core.specs.Machine.{refuses, replies_one};
 ghost use Rattle.session_core.specs.Sending.{said};
@@ -13,7 +13,7 @@ use std::alloc::Global;
 use store_machine::StoreCall;
 
 impl Machine {
-    /// Refuses a message whole, at whose content nobody looks.
+    /// Refuses a whole message whose content is not looked at.
     pub(crate) fn turn_away(
         &mut self,
         alloc: Global,
@@ -29,7 +29,7 @@ impl Machine {
         Ok(None)
     }
 
-    /// Refuses a message whole.
+    /// Refuses a whole message.
     pub(crate) fn refuse(
         &mut self,
         alloc: Global,
@@ -42,7 +42,7 @@ impl Machine {
         self.reply_one(alloc, request, message)
     }
 
-    /// Answers a message by one.
+    /// Replies with a single message.
     pub(crate) fn reply_one(
         &mut self,
         alloc: Global,
@@ -56,7 +56,7 @@ impl Machine {
         self.say(alloc, request, List::from_vec(sayings))
     }
 
-    /// Says this to a request, or unasked: in parts, each with the next own id. Where the ids end, so does the session.
+    /// Queues a reply or notices, split into parts that take the session's next ids. Ends the session when the ids run out.
     pub(crate) fn say(
         &mut self,
         alloc: Global,

@@ -1,4 +1,4 @@
-//! What is tested of the keys of a request for objects before the store is asked.
+//! What is tested about the keys of a request for objects before the store is asked.
 ghost use Rattle.std.specs.Prelude.{◌≡◌, ◌||◌, IfOk, nat_lt};
 ghost use Rattle.std.specs.List.{list_any};
 ghost use Rattle.std.specs.Str.{bytes_eq};
@@ -15,10 +15,10 @@ use request_scope::may_use;
 use std::alloc::Global;
 use tx_stage::Stage;
 
-/// The greatest number of bytes that an object's other URIs, name and custom data have on the wire.
+/// The maximum size of an object's other URIs, name and custom data on the wire, in bytes.
 pub const MAX_EXTRAS_SIZE: u64 = 16_384;
 
-/// The URI of an object that is named in a dataspace which may be touched.
+/// The URI of an object in a dataspace that may be touched.
 pub(crate) fn named_object(
     alloc: Global,
     stage: &Option<Stage>,
@@ -44,8 +44,8 @@ fn in_space(stage: &Option<Stage>, named: Decision<StoreUri>) -> Decision<StoreU
     }
 }
 
-/// Whether objects of this URI's type are kept: where `types` is none all are, else those that a filter takes by their type or
-/// by their type's domain.
+/// Whether objects of this URI's type are kept: if `types` is `None` all are, otherwise those that a filter accepts by their type or by
+/// their type's domain.
 fn is_kept(
     alloc: Global,
     types: &Option<Shared<List<Text>>>,
@@ -100,7 +100,7 @@ fn is_either(filter: &Text, exact: &str, any: &str) -> bool
     filter.as_str() == exact || filter.as_str() == any
 }
 
-/// The session's format of a text; the empty text stands for `xml`.
+/// The session's format with this text; the empty text means `xml`.
 pub(crate) fn session_format(formats: &List<Format>, text: &Text) -> Option<Format>
     ensures { result ≡ session_format formats.now text.now }
 {
@@ -113,7 +113,7 @@ pub(crate) fn session_format(formats: &List<Format>, text: &Text) -> Option<Form
     }
 }
 
-/// How many bytes the other URIs, the name and the custom data have on the wire.
+/// Whether the other URIs, the name and the custom data are too large on the wire.
 fn are_extras_large(resource: &Resource) -> bool
     ensures { result ≡ nat_lt 16384 (extras_size resource.now) }
 {

@@ -81,7 +81,7 @@ fn removed(alloc: Global, uri: &StoreUri) -> Result<ArrayOfString, NoMemory>
     })
 }
 
-/// What the store decided of a removal.
+/// What the store decided about a removal.
 fn delete_decided(
     alloc: Global,
     uri: &StoreUri,

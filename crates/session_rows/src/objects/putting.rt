@@ -110,7 +110,7 @@ fn put_response(success: Named<PutResponse>) -> StoreMessage
     StoreMessage::PutDataObjectsResponse(PutDataObjectsResponse { success })
 }
 
-/// What is said of contained objects, of which there are none.
+/// What is reported about contained objects, of which there are none.
 fn none_contained(alloc: Global) -> PutResponse
     ensures { result ≡ none_contained }
 {
@@ -225,7 +225,7 @@ impl KeyedReply for StagedPutReply {
 }
 
 impl StagedPutReply {
-    /// Stages an object, by what was seen of its dataspace and of it. Answers why it is refused.
+    /// Stages an object, by what was seen of its dataspace and of the object. Returns why it is refused.
     fn stage(
         &self,
         alloc: Global,

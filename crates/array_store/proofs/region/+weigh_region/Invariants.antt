@@ -8,7 +8,7 @@ use Rattle.array_store.proofs.region.+weigh_region.Given as goal
 abbrev pub decreases-weigh_region : goal.decreases-weigh_region
 decreases-weigh_region l = length l.dims.now
 
--- what was weighed and what the rows that are left weigh is what was wanted
+-- the size so far plus that of the rows that are left is what was wanted
 abbrev pub invariant-loop-row : goal.invariant-loop-row
 invariant-loop-row l = record {
   total : capped (l.sum + weigh bytes_weight (rows_read (sliced (sizes l.outer.dims.now) (sizes l.outer.starts.now) (sizes l.outer.counts.now)) l.width (l.rows - l.row) (drop ((l.first + l.row) * l.width) l.texts)))

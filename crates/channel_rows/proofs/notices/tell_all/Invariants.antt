@@ -1,4 +1,4 @@
--- Each change so far was told, and nothing is pending.
+-- Each change so far was sent, and nothing is pending.
 use Rattle.std.proofs.Common.{◌≡◌, ◌++◌, [], map}
 use Rattle.std.specs.List.{flat_map}
 use Rattle.std.specs.Vec.Iter.{into_iter_items}

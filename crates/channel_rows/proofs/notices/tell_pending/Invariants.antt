@@ -1,4 +1,4 @@
--- What was told, and what is pending.
+-- What was sent, and what is pending.
 use Rattle.std.proofs.Common.{◌≡◌, ◌++◌, [], length, map}
 use Rattle.channel_rows.specs.Notices.{notice}
 use Rattle.channel_rows.proofs.notices.tell_pending.Given as goal

@@ -1,4 +1,4 @@
--- Flags that are not set were added behind the last, as they would be by what sets the flag.
+-- Flags that are not set were added after the last, as they would be by what sets the flag.
 use Rattle.std.proofs.Common.{◌≡◌, ◌-◌, suc, length}
 use Rattle.channel_rows.specs.Opens.{with_flag}
 use Rattle.channel_rows.proofs.open_flags.extend.Given as goal

@@ -7,7 +7,7 @@ use Rattle.client_forms.specs.Shown.{Seen}
 use Rattle.client_forms.specs.Work.{NoLess, Outside, input, line, output, outside}
 use Rattle.client_forms.proofs.command.act_all.Given as goal
 
--- whatever was being done is being done still
+-- whatever was being done is still being done
 abbrev pub invariant-loop : goal.invariant-loop
 invariant-loop g l = record {
   doing :

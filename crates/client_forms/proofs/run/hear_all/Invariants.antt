@@ -7,7 +7,7 @@ use Rattle.client_forms.specs.Work.{NoLess, Outside, input, line, output, outsid
 use Rattle.watch_views.specs.Boards.{reading}
 use Rattle.client_forms.proofs.run.hear_all.Given as goal
 
--- the command waits still
+-- the command still waits
 abbrev pub invariant-loop : goal.invariant-loop
 invariant-loop g l = record {
   going :

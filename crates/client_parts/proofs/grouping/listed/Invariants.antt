@@ -1,4 +1,4 @@
--- With the channels that are left, there is a place for each.
+-- With the channels that are left, there is a group for each.
 use Rattle.std.proofs.Common.{◌≡◌, ℤ, [], Some, cond, drop}
 use Rattle.std.specs.BTreeMap.{get}
 use Rattle.std.specs.List.{list_any}

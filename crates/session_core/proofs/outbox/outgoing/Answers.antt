@@ -4,7 +4,6 @@ use Rattle.etp_frame.specs.Message.{IsOf}
 use Rattle.session_core.proofs.WritableLemmas.{ArePlain, flags_plain, is_of}
 use Rattle.session_core.proofs.outbox.outgoing.Goals as goal
 
--- src/outbox.rt:130:1
 pub returns-clause-writable : goal.returns-clause-writable
 returns-clause-writable c =
     let under : IsOf c.args.part.message c.sent_under.result = subst (λ (p : ℤ). IsOf c.args.part.message p) (sym c.sent_under.ensures) (is_of c.args.request.now.protocol c.args.part.message) in

@@ -1,4 +1,4 @@
--- The parts so far, and those of what is left to say, make the whole.
+-- The parts so far, and those of what is left to send, make the whole.
 use Rattle.std.proofs.Common.{◌≡◌, ◌++◌}
 use Rattle.std.specs.Vec.Iter.{into_iter_items}
 use Rattle.session_core.specs.Sending.{blobs_sent, parts_of}

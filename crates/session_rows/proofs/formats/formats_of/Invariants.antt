@@ -1,4 +1,4 @@
--- What is left, taken on from the formats so far, leads where the whole leads.
+-- What is left, continued from the formats so far, leads where the whole leads.
 use Rattle.std.proofs.Common.{◌≡◌, drop, fold}
 use Rattle.std.specs.List.{filter_map}
 use Rattle.session_rows.specs.Formats.{format_of, formats_of, same_format}

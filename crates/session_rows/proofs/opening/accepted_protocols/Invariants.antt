@@ -1,4 +1,4 @@
--- What is left, taken on from what is accepted so far, leads where the whole leads.
+-- What is left, continued from what is accepted so far, leads where the whole leads.
 use Rattle.std.proofs.Common.{◌≡◌, drop, fold, map, filter}
 use Rattle.std.specs.Ordering.{int_eq}
 use Rattle.session_rows.specs.Once.{with_new}

@@ -3,7 +3,7 @@ use Rattle.std.proofs.lemmas.Grind.{common_steps}
 use Rattle.store_machine.specs.Marking.{Marks}
 use Rattle.store_machine.proofs.journal.add_entry.Goals as goal
 
--- ---- what noting asks for
+-- ---- what noting requires
 
 pub note-requires-clause-own_later : goal.note-requires-clause-own_later
 note-requires-clause-own_later c =

@@ -9,7 +9,7 @@ use Rattle.store_machine.proofs.LawfulLemmas.{no_room_found, room_found}
 use Rattle.store_machine.proofs.LoadingLemmas.{added-is, load-ended, load-full, load-legal, load-none}
 use Rattle.store_machine.proofs.store.Store.load.Goals as goal
 
--- ---- what do_load asks for: there is room, and what the entries count then
+-- ---- what do_load requires: there is room, and what the entries count then
 
 pub do_load-requires-clause-adds : goal.do_load-requires-clause-adds
 do_load-requires-clause-adds c = sym c.adds_entry.ensures ∙ c.if-not-adds_entry.false
