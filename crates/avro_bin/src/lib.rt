@@ -5,7 +5,7 @@
 //! the encoding allows, in any blocks and with numbers of up to ten bytes, and refuses everything else with one
 //! [`Refusal`] at its offset. [`encode`] appends the one spelling that is written: shortest numbers, one block, and a
 //! map's names in byte order. [`size`] is that spelling's length. [`span`] reads without a value: it answers how many bytes
-//! spell it.
+//! spell it, and [`pass`] goes past one value among others.
 //!
 //! [`leaves`], [`numbers`] and [`blocks`] are the parts of reading, for types that are read without a tree. Each answers what
 //! stands at the front of the bytes and what stands behind it, or a [`Fault`], which counts the bytes that are left where the
@@ -32,9 +32,11 @@ mod tree;
 pub use decoding::{NODE_LIMIT, decode};
 pub use encoding::{encode, put_blob, put_text};
 pub use fault::{Fault, Why};
-pub use laws::{one_outcome, one_spelling, reading_is_exact, reads_back, spelled_has_schema};
+pub use laws::{
+    one_outcome, one_spelling, read_longer, reading_is_exact, reads_back, spelled_has_schema,
+};
 pub use refusal::{Refusal, refusal_at};
 pub use schema::{Node, Table};
 pub use sizing::{SIZE_LIMIT, TooLong, blob_size, number_size, size};
-pub use spanning::span;
+pub use spanning::{pass, span};
 pub use tree::Tree;

@@ -53,16 +53,26 @@ fn signed_of(z: u64) -> i64
 }
 
 /// The number at the front, and what stands behind it. Spellings that are longer than the shortest are read too.
+#[inline(always)]
 #[tactic(auto, unfolding(crate::specs::Reading::number_at))]
 pub fn number(bytes: &[u8]) -> Result<(i64, &[u8]), Fault>
     ensures { Gives (λ x. (x.0, x.1.now)) result (number_at bytes.now) }
 {
     match bytes {
         [group, rest @ ..] if *group < 128 => Ok((signed_of(*group as u64), rest)),
-        _ => match groups(bytes) {
-            Ok((z, rest)) => Ok((signed_of(z), rest)),
-            Err(why) => Err(Fault::At(why, bytes.len())),
-        },
+        _ => long_number(bytes),
+    }
+}
+
+/// The same, of any number of groups.
+#[inline(never)]
+#[tactic(auto, unfolding(crate::specs::Reading::number_at))]
+fn long_number(bytes: &[u8]) -> Result<(i64, &[u8]), Fault>
+    ensures { Gives (λ x. (x.0, x.1.now)) result (number_at bytes.now) }
+{
+    match groups(bytes) {
+        Ok((z, rest)) => Ok((signed_of(z), rest)),
+        Err(why) => Err(Fault::At(why, bytes.len())),
     }
 }
 

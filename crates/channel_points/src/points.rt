@@ -151,7 +151,7 @@ impl Points {
     }
 
     /// The points, to be read.
-    pub(crate) fn as_slice(&self) -> &[Point]
+    pub fn as_slice(&self) -> &[Point]
         ensures { result.now ≡ self.now }
     {
         match &self.form {

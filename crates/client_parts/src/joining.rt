@@ -14,7 +14,7 @@ ghost use Rattle.msg_store.specs.declared.store_messages.StoreMessage.TheVariant
 
 use etp_values::{List, Named, NoMemory, Text};
 use msg_channel::{
-    ChannelData, ChannelDataLoadMessage, ChannelSubscribeMessage, ChannelsTruncated,
+    ChannelData, ChannelDataLoadMessage, ChannelSubscribeMessage, ChannelsTruncated, DataItems,
     GetChannelMetadataResponse, OpenChannelsResponse, RangeReplaced, SubscribeChannelsResponse,
     SubscriptionsStopped,
 };
@@ -116,6 +116,16 @@ fn appended<T: Drop>(first: List<T>, more: List<T>) -> Result<List<T>, NoMemory>
     let mut more = more.into_vec();
     items.append(&mut more)?;
     Ok(List::from_vec(items))
+}
+
+/// The items of both, one by one.
+fn appended_items(alloc: Global, first: DataItems, more: DataItems) -> Result<DataItems, NoMemory>
+    ensures { IfOk result (λ r. r ≡ first ++ more) }
+{
+    let first = first.into_list(alloc)?;
+    let more = more.into_list(alloc)?;
+    let items = appended(first, more)?;
+    Ok(DataItems::listed(items))
 }
 
 /// The later of two messages that are not parts of one: nobody looks at the earlier one any more.
@@ -290,6 +300,7 @@ fn subscriptions_stopped(
 }
 
 fn channel_data(
+    alloc: Global,
     first: ChannelSubscribeMessage,
     more: ChannelData,
 ) -> Result<ChannelSubscribeMessage, NoMemory>
@@ -297,7 +308,7 @@ fn channel_data(
 {
     match first {
         ChannelSubscribeMessage::ChannelData(first) => {
-            let payload = appended(first.payload, more.payload)?;
+            let payload = appended_items(alloc, first.payload, more.payload)?;
             Ok(ChannelSubscribeMessage::ChannelData(ChannelData { payload, ..first }))
         }
         other => Ok(later(other, ChannelSubscribeMessage::ChannelData(more))),
@@ -305,6 +316,7 @@ fn channel_data(
 }
 
 fn range_replaced(
+    alloc: Global,
     first: ChannelSubscribeMessage,
     more: RangeReplaced,
 ) -> Result<ChannelSubscribeMessage, NoMemory>
@@ -312,7 +324,7 @@ fn range_replaced(
 {
     match first {
         ChannelSubscribeMessage::RangeReplaced(first) => {
-            let payload = appended(first.payload, more.payload)?;
+            let payload = appended_items(alloc, first.payload, more.payload)?;
             Ok(ChannelSubscribeMessage::RangeReplaced(RangeReplaced { payload, ..first }))
         }
         other => Ok(later(other, ChannelSubscribeMessage::RangeReplaced(more))),
@@ -352,8 +364,8 @@ pub fn subscribe_joined(
         ChannelSubscribeMessage::SubscriptionsStopped(more) => subscriptions_stopped(
             alloc, first, more,
         ),
-        ChannelSubscribeMessage::ChannelData(more) => channel_data(first, more),
-        ChannelSubscribeMessage::RangeReplaced(more) => range_replaced(first, more),
+        ChannelSubscribeMessage::ChannelData(more) => channel_data(alloc, first, more),
+        ChannelSubscribeMessage::RangeReplaced(more) => range_replaced(alloc, first, more),
         ChannelSubscribeMessage::ChannelsTruncated(more) => channels_truncated(first, more),
         other => Ok(later(first, other)),
     }

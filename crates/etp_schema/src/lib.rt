@@ -69,6 +69,7 @@ pub use body::{Side, body_of, is_protocol};
 pub use data_on_wire::{write_branch, write_null};
 pub use few::Few;
 pub use leaves::{id_from, read_symbol, symbol_at};
+pub use many_on_wire::put_count;
 pub use measure::Measure;
 pub use on_wire::{OnWire, read_body, write_body};
 pub use reader::Reader;

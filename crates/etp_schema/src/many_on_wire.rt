@@ -161,8 +161,8 @@ fn write_list<T: OnWire>(items: &[T], into: &mut Vec<u8>) -> Result<(), NoMemory
     Ok(())
 }
 
-/// Appends the count of a block. More than 63 bits of it are want of memory: no list of so many trees could be made.
-fn put_count(into: &mut Vec<u8>, count: usize) -> Result<(), NoMemory>
+/// Appends the count of a block. A count of more than 63 bits is an error as if memory ran out: no list of so many trees could be made.
+pub fn put_count(into: &mut Vec<u8>, count: usize) -> Result<(), NoMemory>
     ensures written { Writes (plain_number (pos count)) into.old.items into.new.items result }
     ensures small { OnOk result (count < 2 ^ 63) }
 {

@@ -41,6 +41,13 @@ impl<'a> Reader<'a> {
         self.rest
     }
 
+    /// How many nodes are still allowed.
+    pub fn left(&self) -> u32
+        ensures { result ≡ self.now.left }
+    {
+        self.left
+    }
+
     /// Where values that are read get their memory.
     pub fn alloc(&self) -> Global {
         self.alloc

@@ -17,10 +17,15 @@ mod channel_records;
 mod channel_records_on_wire;
 mod channel_subscribe_messages;
 mod channel_subscribe_on_wire;
+mod data_calls;
 mod indexes;
 mod indexes_on_wire;
+mod items;
+mod items_on_wire;
+mod plain;
 mod points;
 mod points_on_wire;
+mod small;
 
 pub use channel_data_load_messages::{
     ChannelDataLoadMessage, ChannelsClosed, CloseChannels, LoadChannelData, OpenChannelInfo,
@@ -39,5 +44,7 @@ pub use channel_subscribe_messages::{
     GetChannelMetadataResponse, SubscribeChannels, SubscribeChannelsResponse, SubscriptionsStopped,
     UnsubscribeChannels, channel_subscribe_laws,
 };
+pub use data_calls::{read_load, write_data};
 pub use indexes::{IndexInterval, IndexValue, PassDirection, PassIndexedDepth};
+pub use items::{DataItems, LentItems, items_of_points};
 pub use points::{DataAttribute, DataItem, TruncateInfo};
