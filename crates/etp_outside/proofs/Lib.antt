@@ -4,3 +4,5 @@ pub mod ToldLemmas
 pub mod DecimalLemmas
 pub mod StepLemmas
 pub mod LinkLemmas
+pub mod DiskLemmas
+pub mod MemDiskLemmas

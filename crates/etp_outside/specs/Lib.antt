@@ -7,6 +7,7 @@ pub mod Talk
 pub mod Doors
 pub mod Dials
 pub mod Moments
+pub mod Disks
 pub mod Whole
 pub mod Calls
 pub mod Input
@@ -19,6 +20,9 @@ pub mod Memory
 pub mod MemLinks
 pub mod MemDoors
 pub mod DoorLaws
+pub mod Platter
+pub mod MemDisks
+pub mod MemDiskLaws
 pub mod Rolls
 pub mod MemDials
 pub mod Tallies
