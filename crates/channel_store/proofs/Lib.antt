@@ -1,6 +1,7 @@
 pub mod AcceptedLemmas
 pub mod CallLemmas
 pub mod ChangeLemmas
+pub mod ChunkLemmas
 pub mod CopyLemmas
 pub mod EndedLemmas
 pub mod FrontLemmas
@@ -8,8 +9,10 @@ pub mod GivenLemmas
 pub mod LookLemmas
 pub mod MarkLemmas
 pub mod NumberedLemmas
+pub mod PartLemmas
 pub mod PointLemmas
 pub mod RowLemmas
+pub mod SpliceLemmas
 pub mod StagedLemmas
 pub mod TableLemmas
 pub mod TrackLemmas

@@ -1,4 +1,5 @@
 pub mod Channels
+pub mod Chunks
 pub mod Copies
 pub mod Drafts
 pub mod Laws
@@ -6,6 +7,7 @@ pub mod Marks
 pub mod Points
 pub mod Refusals
 pub mod Rows
+pub mod Runs
 pub mod Splits
 pub mod Store
 pub mod Sweeps

@@ -91,7 +91,7 @@ fn size_of_few(points: &[Point], place: usize, count: usize, most: u64) -> Optio
 }
 
 /// How many points lie below an interval, and how many in it.
-fn place_inside(points: &[Point], from: i64, to: i64) -> (usize, usize)
+pub fn place_inside(points: &[Point], from: i64, to: i64) -> (usize, usize)
     requires { Rises points.now }
     ensures below { IsSplit (λ x. int_lt x.index from) points.now result.0 }
     ensures inside { IsSplit (λ x. at_most x.index to) (drop result.0 points.now) result.1 }
@@ -161,7 +161,7 @@ pub fn size_past_within(points: &[Point], start: i64, most: u64) -> Option<Point
 }
 
 /// Copies of `count` points behind the first `place`.
-fn copy_behind(
+pub fn copy_behind(
     alloc: Global,
     points: &[Point],
     place: usize,
@@ -173,7 +173,8 @@ fn copy_behind(
     copy_all(alloc, &points[place..place + count])
 }
 
-fn copy_all(alloc: Global, points: &[Point]) -> Result<List<Point>, NoMemory>
+/// Copies of points.
+pub fn copy_all(alloc: Global, points: &[Point]) -> Result<List<Point>, NoMemory>
     ensures { IfOk result (λ r. r ≡ points.now) }
 {
     let mut copies = Vec::new(alloc);
@@ -217,7 +218,7 @@ fn drop_inside(points: &mut Vec<Point>, from: i64, to: i64)
 }
 
 /// Drops `count` points behind the first `place`.
-fn drop_behind(points: &mut Vec<Point>, place: usize, count: usize)
+pub fn drop_behind(points: &mut Vec<Point>, place: usize, count: usize)
     requires { place + count ≤ vec_len points.old }
     ensures items { points.new.items
         ≡ take place points.old.items ++ drop count (drop place points.old.items) }
