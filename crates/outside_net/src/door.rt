@@ -27,7 +27,7 @@ pub type ServerLink = WsLink<TcpStream, NoMask>;
 /// While it is asked for a link it waits for the listener and for all connections whose handshake is not done at once, and reads of
 /// each what has come. So a connection that is silent, slow or sends rubbish keeps nobody waiting, and no thread is needed for it.
 /// Each has 2 seconds until its head is whole, and 65,536 bytes. At most 256 are at this point: a further one takes the place of
-/// the one that has waited longest. A refused one is answered with a status of HTTP and the cause. A connection is answered that
+/// one that was refused and has not left, or else of the one that has waited longest. A refused one is answered with a status of HTTP and the cause. A connection is answered that
 /// it is accepted as its link is handed out, so one for which there is no session yet waits for its answer.
 ///
 /// Where the system has no descriptor or no memory for a connection that comes, that one or the one that has waited longest is
