@@ -1,4 +1,5 @@
 -- The names of the messages, by the numbers of their protocols and their own.
+-- `schema/write` writes most of this file from `schema/messages.txt`.
 use Rattle.std.specs.Prelude.{ℕ, ℤ, List, [], ◌∷◌, codes, if◌then◌else◌}
 use Rattle.etp_schema.specs.Bodies.{is_number}
 

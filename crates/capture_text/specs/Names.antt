@@ -1,4 +1,5 @@
 -- The names at each place of the schema's table.
+-- `schema/write` writes most of this file from `schema/messages.txt`.
 use Rattle.std.specs.Prelude.{ℕ, List, [], ◌∷◌, map, codes, get_or}
 use Rattle.capture_text.specs.declared.names.Names.{Names}
 use Rattle.capture_text.specs.declared.names.Names.TheVariants as n

@@ -1,4 +1,6 @@
 //! The names of records, messages and fields, as the schema spells them.
+//!
+//! `schema/write` writes most of this file from `schema/messages.txt`.
 ghost use Rattle.std.specs.Prelude.{◌≡◌, ◌∷◌, map, get_or, []};
 ghost use Rattle.avro_bin.specs.Schema.{children};
 ghost use Rattle.etp_schema.specs.Shapes.{nodes_of};

@@ -1,4 +1,6 @@
 //! The parts of a long message, put together.
+//!
+//! `schema/write` writes most of this file from `schema/messages.txt`.
 ghost use Rattle.std.specs.Prelude.{◌≡◌, ◌++◌, IfOk, OnOk};
 ghost use Rattle.std.specs.Bool.{OnTrue};
 ghost use Rattle.std.specs.Cmp.Lexicographic.{slice_cmp};

@@ -1,4 +1,6 @@
 //! The messages of all protocols.
+//!
+//! `schema/write` writes most of this file from `schema/messages.txt`.
 ghost use Rattle.std.specs.Prelude.{◌≡◌, ◌↔◌, ◌++◌, OnOk, IfOk, IfErr, IsTrue, pos, is_some};
 ghost use Rattle.avro_bin.specs.Plain.{plain, Writes};
 ghost use Rattle.avro_bin.specs.Shape.{HasSchema, FitsTree};

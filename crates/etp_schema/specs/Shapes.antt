@@ -1,4 +1,5 @@
 -- The schemas of the profile, in its order: the fields of a record and the branches of a union as lists.
+-- `schema/write` writes all below the imports from `schema/messages.txt`.
 use Rattle.std.specs.Prelude.{ℕ, List, [], ◌∷◌, get_or}
 use Rattle.avro_bin.specs.declared.schema.Node.{Node}
 use Rattle.avro_bin.specs.declared.schema.Table.{Table}

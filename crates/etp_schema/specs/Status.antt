@@ -1,4 +1,5 @@
 -- Whether something is active, as a symbol.
+-- `schema/write` writes all below the imports from `schema/messages.txt`.
 use Rattle.std.specs.Prelude.{◌≡◌, refl, ℕ, List, [], ◌∷◌, get_or}
 use Rattle.etp_schema.specs.Form.{Form, symbols}
 use Rattle.etp_schema.specs.declared.status.ActiveStatusKind.{ActiveStatusKind}

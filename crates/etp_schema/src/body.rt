@@ -1,4 +1,6 @@
 //! Which message has which body.
+//!
+//! `schema/write` writes all below the imports from `schema/messages.txt`.
 ghost use Rattle.std.specs.Prelude.{◌≡◌};
 ghost use Rattle.etp_schema.specs.Bodies.{is_protocol, place_of, row_in, body_place, core_rows, dataspace_rows, store_rows, transaction_rows, data_array_rows, channel_subscribe_rows, channel_data_load_rows};
 

@@ -1,5 +1,7 @@
 //! The places of the schema's nodes in [`TABLE`](crate::TABLE).
 //!
+//! `schema/write` writes all below the imports from `schema/messages.txt`.
+//!
 //! The names are those of the schema in capitals. A node that has no name there, because it is written as an array, a map or a union, is
 //! named after what it holds, and comes before the named node that needs it first. The fields of a record, or the symbols of an
 //! enumeration, are listed above its place.

@@ -1,4 +1,6 @@
 //! The numbers of the protocols, and of the messages that each of them has.
+//!
+//! `schema/write` writes all below the imports from `schema/messages.txt`.
 
 pub const CORE: i32 = 0;
 

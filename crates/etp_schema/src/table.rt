@@ -1,4 +1,6 @@
 //! The schema of the profile as a table of nodes.
+//!
+//! `schema/write` writes most of this file from `schema/messages.txt`.
 ghost use Rattle.std.specs.Prelude.{◌≡◌, ◌<◌, ℕ, ℤ, true, map, length};
 ghost use Rattle.std.specs.List.{range_with_len};
 ghost use Rattle.avro_bin.specs.Schema.{IsTable, is_table, schema};

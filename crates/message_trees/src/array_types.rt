@@ -1,4 +1,6 @@
 //! The kinds of arrays as trees.
+//!
+//! `schema/write` writes all below the imports from `schema/messages.txt`.
 use crate::in_tree::InTree;
 use crate::leaves::symbol_of;
 use avro_bin::Tree;

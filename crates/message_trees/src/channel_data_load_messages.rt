@@ -1,4 +1,6 @@
 //! The messages of the ChannelDataLoad protocol as trees.
+//!
+//! `schema/write` writes all below the imports from `schema/messages.txt`.
 ghost use Rattle.msg_channel.specs.ChannelDataLoad.{channel_data_load_body, channel_data_load_kinds};
 
 use crate::body_in_tree::BodyInTree;

@@ -1,4 +1,6 @@
 //! The messages about ranges of channels as trees.
+//!
+//! `schema/write` writes all below the imports from `schema/messages.txt`.
 use crate::in_tree::InTree;
 use crate::record_fields::{fields_of, tree_of};
 use avro_bin::Tree;

@@ -1,4 +1,6 @@
 //! The messages of the ChannelSubscribe protocol as trees.
+//!
+//! `schema/write` writes all below the imports from `schema/messages.txt`.
 ghost use Rattle.msg_channel.specs.ChannelSubscribe.{channel_subscribe_body, channel_subscribe_kinds};
 
 use crate::body_in_tree::BodyInTree;

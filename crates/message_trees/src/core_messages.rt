@@ -1,4 +1,6 @@
 //! The messages of the Core protocol as trees.
+//!
+//! `schema/write` writes all below the imports from `schema/messages.txt`.
 ghost use Rattle.msg_core.specs.Core.{core_body, core_kinds};
 
 use crate::body_in_tree::BodyInTree;

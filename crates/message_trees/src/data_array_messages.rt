@@ -1,4 +1,6 @@
 //! The messages of the DataArray protocol as trees.
+//!
+//! `schema/write` writes all below the imports from `schema/messages.txt`.
 ghost use Rattle.msg_store.specs.DataArray.{data_array_body, data_array_kinds};
 
 use crate::body_in_tree::BodyInTree;

@@ -1,4 +1,6 @@
 //! The messages of the Dataspace protocol as trees.
+//!
+//! `schema/write` writes all below the imports from `schema/messages.txt`.
 ghost use Rattle.msg_core.specs.Dataspace.{dataspace_body, dataspace_kinds};
 
 use crate::body_in_tree::BodyInTree;

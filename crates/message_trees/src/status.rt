@@ -1,4 +1,6 @@
 //! Whether a channel or an object is active, as a tree.
+//!
+//! `schema/write` writes all below the imports from `schema/messages.txt`.
 use crate::in_tree::InTree;
 use crate::leaves::symbol_of;
 use avro_bin::Tree;

@@ -1,4 +1,6 @@
 //! The messages of the Store protocol as trees.
+//!
+//! `schema/write` writes all below the imports from `schema/messages.txt`.
 ghost use Rattle.msg_store.specs.Store.{store_body, store_kinds};
 
 use crate::body_in_tree::BodyInTree;

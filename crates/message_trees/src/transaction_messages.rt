@@ -1,4 +1,6 @@
 //! The messages of the Transaction protocol as trees.
+//!
+//! `schema/write` writes all below the imports from `schema/messages.txt`.
 ghost use Rattle.msg_core.specs.Transaction.{transaction_body, transaction_kinds};
 
 use crate::body_in_tree::BodyInTree;

@@ -1,4 +1,5 @@
 -- What messages about channels have in common: indexes, points, and what a channel is.
+-- `schema/write` writes most of this file from `schema/messages.txt`.
 use Rattle.std.proofs.Common.{inl, inr}
 use Rattle.std.specs.Prelude.{◌≡◌, refl, ℕ, ℤ, List, [], ◌∷◌, ◌⊎◌, get_or}
 use Rattle.etp_values.specs.declared.bits.Bits64.{Bits64}

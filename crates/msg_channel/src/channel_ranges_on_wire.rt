@@ -1,4 +1,6 @@
 //! The messages that name intervals or ends of channels, from and to bytes.
+//!
+//! `schema/write` writes all below the imports from `schema/messages.txt`.
 
 use crate::channel_ranges::{
     ChannelRangeInfo, ChannelsTruncated, GetRanges, GetRangesResponse, RangeReplaced,

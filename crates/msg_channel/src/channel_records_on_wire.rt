@@ -1,4 +1,6 @@
 //! What a channel is, from and to bytes.
+//!
+//! `schema/write` writes all below the imports from `schema/messages.txt`.
 
 use crate::channel_records::{
     AttributeMetadataRecord, ChannelDataKind, ChannelIndexKind, ChannelMetadataRecord,

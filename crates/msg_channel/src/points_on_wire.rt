@@ -1,4 +1,6 @@
 //! Points of channels from and to bytes.
+//!
+//! `schema/write` writes all below the imports from `schema/messages.txt`.
 
 use crate::points::{DataAttribute, DataItem, TruncateInfo};
 use avro_bin::Fault;

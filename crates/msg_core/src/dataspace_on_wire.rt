@@ -1,4 +1,6 @@
 //! The messages of the Dataspace protocol, with their records, from and to bytes.
+//!
+//! `schema/write` writes all below the imports from `schema/messages.txt`.
 ghost use Rattle.std.specs.Prelude.{◌≡◌, OnOk};
 ghost use Rattle.avro_bin.specs.Plain.{plain, Writes};
 ghost use Rattle.avro_bin.specs.Shape.{HasSchema, FitsTree};

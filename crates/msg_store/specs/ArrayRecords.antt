@@ -1,4 +1,5 @@
 -- The records of the DataArray protocol (9).
+-- `schema/write` writes all below the imports from `schema/messages.txt`.
 use Rattle.std.specs.Prelude.{refl}
 use Rattle.etp_schema.specs.Form.{Form, long_form, text_form, list_form, named_form, fields, ◌&◌, done}
 use Rattle.etp_schema.specs.AnyArray.{any_array_form}

@@ -1,4 +1,5 @@
 -- The kinds of arrays, and what their elements mean, as symbols.
+-- `schema/write` writes all below the imports from `schema/messages.txt`.
 use Rattle.std.specs.Prelude.{◌≡◌, refl, ℕ, List, [], ◌∷◌, get_or}
 use Rattle.etp_schema.specs.Form.{Form, symbols}
 use Rattle.msg_store.specs.declared.array_types.AnyArrayType.{AnyArrayType}

@@ -1,4 +1,5 @@
 -- The messages of the Store protocol (4), with their records.
+-- `schema/write` writes all below the imports from `schema/messages.txt`.
 use Rattle.std.proofs.Common.{ap}
 use Rattle.std.specs.Prelude.{refl, List, [], ◌∷◌}
 use Rattle.std.specs.List.{AllByRecursion}

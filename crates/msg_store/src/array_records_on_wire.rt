@@ -1,4 +1,6 @@
 //! The records of arrays from and to bytes.
+//!
+//! `schema/write` writes all below the imports from `schema/messages.txt`.
 
 use crate::array_records::{
     DataArray, DataArrayIdentifier, DataArrayMetadata, GetDataSubarraysType, PutDataArraysType,

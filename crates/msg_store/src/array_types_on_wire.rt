@@ -1,4 +1,6 @@
 //! The kinds of arrays from and to bytes.
+//!
+//! `schema/write` writes all below the imports from `schema/messages.txt`.
 
 use crate::array_types::{AnyArrayType, AnyLogicalArrayType};
 use avro_bin::Fault;

@@ -1,4 +1,6 @@
 //! The parts of the messages of Dataspace.
+//!
+//! `schema/write` writes all below the imports from `schema/messages.txt`.
 ghost use Rattle.std.specs.Prelude.{◌≡◌, IfOk};
 ghost use Rattle.etp_frame.specs.declared.message.Message.TheVariants as m;
 ghost use Rattle.etp_frame.specs.Splitting.{dataspace_parts};

@@ -1,4 +1,6 @@
 //! The parts of the messages of Store.
+//!
+//! `schema/write` writes most of this file from `schema/messages.txt`.
 ghost use Rattle.std.specs.Prelude.{◌≡◌, IfOk};
 ghost use Rattle.etp_frame.specs.declared.message.Message.TheVariants as m;
 ghost use Rattle.msg_store.specs.declared.store_messages.StoreMessage.TheVariants as s;
