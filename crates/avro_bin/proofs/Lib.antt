@@ -22,3 +22,4 @@ pub mod PlainLemmas
 pub mod NumberWrittenLemmas
 pub mod WrittenLemmas
 pub mod TypedLemmas
+pub mod LongerLemmas

@@ -91,3 +91,15 @@ ReadsBack = (s : Schema) (v : Value) (limit : ℕ) (rest : List ℕ) → HasSche
 -- a value that is spelled has the schema
 abbrev pub SpelledHasSchema : Type 0
 SpelledHasSchema = (s : Schema) (v : Value) (bytes : List ℕ) → Spells s v bytes → HasSchema s v
+
+-- a refusal for another reason than that the input ends inside an item
+abbrev pub IsNotShort : Refusal → Type 0
+IsNotShort e = (offset : ℕ) → e ≡ r.Short offset → ⊥
+
+-- what is read is read alike, whatever follows it
+abbrev pub ReadsLonger : Type 0
+ReadsLonger = (s : Schema) (limit : ℕ) (bytes more : List ℕ) (v : Value) (len : ℕ) → IsBytes (bytes ++ more) → read_value s limit bytes ≡ Ok (v, len) → read_value s limit (bytes ++ more) ≡ Ok (v, len)
+
+-- what is refused, but not because the input ends, is refused alike, whatever follows it
+abbrev pub RefusesLonger : Type 0
+RefusesLonger = (s : Schema) (limit : ℕ) (bytes more : List ℕ) (e : Refusal) → IsBytes (bytes ++ more) → IsNotShort e → read_value s limit bytes ≡ Err e → read_value s limit (bytes ++ more) ≡ Err e

@@ -1,5 +1,5 @@
 //! Laws of the encoding. Each function does nothing: its contract is the law.
-ghost use Rattle.avro_bin.specs.Laws.{OneSpelling, SomeOutcome, NotBoth, OneRefusal, ReadsExactly, RefusesExactly, PlainSpells, ReadsBack, SpelledHasSchema};
+ghost use Rattle.avro_bin.specs.Laws.{OneSpelling, SomeOutcome, NotBoth, OneRefusal, ReadsExactly, RefusesExactly, PlainSpells, ReadsBack, ReadsLonger, RefusesLonger, SpelledHasSchema};
 
 /// Bytes begin with at most one spelling of a schema, and it denotes one value: no spelling is a prefix of another.
 pub fn one_spelling()
@@ -28,4 +28,10 @@ pub fn reads_back()
 /// What is spelled as a value of a schema is a value of it.
 pub fn spelled_has_schema()
     ensures { SpelledHasSchema }
+{}
+
+/// Bytes that follow change nothing of what is read, nor of what is refused for another reason than that the input ended inside an item.
+pub fn read_longer()
+    ensures read { ReadsLonger }
+    ensures refused { RefusesLonger }
 {}

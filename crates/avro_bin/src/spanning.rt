@@ -345,6 +345,22 @@ fn entry<'a>(
     Ok((all, left, rest))
 }
 
+/// Skips the value of a node at the front of the bytes, in which at most `allowed` nodes may come: returns how many nodes are still allowed,
+/// and what follows the value. A refusal counts the bytes that are left where the refused item begins.
+pub fn pass<'a>(
+    alloc: Global,
+    table: &Table,
+    id: u32,
+    allowed: u32,
+    bytes: &'a [u8],
+) -> Result<(u32, &'a [u8]), Fault>
+    requires table { IsTable table.now.nodes.now }
+    requires there { id < length table.now.nodes.now }
+    ensures { Gives (λ x. (x.0, x.1.now)) result (pass_at (value_at (schema table.now.nodes.now id)) allowed bytes.now) }
+{
+    value(alloc, table.nodes, id, allowed, bytes)
+}
+
 /// How many bytes the value of the node `id` at the front takes. What [`decode`](crate::decode) refuses is refused for the same reason.
 pub fn span(alloc: Global, table: &Table, id: u32, bytes: &[u8]) -> Result<usize, Refusal>
     requires table { IsTable table.now.nodes.now }
