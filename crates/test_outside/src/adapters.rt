@@ -54,7 +54,10 @@ fn an_interrupted_call_is_made_64_times(rt: HostRuntime) {
     interrupts(&rt, 64, ReadOutcome::Failed, WriteOutcome::Failed);
 }
 
+/// Between the years 2020 and 2500 in microseconds: a count of milliseconds or of nanoseconds is far from that.
 #[test]
-fn the_clock_is_past_1970(rt: HostRuntime) {
-    assert!(rt; WallClock::new(&rt).now() > 0);
+fn the_clock_counts_microseconds(rt: HostRuntime) {
+    let now = WallClock::new(&rt).now();
+    assert!(rt; now > 1_577_836_800_000_000);
+    assert!(rt; now < 16_725_225_600_000_000);
 }
