@@ -12,7 +12,7 @@ use Rattle.channel_store.specs.Channels.{Channel}
 use Rattle.channel_store.specs.Points.{last_of, past}
 use Rattle.channel_store.specs.Refusals.{channel_at, points_at, points_in}
 use Rattle.channel_store.specs.Store.{tail_in}
-use Rattle.channel_store.specs.Told.{size_of, sized}
+use Rattle.channel_store.specs.Told.{size_within, sized_within}
 use Rattle.store_machine.specs.declared.call.Reply.TheVariants as replied
 use Rattle.store_machine.specs.declared.call.Start.{Start}
 use Rattle.store_machine.specs.declared.call.StartAsk.{StartAsk}
@@ -40,34 +40,34 @@ starts-answer config journal cs items starts mark m ch r =
 -- ---- one start
 
 -- a channel that is there has points from an index on
-pub tail_there : (o : Option Channel) (id start : ℤ) (e : ChannelError) → is_some o ≡ true → Err e ≡ sized (tail_in o id start) → ⊥
-tail_there None id start e there h = absurd (cc)
-tail_there (Some c) id start e there h = absurd (cc)
+pub tail_there : (o : Option Channel) (id start : ℤ) (most : ℕ) (e : ChannelError) → is_some o ≡ true → Err e ≡ sized_within most (tail_in o id start) → ⊥
+tail_there None id start most e there h = absurd (cc)
+tail_there (Some c) id start most e there h = absurd (cc)
 
-tail-size : (o : Option Channel) (id start : ℤ) (size : PointSize) → Ok size ≡ sized (tail_in o id start) → size ≡ size_of (past start (points_in o))
-tail-size None id start size h = absurd (cc)
-tail-size (Some c) id start size h = cc
+tail-size : (o : Option Channel) (id start : ℤ) (most : ℕ) (size : Option PointSize) → Ok size ≡ sized_within most (tail_in o id start) → size ≡ size_within most (past start (points_in o))
+tail-size None id start most size h = absurd (cc)
+tail-size (Some c) id start most size h = cc
 
 tail-points : (o : Option Channel) (id start : ℤ) (points : List Point) → tail_in o id start ≡ Ok points → points ≡ past start (points_in o)
 tail-points None id start points h = absurd (cc)
 tail-points (Some c) id start points h = cc
 
 -- there is no room for its points
-pub start_full : (o : Option Channel) (id start : ℤ) (size : PointSize) (room : Room) → Ok size ≡ sized (tail_in o id start) → ((points : List Point) → size ≡ size_of points → None ≡ room_with room points)
+pub start_full : (o : Option Channel) (id start : ℤ) (size : Option PointSize) (room : Room) → Ok size ≡ sized_within room.points (tail_in o id start) → ((points : List Point) → size ≡ size_within room.points points → None ≡ room_with room points)
     → Refused LimitExceeded ≡ from_index start (past start (points_in o)) (room_with room (past start (points_in o)))
-start_full o id start size room is full = ap (from_index start (past start (points_in o))) (full (past start (points_in o)) (tail-size o id start size is))
+start_full o id start size room is full = ap (from_index start (past start (points_in o))) (full (past start (points_in o)) (tail-size o id start room.points size is))
 
 -- there is
-pub start_fits : (o : Option Channel) (id start : ℤ) (size : PointSize) (room left : Room) (points : List Point) → Ok size ≡ sized (tail_in o id start)
-    → ((xs : List Point) → size ≡ size_of xs → Some left ≡ room_with room xs) → tail_in o id start ≡ Ok points
+pub start_fits : (o : Option Channel) (id start : ℤ) (size : Option PointSize) (room left : Room) (points : List Point) → Ok size ≡ sized_within room.points (tail_in o id start)
+    → ((xs : List Point) → size ≡ size_within room.points xs → Some left ≡ room_with room xs) → tail_in o id start ≡ Ok points
     → From start points ≡ from_index start (past start (points_in o)) (room_with room (past start (points_in o)))
 start_fits o id start size room left points is fits given =
-    ap (From start) (tail-points o id start points given) ∙ ap (from_index start (past start (points_in o))) (fits (past start (points_in o)) (tail-size o id start size is))
+    ap (From start) (tail-points o id start points given) ∙ ap (from_index start (past start (points_in o))) (fits (past start (points_in o)) (tail-size o id start room.points size is))
 
-pub room_left : (o : Option Channel) (id start : ℤ) (size : PointSize) (room left : Room) (points : List Point) → Ok size ≡ sized (tail_in o id start)
-    → ((xs : List Point) → size ≡ size_of xs → Some left ≡ room_with room xs) → tail_in o id start ≡ Ok points → left ≡ room_behind room (From start points)
+pub room_left : (o : Option Channel) (id start : ℤ) (size : Option PointSize) (room left : Room) (points : List Point) → Ok size ≡ sized_within room.points (tail_in o id start)
+    → ((xs : List Point) → size ≡ size_within room.points xs → Some left ≡ room_with room xs) → tail_in o id start ≡ Ok points → left ≡ room_behind room (From start points)
 room_left o id start size room left points is fits given =
-    ap (λ r. unwrap_or r room) (fits (past start (points_in o)) (tail-size o id start size is))
+    ap (λ r. unwrap_or r room) (fits (past start (points_in o)) (tail-size o id start room.points size is))
     ∙ ap (λ xs. unwrap_or (room_with room xs) room) (sym (tail-points o id start points given))
 
 -- a channel that does not exist

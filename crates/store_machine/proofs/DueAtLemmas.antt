@@ -1,13 +1,13 @@
 -- The changes that the channels keep of an entry are those that it made, so what is due is found channel by channel.
 use Rattle.std.specs.Prelude.{ℕ, ℤ, zero, suc, pos, negsuc, ◌≡◌, ◌+◌, ◌-◌, ◌≤◌, ◌<◌, ◌==◌, ◌&&◌, ◌||◌, min, drop, nat_le, int_lt, Bool, true, false, cond, List, [], ◌∷◌, ◌++◌, Option, Some, None, if◌then◌else◌, length, filter, find, slice_get, refl}
-use Rattle.std.specs.List.{AllByRecursion, flat_map, range_with_len}
+use Rattle.std.specs.List.{All, AllByRecursion, flat_map, range_with_len}
 use Rattle.std.specs.Option.{option_to_list}
 use Rattle.std.specs.Ordering.{int_eq}
 use Rattle.std.proofs.Common.{ap, sym, ◌∙◌, subst, arith}
 use Rattle.std.proofs.lemmas.Bool.Decides.{nat_tests}
 use Rattle.std.proofs.lemmas.Int.{ints}
 use Rattle.std.proofs.lemmas.List.{length-drop}
-use Rattle.std.proofs.lemmas.List.Elements.{filter-append}
+use Rattle.std.proofs.lemmas.List.Elements.{All-weaker, filter-append}
 use Rattle.std.proofs.Math.Bool.{or-false}
 use Rattle.etp_values.proofs.BoolLemmas.{differs}
 use Rattle.etp_values.proofs.IntLemmas.{int_eq_is, int_eq_self, int_lt_trans, pos_apart, pos_not_below}
@@ -26,8 +26,10 @@ use Rattle.store_machine.specs.declared.journal.Entry.{Entry}
 use Rattle.store_machine.specs.Answers.{answer}
 use Rattle.store_machine.specs.declared.news.Followed.{Followed}
 use Rattle.store_machine.specs.Channels.{change_by, change_list, changes_from, channel_by, channel_changes, channels_of, what_of}
-use Rattle.store_machine.specs.News.{changes_at_entry, dues, is_due, news_after, news_by}
+use Rattle.store_machine.specs.News.{changes_at_entry, dues, is_due, lag, news_after, news_by}
 use Rattle.store_machine.specs.Telling.{Follows, due_at, due_here, dues_at, followed_by, is_followed}
+use Rattle.store_machine.specs.Watching.{IsCounted, IsFresh, Knows, due_of, dues_over}
+use Rattle.store_machine.specs.declared.watch.Watch.{Watch}
 use Rattle.store_machine.proofs.FollowingLemmas.{follows}
 
 -- ---- the change of one channel at a place
@@ -360,6 +362,53 @@ pub dues-are : (config : Config) (history : List Entry) (subs : List Sub) (place
 dues-are config history subs place =
     ap (dues_at (channels_of config history) (followed_by subs) place) (sym (length-drop place history))
     ∙ dues-from config history subs (followed_by subs) (follows subs) place (drop place history) (get-drop history place)
+
+-- ---- what polls count
+
+none-there : {X : Type 0} (xs : List X) (k : ℕ) → k < length xs → slice_get xs k ≡ None → ⊥
+none-there [] k h e = absurd (omega (arith, h))
+none-there (x ∷ xs) zero h e = absurd (cc)
+none-there (x ∷ xs) (suc k) h e = none-there xs k (omega (arith, h)) e
+
+-- what the channels keep of the entries of a part is what these entries did
+dues-there : (config : Config) (history : List Entry) (fs : List Followed) → Rise fs → (place count : ℕ) → place + count ≤ length history
+    → dues_at (channels_of config history) fs place count ≡ dues_over (length config.channels) fs history place count
+dues-there config history fs rise place zero h = refl
+dues-there config history fs rise place (suc count) h =
+    let later = dues-there config history fs rise (place + 1) count (omega (arith, h)) in
+    (λ j. by (slice_get history place) refl j ∷ later j)
+  where
+    by : (o : Option Entry) → slice_get history place ≡ o → due_at (channels_of config history) fs place ≡ due_of (length config.channels) fs place o
+    by None e = absurd (none-there history place (omega (arith, h)) e)
+    by (Some e) at = due-entry config history fs place e rise at
+
+-- so a watch says the same of the channels
+pub knows_all : (config : Config) (journal : List Entry) (cs : List Channel) (n : ℕ) (subs : List Sub) (ws : List Watch) → cs ≡ channels_of config journal → n ≡ length config.channels → All (IsCounted journal) ws
+    → All (Knows cs n (followed_by subs)) ws
+knows_all config journal cs n subs ws ch many all = All-weaker (IsCounted journal) (Knows cs n (followed_by subs)) knows ws all
+  where
+    knows : (w : Watch) → IsCounted journal w → Knows cs n (followed_by subs) w
+    knows w c = λ at same.
+        let b = c.begun in
+        let within = c.within in
+        let inside : w.from + (w.mark - w.from) ≤ length journal = omega (arith, b, within) in
+        c.lag ∙ (λ j. lag (dues_over ((at ∙ many) j) (same j) journal w.from (w.mark - w.from)))
+        ∙ ap lag (sym (dues-there config journal (followed_by subs) (follows subs).rise w.from (w.mark - w.from) inside))
+        ∙ ap (λ l. lag (dues_at l (followed_by subs) w.from (w.mark - w.from))) (sym ch)
+
+pub counted_fresh : (config : Config) (journal : List Entry) (cs : List Channel) (n : ℕ) (subs : List Sub) (mark : ℕ) → cs ≡ channels_of config journal → n ≡ length config.channels → mark ≡ length journal
+    → (w : Watch) → IsFresh cs n (followed_by subs) mark w → IsCounted journal w
+counted_fresh config journal cs n subs mark ch many long w f =
+    let b = f.begun in
+    let m = f.mark_is in
+    let inside : w.from + (mark - w.from) ≤ length journal = omega (arith, b, long) in
+    record {
+      begun = omega (arith, b, m);
+      within = omega (arith, m, long);
+      lag = f.lag ∙ ap (λ l. lag (dues_at l (followed_by subs) w.from (mark - w.from))) ch
+          ∙ ap lag (dues-there config journal (followed_by subs) (follows subs).rise w.from (mark - w.from) inside)
+          ∙ (λ j. lag (dues_over (sym (f.channels ∙ many) j) (sym f.followed j) journal w.from (sym m j - w.from)));
+    }
 
 -- ---- the answer
 

@@ -11,6 +11,8 @@ use Rattle.channel_store.specs.Store.{changes_at}
 use Rattle.store_machine.specs.declared.news.Followed.{Followed}
 use Rattle.store_machine.specs.News.{is_some_due, lag}
 use Rattle.store_machine.specs.Telling.{due_at, dues_at, marked_by, marks_at, set_marks}
+use Rattle.store_machine.specs.Watching.{Looks}
+use Rattle.store_machine.specs.declared.news.Window.{Window}
 
 -- ---- the marks of all channels
 
@@ -92,6 +94,12 @@ with_due-length cs fs place (b ∷ bs) = ap suc (with_due-length cs fs (place + 
 pub marks_length : (cs : List Channel) (fs : List Followed) (place count : ℕ) (marks : List Bool) → marks ≡ marks_at cs fs place count → length marks ≡ count
 marks_length cs fs place count marks same =
     ap length (same ∙ marked-due cs fs place (replicate count false)) ∙ with_due-length cs fs place (replicate count false) ∙ length-replicate count false
+
+-- the marks of no entries
+pub looks_none : (cs : List Channel) (fs : List Followed) (place : ℕ) (w : Window) → w.first ≡ place → w.end ≡ place → w.marks.items ≡ [] → Looks cs fs w
+looks_none cs fs place w first end none =
+    let nothing : w.end - w.first ≡ 0 = omega (arith, first, end) in
+    record { ordered = omega (arith, first, end); marks = none ∙ sym (marked-due cs fs w.first []) ∙ ap (marks_at cs fs w.first) (sym nothing) }
 
 -- ---- if there is nothing to count
 

@@ -22,3 +22,4 @@ pub mod StreamLemmas
 pub mod TakingLemmas
 pub mod TruncatingLemmas
 pub mod ValueLemmas
+pub mod WatchLemmas

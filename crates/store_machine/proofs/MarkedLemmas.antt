@@ -1,11 +1,12 @@
 -- Which entries altered a key: itself, or with its owner.
 use Rattle.std.specs.Prelude.{ℕ, ℤ, ◌≡◌, ◌+◌, ◌≤◌, ◌&&◌, ◌||◌, min, Bool, true, false, List, [], ◌∷◌, ◌++◌, Option, Some, None, Result, Ok, Err, IfOk, refl, if◌then◌else◌, drop, length, find, map, nat_le}
-use Rattle.std.specs.List.{flat_map, list_any}
+use Rattle.std.specs.List.{All, flat_map, list_any}
 use Rattle.std.specs.Map.{lookup}
 use Rattle.std.specs.Option.{unwrap_or}
 use Rattle.std.specs.Str.{bytes_eq}
 use Rattle.std.proofs.Common.{ap, sym, ◌∙◌, subst, arith}
 use Rattle.std.proofs.lemmas.Grind.{common_steps}
+use Rattle.std.proofs.lemmas.List.Elements.{All-nil}
 use Rattle.std.proofs.lemmas.List.Folds.{list_any-append}
 use Rattle.std.proofs.Math.Bool.{or-false}
 use Rattle.entry_index.specs.Index.{places_of}
@@ -29,6 +30,8 @@ use Rattle.store_machine.specs.Clash.{clash, conflict, least}
 use Rattle.store_machine.specs.History.{Change, SetSpace, DropSpace, Operate, alters, entry_alters, entry_changes, set_space}
 use Rattle.store_machine.specs.Legal.{door}
 use Rattle.store_machine.specs.Marking.{Alters, Marks, containers, entry_owns, entry_removes, is_removal, key_if, own_keys, owner_clash, put_key, whole_keys}
+use Rattle.store_machine.specs.Watching.{IsCounted}
+use Rattle.store_machine.proofs.WatchLemmas.{all_later}
 
 -- ---- tests on lists
 
@@ -221,35 +224,49 @@ at-all P (Err e) h = tt
 -- ---- what an index keeps
 
 -- only the door
-pub marks-first : (a : Alterations) → a.own.places ≡ [] → a.whole.places ≡ [] → a.own.past ≡ 0 → a.whole.past ≡ 0 → Marks a (door ∷ [])
-marks-first a own whole own_past whole_past = record {
+pub marks-first : (a : Alterations) → a.own.places ≡ [] → a.whole.places ≡ [] → a.own.past ≡ 0 → a.whole.past ≡ 0 → a.watches.items ≡ [] → Marks a (door ∷ [])
+marks-first a own whole own_past whole_past nobody = record {
   own = λ key. ap (λ ps. unwrap_or (lookup (same_key key) ps) []) own;
   whole = λ key. ap (λ ps. unwrap_or (lookup (same_key key) ps) []) whole;
   own_past = omega (arith, own_past);
   whole_past = omega (arith, whole_past);
+  watched = subst (λ ws. All (IsCounted (door ∷ [])) ws) (sym nobody) (All-nil (IsCounted (door ∷ [])));
 }
 
 -- nothing was noted
-pub marks-same : (a b : Alterations) (history : List Entry) → b.own.places ≡ a.own.places → b.whole.places ≡ a.whole.places → b.own.past ≡ a.own.past → b.whole.past ≡ a.whole.past → Marks a history → Marks b history
-marks-same a b history own whole own_past whole_past m = record {
+pub marks-same : (a b : Alterations) (history : List Entry) → b.own.places ≡ a.own.places → b.whole.places ≡ a.whole.places → b.own.past ≡ a.own.past → b.whole.past ≡ a.whole.past → b.watches.items ≡ a.watches.items
+    → Marks a history → Marks b history
+marks-same a b history own whole own_past whole_past still m = record {
   own = λ key. ap (λ ps. unwrap_or (lookup (same_key key) ps) []) own ∙ m.own key;
   whole = λ key. ap (λ ps. unwrap_or (lookup (same_key key) ps) []) whole ∙ m.whole key;
   own_past = subst (λ n. n ≤ length history) (sym own_past) m.own_past;
   whole_past = subst (λ n. n ≤ length history) (sym whole_past) m.whole_past;
+  watched = subst (λ ws. All (IsCounted history) ws) (sym still) m.watched;
+}
+
+-- other watches were set
+pub marks-watched : (a b : Alterations) (history : List Entry) → b.own ≡ a.own → b.whole ≡ a.whole → All (IsCounted history) b.watches.items → Marks a history → Marks b history
+marks-watched a b history own whole watched m = record {
+  own = λ key. ap (λ i. places_of same_key i key) own ∙ m.own key;
+  whole = λ key. ap (λ i. places_of same_key i key) whole ∙ m.whole key;
+  own_past = subst (λ n. n ≤ length history) (sym (ap (λ i. i.past) own)) m.own_past;
+  whole_past = subst (λ n. n ≤ length history) (sym (ap (λ i. i.past) whole)) m.whole_past;
+  watched = watched;
 }
 
 -- the keys of one more entry were noted
 pub marks-step : (a b : Alterations) (history : List Entry) (e : Entry) (own whole : List Key) (place : ℕ) → Marks a history → place ≡ length history → Alters (entry_changes e) own whole
     → ((key : Key) → places_of same_key b.own key ≡ (if list_any (same_key key) own then places_of same_key a.own key ++ place ∷ [] else places_of same_key a.own key))
     → ((key : Key) → places_of same_key b.whole key ≡ (if list_any (same_key key) whole then places_of same_key a.whole key ++ place ∷ [] else places_of same_key a.whole key))
-    → b.own.past ≡ place + 1 → b.whole.past ≡ place + 1 → Marks b (history ++ e ∷ [])
-marks-step a b history e own whole place m at keys noted removed own_past whole_past =
+    → b.own.past ≡ place + 1 → b.whole.past ≡ place + 1 → b.watches.items ≡ a.watches.items → Marks b (history ++ e ∷ [])
+marks-step a b history e own whole place m at keys noted removed own_past whole_past still =
     let longer : length (history ++ e ∷ []) ≡ length history + 1 = grind (arith, common_steps) in
     record {
       own = λ key. noted key ∙ (λ j. if list_any (same_key key) (keys.own_is j) then m.own key j ++ at j ∷ [] else m.own key j) ∙ sym (places-go-on (entry_owns key) history e);
       whole = λ key. removed key ∙ (λ j. if list_any (same_key key) (keys.whole_is j) then m.whole key j ++ at j ∷ [] else m.whole key j) ∙ sym (places-go-on (entry_removes key) history e);
       own_past = omega (arith, own_past, longer, at);
       whole_past = omega (arith, whole_past, longer, at);
+      watched = subst (λ ws. All (IsCounted (history ++ e ∷ [])) ws) (sym still) (all_later history e a.watches.items m.watched);
     }
 
 -- it alters nothing
@@ -263,6 +280,7 @@ marks-frame a history e m still =
       whole = λ key. m.whole key ∙ sym (places-go-on (entry_removes key) history e ∙ ap (λ cs. if list_any (same_key key) (flat_map whole_keys cs) then places_where (entry_removes key) 0 history ++ length history ∷ [] else places_where (entry_removes key) 0 history) still);
       own_past = omega (arith, more_own, longer);
       whole_past = omega (arith, more_whole, longer);
+      watched = all_later history e a.watches.items m.watched;
     }
 
 -- ---- conflicts

@@ -1,5 +1,5 @@
 -- Ranges that are gathered one after the other are those of the definition; for the crates above too.
-use Rattle.std.specs.Prelude.{ℕ, ◌≡◌, List, [], ◌∷◌, ◌++◌, Some, None, Result, Ok, Err, length, map, refl}
+use Rattle.std.specs.Prelude.{ℕ, ◌≡◌, ◌-◌, ◌&&◌, nat_le, Bool, true, false, List, [], ◌∷◌, ◌++◌, Option, Some, None, Result, Ok, Err, if◌then◌else◌, length, map, refl}
 use Rattle.std.specs.Map.{keys_of}
 use Rattle.std.proofs.Common.{ap, sym, ◌∙◌, append_assoc, append-nil}
 use Rattle.etp_values.specs.declared.code.ErrorCode.{ErrorCode}
@@ -7,6 +7,8 @@ use Rattle.etp_values.specs.declared.code.ErrorCode.TheVariants.{LimitExceeded}
 use Rattle.etp_values.specs.declared.point.ChannelPoint.{ChannelPoint}
 use Rattle.etp_values.specs.declared.point.Point.{Point}
 use Rattle.etp_values.specs.declared.uri.StoreUri.{StoreUri}
+use Rattle.etp_values.specs.Weight.{weigh}
+use Rattle.channel_points.specs.Bytes.{point_bytes}
 use Rattle.channel_points.specs.Handles.{of_channel}
 use Rattle.server_config.specs.declared.config.Config.{Config}
 use Rattle.channel_store.specs.declared.error.ChannelError.{ChannelError}
@@ -14,7 +16,7 @@ use Rattle.channel_store.specs.declared.error.ChannelError.TheVariants as fault
 use Rattle.channel_store.specs.declared.points.PointSize.{PointSize}
 use Rattle.channel_store.specs.Channels.{Channel}
 use Rattle.channel_store.specs.Store.{range_of}
-use Rattle.channel_store.specs.Told.{size_of, sized}
+use Rattle.channel_store.specs.Told.{size_of, size_within, sized_within}
 use Rattle.store_machine.specs.declared.call.MetaReply.{MetaReply}
 use Rattle.store_machine.specs.declared.call.RangeAsk.{RangeAsk}
 use Rattle.store_machine.specs.declared.call.Reply.{Reply}
@@ -41,31 +43,49 @@ refusal-is (fault.Order id) code h = h
 refusal-is (fault.Outside id) code h = h
 refusal-is fault.NoMemory code h = absurd h
 
-size-err : (r : Result (List Point) ChannelError) (e : ChannelError) → Err e ≡ sized r → r ≡ Err e
-size-err (Ok ps) e h = absurd (cc)
-size-err (Err x) e h = cc
+-- ---- the room that is left
+
+-- points that are more than it has
+pub room_over : (room : Room) (ps : List Point) → None ≡ size_within room.points ps → None ≡ room_with room ps
+room_over room ps h =
+    by (nat_le (length ps) room.points) (nat_le (weigh point_bytes ps) room.bytes) (size_of ps) (record { points = room.points - length ps; bytes = room.bytes - weigh point_bytes ps }) h
+  where
+    by : (few small : Bool) (size : PointSize) (left : Room) → None ≡ (if few then Some size else None) → None ≡ (if few && small then Some left else None)
+    by true small size left e = absurd (cc)
+    by false small size left e = refl
+
+pub size_there : (most : ℕ) (size : PointSize) (ps : List Point) → Some size ≡ size_within most ps → size ≡ size_of ps
+size_there most size ps h = by (nat_le (length ps) most) h
+  where
+    by : (few : Bool) → Some size ≡ (if few then Some (size_of ps) else None) → size ≡ size_of ps
+    by true e = cc
+    by false e = absurd (cc)
+
+size-err : (most : ℕ) (r : Result (List Point) ChannelError) (e : ChannelError) → Err e ≡ sized_within most r → r ≡ Err e
+size-err most (Ok ps) e h = absurd (cc)
+size-err most (Err x) e h = cc
 
 -- its channel or its interval is refused
 pub joins-refused : (cs : List Channel) (a : RangeAsk) (room left : Room) (items more : List ChannelPoint) (e : ChannelError) (code : ErrorCode)
-    → Err e ≡ sized (range_of cs a.channel a.from a.to) → IsRefusedBy e code → JoinsRange (Some code) cs a room left items more
+    → Err e ≡ sized_within room.points (range_of cs a.channel a.from a.to) → IsRefusedBy e code → JoinsRange (Some code) cs a room left items more
 joins-refused cs a room left items more e code h by = λ later.
-    ap (λ r. range_then room a.channel r (λ rest. ranged cs rest later)) (size-err (range_of cs a.channel a.from a.to) e h) ∙ ap Err (sym (refusal-is e code by))
+    ap (λ r. range_then room a.channel r (λ rest. ranged cs rest later)) (size-err room.points (range_of cs a.channel a.from a.to) e h) ∙ ap Err (sym (refusal-is e code by))
 
 -- the size that was found is that of the points
-record Found (r : Result (List Point) ChannelError) (size : PointSize) : Type 0 where
+record Found (most : ℕ) (r : Result (List Point) ChannelError) (size : Option PointSize) : Type 0 where
   points : List Point
   is : r ≡ Ok points
-  size_is : size ≡ size_of points
+  size_is : size ≡ size_within most points
 
-found : (r : Result (List Point) ChannelError) (size : PointSize) → Ok size ≡ sized r → Found r size
-found (Ok ps) size h = record { points = ps; is = refl; size_is = cc }
-found (Err e) size h = absurd (cc)
+found : (most : ℕ) (r : Result (List Point) ChannelError) (size : Option PointSize) → Ok size ≡ sized_within most r → Found most r size
+found most (Ok ps) size h = record { points = ps; is = refl; size_is = cc }
+found most (Err e) size h = absurd (cc)
 
 -- there is no room for its points
-pub joins-full : (cs : List Channel) (a : RangeAsk) (room left : Room) (items more : List ChannelPoint) (size : PointSize) → Ok size ≡ sized (range_of cs a.channel a.from a.to)
-    → ((ps : List Point) → size ≡ size_of ps → None ≡ room_with room ps) → JoinsRange (Some LimitExceeded) cs a room left items more
+pub joins-full : (cs : List Channel) (a : RangeAsk) (room left : Room) (items more : List ChannelPoint) (size : Option PointSize) → Ok size ≡ sized_within room.points (range_of cs a.channel a.from a.to)
+    → ((ps : List Point) → size ≡ size_within room.points ps → None ≡ room_with room ps) → JoinsRange (Some LimitExceeded) cs a room left items more
 joins-full cs a room left items more size h none = λ later.
-    let f = found (range_of cs a.channel a.from a.to) size h in
+    let f = found room.points (range_of cs a.channel a.from a.to) size h in
     ap (λ r. range_then room a.channel r (λ rest. ranged cs rest later)) f.is
     ∙ ap (λ o. behind_fitting (map (of_channel a.channel) f.points) o (λ rest. ranged cs rest later)) (sym (none f.points f.size_is))
 
@@ -74,23 +94,23 @@ behind-both items more (Ok rest) = ap Ok (append_assoc items more rest)
 behind-both items more (Err code) = refl
 
 -- its points are put in
-pub joins-taken : (cs : List Channel) (a : RangeAsk) (room left : Room) (items more : List ChannelPoint) (size : PointSize) (ps : List Point) → Ok size ≡ sized (range_of cs a.channel a.from a.to)
-    → range_of cs a.channel a.from a.to ≡ Ok ps → ((qs : List Point) → size ≡ size_of qs → Some left ≡ room_with room qs) → more ≡ items ++ map (of_channel a.channel) ps
+pub joins-taken : (cs : List Channel) (a : RangeAsk) (room left : Room) (items more : List ChannelPoint) (size : Option PointSize) (ps : List Point) → Ok size ≡ sized_within room.points (range_of cs a.channel a.from a.to)
+    → range_of cs a.channel a.from a.to ≡ Ok ps → ((qs : List Point) → size ≡ size_within room.points qs → Some left ≡ room_with room qs) → more ≡ items ++ map (of_channel a.channel) ps
     → JoinsRange None cs a room left items more
 joins-taken cs a room left items more size ps h is fits put = λ later.
-    let f = found (range_of cs a.channel a.from a.to) size h in
+    let f = found room.points (range_of cs a.channel a.from a.to) size h in
     let same : f.points ≡ ps = let e = sym f.is ∙ is in cc in
     let whole : ranged cs room (a ∷ later) ≡ behind (map (of_channel a.channel) ps) (ranged cs left later) =
     ap (λ r. range_then room a.channel r (λ rest. ranged cs rest later)) is
-    ∙ ap (λ o. behind_fitting (map (of_channel a.channel) ps) o (λ rest. ranged cs rest later)) (sym (fits ps (f.size_is ∙ ap size_of same))) in
+    ∙ ap (λ o. behind_fitting (map (of_channel a.channel) ps) o (λ rest. ranged cs rest later)) (sym (fits ps (f.size_is ∙ ap (size_within room.points) same))) in
     ap (λ l. behind l (ranged cs left later)) put ∙ behind-both items (map (of_channel a.channel) ps) (ranged cs left later) ∙ ap (behind items) (sym whole)
 
 -- its points were put in, whatever they are
-pub joins-pushed : (cs : List Channel) (a : RangeAsk) (room left : Room) (items more : List ChannelPoint) (size : PointSize) → Ok size ≡ sized (range_of cs a.channel a.from a.to)
-    → ((qs : List Point) → size ≡ size_of qs → Some left ≡ room_with room qs) → ((ps : List Point) → range_of cs a.channel a.from a.to ≡ Ok ps → more ≡ items ++ map (of_channel a.channel) ps)
+pub joins-pushed : (cs : List Channel) (a : RangeAsk) (room left : Room) (items more : List ChannelPoint) (size : Option PointSize) → Ok size ≡ sized_within room.points (range_of cs a.channel a.from a.to)
+    → ((qs : List Point) → size ≡ size_within room.points qs → Some left ≡ room_with room qs) → ((ps : List Point) → range_of cs a.channel a.from a.to ≡ Ok ps → more ≡ items ++ map (of_channel a.channel) ps)
     → JoinsRange None cs a room left items more
 joins-pushed cs a room left items more size h fits put =
-    let f = found (range_of cs a.channel a.from a.to) size h in
+    let f = found room.points (range_of cs a.channel a.from a.to) size h in
     joins-taken cs a room left items more size f.points h f.is fits (put f.points f.is)
 
 -- ---- all ranges

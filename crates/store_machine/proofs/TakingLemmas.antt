@@ -13,7 +13,6 @@ use Rattle.store_machine.specs.declared.news.Followed.{Followed}
 use Rattle.store_machine.specs.declared.call.Reply.TheVariants as replied
 use Rattle.store_machine.specs.News.{fits_behind, is_some_due, joined, lag, news_by, taken}
 use Rattle.store_machine.specs.Telling.{Takes, TakesOn, due_at, dues_at}
-use Rattle.store_machine.proofs.LagLemmas.{lag_nobody, lag_nothing}
 
 -- ---- entry by entry
 
@@ -157,10 +156,3 @@ news_untold cs fs limit from mark within none =
     let all = nothing_taken 0 0 ds (sym none) in
     let upto : mark ≡ from + length (taken 0 0 ds) = omega (arith, within, all.0, dues-length cs fs from (mark - from)) in
     news_told limit from mark 0 mark ds [] none (omega arith) upto (sym all.1)
-
--- if nobody follows, or there is no entry
-pub news_nobody : (cs : List Channel) (fs : List Followed) (limit from mark : ℕ) → from ≤ mark → length fs ≡ 0 → replied.News mark 0 [] ≡ news_by limit from mark (dues_at cs fs from (mark - from))
-news_nobody cs fs limit from mark within none = news_untold cs fs limit from mark within (lag_nobody cs fs from (mark - from) none)
-
-pub news_here : (cs : List Channel) (fs : List Followed) (limit from mark : ℕ) → from ≡ mark → replied.News mark 0 [] ≡ news_by limit from mark (dues_at cs fs from (mark - from))
-news_here cs fs limit from mark same = news_untold cs fs limit from mark (omega (arith, same)) (lag_nothing cs fs from mark same)

@@ -8,6 +8,7 @@ pub mod Ranging
 pub mod Starts
 pub mod News
 pub mod Telling
+pub mod Watching
 pub mod Clash
 pub mod Marking
 pub mod Answers

@@ -1,6 +1,6 @@
 -- What the code knows about which entries altered which keys.
 use Rattle.std.specs.Prelude.{ℕ, ◌≡◌, ◌≤◌, ◌&&◌, Bool, true, false, List, [], ◌∷◌, Option, None, drop, length}
-use Rattle.std.specs.List.{flat_map, list_any}
+use Rattle.std.specs.List.{All, flat_map, list_any}
 use Rattle.entry_index.specs.Index.{places_of}
 use Rattle.entry_index.specs.Where.{first_where, places_where}
 use Rattle.tx_stage.specs.declared.key.Key.{Key}
@@ -14,6 +14,7 @@ use Rattle.store_machine.specs.declared.call.SpacePut.{SpacePut}
 use Rattle.store_machine.specs.declared.journal.Entry.{Entry}
 use Rattle.store_machine.specs.Clash.{least}
 use Rattle.store_machine.specs.History.{Change, SetSpace, DropSpace, Operate, entry_changes}
+use Rattle.store_machine.specs.Watching.{IsCounted}
 
 -- ---- the keys that a change alters itself, and what it removes with everything in it
 
@@ -67,9 +68,11 @@ owner_clash (Space p) from history = None
 owner_clash (Object u) from history = first_where (entry_removes (Space u.space)) from (drop from history)
 owner_clash (Array k) from history = least (first_where (entry_removes (Object k.uri)) from (drop from history)) (first_where (entry_removes (Space k.uri.space)) from (drop from history))
 
--- an index has the places of the entries that altered each key itself, and of those that removed it with everything in it
+-- an index has the places of the entries that altered each key itself, and of those that removed it with everything in it; the watches have
+-- counted entries
 pub record Marks (a : Alterations) (history : List Entry) : Type 0 where
   pub own : (key : Key) → places_of same_key a.own key ≡ places_where (entry_owns key) 0 history
   pub whole : (key : Key) → places_of same_key a.whole key ≡ places_where (entry_removes key) 0 history
   pub own_past : a.own.past ≤ length history
   pub whole_past : a.whole.past ≤ length history
+  pub watched : All (IsCounted history) a.watches.items

@@ -1,4 +1,4 @@
-//! Which entries altered which keys.
+//! Which entries altered which keys, and how many are due to whom.
 ghost use Rattle.std.specs.Prelude.{◌≡◌, ◌≤◌, ◌<◌, ◌-◌, ◌^◌, ◌++◌, ◌∷◌, ◌&&◌, [], ℤ, IfOk, OnOk, List as Items, drop, length, map};
 ghost use Rattle.std.specs.List.{flat_map};
 ghost use Rattle.entry_index.specs.Where.{first_where};
@@ -12,6 +12,7 @@ ghost use Rattle.store_machine.specs.declared.journal.Entry.{Entry as AnEntry};
 
 use crate::call::SpacePut;
 use crate::journal::Act;
+use crate::watch::Watch;
 use array_store::ArrayKey;
 use entry_index::EntryIndex;
 use etp_values::{Copied, List, NoMemory, Text};
@@ -25,11 +26,13 @@ pub(crate) struct Altered {
     whole: List<Key>,
 }
 
-/// The places of the entries that altered each key itself, and that removed each dataspace and object with everything in it.
+/// The places of the entries that altered each key itself, and that removed each dataspace and object with everything in it. With them, what
+/// sessions' last polls counted of the entries.
 #[derive(Drop)]
 pub(crate) struct Alterations {
     own: EntryIndex<Key>,
     whole: EntryIndex<Key>,
+    pub(crate) watches: Vec<Watch>,
 }
 
 fn put_keys(alloc: Global, puts: &List<SpacePut>) -> Result<List<Key>, NoMemory>
@@ -152,9 +155,11 @@ impl Alterations {
     pub(crate) fn new(alloc: Global) -> Alterations
         ensures { Marks result (door ∷ []) }
     {
+        let watches = Vec::new(alloc);
         Alterations {
             own: EntryIndex::new(alloc),
             whole: EntryIndex::new(alloc),
+            watches,
         }
     }
 

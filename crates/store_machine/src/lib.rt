@@ -21,6 +21,7 @@ mod reads;
 mod spaces;
 mod starts;
 mod store;
+mod watch;
 
 pub use boxed::BoxedItems;
 pub use call::{

@@ -1,16 +1,21 @@
 //! The changes that are due to subscriptions.
-ghost use Rattle.std.specs.Prelude.{ℕ, ◌≡◌, ◌≤◌, ◌++◌, ◌-◌, ◌+◌, [], IfOk, List as Items, OnOk, false, length, min, replicate, slice_get};
+ghost use Rattle.std.specs.Prelude.{ℕ, ◌≡◌, ◌≤◌, ◌<◌, ◌++◌, ◌-◌, ◌+◌, [], IfOk, List as Items, OnOk, false, length, min, replicate, slice_get};
 ghost use Rattle.std.specs.Option.{option_copied};
 ghost use Rattle.etp_values.specs.Weight.{capped, weigh};
 ghost use Rattle.channel_store.specs.declared.change.ChannelChange.{ChannelChange as AChange};
 ghost use Rattle.channel_store.specs.Marks.{marked};
 ghost use Rattle.channel_store.specs.Store.{changes_at};
 ghost use Rattle.channel_store.specs.Told.{change_bytes};
-ghost use Rattle.store_machine.specs.News.{fits_behind, is_some_due, joined, news_by, taken as taken_of};
+ghost use Rattle.std.specs.List.{All};
+ghost use Rattle.store_machine.specs.News.{fits_behind, is_some_due, joined, lag, news_by, taken as taken_of};
 ghost use Rattle.store_machine.specs.Telling.{Takes, below, due_at, due_here, dues_at, followed_by, followed_with, marked_by, marks_at, same_from, set_marks};
+ghost use Rattle.store_machine.specs.Watching.{IsCounted, IsFresh, Knows, Looks};
+ghost use Rattle.store_machine.specs.declared.journal.Entry.{Entry as AnEntry};
+ghost use Rattle.store_machine.specs.declared.watch.Watch.{Watch as AWatch};
 ghost use Rattle.store_machine.specs.declared.call.Reply.TheVariants as replied;
 
 use crate::call::Reply;
+use crate::watch::{Watch, keep, lag_since, slot};
 use channel_store::{ChannelChange, ChannelStore, Sub, change_bytes};
 use etp_values::{Copied, List, NoMemory};
 use std::alloc::Global;
@@ -23,9 +28,9 @@ pub const MAX_CHANGE_BYTES: u64 = 67_108_864;
 
 /// A channel that subscriptions follow from a place of the journal on.
 #[derive(Clone, Copy, Debug, Drop)]
-struct Followed {
-    channel: i64,
-    from: u64,
+pub(crate) struct Followed {
+    pub(crate) channel: i64,
+    pub(crate) from: u64,
 }
 
 /// How many of these channels are below a subscription's.
@@ -158,6 +163,28 @@ fn marks_from(
     Ok(marks)
 }
 
+/// How many of the entries from `place` on, below `mark`, have due changes. Each change is visited once.
+#[tactic(auto, using(crate::proofs::LagLemmas::lag_marked, crate::proofs::LagLemmas::lag_nobody, crate::proofs::LagLemmas::lag_nothing))]
+pub(crate) fn count_due(
+    alloc: Global,
+    channels: &ChannelStore,
+    followed: &[Followed],
+    place: u64,
+    mark: u64,
+) -> Result<u64, NoMemory>
+    requires { place ≤ mark }
+    ensures { IfOk result (λ n. n ≡ lag (dues_at channels.now followed.now place (mark - place))) }
+{
+    if followed.is_empty() {
+        return Ok(0);
+    }
+    if place == mark {
+        return Ok(0);
+    }
+    let marks = marks_from(alloc, channels, followed, place, mark)?;
+    Ok(count_set(marks.as_slice()))
+}
+
 /// The due changes by the entry at a place, in the order of their channels.
 fn due_at(
     alloc: Global,
@@ -261,19 +288,63 @@ fn take_marked(
     take_entry(alloc, channels, followed, place, taken)
 }
 
+/// The marks of the entries from `first` on, below `end`.
+#[derive(Drop)]
+struct Window {
+    first: u64,
+    end: u64,
+    marks: Vec<bool>,
+}
+
+/// How many entries are marked after a window of this size. It grows, so that few windows pass over many entries without due changes; and it
+/// starts small, since a few entries with many due changes are all that is taken at once.
+fn next_size(size: u64) -> u64
+    ensures { 0 < result }
+{
+    size.saturating_mul(2).max(4)
+}
+
+/// Goes on to a window that has the mark of the entry at a place, unless this one has it.
+fn look_on(
+    alloc: Global,
+    channels: &ChannelStore,
+    followed: &[Followed],
+    window: &mut Window,
+    place: u64,
+    mark: u64,
+) -> Result<(), NoMemory>
+    requires begun { window.old.first ≤ place }
+    requires looks { Looks channels.now followed.now window.old }
+    requires within { place < mark }
+    ensures begun { OnOk result (window.new.first ≤ place) }
+    ensures looks { OnOk result (Looks channels.now followed.now window.new) }
+    ensures within { OnOk result (place < window.new.end) }
+{
+    if place < window.end {
+        return Ok(());
+    }
+    let size = next_size(window.end.saturating_sub(window.first));
+    let end = place.saturating_add(size).min(mark);
+    let marks = marks_from(alloc, channels, followed, place, end)?;
+    *window = Window {
+        first: place,
+        end,
+        marks,
+    };
+    Ok(())
+}
+
 /// Takes entries in order from `place` on as long as they fit, and returns the place up to which they were taken. It looks only at the
-/// marked ones.
+/// marked ones, and marks no more than twice as many as it takes.
 fn take_from(
     alloc: Global,
     channels: &ChannelStore,
     followed: &[Followed],
     place: u64,
     mark: u64,
-    marks: &[bool],
     taken: &mut Taken,
 ) -> Result<u64, NoMemory>
     requires within { place ≤ mark }
-    requires marks { marks.now ≡ marks_at channels.now followed.now place (mark - place) }
     requires none { taken.old.changes.items ≡ [] }
     requires bytes { taken.old.bytes ≡ 0 }
     ensures upto { IfOk result (λ u.
@@ -281,9 +352,15 @@ fn take_from(
     ensures changes { IfOk result (λ u. taken.new.changes.items
         ≡ joined (taken_of 0 0 (dues_at channels.now followed.now place (mark - place)))) }
 {
+    let mut window = Window {
+        first: place,
+        end: place,
+        marks: Vec::new(alloc),
+    };
     let mut from = place;
     while from < mark {
-        let marked = marks[(from - place) as usize];
+        look_on(alloc, channels, followed, &mut window, from, mark)?;
+        let marked = window.marks[(from - window.first) as usize];
         let took = take_marked(alloc, channels, followed, from, marked, taken)?;
         if !took {
             return Ok(from);
@@ -304,8 +381,8 @@ fn nothing(alloc: Global, upto: u64, lag: u64) -> Reply
     }
 }
 
-/// The changes of the entries from `from` on that are due to those who follow these channels, by their marks.
-#[tactic(auto, using(crate::proofs::LagLemmas::lag_marked, crate::proofs::TakingLemmas::news_lagged, crate::proofs::TakingLemmas::news_untold, crate::proofs::TakingLemmas::news_nobody, crate::proofs::TakingLemmas::news_here, crate::proofs::TakingLemmas::news_told))]
+/// The changes of the entries from `from` on that are due to those who follow these channels, where `due` entries have such changes.
+#[tactic(auto, using(crate::proofs::TakingLemmas::news_lagged, crate::proofs::TakingLemmas::news_untold, crate::proofs::TakingLemmas::news_told))]
 fn news_from(
     alloc: Global,
     channels: &ChannelStore,
@@ -313,52 +390,73 @@ fn news_from(
     mark: u64,
     from: u64,
     followed: &[Followed],
+    due: u64,
 ) -> Result<Reply, NoMemory>
-    requires { from ≤ mark }
+    requires within { from ≤ mark }
+    requires due { due ≡ lag (dues_at channels.now followed.now from (mark - from)) }
     ensures { IfOk result (λ r. r ≡ news_by limit from mark
         (dues_at channels.now followed.now from (mark - from))) }
 {
-    if followed.is_empty() {
-        return Ok(nothing(alloc, mark, 0));
+    if due > limit {
+        return Ok(nothing(alloc, mark, due));
     }
-    if from == mark {
-        return Ok(nothing(alloc, mark, 0));
-    }
-    let marks = marks_from(alloc, channels, followed, from, mark)?;
-    let lag = count_set(marks.as_slice());
-    if lag > limit {
-        return Ok(nothing(alloc, mark, lag));
-    }
-    if lag == 0 {
+    if due == 0 {
         return Ok(nothing(alloc, mark, 0));
     }
     let mut taken = Taken {
         changes: Vec::new(alloc),
         bytes: 0,
     };
-    let marks = marks.as_slice();
-    let upto = take_from(alloc, channels, followed, from, mark, marks, &mut taken)?;
+    let upto = take_from(alloc, channels, followed, from, mark, &mut taken)?;
     Ok(Reply::News {
         upto,
-        lag,
+        lag: due,
         changes: List::from_vec(taken.changes),
     })
 }
 
-/// The changes that are due to subscriptions from `cursor` on, if the journal has the length `mark`. If more than `limit` entries have such
-/// changes, none are returned.
+/// The changes that are due to the subscriptions of the session `by` from `cursor` on, if the journal has the length `mark` and there are
+/// `ids` channels. If more than `limit` entries have such changes, none are returned. What the session's last poll counted is carried on.
 pub(crate) fn news(
     alloc: Global,
     channels: &ChannelStore,
+    ids: u64,
     limit: u64,
     mark: u64,
+    by: u64,
     cursor: u64,
     subs: &List<Sub>,
+    watches: &mut Vec<Watch>,
 ) -> Result<Reply, NoMemory>
-    ensures { IfOk result (λ r. r ≡ news_by limit (min cursor mark) mark
+    requires { All (Knows channels.now ids (followed_by subs.now)) watches.old.items }
+    ensures reply { IfOk result (λ r. r ≡ news_by limit (min cursor mark) mark
         (dues_at channels.now (followed_by subs.now) (min cursor mark) (mark - min cursor mark))) }
+    ensures watches { (history : Items AnEntry) → All (IsCounted history) watches.old.items
+        → ((w : AWatch) → IsFresh channels.now ids (followed_by subs.now) mark w → IsCounted history w)
+        → All (IsCounted history) watches.new.items }
 {
     let followed = followed_by(alloc, subs)?;
     let from = cursor.min(mark);
-    news_from(alloc, channels, limit, mark, from, followed.as_slice())
+    let place = slot(watches.as_slice(), by);
+    let due = lag_since(
+        alloc,
+        channels,
+        ids,
+        followed.as_slice(),
+        from,
+        mark,
+        watches.as_slice(),
+        place,
+    )?;
+    let reply = news_from(alloc, channels, limit, mark, from, followed.as_slice(), due)?;
+    let watch = Watch {
+        by,
+        channels: ids,
+        followed,
+        from,
+        mark,
+        lag: due,
+    };
+    keep(watches, place, watch);
+    Ok(reply)
 }

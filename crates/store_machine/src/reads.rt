@@ -2,7 +2,7 @@
 ghost use Rattle.std.specs.Prelude.{◌≡◌, ◌≤◌, ◌++◌, IfOk, IfSome, List as Items, Ok, OnOk, map};
 ghost use Rattle.channel_points.specs.Handles.{of_channel};
 ghost use Rattle.channel_store.specs.Store.{id_of, range_of};
-ghost use Rattle.channel_store.specs.Told.{size_of, sized};
+ghost use Rattle.channel_store.specs.Told.{size_of, size_within, sized_within};
 ghost use Rattle.etp_values.specs.declared.point.Point.{Point as APoint};
 ghost use Rattle.store_machine.specs.Reads.{meta_of, meta_under, range_reply, ranged, room_with, whole_room};
 ghost use Rattle.store_machine.specs.Ranging.{JoinsRange};
@@ -51,6 +51,25 @@ impl Room {
             bytes: self.bytes - size.bytes,
         })
     }
+
+    /// The same, where points that are more than this room has have no size.
+    pub(crate) fn left_by(self, size: Option<PointSize>) -> Option<Room>
+        requires { self.bytes ≤ MAX_POINT_BYTES }
+        ensures left { (points : Items APoint) → size ≡ size_within self.points points → result ≡ room_with self points }
+        ensures within { IfSome result (λ r. r.bytes ≤ MAX_POINT_BYTES) }
+    {
+        match size {
+            None => None,
+            Some(size) => self.without(size),
+        }
+    }
+
+    /// How many points there may still be.
+    pub(crate) fn points(&self) -> u64
+        ensures { result ≡ self.now.points }
+    {
+        self.points
+    }
 }
 
 /// Adds the points of a channel to others.
@@ -84,21 +103,22 @@ fn push_range(
     push_points(items, ask.channel, points)
 }
 
-/// Adds the points of a range to those of the ranges before it, if they fit; they are of this size.
+/// Adds the points of a range to those of the ranges before it, if they fit; they are of this size, or too many.
 fn take_sized(
     channels: &ChannelStore,
     ask: &RangeAsk,
-    size: PointSize,
+    size: Option<PointSize>,
     room: &mut Room,
     items: &mut Vec<ChannelPoint>,
 ) -> Result<Option<ErrorCode>, NoMemory>
     requires within { room.old.bytes ≤ MAX_POINT_BYTES }
-    requires size { Ok size ≡ sized (range_of channels.now ask.now.channel ask.now.from ask.now.to) }
+    requires size { Ok size ≡ sized_within room.old.points
+        (range_of channels.now ask.now.channel ask.now.from ask.now.to) }
     ensures joins { IfOk result (λ r.
         JoinsRange r channels.now ask.now room.old room.new items.old.items items.new.items) }
     ensures within { room.new.bytes ≤ MAX_POINT_BYTES }
 {
-    let Some(left) = room.without(size) else {
+    let Some(left) = room.left_by(size) else {
         return Ok(Some(ErrorCode::LimitExceeded));
     };
     push_range(channels, ask, items)?;
@@ -118,7 +138,7 @@ fn take_range(
         JoinsRange r channels.now ask.now room.old room.new items.old.items items.new.items) }
     ensures within { room.new.bytes ≤ MAX_POINT_BYTES }
 {
-    match channels.range_size(ask.channel, ask.from, ask.to) {
+    match channels.range_size_within(ask.channel, ask.from, ask.to, room.points()) {
         Err(error) => Ok(Some(refusal_code(error)?)),
         Ok(size) => take_sized(channels, ask, size, room, items),
     }

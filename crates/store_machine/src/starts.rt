@@ -4,7 +4,7 @@ ghost use Rattle.std.specs.Option.{unwrap_or};
 ghost use Rattle.channel_store.specs.Points.{index_from_end, last_of, past};
 ghost use Rattle.channel_store.specs.Refusals.{channel_at, points_at};
 ghost use Rattle.channel_store.specs.Store.{tail_of};
-ghost use Rattle.channel_store.specs.Told.{sized};
+ghost use Rattle.channel_store.specs.Told.{sized_within};
 ghost use Rattle.store_machine.specs.Reads.{room_with, whole_room};
 ghost use Rattle.store_machine.specs.Starts.{IsEnded, EndsInRange, begun, from_index, is_start, least_index, natural, past_last, room_behind, start_of, started};
 
@@ -65,22 +65,22 @@ fn start_of(channels: &ChannelStore, channel: i64, start: Start) -> i64
     }
 }
 
-/// The points from an index on, if they fit into the room of the answer; they are of this size.
+/// The points from an index on, if they fit into the room of the answer; they are of this size, or too many.
 fn from_sized(
     channels: &ChannelStore,
     channel: i64,
     start: i64,
-    size: PointSize,
+    size: Option<PointSize>,
     room: &mut Room,
 ) -> Result<StartReply, NoMemory>
     requires within { room.old.bytes ≤ 67108864 }
-    requires size { Ok size ≡ sized (tail_of channels.now channel start) }
+    requires size { Ok size ≡ sized_within room.old.points (tail_of channels.now channel start) }
     ensures reply { IfOk result (λ r. r ≡ from_index start (past start (points_at channels.now channel))
         (room_with room.old (past start (points_at channels.now channel)))) }
     ensures room { IfOk result (λ r. room.new ≡ room_behind room.old r) }
     ensures within { room.new.bytes ≤ 67108864 }
 {
-    let Some(left) = room.without(size) else {
+    let Some(left) = room.left_by(size) else {
         return Ok(StartReply::Refused(ErrorCode::LimitExceeded));
     };
     let Ok(points) = channels.tail(channel, start) else {
@@ -104,7 +104,7 @@ fn from_start(
     ensures room { IfOk result (λ r. room.new ≡ room_behind room.old r) }
     ensures within { room.new.bytes ≤ 67108864 }
 {
-    match channels.tail_size(channel, start) {
+    match channels.tail_size_within(channel, start, room.points()) {
         Err(_) => Ok(StartReply::Refused(ErrorCode::NotFound)),
         Ok(size) => from_sized(channels, channel, start, size, room),
     }

@@ -38,7 +38,7 @@ pub struct Store {
     contents: Contents,
     /// The points and changes of the channels.
     channels: ChannelStore,
-    /// Which entries altered which keys.
+    /// Which entries altered which keys, and what sessions' last polls counted of them.
     alterations: Alterations,
 }
 
@@ -159,7 +159,7 @@ impl Store {
             StoreCall::Range { items } => self.range(alloc, items),
             StoreCall::Meta { items } => self.meta(alloc, items),
             StoreCall::Subscribe { items } => self.subscribe(alloc, items),
-            StoreCall::News { cursor, subs } => self.news(alloc, cursor, subs),
+            StoreCall::News { cursor, subs } => self.news(alloc, by, cursor, subs),
         }
     }
 
@@ -632,13 +632,32 @@ impl Store {
         Ok(Answer { mark, reply })
     }
 
-    fn news(&self, alloc: Global, cursor: u64, subs: List<Sub>) -> Result<Answer, NoMemory>
+    /// Tells a session the changes that are due to its subscriptions. What it counts is kept for the session's next poll.
+    fn news(
+        &mut self,
+        alloc: Global,
+        by: u64,
+        cursor: u64,
+        subs: List<Sub>,
+    ) -> Result<Answer, NoMemory>
         ensures answer { IfOk result (λ a.
-            a ≡ answer self.now.config self.now.journal (call.News cursor subs)) }
-        ensures legal { Legal self.now.config self.now.journal }
+            a ≡ answer self.old.config self.old.journal (call.News cursor subs)) }
+        ensures same { self.new ≡ self.old }
+        ensures legal { Legal self.new.config self.new.journal }
     {
         let mark = self.journal.len() as u64;
-        let reply = news(alloc, &self.channels, self.config.lag, mark, cursor, &subs)?;
+        let ids = self.config.channels.get().len() as u64;
+        let reply = news(
+            alloc,
+            &self.channels,
+            ids,
+            self.config.lag,
+            mark,
+            by,
+            cursor,
+            &subs,
+            &mut self.alterations.watches,
+        )?;
         Ok(Answer { mark, reply })
     }
 }

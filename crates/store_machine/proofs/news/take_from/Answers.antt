@@ -1,6 +1,6 @@
-use Rattle.std.proofs.Common.{◌<◌, ◌≤◌, ◌-◌, false, subst, arith}
+use Rattle.std.proofs.Common.{refl, ◌∙◌, ◌<◌, ◌≤◌, ◌-◌, false, subst, arith}
 use Rattle.store_machine.specs.Telling.{Takes, due_at, dues_at}
-use Rattle.store_machine.proofs.LagLemmas.{mark_is, marks_length}
+use Rattle.store_machine.proofs.LagLemmas.{looks_none, mark_is, marks_length}
 use Rattle.store_machine.proofs.TakingLemmas.{bytes_first, dues_end, dues_step, takes_end, takes_first, takes_next, takes_stop}
 use Rattle.store_machine.proofs.news.take_from.Goals as goal
 
@@ -10,20 +10,26 @@ loop-from-init c =
     record {
       takes = takes_first (dues_at a.channels.now a.followed.now a.place (a.mark - a.place)) a.place a.taken.now.changes.items c.requires.none;
       begun = omega arith;
+      looks = looks_none a.channels.now a.followed.now a.place _ refl refl c.new.ensures.items;
       within = c.requires.within;
       bytes = bytes_first a.taken.now.changes.items a.taken.now.bytes c.requires.none c.requires.bytes;
     }
 
-pub bounds-marks-from : goal.bounds-marks-from
-bounds-marks-from c =
+pub index-marked-requires : goal.index-marked-requires
+index-marked-requires c =
     let a = c.args in
-    let long = marks_length a.channels.now a.followed.now a.place (a.mark - a.place) a.marks.now c.requires.marks in
-    omega (arith, long, c.loop-from.invariant.begun, c.loop-from-test.true)
+    let w = c.look_on.new.window in
+    let looks = c.in_ok-look_on.ensures.looks in
+    let long = marks_length a.channels.now a.followed.now w.first (w.end - w.first) w.marks.items looks.marks in
+    let size = w.marks.ok.0 in
+    omega (arith, size, long, c.in_ok-look_on.ensures.begun, c.in_ok-look_on.ensures.within)
 
 pub take_marked-requires-clause-marked : goal.take_marked-requires-clause-marked
 take_marked-requires-clause-marked c =
     let a = c.args in
-    mark_is a.channels.now a.followed.now a.place c.loop-from.from a.mark a.marks.now false c.requires.marks c.loop-from.invariant.begun c.loop-from-test.true
+    let w = c.look_on.new.window in
+    c.index-marked.ensures
+    ∙ mark_is a.channels.now a.followed.now w.first c.loop-from.from w.end w.marks.items c.index-marked.result.now c.in_ok-look_on.ensures.looks.marks c.in_ok-look_on.ensures.begun c.in_ok-look_on.ensures.within
 
 pub returns-then-not-took-clause-upto : goal.returns-then-not-took-clause-upto
 returns-then-not-took-clause-upto c =
@@ -49,7 +55,8 @@ loop-from-preserved c =
     let takes = subst (λ b. Takes b (due_at a.channels.now a.followed.now l.from) l.taken.changes.items c.take_marked.new.taken.changes.items) c.if-not-took.false c.in_ok-took.ensures.takes in
     record {
       takes = takes_next (dues_at a.channels.now a.followed.now a.place (a.mark - a.place)) a.place l.from l.taken.changes.items _ _ _ _ l.invariant.takes (dues_step a.channels.now a.followed.now l.from a.mark within) takes;
-      begun = omega (arith, l.invariant.begun);
+      begun = omega (arith, c.in_ok-look_on.ensures.begun);
+      looks = c.in_ok-look_on.ensures.looks;
       within = omega arith;
       bytes = c.in_ok-took.ensures.bytes;
     }
