@@ -178,12 +178,6 @@ jump-begins steps n s is =
       subst (IsPrefix (chain (chains_of steps) s.jump.to)) (sym is.chain_is) (prefix_snoc (chain (chains_of steps) s.jump.to) xs s.place is.jumps.1),
     )
 
-pub begins-through : (steps : List Step) (a b n : ℕ) → Begins steps a b → Begins steps b n → Begins steps a n
-begins-through steps a b n p q = (
-  omega (arith, p.0, q.0),
-  prefix_trans (chain (chains_of steps) a) (chain (chains_of steps) b) (chain (chains_of steps) n) p.1 q.1,
-)
-
 -- what is found up to a last place that is past it is found in the whole
 found-front : (from p x : ℕ) (xs rest : List ℕ) → last_or (Some x) xs ≡ Some p → from ≤ p → find (nat_le from) (x ∷ (xs ++ rest)) ≡ find (nat_le from) (x ∷ xs)
 found-front from p x [] rest h on =
