@@ -41,7 +41,7 @@ use Rattle.session_core.specs.Arriving.{Event, Receives, Polls, request_of}
 use Rattle.session_core.specs.Machine.{unread}
 use Rattle.session_core.specs.Replies.{error_info, refused_message}
 use Rattle.session_core.specs.Run.{Course, first_course, happens, run, run_from}
-use Rattle.session_core.specs.Sending.{ended, numbered, outgoing, parts_of}
+use Rattle.session_core.specs.Sending.{cut_all, ended, numbered, outgoing}
 use Rattle.etp_values.specs.Rising.{Rises}
 use Rattle.session_core.specs.Streams.{HasIds, RunIsStreamed, RunIsToldAtIdle, heard, is_spent_course, is_spent_phase, owed_to, silence}
 use Rattle.session_core.specs.Streams.{Heard as Told}
@@ -189,10 +189,10 @@ module _ (law : NoticesAreChanges) (all : List Put) (rising : Rising 2 all) (mod
 
   sent_is : (matter : Matter) (sent : List Outgoing) (x : IsSent matter sent)
       → all_sent sent
-      ≡ all_sent x.receipts ++ (all_sent (numbered (request_in matter) x.first (parts_of x.limit x.number x.blobs (first_in matter)))
+      ≡ all_sent x.receipts ++ (all_sent (numbered (request_in matter) x.first (cut_all x.limit x.number x.blobs (first_in matter)))
       ++ all_sent (numbered (request_in matter) x.second (news_parts x.limit x.number x.more_blobs (changes_in matter))))
   sent_is matter sent x =
-      let a : List Outgoing = numbered (request_in matter) x.first (parts_of x.limit x.number x.blobs (first_in matter)) in
+      let a : List Outgoing = numbered (request_in matter) x.first (cut_all x.limit x.number x.blobs (first_in matter)) in
       let b : List Outgoing = numbered (request_in matter) x.second (news_parts x.limit x.number x.more_blobs (changes_in matter)) in
       ap all_sent x.is ∙ sent_more x.receipts (a ++ b) ∙ ap (λ l. all_sent x.receipts ++ l) (sent_more a b)
 
@@ -210,14 +210,14 @@ module _ (law : NoticesAreChanges) (all : List Put) (rising : Rising 2 all) (mod
   aside_carries : (told : ℤ → Told) (v w : Subbed) (r : Request) (sayings : _) (sent : List Outgoing) → IsSent (Aside r sayings) sent → w ≡ v → AllByRecursion (λ (o : Outgoing). speaks o.message ≡ false) sent
       → Carries all told (all_sent sent) (standing v.subs) (standing w.subs)
   aside_carries told v w r sayings sent x same quiet =
-      let a : List Outgoing = numbered r x.first (parts_of x.limit x.number x.blobs sayings) in
+      let a : List Outgoing = numbered r x.first (cut_all x.limit x.number x.blobs sayings) in
       let its : AllByRecursion (λ (o : Outgoing). speaks o.message ≡ false) a =
       all-front (λ (o : Outgoing). speaks o.message ≡ false) a [] (all-back (λ (o : Outgoing). speaks o.message ≡ false) x.receipts (a ++ []) (subst (AllByRecursion (λ (o : Outgoing). speaks o.message ≡ false)) x.is quiet)) in
       let subs : ℤ → Bool = standing v.subs in
       subst (λ (u : Subbed). Carries all told (all_sent sent) subs (standing u.subs)) (sym same)
       (subst (λ l. Carries all told l subs subs) (sym (sent_is (Aside r sayings) sent x))
       (behind_receipts told x.receipts (all_sent a) [] subs subs subs x.received
-      (λ told. asides_carry all rising told (all_sent a) subs (quiet_sent r x.first (parts_of x.limit x.number x.blobs sayings) x.reaches (parts_quiet r x.first (parts_of x.limit x.number x.blobs sayings) x.reaches its)))
+      (λ told. asides_carry all rising told (all_sent a) subs (quiet_sent r x.first (cut_all x.limit x.number x.blobs sayings) x.reaches (parts_quiet r x.first (cut_all x.limit x.number x.blobs sayings) x.reaches its)))
       (carries_none all rising subs)))
 
   tells_carry : (told : ℤ → Told) (v w : Subbed) (changes : List ChannelChange) (sent : List Outgoing) → IsSent (Tells changes) sent → w.subs ≡ v.subs → AllByRecursion (IsToldTo v) changes
@@ -244,7 +244,7 @@ module _ (law : NoticesAreChanges) (all : List Put) (rising : Rising 2 all) (mod
       → Carries all told (all_sent sent) (standing v.subs) (standing w.subs)
   stops_carries told v w lag ids sent x none empty =
       let m : Message = message.ChannelSubscribe (stop_response (Lagged lag) ids) in
-      let ps : List Part = parts_of x.limit x.number x.blobs (first_in (Stops lag ids)) in
+      let ps : List Part = cut_all x.limit x.number x.blobs (first_in (Stops lag ids)) in
       let aside : AllByRecursion (λ (p : Part). is_aside p.message ≡ true) ps =
       all-append (λ (p : Part). is_aside p.message ≡ true) (ended to.Nobody (parts x.limit x.number x.blobs m)) []
       (all_ended (λ m. is_aside m ≡ true) to.Nobody (parts x.limit x.number x.blobs m) (stops_aside (groups (entry_amount long_form) x.limit ids) _)) tt in
@@ -269,7 +269,7 @@ module _ (law : NoticesAreChanges) (all : List Put) (rising : Rising 2 all) (mod
       let subs : ℤ → Bool = standing w.subs in
       let same : standing v.subs ≡ standing w.subs = λ i c. refused_standing v w key x code only c i in
       let m : Message = refused_message ((key, code) ∷ []) in
-      let ps : List Part = parts_of y.limit y.number y.blobs (first_in (Begins h asked ((key, Refused code) ∷ []) changes)) in
+      let ps : List Part = cut_all y.limit y.number y.blobs (first_in (Begins h asked ((key, Refused code) ∷ []) changes)) in
       let quiet : AllByRecursion (λ (p : Part). speaks p.message ≡ false) ps =
       all-append (λ (p : Part). speaks p.message ≡ false) (ended to.Request (parts y.limit y.number y.blobs m)) []
       (all_ended (λ m. speaks m ≡ false) to.Request (parts y.limit y.number y.blobs m) (exceptions_aside (groups (entry_amount error_info_form) y.limit ((key, error_info code) ∷ [])) None)) tt in

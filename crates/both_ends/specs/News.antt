@@ -15,7 +15,7 @@ use Rattle.client_laws.specs.Parts.{Given, Sent, given_by, left_by}
 use Rattle.etp_frame.specs.declared.message.Message.TheVariants as message
 use Rattle.session_core.specs.Granting.{HasNews}
 use Rattle.session_core.specs.Replies.{sayings_of}
-use Rattle.session_core.specs.Sending.{is_spent, numbered, parts_of}
+use Rattle.session_core.specs.Sending.{cut_all, is_spent, numbered}
 use Rattle.session_core.specs.declared.state.Outgoing.{Outgoing}
 use Rattle.session_core.specs.declared.state.Part.{Part}
 use Rattle.session_core.specs.declared.state.Request.{Request}
@@ -23,7 +23,7 @@ use Rattle.both_ends.specs.Notices.{change_msg}
 
 -- the parts of the notices of changes
 abbrev pub news_parts : ℕ → ℕ → ℕ → List ChannelChange → List Part
-news_parts limit number blobs changes = parts_of limit number blobs (sayings_of message.ChannelSubscribe (map notice changes))
+news_parts limit number blobs changes = cut_all limit number blobs (sayings_of message.ChannelSubscribe (map notice changes))
 
 -- these as a session sends them, with its next own id
 abbrev pub news_sent : Request → ℕ → ℕ → ℕ → ℕ → List ChannelChange → List Sent

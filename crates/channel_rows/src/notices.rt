@@ -16,7 +16,7 @@ use msg_channel::{
 };
 use std::alloc::Global;
 use std::collections::BTreeMap;
-use subscribe_core::{Outgoing, StopCause, Subs};
+use subscribe_core::{StopCause, Subs, ToldChange};
 
 /// Points after the last one.
 pub(crate) fn append_notice(
@@ -82,7 +82,7 @@ fn truncated_notice(
 }
 
 /// The notice of a change.
-fn change_notice(alloc: Global, told: &Outgoing) -> Result<ChannelSubscribeMessage, NoMemory>
+fn change_notice(alloc: Global, told: &ToldChange) -> Result<ChannelSubscribeMessage, NoMemory>
     ensures { IfOk result (λ m. m ≡ notice_of told.now.change.at told.now.change.channel (shown told.now).what) }
 {
     let points = told.points(alloc)?;

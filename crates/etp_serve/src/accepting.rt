@@ -58,7 +58,7 @@ fn entering<C: Clock>(clock: &C) -> i64 {
 }
 
 /// Closes a link for which no session was let in, and hands it back. Nothing came over it, so it has no goodbye to wait for.
-fn turn_away<A: Listener>(door: &mut A, link: A::Link, end: u8)
+fn refuse_link<A: Listener>(door: &mut A, link: A::Link, end: u8)
     ensures back { Told (A.backs door.old) (A.backs door.new) (TakesBack (A.given door.old)
         (back_of 0 end (A.Link.faults link) (A.Link.ended link) (A.Link.talk link))) }
     ensures given { A.given door.new ≡ A.given door.old }
@@ -198,11 +198,11 @@ where
             None
         }
         Err(EnterError::JournalFull) => {
-            turn_away(door, link, JOURNAL_FULL);
+            refuse_link(door, link, JOURNAL_FULL);
             None
         }
         Err(EnterError::NoMemory) => {
-            turn_away(door, link, NO_MEMORY);
+            refuse_link(door, link, NO_MEMORY);
             Some(Served::NoMemory)
         }
     }

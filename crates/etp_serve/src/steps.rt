@@ -23,7 +23,7 @@ pub(crate) struct Asked {
 }
 
 /// Has the store answer the session's call.
-fn settle<R: Wait>(
+fn ask_store<R: Wait>(
     rt: &R,
     alloc: Global,
     hub: &Hub,
@@ -94,7 +94,7 @@ pub(crate) fn carry_out<L: Link, R: Wait>(
     ensures peer { result ≡ Some Ended.PeerEnd → ⊥ }
     ensures ended { L.ended link.new ≡ L.ended link.old }
 {
-    match settle(rt, alloc, hub, pass, session, asked) {
+    match ask_store(rt, alloc, hub, pass, session, asked) {
         Ok(()) => {}
         Err(_) => return Some(Ended::NoMemory),
     }

@@ -43,7 +43,7 @@ use Rattle.session_core.specs.Arriving.{request_of}
 use Rattle.session_core.specs.Machine.{Taken, accepting, by_event, given_to, may_acknowledge, no_call, on_core, on_dataspaces, on_loads_by, on_message, on_poll, on_protocol, on_received, on_row, on_subscriptions_by, on_transactions, protocol_refusal, refuses, unread}
 use Rattle.session_core.specs.Run.{hears}
 use Rattle.session_core.specs.Replies.{saying_of, sayings_of, receipt, refusal, to_request}
-use Rattle.session_core.specs.Sending.{blobs_after, blobs_sent, is_spent, max_id, next_after, parts_of, said, spent_phase}
+use Rattle.session_core.specs.Sending.{blobs_after, blobs_sent, cut_all, is_spent, max_id, next_after, said, spent_phase}
 use Rattle.session_core.specs.Serial.{is_request_as, is_staged}
 
 -- ---- sayings with no blob
@@ -119,7 +119,7 @@ IsReady s = (s.blobs ≤ 2 ^ 64 - 1) × IsBegun s.phase
 
 beside-said : (r : Request) (xs : List Saying) (s : State) → IsReady s → AreQuiet xs → Beside s (said r xs s)
 beside-said r xs s ready quiet =
-    (refl, refl, refl, refl, refl, refl, quiet-blobs s.limit s.blobs xs ready.0 quiet, refl, refl, refl, next-grows s.next_id (parts_of s.limit s.number s.blobs xs), begun-spent (is_spent s.next_id (parts_of s.limit s.number s.blobs xs)) s.phase ready.1)
+    (refl, refl, refl, refl, refl, refl, quiet-blobs s.limit s.blobs xs ready.0 quiet, refl, refl, refl, next-grows s.next_id (cut_all s.limit s.number s.blobs xs), begun-spent (is_spent s.next_id (cut_all s.limit s.number s.blobs xs)) s.phase ready.1)
 
 -- ---- an event that leaves the transaction
 

@@ -18,7 +18,7 @@ use Rattle.session_core.specs.declared.state.Addressee.TheVariants as to
 use Rattle.session_core.specs.declared.state.Part.{Part}
 use Rattle.session_core.specs.declared.state.Request.{Request}
 use Rattle.session_core.specs.declared.state.Saying.{Saying}
-use Rattle.session_core.specs.Sending.{blobs_after, ended, flags_to, is_spent, max_id, numbered, outgoing, parts_of, replies_in}
+use Rattle.session_core.specs.Sending.{blobs_after, cut_all, ended, flags_to, is_spent, max_id, numbered, outgoing, replies_in}
 use Rattle.session_core.specs.Streams.{Heard, gathers, hear, hear_message, hear_notice, hear_stops, stops_for}
 use Rattle.session_core.proofs.MessagePartLemmas.{all_map, array_each, core_each, load_each, object_each, space_each}
 
@@ -83,10 +83,10 @@ module _ (P : Bool → Bool → Type 0) where
   pub kinds_one : (limit number blobs : ℕ) (x : Saying) → Kinds x.message → AllByRecursion (λ (p : Part). Kinds p.message) (ended x.to (parts limit number blobs x.message))
   kinds_one limit number blobs x is = kinds_ended x.to x.message (parts limit number blobs x.message) is (parts_kind limit number blobs x.message)
 
-  pub kinds_of : (limit number blobs : ℕ) (xs : List Saying) → AllByRecursion (λ (x : Saying). Kinds x.message) xs → AllByRecursion (λ (p : Part). Kinds p.message) (parts_of limit number blobs xs)
+  pub kinds_of : (limit number blobs : ℕ) (xs : List Saying) → AllByRecursion (λ (x : Saying). Kinds x.message) xs → AllByRecursion (λ (p : Part). Kinds p.message) (cut_all limit number blobs xs)
   kinds_of limit number blobs [] all = tt
   kinds_of limit number blobs (x ∷ xs) all =
-      all-append (λ (p : Part). Kinds p.message) (ended x.to (parts limit number blobs x.message)) (parts_of limit number (blobs_after limit blobs x.message) xs)
+      all-append (λ (p : Part). Kinds p.message) (ended x.to (parts limit number blobs x.message)) (cut_all limit number (blobs_after limit blobs x.message) xs)
       (kinds_ended x.to x.message (parts limit number blobs x.message) all.0 (parts_kind limit number blobs x.message))
       (kinds_of limit number (blobs_after limit blobs x.message) xs all.1)
 

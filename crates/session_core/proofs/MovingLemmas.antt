@@ -22,7 +22,7 @@ use Rattle.session_core.specs.declared.state.Phase.{Phase}
 use Rattle.session_core.specs.declared.state.Request.{Request}
 use Rattle.session_core.specs.declared.state.Saying.{Saying}
 use Rattle.session_core.specs.State.{State}
-use Rattle.session_core.specs.Sending.{is_spent, numbered, parts_of, said, spent_phase}
+use Rattle.session_core.specs.Sending.{cut_all, is_spent, numbered, said, spent_phase}
 use Rattle.session_core.specs.Streams.{Heard, IsStopped, Stopped, hear, heard, is_spent_phase, owed, owed_by, owed_to, silence, stream_to}
 use Rattle.session_core.proofs.HearingLemmas.{IsQuiet, hear_parts, kinds_of, numbered_back, numbered_front, numbered_heard, numbered_quiet, numbered_stops, prefix_none, stops, tells}
 use Rattle.session_core.proofs.OwingLemmas.{is_stream}
@@ -142,7 +142,7 @@ hushed_said r xs s t quiet q = record {
   config = q.config;
   subs = q.subs;
   unheard = λ c k.
-      let ps : List Part = parts_of t.limit t.number t.blobs xs in
+      let ps : List Part = cut_all t.limit t.number t.blobs xs in
       fold_append c t.out (numbered r t.next_id ps) k
       ∙ numbered_quiet c r t.next_id ps (fold (hear c) k t.out) (kinds_of IsQuiet t.limit t.number t.blobs xs quiet)
       ∙ q.unheard c k;
@@ -155,7 +155,7 @@ abbrev pub says_with : Request → List Saying → Subbed → State → State
 says_with r xs v m = said r xs (record m { subs = v })
 
 abbrev pub parts_in : State → List Saying → List Part
-parts_in m xs = parts_of m.limit m.number m.blobs xs
+parts_in m xs = cut_all m.limit m.number m.blobs xs
 
 heard_said : (r : Request) (xs : List Saying) (v : Subbed) (s m : State) (sent : List Outgoing) (c : ℤ) → s.out ≡ [] → Hushed s m
     → heard c (sent ++ (says_with r xs v m).out) ≡ fold (hear c) (heard c sent) (numbered r m.next_id (parts_in m xs))

@@ -18,7 +18,7 @@ use Rattle.subscribe_core.specs.Streams.{of_channel}
 use Rattle.subscribe_core.specs.Subscriptions.{Subbed}
 use Rattle.subscribe_core.specs.Views.{sub_of, told}
 use Rattle.session_core.specs.Replies.{sayings_of}
-use Rattle.session_core.specs.Sending.{parts_of}
+use Rattle.session_core.specs.Sending.{cut_all}
 use Rattle.session_core.specs.Streams.{Heard}
 use Rattle.session_core.proofs.HearingLemmas.{hear_parts}
 use Rattle.session_core.proofs.MovingLemmas.{Flow, keeps_on, known_of}
@@ -83,10 +83,10 @@ module _ (config : Config) (h : List Entry) (stay : NewsStayWithin) (due : NewsA
       record { pending = refl; within = come_within p v top on.within; apart = on.apart; known = on.known }
 
   pub news_heard : (p last limit number blobs : ℕ) (v : Subbed) (c : ℤ) (k : Heard) → p ≤ length h → last ≤ p → Keeps config last v → k.part ≡ [] → k.told ≡ owes h v c
-      → Flow h (told_on p v) c (hear_parts c k (parts_of limit number blobs (map note (news_of p v)))) × ((hear_parts c k (parts_of limit number blobs (map note (news_of p v)))).stops ≡ k.stops)
+      → Flow h (told_on p v) c (hear_parts c k (cut_all limit number blobs (map note (news_of p v)))) × ((hear_parts c k (cut_all limit number blobs (map note (news_of p v)))).stops ≡ k.stops)
   news_heard p last limit number blobs v c k top le keeps part told =
       let on : Keeps config p v = keeps_on config last p v le keeps in
-      let heard : hear_parts c k (parts_of limit number blobs (map note (news_of p v))) ≡ with_told (of_channel c (news_of p v)) k = notes_heard limit number blobs c (news_of p v) k (solid_told v.subs (joined (come p v))) part in (
+      let heard : hear_parts c k (cut_all limit number blobs (map note (news_of p v))) ≡ with_told (of_channel c (news_of p v)) k = notes_heard limit number blobs c (news_of p v) k (solid_told v.subs (joined (come p v))) part in (
         record {
           told = ap (λ (j : Heard). j.told) heard ∙ ap (λ l. l ++ of_channel c (news_of p v)) told ∙ news_owed p p v c top on.within on;
           part = ap (λ (j : Heard). j.part) heard;

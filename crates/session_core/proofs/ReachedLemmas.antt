@@ -54,11 +54,11 @@ use Rattle.session_core.specs.declared.state.StagedPending.TheVariants as staged
 use Rattle.session_core.specs.State.{State}
 use Rattle.session_core.specs.Arriving.{Event, arrived, request_of}
 use Rattle.session_core.specs.Fitting.{AnswersFit, Fits}
-use Rattle.session_core.specs.Machine.{Taken, accepting, by_event, by_phase, given_to, join_code, may_acknowledge, no_call, on_arrays, on_arrays_answered, on_core, on_dataspaces, on_join, on_joined, on_loaded, on_loads_by, on_message, on_noted, on_objects, on_objects_answered, on_poll, on_protocol, on_received, on_row, on_store, on_subscriptions_by, on_told, on_transactions_by, on_whole, opened, protocol_refusal, put_request, refuses, unread}
+use Rattle.session_core.specs.Machine.{Taken, accepting, by_event, by_phase, given_to, join_code, may_acknowledge, no_call, on_arrays, on_arrays_answered, on_core, on_dataspaces, on_join, on_joined, on_loads_answered, on_loads_by, on_message, on_noted, on_objects, on_objects_answered, on_poll, on_protocol, on_received, on_row, on_store, on_subscriptions_answered, on_subscriptions_by, on_transactions_by, on_whole, opened, protocol_refusal, put_request, refuses, unread}
 use Rattle.session_core.specs.Noting.{noting, reply_noted}
 use Rattle.session_core.specs.Replies.{receipt, refusal, sayings_of, to_request}
 use Rattle.session_core.specs.Run.{AnswersAreLast, Course, answered_at, asked, first_course, happens, happens_unless, hears, moment_of, run, run_from, takes}
-use Rattle.session_core.specs.Sending.{is_spent, parts_of, said, spent_phase}
+use Rattle.session_core.specs.Sending.{cut_all, is_spent, said, spent_phase}
 use Rattle.session_core.specs.Serial.{Begins, RisesFrom, RunIsSerial, Succeeds}
 use Rattle.session_core.proofs.AloneLemmas.{ended-fails, short-fails}
 use Rattle.session_core.proofs.RunLemmas.{course}
@@ -68,7 +68,7 @@ use Rattle.session_core.proofs.CommittedLemmas.{committed_is_serial}
 -- ---- an open session stays begun, and counts its blobs in 64 bits
 
 ready_said : (r : Request) (xs : List Saying) (s : State) → IsReady s → IsReady (said r xs s)
-ready_said r xs s is = (blobs-low s.limit s.blobs xs is.0, begun-spent (is_spent s.next_id (parts_of s.limit s.number s.blobs xs)) s.phase is.1)
+ready_said r xs s is = (blobs-low s.limit s.blobs xs is.0, begun-spent (is_spent s.next_id (cut_all s.limit s.number s.blobs xs)) s.phase is.1)
 
 ready_dataspaces : (r : Request) (o : DataspaceOutcome) (s : State) → IsReady s → IsReady (on_dataspaces r o s).state
 ready_dataspaces r (Replies xs) s is = ready_said r (sayings_of message.Dataspace xs) s is
@@ -168,10 +168,10 @@ ready_noted : (r : Request) (sp : StagedPending) (answer : Reply) (s : State) �
 ready_noted r (staged.Objects p) answer s is = ready_objects_answered r (objects.object_reply s.stage p answer) s is
 ready_noted r (staged.Arrays p) answer s is = ready_arrays_answered r (arrays.array_reply s.limit s.stage p answer) s is
 
-ready_loaded : (r : Request) (l : loads.Loaded) (s : State) → IsReady s → IsReady (on_loaded r l s)
+ready_loaded : (r : Request) (l : loads.Loaded) (s : State) → IsReady s → IsReady (on_loads_answered r l s)
 ready_loaded r l s is = ready_said r (sayings_of message.ChannelDataLoad l.sendings) (record s { opens = l.opens }) is
 
-ready_told : (r : Request) (t : Told) (s : State) → IsReady s → IsReady (on_told r t s)
+ready_told : (r : Request) (t : Told) (s : State) → IsReady s → IsReady (on_subscriptions_answered r t s)
 ready_told r t s is = ready_said r (sayings_of message.ChannelSubscribe t.sendings) (record s { subs = t.subs }) is
 
 ready_answer : (kept : Option Pending) (a : Answer) (s : State) → IsReady s → IsReady (given_to kept a s)
@@ -207,7 +207,7 @@ spent_idle true p st is = tt
 spent_idle false p st is = is
 
 sound_said : (r : Request) (xs : List Saying) (s : State) → IsSound s → IsSound (said r xs s)
-sound_said r xs s is = (blobs-low s.limit s.blobs xs is.0, spent_idle (is_spent s.next_id (parts_of s.limit s.number s.blobs xs)) s.phase s.stage is.1)
+sound_said r xs s is = (blobs-low s.limit s.blobs xs is.0, spent_idle (is_spent s.next_id (cut_all s.limit s.number s.blobs xs)) s.phase s.stage is.1)
 
 sound_answer : (kept : Option Pending) (a : Answer) (s : State) → IsApart kept → IsSound s → IsSound (given_to kept a s)
 sound_answer None a s apart is = is

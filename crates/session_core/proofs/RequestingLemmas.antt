@@ -51,7 +51,7 @@ use Rattle.session_core.specs.Machine.{Taken, asks, by_event, join_code, may_ack
 use Rattle.session_core.specs.Noting.{found_noted, note_all}
 use Rattle.session_core.specs.Replies.{receipt, refusal, sayings_of, to_request}
 use Rattle.session_core.specs.Run.{Course, asked, answered_at, at_place, drained, hears, own_number}
-use Rattle.session_core.specs.Sending.{blobs_sent, is_spent, next_after, numbered, parts_of, said, spent_phase}
+use Rattle.session_core.specs.Sending.{blobs_sent, cut_all, is_spent, next_after, numbered, said, spent_phase}
 use Rattle.session_core.specs.Serial.{AllNoted, EndsBy, RisesFrom, Succeeds, after_call, alone, bodies, is_request_as, is_staged, replies, requests, while_open}
 use Rattle.session_core.proofs.AskingLemmas.{LooksWithin, OnCalls, arrays_look, arrays_same, objects_look, objects_same}
 use Rattle.session_core.proofs.BesideLemmas.{AreNamed, IsNamed, blobs-low}
@@ -101,7 +101,7 @@ heard-staged r keys (staged.Arrays p) mark found base last next os bs x joiner b
 -- the state after this was sent, by whether too few ids were left for it
 abbrev spoke : Bool → Request → List Saying → State → ℤ → ℕ → List Bool → Subbed → Transaction → Option Awaited → ℕ → List Outgoing → State
 spoke b r sayings base last next os bs x joiner blobs out =
-    let ps = parts_of base.limit base.number blobs sayings in
+    let ps = cut_all base.limit base.number blobs sayings in
     record (at base last (next_after next ps) os bs x joiner (blobs_sent base.limit blobs sayings) (out ++ numbered r next ps)) { phase = spent_phase b (phase.Live live.Open) }
 
 -- a state that awaits what is seen at these
@@ -140,13 +140,13 @@ module _ (config : Config) (n : ℕ) (h : List Entry) (p : ℕ) (base : State) (
   spoken : (r : Request) (sayings : List Saying) (x : Transaction) (joiner : Option Awaited) (blobs : ℕ) (last : ℤ) (ns na : ℕ) (os oa : List Bool) (bs ba : Subbed) (outs outa : List Outgoing) (q : ℕ) (qs : List ℕ) (sent : List Outgoing) (made : List (ℕ × Entry)) (reach : ℕ)
       → na ≤ ns → blobs ≤ 2 ^ 64 - 1 → RisesFrom q qs → AreWithin q x.touched → bodies outs ≡ bodies outa
       → After q qs sent made reach x.touched (said r sayings (at base last ns os bs x joiner blobs outs)) (said r sayings (at base last na oa ba (marked (length (take p h)) x) joiner blobs outa))
-  spoken r sayings x joiner blobs last ns na os oa bs ba outs outa q qs sent made reach le low rises within same = by (is_spent ns (parts_of base.limit base.number blobs sayings)) refl
+  spoken r sayings x joiner blobs last ns na os oa bs ba outs outa q qs sent made reach le low rises within same = by (is_spent ns (cut_all base.limit base.number blobs sayings)) refl
     where
-      by : (b : Bool) → is_spent ns (parts_of base.limit base.number blobs sayings) ≡ b
-          → After q qs sent made reach x.touched (spoke b r sayings base last ns os bs x joiner blobs outs) (spoke (is_spent na (parts_of base.limit base.number blobs sayings)) r sayings base last na oa ba (marked (length (take p h)) x) joiner blobs outa)
+      by : (b : Bool) → is_spent ns (cut_all base.limit base.number blobs sayings) ≡ b
+          → After q qs sent made reach x.touched (spoke b r sayings base last ns os bs x joiner blobs outs) (spoke (is_spent na (cut_all base.limit base.number blobs sayings)) r sayings base last na oa ba (marked (length (take p h)) x) joiner blobs outa)
       by true e = λ s. let v = spoke true r sayings base last ns os bs x joiner blobs outs in absurd (ended-fails config n h p es end.IdsSpent (drained v) qs (sent ++ v.out) made reach s)
       by false e =
-          let ps = parts_of base.limit base.number blobs sayings in
+          let ps = cut_all base.limit base.number blobs sayings in
           let bodies_same : bodies (outs ++ numbered r ns ps) ≡ bodies (outa ++ numbered r na ps) = bodies-append outs (numbered r ns ps) ∙ ap (λ l. bodies outs ++ l) (bodies-numbered r ns ps e) ∙ ap (λ l. l ++ part_bodies ps) same
           ∙ ap (λ l. bodies outa ++ l) (sym (bodies-numbered r na ps (spent-less na ns ps le e))) ∙ sym (bodies-append outa (numbered r na ps)) in
           subst (λ b. After q qs sent made reach x.touched (spoke false r sayings base last ns os bs x joiner blobs outs) (spoke b r sayings base last na oa ba (marked (length (take p h)) x) joiner blobs outa)) (sym (spent-less na ns ps le e))
@@ -320,16 +320,16 @@ module _ (config : Config) (n : ℕ) (h : List Entry) (p : ℕ) (base : State) (
       acknowledged_both : (hd : Header) (now : ℤ) (m : Message) → is_staged hd.protocol ≡ true → IsNamed hd m
           → let v = said (request_of hd) (receipt ∷ []) (run_at hd.id) in let w = said (request_of hd) (receipt ∷ []) (alone_at hd.id) in
           Both x (on_received v.phase hd now m v) (on_received w.phase hd now m w)
-      acknowledged_both hd now m inside named = by (is_spent ns (parts_of base.limit base.number blobs (receipt ∷ []))) refl
+      acknowledged_both hd now m inside named = by (is_spent ns (cut_all base.limit base.number blobs (receipt ∷ []))) refl
         where
-          by : (b : Bool) → is_spent ns (parts_of base.limit base.number blobs (receipt ∷ [])) ≡ b
+          by : (b : Bool) → is_spent ns (cut_all base.limit base.number blobs (receipt ∷ [])) ≡ b
               → let v = spoke b (request_of hd) (receipt ∷ []) base hd.id ns os bs x joiner blobs [] in
-              let w = spoke (is_spent na (parts_of base.limit base.number blobs (receipt ∷ []))) (request_of hd) (receipt ∷ []) base hd.id na oa ba (marked (length (take p h)) x) joiner blobs [] in
+              let w = spoke (is_spent na (cut_all base.limit base.number blobs (receipt ∷ []))) (request_of hd) (receipt ∷ []) base hd.id na oa ba (marked (length (take p h)) x) joiner blobs [] in
               Both x (on_received v.phase hd now m v) (on_received w.phase hd now m w)
           by true e = λ s. let v = spoke true (request_of hd) (receipt ∷ []) base hd.id ns os bs x joiner blobs [] in absurd (ended-fails config n h p es end.IdsSpent (drained v) c.places (c.sent ++ v.out) c.made c.reach s.1)
           by false e =
               let r = request_of hd in
-              let ps = parts_of base.limit base.number blobs (receipt ∷ []) in
+              let ps = cut_all base.limit base.number blobs (receipt ∷ []) in
               let same : bodies (numbered r ns ps) ≡ bodies (numbered r na ps) = bodies-numbered r ns ps e ∙ sym (bodies-numbered r na ps (spent-less na ns ps le e)) in
               subst (λ b. let v = spoke false r (receipt ∷ []) base hd.id ns os bs x joiner blobs [] in
               let w = spoke b r (receipt ∷ []) base hd.id na oa ba (marked (length (take p h)) x) joiner blobs [] in

@@ -34,7 +34,7 @@ use Rattle.session_core.specs.declared.state.Addressee.TheVariants as to
 use Rattle.session_core.specs.declared.state.Part.{Part}
 use Rattle.session_core.specs.declared.state.Saying.{Saying}
 use Rattle.session_core.specs.Replies.{refused_message, sayings_of, to_request}
-use Rattle.session_core.specs.Sending.{blobs_after, ended, parts_of}
+use Rattle.session_core.specs.Sending.{blobs_after, cut_all, ended}
 use Rattle.session_core.specs.Streams.{Heard, hear_stops, stops_for}
 use Rattle.session_core.proofs.HearingLemmas.{IsQuiet, hear_parts, kinds_of, named, parts_quiet, stops, tells}
 use Rattle.subscribe_core.proofs.SubLemmas.{found-others, other_way}
@@ -52,19 +52,19 @@ stop_heard limit number blobs c a cause ids qs k =
 
 -- a reply that is all quiet
 pub quiet_heard : (limit number blobs : ℕ) (c : ℤ) (xs : List Saying) (k : Heard) → AllByRecursion (λ (x : Saying). IsQuiet (tells x.message) (stops x.message)) xs
-    → hear_parts c k (parts_of limit number blobs xs) ≡ k
+    → hear_parts c k (cut_all limit number blobs xs) ≡ k
 quiet_heard limit number blobs c xs k q =
-    ap (hear_parts c k) (sym (append-nil (parts_of limit number blobs xs))) ∙ parts_quiet c (parts_of limit number blobs xs) [] k (kinds_of IsQuiet limit number blobs xs q)
+    ap (hear_parts c k) (sym (append-nil (cut_all limit number blobs xs))) ∙ parts_quiet c (cut_all limit number blobs xs) [] k (kinds_of IsQuiet limit number blobs xs q)
 
 -- the reply to a request for stops
 pub stop_reply_heard : (limit number blobs : ℕ) (c : ℤ) (cause : StopCause) (gs : List (List ℕ × ℤ)) (rs : List (List ℕ × ErrorCode)) (k : Heard)
-    → hear_parts c k (parts_of limit number blobs (sayings_of message.ChannelSubscribe (keyed_replies (stop_response cause) gs rs))) ≡ hear_stops c (reason_of cause) gs k
+    → hear_parts c k (cut_all limit number blobs (sayings_of message.ChannelSubscribe (keyed_replies (stop_response cause) gs rs))) ≡ hear_stops c (reason_of cause) gs k
 stop_reply_heard limit number blobs c cause [] [] k = stop_heard limit number blobs c to.Request cause [] [] k
 stop_reply_heard limit number blobs c cause [] (r ∷ rs) k = quiet_heard limit number blobs c (to_request (refused_message (r ∷ rs)) ∷ []) k ((refl, refl), tt)
 stop_reply_heard limit number blobs c cause (g ∷ gs) [] k = stop_heard limit number blobs c to.Request cause (g ∷ gs) [] k
 stop_reply_heard limit number blobs c cause (g ∷ gs) (r ∷ rs) k =
     let next : ℕ = blobs_after limit blobs (message.ChannelSubscribe (stop_response cause (g ∷ gs))) in
-    stop_heard limit number blobs c to.Request cause (g ∷ gs) (parts_of limit number next (to_request (refused_message (r ∷ rs)) ∷ [])) k
+    stop_heard limit number blobs c to.Request cause (g ∷ gs) (cut_all limit number next (to_request (refused_message (r ∷ rs)) ∷ [])) k
     ∙ quiet_heard limit number next c (to_request (refused_message (r ∷ rs)) ∷ []) (hear_stops c (reason_of cause) (g ∷ gs) k) ((refl, refl), tt)
 
 -- ---- UnsubscribeChannels

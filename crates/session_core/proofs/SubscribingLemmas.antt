@@ -58,9 +58,9 @@ use Rattle.session_core.specs.declared.state.Pending.TheVariants as pending
 use Rattle.session_core.specs.declared.state.Request.{Request}
 use Rattle.session_core.specs.declared.state.Saying.{Saying}
 use Rattle.session_core.specs.State.{State}
-use Rattle.session_core.specs.Machine.{Taken, asks, given, on_poll, on_subscriptions, on_subscriptions_by, on_told, unread}
+use Rattle.session_core.specs.Machine.{Taken, asks, given, on_poll, on_subscriptions, on_subscriptions_answered, on_subscriptions_by, unread}
 use Rattle.session_core.specs.Replies.{saying_of, sayings_of}
-use Rattle.session_core.specs.Sending.{blobs_after, ended, parts_of}
+use Rattle.session_core.specs.Sending.{blobs_after, cut_all, ended}
 use Rattle.session_core.specs.Streams.{Heard, HasIds, hear_stops}
 use Rattle.session_core.proofs.HearingLemmas.{IsQuiet, hear_parts, kinds_one, notice_stops, notice_tells, parts_quiet, stops, tells}
 use Rattle.session_core.proofs.MovingLemmas.{After, AreQuiet, Flow, Flowing, Hushed, grown_after, hushed_said, keeps_on, stopped_after}
@@ -117,10 +117,10 @@ aside_replied defs limit mark v keeps_subscription.Ranges is _ = record { subs =
 -- ---- quiet sayings before others
 
 quiet_before : (limit number : ℕ) (c : ℤ) (xs ys : List Saying) (blobs : ℕ) (k : Heard) (P : Heard → Type 0) → AreQuiet xs
-    → ((blobs : ℕ) → P (hear_parts c k (parts_of limit number blobs ys))) → P (hear_parts c k (parts_of limit number blobs (xs ++ ys)))
+    → ((blobs : ℕ) → P (hear_parts c k (cut_all limit number blobs ys))) → P (hear_parts c k (cut_all limit number blobs (xs ++ ys)))
 quiet_before limit number c [] ys blobs k P quiet rest = rest blobs
 quiet_before limit number c (x ∷ xs) ys blobs k P quiet rest =
-    let later : List Part = parts_of limit number (blobs_after limit blobs x.message) (xs ++ ys) in
+    let later : List Part = cut_all limit number (blobs_after limit blobs x.message) (xs ++ ys) in
     let first : List Part = ended x.to (parts limit number blobs x.message) in
     subst P (sym (parts_quiet c first later k (kinds_one IsQuiet limit number blobs x quiet.0)))
     (quiet_before limit number c xs ys (blobs_after limit blobs x.message) k P quiet.1 rest)
@@ -237,7 +237,7 @@ module _ (config : Config) (h : List Entry) (last : ℕ) (sent : List Outgoing) 
       started_reply p v (keeps_subscription.Subscribe (kept (λ a. a) (asked_of v items))) (started (channels_of config (take p h)) whole_room (sent_keys (λ a. a) (asked_of v items)))
 
   begins_after : (r : Request) (v : Subbed) (items : List (List ℕ × ChannelSubscribeInfo)) (m : State) (p : ℕ) → v ≡ s.subs → Hushed s m → last ≤ p → p ≤ length h
-      → After config h p sent s (on_told r (started_told p v items) m) (CausesAt p)
+      → After config h p sent s (on_subscriptions_answered r (started_told p v items) m) (CausesAt p)
   begins_after r v items m p is q le top =
       let keeps : Keeps config p v = subst (Keeps config p) (sym is) (keeps_on config last p s.subs le flowing.keeps) in
       let t : ℤ → List What = λ c. owes h v c in
@@ -247,7 +247,7 @@ module _ (config : Config) (h : List Entry) (last : ℕ) (sent : List Outgoing) 
     where
       grown : (r : Request) (v : Subbed) (items : List (List ℕ × ChannelSubscribeInfo)) (m : State) (p : ℕ) → v ≡ s.subs → Hushed s m → last ≤ p → p ≤ length h → (t : ℤ → List What) → ((c : ℤ) → t c ≡ owes h v c)
           → Begins config h p t v (finished_state (begin_one p) 1 (beginning v) (kept (λ a. a) (asked_of v items)) (started (channels_of config (take p h)) whole_room (sent_keys (λ a. a) (asked_of v items))))
-          → After config h p sent s (on_told r (started_told p v items) m) (CausesAt p)
+          → After config h p sent s (on_subscriptions_answered r (started_told p v items) m) (CausesAt p)
       grown r v items m p is q le top t same begins =
           let sts = started (channels_of config (take p h)) whole_room (sent_keys (λ a. a) (asked_of v items)) in
           let b : Beginning = finished_state (begin_one p) 1 (beginning v) (kept (λ a. a) (asked_of v items)) sts in
@@ -260,7 +260,7 @@ module _ (config : Config) (h : List Entry) (last : ℕ) (sent : List Outgoing) 
           (subst (AllByRecursion (λ (x : Saying). stops x.message ≡ false)) (sym split)
           (all-append (λ (x : Saying). stops x.message ≡ false) (sayings_of message.ChannelSubscribe reply) (map note begins.new) (quiet_stops (sayings_of message.ChannelSubscribe reply) quiet) (notes_no_stop begins.new)))
           (λ c k part told.
-          subst (λ l. Flow h b.subs c (hear_parts c k (parts_of m.limit m.number m.blobs l)) × ((hear_parts c k (parts_of m.limit m.number m.blobs l)).stops ≡ k.stops)) (sym split)
+          subst (λ l. Flow h b.subs c (hear_parts c k (cut_all m.limit m.number m.blobs l)) × ((hear_parts c k (cut_all m.limit m.number m.blobs l)).stops ≡ k.stops)) (sym split)
           (quiet_before m.limit m.number c (sayings_of message.ChannelSubscribe reply) (map note begins.new) m.blobs k (λ j. Flow h b.subs c j × (j.stops ≡ k.stops)) quiet
           (λ blobs.
           let heard = notes_heard m.limit m.number blobs c begins.new k begins.solid part in (
@@ -286,7 +286,7 @@ module _ (config : Config) (h : List Entry) (last : ℕ) (sent : List Outgoing) 
           subst (λ (a : Answer). After config h p sent s (given (record m { pending = Some (pending.Subscriptions r (keeps_subscription.Subscribe (kept (λ a. a) (asked_of m.subs items)))) }) a) (CausesAt p))
           (sym (started_answer config (take p h) asks))
           (subst (λ (x : ℕ × List (List ℕ × StartAsk)). After config h p sent s
-          (on_told r (started_reply x.0 m.subs (keeps_subscription.Subscribe (kept (λ a. a) (asked_of m.subs items))) (started (channels_of config (take p h)) whole_room x.1)) (record m { pending = None })) (CausesAt p))
+          (on_subscriptions_answered r (started_reply x.0 m.subs (keeps_subscription.Subscribe (kept (λ a. a) (asked_of m.subs items))) (started (channels_of config (take p h)) whole_room x.1)) (record m { pending = None })) (CausesAt p))
           (λ i. (sym mark i, e i))
           (begins_after r m.subs items (record m { pending = None }) p q.subs (record { config = q.config; subs = q.subs; unheard = q.unheard }) le top))
 
@@ -326,7 +326,7 @@ module _ (config : Config) (h : List Entry) (last : ℕ) (sent : List Outgoing) 
     small_channel : (c : ℤ) → IsChannel config c → mag c < 2 ^ 63
     small_channel c is = let e : mag c ≡ is.0 = ap mag is.1 in let f = is.2 in omega (arith, e, f, small)
 
-    late_after : (p mark upto : ℕ) (changes : List ChannelChange) → last ≤ p → config.lag < lag (dues_at p) → After config h p sent s (on_told unread (news_told (Some (Lagged (lag (dues_at p)))) mark changes s.subs) (record s { pending = None })) (CausesAt p)
+    late_after : (p mark upto : ℕ) (changes : List ChannelChange) → last ≤ p → config.lag < lag (dues_at p) → After config h p sent s (on_subscriptions_answered unread (news_told (Some (Lagged (lag (dues_at p)))) mark changes s.subs) (record s { pending = None })) (CausesAt p)
     late_after p mark upto changes le late =
         let m : State = record s { pending = None } in
         let cause : StopCause = Lagged (lag (dues_at p)) in
@@ -339,7 +339,7 @@ module _ (config : Config) (h : List Entry) (last : ℕ) (sent : List Outgoing) 
         (all_stopped (reason_of cause) c s.subs.subs k on.apart (all-weaker (IsKnown config p) (λ (x : Sub). mag x.channel < 2 ^ 63) (λ x i. small_channel x.channel i.1) s.subs.subs on.known)))
 
     told_after : (p : ℕ) → last ≤ p → p ≤ length h
-        → After config h p sent s (on_told unread (news_told None (s.subs.cursor + length (come config h stay due each p s.subs)) (joined (come config h stay due each p s.subs)) s.subs) (record s { pending = None })) (CausesAt p)
+        → After config h p sent s (on_subscriptions_answered unread (news_told None (s.subs.cursor + length (come config h stay due each p s.subs)) (joined (come config h stay due each p s.subs)) s.subs) (record s { pending = None })) (CausesAt p)
     told_after p le top =
         let m : State = record s { pending = None } in
         let v : Subbed = s.subs in
@@ -349,7 +349,7 @@ module _ (config : Config) (h : List Entry) (last : ℕ) (sent : List Outgoing) 
         (news_keep config h stay due each p last v top le flowing.keeps)
         (subst (AllByRecursion (λ (x : Saying). stops x.message ≡ false)) (sym all) (notes_no_stop (news_of config h stay due each p v)))
         (λ c k part told.
-        subst (λ l. Flow h (told_on config h stay due each p v) c (hear_parts c k (parts_of m.limit m.number m.blobs l)) × ((hear_parts c k (parts_of m.limit m.number m.blobs l)).stops ≡ k.stops)) (sym all)
+        subst (λ l. Flow h (told_on config h stay due each p v) c (hear_parts c k (cut_all m.limit m.number m.blobs l)) × ((hear_parts c k (cut_all m.limit m.number m.blobs l)).stops ≡ k.stops)) (sym all)
         (news_heard config h stay due each p last m.limit m.number m.blobs v c k top le flowing.keeps part told))
         (λ c x e. e)
 
@@ -373,11 +373,11 @@ module _ (config : Config) (h : List Entry) (last : ℕ) (sent : List Outgoing) 
             → goal p (record { mark = length (take p h); reply = if b then answer.News (length (take p h)) (lag (dues_at p)) [] else answer.News (s.subs.cursor + length (taken 0 0 (dues_at p))) (lag (dues_at p)) (joined (taken 0 0 (dues_at p))) })
         by p le top true e =
             let late : config.lag < lag (dues_at p) = grind (arith, nat_tests, e) in
-            subst (λ (o : Option StopCause). After config h p sent s (on_told unread (news_told o (length (take p h)) [] s.subs) (record s { pending = None })) (CausesAt p))
+            subst (λ (o : Option StopCause). After config h p sent s (on_subscriptions_answered unread (news_told o (length (take p h)) [] s.subs) (record s { pending = None })) (CausesAt p))
             (sym (cause_of (lag (dues_at p)) true e)) (late_after p (length (take p h)) 0 [] le late)
         by p le top false e =
             subst (λ (o : Option StopCause). After config h p sent s
-            (on_told unread (news_told o (s.subs.cursor + length (taken 0 0 (dues_at p))) (joined (taken 0 0 (dues_at p))) s.subs) (record s { pending = None })) (CausesAt p))
+            (on_subscriptions_answered unread (news_told o (s.subs.cursor + length (taken 0 0 (dues_at p))) (joined (taken 0 0 (dues_at p))) s.subs) (record s { pending = None })) (CausesAt p))
             (sym (cause_of (lag (dues_at p)) false e)) (told_after p le top)
 
     pub polling_leads : (front : ℕ) → GoesTo (on_poll (news_call s.subs front) s)

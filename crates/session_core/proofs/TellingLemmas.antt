@@ -29,7 +29,7 @@ use Rattle.session_core.specs.declared.state.Addressee.TheVariants as to
 use Rattle.session_core.specs.declared.state.Part.{Part}
 use Rattle.session_core.specs.declared.state.Saying.{Saying}
 use Rattle.session_core.specs.Granting.{HasNews}
-use Rattle.session_core.specs.Sending.{blobs_after, parts_of}
+use Rattle.session_core.specs.Sending.{blobs_after, cut_all}
 use Rattle.session_core.specs.Streams.{Heard, gathers, hear_message, point_in, points_in}
 use Rattle.session_core.proofs.HearingLemmas.{gathered, hear_parts, hear_whole, notice_parts}
 use Rattle.session_core.proofs.MessagePartLemmas.{all_map}
@@ -115,10 +115,10 @@ abbrev pub AreSolid : List ChannelChange → Type 0
 AreSolid xs = AllByRecursion (λ (x : ChannelChange). HasNews x.what) xs
 
 pub notes_heard : (limit number blobs : ℕ) (c : ℤ) (xs : List ChannelChange) (k : Heard) → AreSolid xs → k.part ≡ []
-    → hear_parts c k (parts_of limit number blobs (map note xs)) ≡ with_told (of_channel c xs) k
+    → hear_parts c k (cut_all limit number blobs (map note xs)) ≡ with_told (of_channel c xs) k
 notes_heard limit number blobs c [] k solid e = no_more k e
 notes_heard limit number blobs c (x ∷ xs) k solid e =
-    let later : List Part = parts_of limit number (blobs_after limit blobs (note x).message) (map note xs) in
+    let later : List Part = cut_all limit number (blobs_after limit blobs (note x).message) (map note xs) in
     let more : Heard = with_told (of_channel c (x ∷ [])) k in
     notice_parts c (parts limit number blobs (note x).message) later k
     ∙ ap (λ j. hear_parts c j later) (note_whole limit number blobs c x.at x.channel x.what k solid.0 e (int_eq x.channel c) refl ∙ ap (λ ws. with_told ws k) (one_of c x (int_eq x.channel c) refl))

@@ -52,7 +52,7 @@ use Rattle.session_core.specs.declared.state.Request.{Request}
 use Rattle.session_core.specs.declared.state.StagedPending.TheVariants as staged
 use Rattle.session_core.specs.State.{State}
 use Rattle.session_core.specs.Arriving.{request_of}
-use Rattle.session_core.specs.Machine.{Taken, accepting, acknowledged, arrays_kept, asks, by_event, by_phase, given, given_to, join_code, may_acknowledge, no_call, objects_kept, on_arrays, on_arrays_answered, on_core, on_dataspaces, on_join, on_joined, on_loaded, on_loads_by, on_message, on_objects, on_objects_answered, on_ping, on_protocol, on_received, on_request_session, on_row, on_store, on_subscriptions, on_transactions_by, on_whole, opened, protocol_refusal, put_request, refuses, unread}
+use Rattle.session_core.specs.Machine.{Taken, accepting, acknowledged, arrays_kept, asks, by_event, by_phase, given, given_to, join_code, may_acknowledge, no_call, objects_kept, on_arrays, on_arrays_answered, on_core, on_dataspaces, on_join, on_joined, on_loads_answered, on_loads_by, on_message, on_objects, on_objects_answered, on_ping, on_protocol, on_received, on_request_session, on_row, on_store, on_subscriptions, on_transactions_by, on_whole, opened, protocol_refusal, put_request, refuses, unread}
 use Rattle.session_core.specs.Noting.{noting, reply_noted}
 use Rattle.session_core.specs.Replies.{receipt, refusal, sayings_of, to_request}
 use Rattle.session_core.specs.Sending.{said}
@@ -87,7 +87,7 @@ arrays_quiet : (s : State) (r : Request) (x : ArraysAnswered) (m : State) → Hu
 arrays_quiet s r x m q =
     hushed_said r (sayings_of message.DataArray x.sendings) s (record m { stage = x.stage }) (quiet_sayings message.DataArray (λ y. (refl, refl)) x.sendings) (record { config = q.config; subs = q.subs; unheard = q.unheard })
 
-loads_quiet : (s : State) (r : Request) (x : Loaded) (m : State) → Hushed s m → Hushed s (on_loaded r x m)
+loads_quiet : (s : State) (r : Request) (x : Loaded) (m : State) → Hushed s m → Hushed s (on_loads_answered r x m)
 loads_quiet s r x m q =
     hushed_said r (sayings_of message.ChannelDataLoad x.sendings) s (record m { opens = x.opens }) (quiet_sayings message.ChannelDataLoad (λ y. (refl, refl)) x.sendings) (record { config = q.config; subs = q.subs; unheard = q.unheard })
 

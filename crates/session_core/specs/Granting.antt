@@ -37,7 +37,7 @@ use Rattle.session_core.specs.Arriving.{Event, Receives, Polls, request_of}
 use Rattle.session_core.specs.Machine.{unread}
 use Rattle.session_core.specs.Replies.{receipt, sayings_of}
 use Rattle.session_core.specs.Run.{run}
-use Rattle.session_core.specs.Sending.{is_spent, numbered, parts_of}
+use Rattle.session_core.specs.Sending.{cut_all, is_spent, numbered}
 use Rattle.etp_values.specs.Rising.{Rises}
 use Rattle.session_core.specs.Streams.{HasIds, is_spent_course}
 
@@ -129,10 +129,10 @@ pub record IsSent (matter : Matter) (sent : List Outgoing) : Type 0 where
   pub second : ℕ
   pub receipts : List Outgoing
   pub received : AllByRecursion IsReceipt receipts
-  pub reaches : is_spent first (parts_of limit number blobs (first_in matter)) ≡ false
-  pub reaches_changes : is_spent second (parts_of limit number more_blobs (sayings_of message.ChannelSubscribe (map notice (changes_in matter)))) ≡ false
-  pub is : sent ≡ receipts ++ (numbered (request_in matter) first (parts_of limit number blobs (first_in matter))
-      ++ numbered (request_in matter) second (parts_of limit number more_blobs (sayings_of message.ChannelSubscribe (map notice (changes_in matter)))))
+  pub reaches : is_spent first (cut_all limit number blobs (first_in matter)) ≡ false
+  pub reaches_changes : is_spent second (cut_all limit number more_blobs (sayings_of message.ChannelSubscribe (map notice (changes_in matter)))) ≡ false
+  pub is : sent ≡ receipts ++ (numbered (request_in matter) first (cut_all limit number blobs (first_in matter))
+      ++ numbered (request_in matter) second (cut_all limit number more_blobs (sayings_of message.ChannelSubscribe (map notice (changes_in matter)))))
 
 -- ---- what it means
 

@@ -278,11 +278,11 @@ on_objects_answered r a s = said r (sayings_of message.Store a.sendings) (record
 abbrev pub on_arrays_answered : Request → ArraysAnswered → State → State
 on_arrays_answered r a s = said r (sayings_of message.DataArray a.sendings) (record s { stage = a.stage })
 
-abbrev pub on_loaded : Request → Loaded → State → State
-on_loaded r l s = said r (sayings_of message.ChannelDataLoad l.sendings) (record s { opens = l.opens })
+abbrev pub on_loads_answered : Request → Loaded → State → State
+on_loads_answered r l s = said r (sayings_of message.ChannelDataLoad l.sendings) (record s { opens = l.opens })
 
-abbrev pub on_told : Request → Told → State → State
-on_told r t s = said r (sayings_of message.ChannelSubscribe t.sendings) (record s { subs = t.subs })
+abbrev pub on_subscriptions_answered : Request → Told → State → State
+on_subscriptions_answered r t s = said r (sayings_of message.ChannelSubscribe t.sendings) (record s { subs = t.subs })
 
 -- the same for a request in a transaction
 abbrev pub on_noted : Request → StagedPending → Reply → State → State
@@ -301,8 +301,8 @@ given_to (Some (pending.Objects r p)) a s = on_objects_answered r (object_reply 
 given_to (Some (pending.Arrays r p)) a s = on_arrays_answered r (array_reply s.limit s.stage p a.reply) s
 given_to (Some (pending.Staged r keys p)) a s = on_staged_answered r keys p a s
 given_to (Some (pending.Transactions r p)) a s = said r (sayings_of message.Transaction (transaction_reply p a.reply)) s
-given_to (Some (pending.Loads r p)) a s = on_loaded r (load_reply s.config.channels s.opens p a.reply) s
-given_to (Some (pending.Subscriptions r p)) a s = on_told r (subscribe_reply s.config.channels s.config.lag s.subs p a) s
+given_to (Some (pending.Loads r p)) a s = on_loads_answered r (load_reply s.config.channels s.opens p a.reply) s
+given_to (Some (pending.Subscriptions r p)) a s = on_subscriptions_answered r (subscribe_reply s.config.channels s.config.lag s.subs p a) s
 
 -- the second half step: what the store's answer makes of a session
 abbrev pub given : State → Answer → State

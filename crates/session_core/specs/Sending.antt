@@ -55,9 +55,9 @@ abbrev pub blobs_after : ℕ → ℕ → Message → ℕ
 blobs_after limit blobs m = min (blobs + blobs_in limit m) (2 ^ 64 - 1)
 
 -- the parts of all that is sent, in a session of this number, if parts have at most `limit` bytes and this many blobs were sent
-abbrev pub parts_of : ℕ → ℕ → ℕ → List Saying → List Part
-parts_of limit number blobs [] = []
-parts_of limit number blobs (x ∷ xs) = ended x.to (parts limit number blobs x.message) ++ parts_of limit number (blobs_after limit blobs x.message) xs
+abbrev pub cut_all : ℕ → ℕ → ℕ → List Saying → List Part
+cut_all limit number blobs [] = []
+cut_all limit number blobs (x ∷ xs) = ended x.to (parts limit number blobs x.message) ++ cut_all limit number (blobs_after limit blobs x.message) xs
 
 -- how many blobs were sent after all that
 abbrev pub blobs_sent : ℕ → ℕ → List Saying → ℕ
@@ -125,7 +125,7 @@ spent_phase false p = p
 -- the state after this was sent to a request, or as notices
 abbrev pub said : Request → List Saying → State → State
 said r sayings s =
-    let ps = parts_of s.limit s.number s.blobs sayings in
+    let ps = cut_all s.limit s.number s.blobs sayings in
     record s {
       phase = spent_phase (is_spent s.next_id ps) s.phase;
       next_id = next_after s.next_id ps;

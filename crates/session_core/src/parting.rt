@@ -1,7 +1,7 @@
 //! What is sent, cut into parts.
 ghost use Rattle.std.specs.Prelude.{◌≡◌, ◌++◌, IfOk, OnOk};
 ghost use Rattle.etp_frame.specs.Splitting.{parts as cut};
-ghost use Rattle.session_core.specs.Sending.{blobs_after, blobs_sent, ended, parts_of};
+ghost use Rattle.session_core.specs.Sending.{blobs_after, blobs_sent, cut_all, ended};
 
 use crate::state::{Addressee, Part, Saying};
 use etp_frame::{Message, blobs_in, split};
@@ -59,14 +59,14 @@ fn push_parts(
 }
 
 /// The parts of all that is sent, in a session of this number, if parts have at most `limit` bytes and `blobs` blobs were sent before.
-pub(crate) fn parts_of(
+pub(crate) fn cut_all(
     alloc: Global,
     limit: u64,
     number: u64,
     blobs: u64,
     sayings: List<Saying>,
 ) -> Result<Parted, NoMemory>
-    ensures parts { IfOk result (λ p. p.parts ≡ parts_of limit number blobs sayings) }
+    ensures parts { IfOk result (λ p. p.parts ≡ cut_all limit number blobs sayings) }
     ensures blobs { IfOk result (λ p. p.blobs ≡ blobs_sent limit blobs sayings) }
 {
     let mut parts = Vec::new(alloc);

@@ -76,10 +76,10 @@ use Rattle.session_core.specs.declared.state.StagedPending.TheVariants as staged
 use Rattle.session_core.specs.State.{State}
 use Rattle.session_core.specs.Arriving.{Event, request_of}
 use Rattle.session_core.specs.Granting.{IsAside, IsMatter, IsPoll, IsRead, IsReceipt, IsSent, IsToldTo, Matter, Aside, Begins, Ends, Stops, Tells, changes_in, first_in, request_in, speaks, subscribe_speaks}
-use Rattle.session_core.specs.Machine.{Taken, accepting, acknowledged, arrays_kept, asks, by_event, by_phase, given, given_to, join_code, may_acknowledge, no_call, objects_kept, on_arrays, on_arrays_answered, on_core, on_dataspaces, on_join, on_joined, on_loads_by, on_message, on_objects, on_objects_answered, on_ping, on_poll, on_protocol, on_received, on_request_session, on_row, on_store, on_subscriptions, on_subscriptions_by, on_told, on_transactions_by, on_whole, opened, protocol_refusal, put_request, refuses, unread}
+use Rattle.session_core.specs.Machine.{Taken, accepting, acknowledged, arrays_kept, asks, by_event, by_phase, given, given_to, join_code, may_acknowledge, no_call, objects_kept, on_arrays, on_arrays_answered, on_core, on_dataspaces, on_join, on_joined, on_loads_by, on_message, on_objects, on_objects_answered, on_ping, on_poll, on_protocol, on_received, on_request_session, on_row, on_store, on_subscriptions, on_subscriptions_answered, on_subscriptions_by, on_transactions_by, on_whole, opened, protocol_refusal, put_request, refuses, unread}
 use Rattle.session_core.specs.Noting.{noting, reply_noted}
 use Rattle.session_core.specs.Replies.{receipt, refusal, sayings_of, to_request}
-use Rattle.session_core.specs.Sending.{blobs_sent, is_spent, max_id, next_after, numbered, outgoing, parts_of, replies_in, said}
+use Rattle.session_core.specs.Sending.{blobs_sent, cut_all, is_spent, max_id, next_after, numbered, outgoing, replies_in, said}
 use Rattle.session_core.specs.Streams.{is_spent_phase}
 use Rattle.subscribe_core.proofs.SubLemmas.{absent-others}
 use Rattle.session_laws.proofs.DecidingLemmas.{AreFair, Decides, all_decide}
@@ -139,7 +139,7 @@ sent_both matter m received reaches =
     let ys : List Saying = notices_of (changes_in matter) in
     let blobs : ℕ = blobs_sent m.limit m.blobs xs in
     let split = parts_append m.limit m.number m.blobs xs ys in
-    let both = numbered_split r m.next_id (parts_in m xs) (parts_of m.limit m.number blobs ys) (notices_replies m.limit m.number blobs (changes_in matter)) (ap (is_spent m.next_id) (sym split) ∙ reaches) in
+    let both = numbered_split r m.next_id (parts_in m xs) (cut_all m.limit m.number blobs ys) (notices_replies m.limit m.number blobs (changes_in matter)) (ap (is_spent m.next_id) (sym split) ∙ reaches) in
     record {
       limit = m.limit;
       number = m.number;
@@ -333,11 +333,11 @@ module _ (e : Event) (v : Subbed) where
   replies_lead : (r : Request) (sendings : List (Sending ChannelSubscribeMessage)) (m : State) → AllByRecursion IsAside (sayings_of message.ChannelSubscribe sendings) → IsQuiet v m → LeadsTo (on_subscriptions_by r (Replies sendings) m)
   replies_lead r sendings m aside q = aside_leads r (sayings_of message.ChannelSubscribe sendings) m aside q
 
-  told_aside : (r : Request) (t : Told) (m : State) → t.subs ≡ v → AllByRecursion IsAside (sayings_of message.ChannelSubscribe t.sendings) → IsQuiet v m → LiveState (on_told r t m) → Says e v (on_told r t m)
+  told_aside : (r : Request) (t : Told) (m : State) → t.subs ≡ v → AllByRecursion IsAside (sayings_of message.ChannelSubscribe t.sendings) → IsQuiet v m → LiveState (on_subscriptions_answered r t m) → Says e v (on_subscriptions_answered r t m)
   told_aside r t m same aside q live = aside_says e v r (sayings_of message.ChannelSubscribe t.sendings) (record m { subs = t.subs }) aside (record { subs = same; out = q.out }) live
 
   metadata_says : (defs : List ChannelDef) (limit : ℕ) (r : Request) (items : List (List ℕ × Decision (Unit {0}))) (mark : ℕ) (a : StoreReply) (m : State) → IsQuiet v m
-      → LiveState (on_told r (replied defs limit mark m.subs (keeps_subscription.Metadata items) a) m) → Says e v (on_told r (replied defs limit mark m.subs (keeps_subscription.Metadata items) a) m)
+      → LiveState (on_subscriptions_answered r (replied defs limit mark m.subs (keeps_subscription.Metadata items) a) m) → Says e v (on_subscriptions_answered r (replied defs limit mark m.subs (keeps_subscription.Metadata items) a) m)
   metadata_says defs limit r items mark (answer.Metas metas) m q live = told_aside r (replied defs limit mark m.subs (keeps_subscription.Metadata items) (answer.Metas metas)) m q.subs (aside_replies metadata_response (λ g. refl) _ _) q live
   metadata_says defs limit r items mark (answer.Points points) m q live = told_aside r (replied defs limit mark m.subs (keeps_subscription.Metadata items) (answer.Points points)) m q.subs tt q live
   metadata_says defs limit r items mark (answer.Started started) m q live = told_aside r (replied defs limit mark m.subs (keeps_subscription.Metadata items) (answer.Started started)) m q.subs tt q live
@@ -346,7 +346,7 @@ module _ (e : Event) (v : Subbed) where
   metadata_says defs limit r items mark a m q live = told_aside r (replied defs limit mark m.subs (keeps_subscription.Metadata items) a) m q.subs tt q live
 
   ranges_says : (defs : List ChannelDef) (limit : ℕ) (r : Request) (mark : ℕ) (a : StoreReply) (m : State) → IsQuiet v m
-      → LiveState (on_told r (replied defs limit mark m.subs keeps_subscription.Ranges a) m) → Says e v (on_told r (replied defs limit mark m.subs keeps_subscription.Ranges a) m)
+      → LiveState (on_subscriptions_answered r (replied defs limit mark m.subs keeps_subscription.Ranges a) m) → Says e v (on_subscriptions_answered r (replied defs limit mark m.subs keeps_subscription.Ranges a) m)
   ranges_says defs limit r mark (answer.Metas metas) m q live = told_aside r (replied defs limit mark m.subs keeps_subscription.Ranges (answer.Metas metas)) m q.subs tt q live
   ranges_says defs limit r mark (answer.Points points) m q live = told_aside r (replied defs limit mark m.subs keeps_subscription.Ranges (answer.Points points)) m q.subs ((refl, refl), tt) q live
   ranges_says defs limit r mark (answer.Started started) m q live = told_aside r (replied defs limit mark m.subs keeps_subscription.Ranges (answer.Started started)) m q.subs tt q live
@@ -418,7 +418,7 @@ module _ (e : Event) (v : Subbed) where
   told_started mark w x rs = started_reply mark w (keeps_subscription.Subscribe (kept (λ a. a) (asked_of w x))) rs
 
   begun_say : (hd : Header) (x : SubscribeChannels) (m : State) (mark : ℕ) (rs : List (List ℕ × StartReply)) → IsSubscribe hd x → AllByRecursion IsReceipt m.out → AreFair (sent_keys (λ a. a) (asked_of v x)) rs
-      → LiveState (on_told (request_of hd) (told_started mark v x rs) m) → Says e v (on_told (request_of hd) (told_started mark v x rs) m)
+      → LiveState (on_subscriptions_answered (request_of hd) (told_started mark v x rs) m) → Says e v (on_subscriptions_answered (request_of hd) (told_started mark v x rs) m)
   begun_say hd x m mark rs read received fair live =
       let ds : List (List ℕ × Decision StartAsk) = kept (λ a. a) (asked_of v x) in
       let b : Beginning = finished_state (begin_one mark) 1 (beginning v) ds rs in
@@ -436,16 +436,16 @@ module _ (e : Event) (v : Subbed) where
       }
 
   begins_say : (hd : Header) (x : SubscribeChannels) (w : Subbed) (m : State) (mark : ℕ) (rs : List (List ℕ × StartReply)) → IsSubscribe hd x → w ≡ v → IsQuiet v m → AreFair (sent_keys (λ a. a) (asked_of w x)) rs
-      → LiveState (on_told (request_of hd) (told_started mark w x rs) m) → Says e v (on_told (request_of hd) (told_started mark w x rs) m)
+      → LiveState (on_subscriptions_answered (request_of hd) (told_started mark w x rs) m) → Says e v (on_subscriptions_answered (request_of hd) (told_started mark w x rs) m)
   begins_say hd x w m mark rs read is q =
-      subst (λ (y : Subbed). AreFair (sent_keys (λ a. a) (asked_of y x)) rs → LiveState (on_told (request_of hd) (told_started mark y x rs) m) → Says e v (on_told (request_of hd) (told_started mark y x rs) m)) (sym is)
+      subst (λ (y : Subbed). AreFair (sent_keys (λ a. a) (asked_of y x)) rs → LiveState (on_subscriptions_answered (request_of hd) (told_started mark y x rs) m) → Says e v (on_subscriptions_answered (request_of hd) (told_started mark y x rs) m)) (sym is)
       (begun_say hd x m mark rs read q.out)
 
   abbrev told_by : List ChannelDef → ℕ → ℕ → State → SubscribeChannels → StoreReply → Told
   told_by defs limit mark m x a = replied defs limit mark m.subs (keeps_subscription.Subscribe (kept (λ a. a) (asked_of m.subs x))) a
 
   subscribed_says : (defs : List ChannelDef) (limit : ℕ) (hd : Header) (x : SubscribeChannels) (mark : ℕ) (a : StoreReply) (m : State) → IsSubscribe hd x → IsQuiet v m → FairReply (sent_keys (λ a. a) (asked_of m.subs x)) a
-      → LiveState (on_told (request_of hd) (told_by defs limit mark m x a) m) → Says e v (on_told (request_of hd) (told_by defs limit mark m x a) m)
+      → LiveState (on_subscriptions_answered (request_of hd) (told_by defs limit mark m x a) m) → Says e v (on_subscriptions_answered (request_of hd) (told_by defs limit mark m x a) m)
   subscribed_says defs limit hd x mark (answer.Metas metas) m read q fair live = told_aside (request_of hd) (told_by defs limit mark m x (answer.Metas metas)) m q.subs tt q live
   subscribed_says defs limit hd x mark (answer.Points points) m read q fair live = told_aside (request_of hd) (told_by defs limit mark m x (answer.Points points)) m q.subs tt q live
   subscribed_says defs limit hd x mark (answer.Started rs) m read q fair live = begins_say hd x m.subs m mark rs read q.subs q fair live
@@ -542,10 +542,10 @@ told_all w xs = told_both w (flat_map (told w.subs) xs) (solid_told w.subs xs) (
 
 module _ (e : Event) (v : Subbed) (poll : IsPoll e) (none : v.pending ≡ []) where
   abbrev News : List ChannelDef → ℕ → ℕ → State → StoreReply → State
-  News defs limit mark m a = on_told unread (replied defs limit mark m.subs keeps_subscription.News a) m
+  News defs limit mark m a = on_subscriptions_answered unread (replied defs limit mark m.subs keeps_subscription.News a) m
 
   abbrev told_news : Option StopCause → ℕ → List ChannelChange → State → State
-  told_news cause upto changes m = on_told unread (news_told cause upto changes m.subs) m
+  told_news cause upto changes m = on_subscriptions_answered unread (news_told cause upto changes m.subs) m
 
   stops_say : (lag upto : ℕ) (changes : List ChannelChange) (m : State) → IsQuiet v m → LiveState (told_news (Some (Lagged lag)) upto changes m) → Says e v (told_news (Some (Lagged lag)) upto changes m)
   stops_say lag upto changes m q live =

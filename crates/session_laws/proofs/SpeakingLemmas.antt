@@ -21,7 +21,7 @@ use Rattle.session_core.specs.declared.state.Request.{Request}
 use Rattle.session_core.specs.declared.state.Saying.{Saying}
 use Rattle.session_core.specs.Granting.{IsAside, some_key, speaks, subscribe_speaks}
 use Rattle.session_core.specs.Replies.{sayings_of}
-use Rattle.session_core.specs.Sending.{blobs_after, blobs_sent, ended, is_spent, max_id, next_after, numbered, outgoing, parts_of, replies_in}
+use Rattle.session_core.specs.Sending.{blobs_after, blobs_sent, cut_all, ended, is_spent, max_id, next_after, numbered, outgoing, replies_in}
 use Rattle.session_core.proofs.TellingLemmas.{note}
 use Rattle.session_core.proofs.MessagePartLemmas.{all_map, array_each, core_each, load_each, object_each, space_each}
 
@@ -62,10 +62,10 @@ ended_silent a [] all = tt
 ended_silent a (x ∷ []) all = (all.0, tt)
 ended_silent a (x ∷ y ∷ ms) all = (all.0, ended_silent a (y ∷ ms) all.1)
 
-said_silent : (limit number blobs : ℕ) (xs : List Saying) → AllByRecursion IsAside xs → AllByRecursion (λ (p : Part). speaks p.message ≡ false) (parts_of limit number blobs xs)
+said_silent : (limit number blobs : ℕ) (xs : List Saying) → AllByRecursion IsAside xs → AllByRecursion (λ (p : Part). speaks p.message ≡ false) (cut_all limit number blobs xs)
 said_silent limit number blobs [] all = tt
 said_silent limit number blobs (x ∷ xs) all =
-    all-append (λ (p : Part). speaks p.message ≡ false) (ended x.to (parts limit number blobs x.message)) (parts_of limit number (blobs_after limit blobs x.message) xs)
+    all-append (λ (p : Part). speaks p.message ≡ false) (ended x.to (parts limit number blobs x.message)) (cut_all limit number (blobs_after limit blobs x.message) xs)
     (ended_silent x.to (parts limit number blobs x.message) (parts_silent limit number blobs x.message all.0.0))
     (said_silent limit number (blobs_after limit blobs x.message) xs all.1)
 
@@ -79,8 +79,8 @@ numbered_each r id (p ∷ ps) all = by (nat_le id max_id) (numbered_each r (id +
     by false rest = tt
 
 -- what is said aside is sent so
-pub numbered_silent : (r : Request) (id limit number blobs : ℕ) (xs : List Saying) → AllByRecursion IsAside xs → AllByRecursion (λ (o : Outgoing). speaks o.message ≡ false) (numbered r id (parts_of limit number blobs xs))
-numbered_silent r id limit number blobs xs all = numbered_each r id (parts_of limit number blobs xs) (said_silent limit number blobs xs all)
+pub numbered_silent : (r : Request) (id limit number blobs : ℕ) (xs : List Saying) → AllByRecursion IsAside xs → AllByRecursion (λ (o : Outgoing). speaks o.message ≡ false) (numbered r id (cut_all limit number blobs xs))
+numbered_silent r id limit number blobs xs all = numbered_each r id (cut_all limit number blobs xs) (said_silent limit number blobs xs all)
 
 -- ---- in two pieces
 
@@ -106,11 +106,11 @@ numbered_split r id (p ∷ ps) qs none e = by (nat_le id max_id) e (λ f. number
     by true e rest = let f = rest e in (f.0, f.1, (λ i. outgoing r id (same i) p ∷ f.2 i))
     by false e rest = absurd (cc e)
 
-pub parts_append : (limit number blobs : ℕ) (xs ys : List Saying) → parts_of limit number blobs (xs ++ ys) ≡ parts_of limit number blobs xs ++ parts_of limit number (blobs_sent limit blobs xs) ys
+pub parts_append : (limit number blobs : ℕ) (xs ys : List Saying) → cut_all limit number blobs (xs ++ ys) ≡ cut_all limit number blobs xs ++ cut_all limit number (blobs_sent limit blobs xs) ys
 parts_append limit number blobs [] ys = refl
 parts_append limit number blobs (x ∷ xs) ys =
     ap (λ l. ended x.to (parts limit number blobs x.message) ++ l) (parts_append limit number (blobs_after limit blobs x.message) xs ys)
-    ∙ sym (append_assoc (ended x.to (parts limit number blobs x.message)) (parts_of limit number (blobs_after limit blobs x.message) xs) (parts_of limit number (blobs_sent limit (blobs_after limit blobs x.message) xs) ys))
+    ∙ sym (append_assoc (ended x.to (parts limit number blobs x.message)) (cut_all limit number (blobs_after limit blobs x.message) xs) (cut_all limit number (blobs_sent limit (blobs_after limit blobs x.message) xs) ys))
 
 -- ---- notices are not replies
 
@@ -119,12 +119,12 @@ ended_replies [] = refl
 ended_replies (m ∷ []) = refl
 ended_replies (m ∷ n ∷ ms) = let rest : replies_in (ended to.Nobody (n ∷ ms)) ≡ 0 = ended_replies (n ∷ ms) in omega (arith, rest)
 
-pub notices_replies : (limit number blobs : ℕ) (cs : List ChannelChange) → replies_in (parts_of limit number blobs (sayings_of message.ChannelSubscribe (map notice cs))) ≡ 0
+pub notices_replies : (limit number blobs : ℕ) (cs : List ChannelChange) → replies_in (cut_all limit number blobs (sayings_of message.ChannelSubscribe (map notice cs))) ≡ 0
 notices_replies limit number blobs [] = refl
 notices_replies limit number blobs (c ∷ cs) =
     let x : Saying = note c in
     let first : List Part = ended to.Nobody (parts limit number blobs x.message) in
-    let later : List Part = parts_of limit number (blobs_after limit blobs x.message) (sayings_of message.ChannelSubscribe (map notice cs)) in
+    let later : List Part = cut_all limit number (blobs_after limit blobs x.message) (sayings_of message.ChannelSubscribe (map notice cs)) in
     let f = replies_append first later in
     let g = ended_replies (parts limit number blobs x.message) in
     let k = notices_replies limit number (blobs_after limit blobs x.message) cs in

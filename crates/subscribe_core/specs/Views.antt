@@ -9,7 +9,7 @@ use Rattle.channel_store.specs.declared.change.ChannelChange.{ChannelChange}
 use Rattle.channel_store.specs.Points.{at_most, past, view}
 use Rattle.channel_store.specs.Told.{told_by}
 use Rattle.channel_store.specs.declared.subscription.Sub.{Sub}
-use Rattle.subscribe_core.specs.declared.outgoing.Outgoing.{Outgoing}
+use Rattle.subscribe_core.specs.declared.told_change.ToldChange.{ToldChange}
 
 -- ---- by the definition
 
@@ -40,7 +40,7 @@ clipped start skip from end (Replace first last points) = Replace from end (past
 clipped start skip from end (Truncate last) = Truncate end
 
 -- the change that is sent
-abbrev pub shown : Outgoing → ChannelChange
+abbrev pub shown : ToldChange → ChannelChange
 shown o = record o.change { what = clipped o.start o.skip o.from o.end o.change.what }
 
 -- how many of the first points are below a start
@@ -49,7 +49,7 @@ below start [] = 0
 below start (x ∷ xs) = if at_most start x.index then 0 else suc (below start xs)
 
 -- this many are skipped
-abbrev pub IsExact : Outgoing → Type 0
+abbrev pub IsExact : ToldChange → Type 0
 IsExact o = o.skip ≡ below o.start (told_by o.change.what)
 
 -- what is there, as a list
@@ -63,6 +63,6 @@ IsTold start [] = Unit {0}
 IsTold start (x ∷ xs) = at_most start x.index ≡ true
 
 -- what holds for the changes that are still to be sent, and for the room for them
-pub record IsPending (items : List Outgoing) (capacity : ℕ) : Type 0 where
+pub record IsPending (items : List ToldChange) (capacity : ℕ) : Type 0 where
   pub room : capacity ≡ 256
   pub exact : AllByRecursion IsExact items

@@ -3,7 +3,7 @@ ghost use Rattle.std.specs.Prelude.{◌≡◌, ◌<◌, ◌≤◌, ◌+◌, ◌-
 ghost use Rattle.std.specs.List.{flat_map};
 ghost use Rattle.subscribe_core.specs.Views.{IsExact, shown, told};
 
-use crate::outgoing::{Outgoing, told};
+use crate::told_change::{ToldChange, told};
 use channel_store::{ChannelChange, Sub};
 use circular_buffer::HeapCircularBuffer;
 use etp_values::NoMemory;
@@ -16,7 +16,7 @@ pub const MAX_PENDING: u32 = 256;
 /// Changes to be sent, first change first, in a ring that is allocated at once. A contract sees them as they are sent.
 #[derive(Drop)]
 pub(crate) struct Pending {
-    ring: HeapCircularBuffer<Outgoing>,
+    ring: HeapCircularBuffer<ToldChange>,
 }
 
 impl Model for Pending {
@@ -51,7 +51,7 @@ impl Pending {
     }
 
     /// Takes the first change out.
-    pub(crate) fn pop(&mut self) -> Option<Outgoing>
+    pub(crate) fn pop(&mut self) -> Option<ToldChange>
         ensures first { option_map shown result ≡ slice_get self.old 0 }
         ensures rest { self.new ≡ drop 1 self.old }
         ensures exact { IfSome result IsExact }
@@ -59,12 +59,12 @@ impl Pending {
         self.ring.pop_front()
     }
 
-    fn push(&mut self, outgoing: Outgoing)
+    fn push(&mut self, told_change: ToldChange)
         requires room { length self.old < 256 }
-        requires exact { IsExact outgoing }
-        ensures { self.new ≡ self.old ++ shown outgoing ∷ [] }
+        requires exact { IsExact told_change }
+        ensures { self.new ≡ self.old ++ shown told_change ∷ [] }
     {
-        let _ = self.ring.push_back(outgoing);
+        let _ = self.ring.push_back(told_change);
     }
 
     /// Adds a change as it is sent.
@@ -73,8 +73,8 @@ impl Pending {
         ensures told { self.new ≡ self.old ++ told subs.now change }
         ensures within { length self.new ≤ length self.old + 1 }
     {
-        if let Some(outgoing) = told(subs, change) {
-            self.push(outgoing);
+        if let Some(told_change) = told(subs, change) {
+            self.push(told_change);
         }
     }
 

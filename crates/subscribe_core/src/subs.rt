@@ -3,10 +3,10 @@ ghost use Rattle.std.specs.Prelude.{◌≡◌, ◌≤◌, ◌+◌, ◌-◌, drop
 ghost use Rattle.subscribe_core.specs.Subscriptions.{asked_from, cleared, filled, has_sub, with_sub, without};
 ghost use Rattle.subscribe_core.specs.Views.{IsExact, shown};
 
-use crate::outgoing::Outgoing;
 pub use crate::pending::MAX_PENDING;
 use crate::pending::Pending;
 use crate::standing::{push, sub_of, take_out};
+use crate::told_change::ToldChange;
 use channel_store::{ChannelChange, Sub};
 use etp_values::{List, NoMemory};
 use std::alloc::Global;
@@ -131,7 +131,7 @@ impl Subs {
     }
 
     /// Takes the first of the pending changes out. It does not allocate.
-    pub fn next(&mut self) -> Option<Outgoing>
+    pub fn next(&mut self) -> Option<ToldChange>
         ensures first { option_map shown result ≡ slice_get self.old.pending 0 }
         ensures rest { self.new ≡ record self.old { pending = drop 1 self.old.pending } }
         ensures exact { IfSome result IsExact }

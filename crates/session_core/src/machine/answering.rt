@@ -4,7 +4,7 @@ ghost use Rattle.array_rows.specs.Arrays.{array_reply};
 ghost use Rattle.channel_rows.specs.Loads.{load_reply};
 ghost use Rattle.channel_rows.specs.Subscriptions.{subscribe_reply};
 ghost use Rattle.session_rows.specs.Objects.{object_reply};
-ghost use Rattle.session_core.specs.Machine.{given_to, on_arrays_answered, on_loaded, on_noted, on_objects_answered, on_staged_answered, on_told};
+ghost use Rattle.session_core.specs.Machine.{given_to, on_arrays_answered, on_loads_answered, on_noted, on_objects_answered, on_staged_answered, on_subscriptions_answered};
 
 use crate::machine::Machine;
 use crate::machine::rows::taken_subs;
@@ -56,10 +56,10 @@ impl Machine {
                 self.say(alloc, &request, sayings)
             }
             Some(Pending::Loads { request, pending }) => {
-                self.on_loaded(alloc, &request, pending, reply_of(answer))
+                self.on_loads_answered(alloc, &request, pending, reply_of(answer))
             }
             Some(Pending::Subscriptions { request, pending }) => {
-                self.on_told(alloc, &request, pending, answer)
+                self.on_subscriptions_answered(alloc, &request, pending, answer)
             }
         }
     }
@@ -139,7 +139,7 @@ impl Machine {
         }
     }
 
-    fn on_loaded(
+    fn on_loads_answered(
         &mut self,
         alloc: Global,
         request: &Request,
@@ -147,7 +147,7 @@ impl Machine {
         reply: Reply,
     ) -> Result<(), NoMemory>
         ensures { let loaded = load_reply self.old.config.channels self.old.opens pending reply in
-            OnOk result (self.new ≡ on_loaded request.now loaded self.old) }
+            OnOk result (self.new ≡ on_loads_answered request.now loaded self.old) }
     {
         let defs = self.config.channels.get();
         let sendings = load_reply(alloc, defs, &mut self.opens, pending, reply)?;
@@ -155,7 +155,7 @@ impl Machine {
         self.say(alloc, request, sayings)
     }
 
-    fn on_told(
+    fn on_subscriptions_answered(
         &mut self,
         alloc: Global,
         request: &Request,
@@ -163,7 +163,7 @@ impl Machine {
         answer: Answer,
     ) -> Result<(), NoMemory>
         ensures { let told = subscribe_reply self.old.config.channels self.old.config.lag self.old.subs pending answer in
-            OnOk result (self.new ≡ on_told request.now told self.old) }
+            OnOk result (self.new ≡ on_subscriptions_answered request.now told self.old) }
     {
         let subs = taken_subs(alloc, self.subs.take())?;
         let defs = self.config.channels.get();

@@ -33,7 +33,7 @@ impl Machine {
                 if is_read_only(&self.stage) {
                     let request = request_of(header);
                     let message = Message::Store(Boxed::new(alloc, message)?);
-                    return self.turn_away(alloc, &request, message, ErrorCode::RequestDenied);
+                    return self.refuse_unread(alloc, &request, message, ErrorCode::RequestDenied);
                 }
                 self.on_join(alloc, header, moment, message)
             }

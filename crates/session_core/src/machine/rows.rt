@@ -72,7 +72,7 @@ impl Machine {
             OnOk result (self.new ≡ (on_protocol why header.now moment message self.old).state) }
     {
         match protocol_refusal(live, self.accepted.as_slice(), header.protocol) {
-            Some(code) => self.turn_away(alloc, &request_of(header), message, code),
+            Some(code) => self.refuse_unread(alloc, &request_of(header), message, code),
             None => self.on_row(alloc, header, moment, message),
         }
     }
@@ -115,7 +115,7 @@ impl Machine {
                 moment,
                 message.into_inner(),
             ),
-            other => self.turn_away(alloc, &request, other, ErrorCode::InvalidMessageType),
+            other => self.refuse_unread(alloc, &request, other, ErrorCode::InvalidMessageType),
         }
     }
 

@@ -4,7 +4,7 @@ ghost use Rattle.session_core.specs.Machine.{refuses, replies_one};
 ghost use Rattle.session_core.specs.Sending.{said};
 
 use crate::machine::Machine;
-use crate::parting::{Parted, parts_of};
+use crate::parting::{Parted, cut_all};
 use crate::replies::{refusal, to_request};
 use crate::state::{End, Phase, Request, Saying};
 use etp_frame::Message;
@@ -14,7 +14,7 @@ use store_machine::StoreCall;
 
 impl Machine {
     /// Refuses a whole message whose content is not looked at.
-    pub(crate) fn turn_away(
+    pub(crate) fn refuse_unread(
         &mut self,
         alloc: Global,
         request: &Request,
@@ -65,13 +65,7 @@ impl Machine {
     ) -> Result<(), NoMemory>
         ensures { OnOk result (self.new ≡ said request.now sayings self.old) }
     {
-        let Parted { parts, blobs } = parts_of(
-            alloc,
-            self.limit,
-            self.number,
-            self.blobs,
-            sayings,
-        )?;
+        let Parted { parts, blobs } = cut_all(alloc, self.limit, self.number, self.blobs, sayings)?;
         self.blobs = blobs;
         let ids = self.out.number(request, self.next_id, parts)?;
         self.next_id = ids.next;

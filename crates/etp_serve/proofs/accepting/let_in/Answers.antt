@@ -21,9 +21,9 @@ returns-in-Err-JournalFull-clause-goes g c =
     let f0 = g.A.Link.Link.faults c.args.link in
     let e0 = g.A.Link.Link.ended c.args.link in
     let t = c.in-Err-JournalFull.ensures.full (ap Err c.in-Err-JournalFull.field-0-is) in
-    let b' = L.backs c.turn_away.new.door in
-    accepts_as Stopped test config v0 u given0 given (L.given c.turn_away.new.door) left left b0 b'
-    (accepts_full c.room_laws.ensures.full test config v0 given0 b0 v u t.0 given left b b' a0 f0 e0 c.requires.way t.1 c.requires.link c.requires.tells t.2 c.turn_away.ensures.back) c.turn_away.ensures.given refl
+    let b' = L.backs c.refuse_link.new.door in
+    accepts_as Stopped test config v0 u given0 given (L.given c.refuse_link.new.door) left left b0 b'
+    (accepts_full c.room_laws.ensures.full test config v0 given0 b0 v u t.0 given left b b' a0 f0 e0 c.requires.way t.1 c.requires.link c.requires.tells t.2 c.refuse_link.ensures.back) c.refuse_link.ensures.given refl
 
 pub returns-in-Err-NoMemory-clause-stops : goal.returns-in-Err-NoMemory-clause-stops
 returns-in-Err-NoMemory-clause-stops g c =
@@ -42,6 +42,6 @@ returns-in-Err-NoMemory-clause-stops g c =
     let f0 = g.A.Link.Link.faults c.args.link in
     let e0 = g.A.Link.Link.ended c.args.link in
     let t = c.in-Err-NoMemory.ensures.lack (ap Err c.in-Err-NoMemory.field-0-is) in
-    let b' = L.backs c.turn_away-in-Err-NoMemory.new.door in
-    accepts_as NoMemory test config v0 u given0 given (L.given c.turn_away-in-Err-NoMemory.new.door) left left b0 b'
-    (accepts_lack c.room_laws.ensures.full test config v0 given0 b0 v u t.0 given left b b' a0 f0 e0 c.requires.way t.1 c.requires.link c.requires.tells c.turn_away-in-Err-NoMemory.ensures.back) c.turn_away-in-Err-NoMemory.ensures.given refl
+    let b' = L.backs c.refuse_link-in-Err-NoMemory.new.door in
+    accepts_as NoMemory test config v0 u given0 given (L.given c.refuse_link-in-Err-NoMemory.new.door) left left b0 b'
+    (accepts_lack c.room_laws.ensures.full test config v0 given0 b0 v u t.0 given left b b' a0 f0 e0 c.requires.way t.1 c.requires.link c.requires.tells c.refuse_link-in-Err-NoMemory.ensures.back) c.refuse_link-in-Err-NoMemory.ensures.given refl

@@ -2,8 +2,8 @@ use Rattle.std.proofs.Common.{◌≡◌, true, false, ap, ◌∙◌, arith, w64,
 use Rattle.std.proofs.lemmas.Int.{ints, to_z-of_z}
 use Rattle.channel_store.specs.Points.{at_most, past}
 use Rattle.subscribe_core.proofs.PointLemmas.{copied-left, copied-told}
-use Rattle.subscribe_core.proofs.outgoing.copy_told.Goals.{then-index_at-start+in_ok-copy_at+in_ok-push, else-index_at-start}
-use Rattle.subscribe_core.proofs.outgoing.copy_told.Goals as goal
+use Rattle.subscribe_core.proofs.told_change.copy_told.Goals.{then-index_at-start+in_ok-copy_at+in_ok-push, else-index_at-start}
+use Rattle.subscribe_core.proofs.told_change.copy_told.Goals as goal
 
 pub loop-place-preserved : goal.loop-place-preserved
 loop-place-preserved c =

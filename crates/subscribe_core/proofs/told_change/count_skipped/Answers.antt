@@ -2,7 +2,7 @@ use Rattle.std.proofs.Common.{◌≡◌, true, false, arith, w64, of_z, to_z}
 use Rattle.std.proofs.lemmas.Int.{ints, to_z-of_z}
 use Rattle.channel_store.specs.Points.{at_most}
 use Rattle.subscribe_core.proofs.PointLemmas.{counted, counted-more, first-told, skipped-more}
-use Rattle.subscribe_core.proofs.outgoing.count_skipped.Goals as goal
+use Rattle.subscribe_core.proofs.told_change.count_skipped.Goals as goal
 
 pub returns-then-index_at-start-clause-first : goal.returns-then-index_at-start-clause-first
 returns-then-index_at-start-clause-first c =

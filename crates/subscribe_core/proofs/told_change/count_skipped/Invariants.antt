@@ -1,7 +1,7 @@
 use Rattle.std.proofs.Common.{◌≡◌, ◌+◌, drop}
 use Rattle.channel_store.specs.Points.{past}
 use Rattle.subscribe_core.specs.Views.{below}
-use Rattle.subscribe_core.proofs.outgoing.count_skipped.Given as goal
+use Rattle.subscribe_core.proofs.told_change.count_skipped.Given as goal
 
 abbrev pub invariant-loop-place : goal.invariant-loop-place
 invariant-loop-place l = record {

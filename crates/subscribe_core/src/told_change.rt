@@ -16,7 +16,7 @@ use std::alloc::Global;
 /// Its points are those of the change at or past the start. A replacement has its interval from `from` to `end`, and a truncation says that
 /// the points above `end` were dropped.
 #[derive(Debug, Drop, PartialEq, Eq)]
-pub struct Outgoing {
+pub struct ToldChange {
     /// The change as the store has it.
     pub change: ChannelChange,
     /// How many of its first points are below the start. They are not sent, nor is a later one that is below it.
@@ -30,7 +30,7 @@ pub struct Outgoing {
     pub end: i64,
 }
 
-/// How a change is clipped: the fields of an [`Outgoing`].
+/// How a change is clipped: the fields of a [`ToldChange`].
 #[derive(Clone, Copy, Drop)]
 struct Clip {
     skip: u64,
@@ -38,7 +38,7 @@ struct Clip {
     end: i64,
 }
 
-impl Outgoing {
+impl ToldChange {
     /// Copies of the points that are sent, in their order. A truncation has none.
     pub fn points(&self, alloc: Global) -> Result<List<Point>, NoMemory>
         ensures { IfOk result (λ r. r ≡ told_by (shown self.now).what) }
@@ -137,7 +137,7 @@ fn clip_end(end: i64, start: i64) -> i64
 }
 
 /// A change as the subscription of its channel is sent it, if there is one and something is left.
-pub(crate) fn told(subs: &[Sub], change: ChannelChange) -> Option<Outgoing>
+pub(crate) fn told(subs: &[Sub], change: ChannelChange) -> Option<ToldChange>
     ensures told { listed (option_map shown result) ≡ told subs.now change }
     ensures exact { IfSome result IsExact }
 {
@@ -147,7 +147,7 @@ pub(crate) fn told(subs: &[Sub], change: ChannelChange) -> Option<Outgoing>
     let Some(clip) = clipped(&change.what, sub.start, sub.all) else {
         return None;
     };
-    Some(Outgoing {
+    Some(ToldChange {
         change,
         skip: clip.skip,
         start: sub.start,

@@ -10,7 +10,7 @@ use Rattle.store_hub.specs.Passes.{known, config_of}
 use Rattle.session_core.specs.Run.{hears}
 use Rattle.etp_serve.specs.Steps.{Settles, Breaks}
 use Rattle.etp_serve.proofs.SettlingLemmas.{on_err_all, settles_none, settles_some, breaks_answered, breaks_refused, answers_met, refuses_met}
-use Rattle.etp_serve.proofs.steps.settle.Goals as goal
+use Rattle.etp_serve.proofs.steps.ask_store.Goals as goal
 
 pub ask-requires-clause-call : goal.ask-requires-clause-call
 ask-requires-clause-call g c = subst (λ (o : Option StoreCall). IfSome o (IsCallAt (known c.args.pass.now).seen)) c.in-Some.is c.requires.call

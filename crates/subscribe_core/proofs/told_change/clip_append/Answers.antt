@@ -1,7 +1,7 @@
 use Rattle.std.proofs.Common.{◌<◌, length, drop, arith, length-drop, w64, of_z, to_z}
 use Rattle.std.proofs.lemmas.Int.{to_z-of_z}
 use Rattle.subscribe_core.proofs.PointLemmas.{append-told}
-use Rattle.subscribe_core.proofs.outgoing.clip_append.Goals as goal
+use Rattle.subscribe_core.proofs.told_change.clip_append.Goals as goal
 
 pub returns-clause-told : goal.returns-clause-told
 returns-clause-told c =
