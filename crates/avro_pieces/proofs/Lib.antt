@@ -1,0 +1,7 @@
+pub mod LongerLemmas
+pub mod BlockLemmas
+pub mod RestLemmas
+pub mod TurnLemmas
+pub mod OpenLemmas
+pub mod EntryLemmas
+pub mod GoingLemmas
