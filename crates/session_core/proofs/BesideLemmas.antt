@@ -40,7 +40,7 @@ use Rattle.session_core.specs.declared.state.Request.{Request}
 use Rattle.session_core.specs.declared.state.Saying.{Saying}
 use Rattle.session_core.specs.State.{State}
 use Rattle.session_core.specs.Arriving.{request_of}
-use Rattle.session_core.specs.Machine.{Taken, accepting, by_event, given_to, may_acknowledge, no_call, on_core, on_dataspaces, on_loads_by, on_message, on_poll, on_protocol, on_received, on_row, on_subscriptions_by, on_transactions, protocol_refusal, refuses, unread}
+use Rattle.session_core.specs.Machine.{Taken, accepting, by_event, given_to, may_acknowledge, no_call, on_core, on_message, on_outcome, on_poll, on_protocol, on_received, on_row, on_transactions, protocol_refusal, refuses, unread}
 use Rattle.session_core.specs.Run.{hears}
 use Rattle.session_core.specs.Replies.{saying_of, sayings_of, receipt, refusal, to_request}
 use Rattle.session_core.specs.Sending.{blobs_after, blobs_sent, cut_all, is_spent, max_id, next_after, said, spent_phase}
@@ -155,15 +155,15 @@ refused r c s ready idle = says r (to_request (refusal c) ∷ []) s ready idle (
 
 -- ---- each family
 
-dataspaces : (r : Request) (o : DataspaceOutcome) (s : State) → IsReady s → s.pending ≡ None → Leaves s (on_dataspaces r o s)
+dataspaces : (r : Request) (o : DataspaceOutcome) (s : State) → IsReady s → s.pending ≡ None → Leaves s (on_outcome message.Dataspace pending.Dataspaces r o s)
 dataspaces r (Replies xs) s ready idle = says r (sayings_of message.Dataspace xs) s ready idle (quiet-sayings message.Dataspace (λ m. λ limit. refl) xs)
 dataspaces r (Calls c p) s ready idle = (same s ready.1, tt)
 
-loads_by : (r : Request) (o : loads.LoadOutcome) (s : State) → IsReady s → s.pending ≡ None → Leaves s (on_loads_by r o s)
+loads_by : (r : Request) (o : loads.LoadOutcome) (s : State) → IsReady s → s.pending ≡ None → Leaves s (on_outcome message.ChannelDataLoad pending.Loads r o s)
 loads_by r (Replies xs) s ready idle = says r (sayings_of message.ChannelDataLoad xs) s ready idle (quiet-sayings message.ChannelDataLoad (λ m. λ limit. refl) xs)
 loads_by r (Calls c p) s ready idle = (same s ready.1, tt)
 
-subscribes_by : (r : Request) (o : subscribes.SubscribeOutcome) (s : State) → IsReady s → s.pending ≡ None → Leaves s (on_subscriptions_by r o s)
+subscribes_by : (r : Request) (o : subscribes.SubscribeOutcome) (s : State) → IsReady s → s.pending ≡ None → Leaves s (on_outcome message.ChannelSubscribe pending.Subscriptions r o s)
 subscribes_by r (Replies xs) s ready idle = says r (sayings_of message.ChannelSubscribe xs) s ready idle (quiet-sayings message.ChannelSubscribe (λ m. λ limit. refl) xs)
 subscribes_by r (Calls c p) s ready idle = (same s ready.1, tt)
 

@@ -119,12 +119,13 @@ use Rattle.session_core.specs.declared.state.Arrived.{Arrived}
 use Rattle.session_core.specs.declared.state.Arrived.TheVariants as arrives
 use Rattle.session_core.specs.declared.state.Live.{Live}
 use Rattle.session_core.specs.declared.state.Live.TheVariants as live
+use Rattle.session_core.specs.declared.state.Pending.TheVariants as pending
 use Rattle.session_core.specs.declared.state.Phase.{Phase}
 use Rattle.session_core.specs.declared.state.Phase.TheVariants as phase
 use Rattle.session_core.specs.State.{State}
 use Rattle.session_core.specs.Arriving.{arrived, request_of}
 use Rattle.session_core.specs.Fitting.{AnswersFit, Fits, FitsArrays, FitsDataspaces, FitsLoads, FitsObjects, FitsPoints, FitsSubscriptions, FitsTransactions}
-use Rattle.session_core.specs.Machine.{Taken, accepting, arrays_kept, by_event, by_phase, may_acknowledge, no_call, objects_kept, on_arrays, on_core, on_dataspaces, on_join, on_joined, on_loads_by, on_message, on_objects, on_ping, on_poll, on_protocol, on_received, on_request_session, on_row, on_store, on_subscriptions_by, on_transactions_by, on_whole, opened, protocol_refusal, put_request, refuses}
+use Rattle.session_core.specs.Machine.{Taken, accepting, arrays_kept, by_event, by_phase, may_acknowledge, no_call, objects_kept, on_arrays, on_core, on_join, on_joined, on_message, on_objects, on_outcome, on_ping, on_poll, on_protocol, on_received, on_request_session, on_row, on_store, on_whole, opened, protocol_refusal, put_request, refuses}
 use Rattle.session_core.specs.Replies.{receipt}
 use Rattle.session_core.specs.Run.{takes}
 use Rattle.session_core.specs.Sending.{said}
@@ -568,7 +569,7 @@ module _ (config : Config) (h : List Entry) where
   abbrev TakenFits : State → Taken → Type 0
   TakenFits before t = MatchOption t.call (t.state.pending ≡ before.pending) (λ c. IsSomeAnd t.state.pending (Fits (answered config h c).reply))
 
-  of_dataspaces : (r : Request) (o : DataspaceOutcome) (s : State) → DataspacesFit o → TakenFits s (on_dataspaces r o s)
+  of_dataspaces : (r : Request) (o : DataspaceOutcome) (s : State) → DataspacesFit o → TakenFits s (on_outcome message.Dataspace pending.Dataspaces r o s)
   unfolding answered
   of_dataspaces r (Replies sendings) s fits = refl
   of_dataspaces r (Calls c p) s fits = fits
@@ -591,17 +592,17 @@ module _ (config : Config) (h : List Entry) where
   of_arrays r (Replies sendings) s fits = refl
   of_arrays r (Calls c p) s fits = arrays_kept_fit s.stage r c p fits
 
-  of_transactions : (r : Request) (o : transactions.TransactionOutcome) (s : State) → TransactionsFit o → TakenFits s (on_transactions_by r o s)
+  of_transactions : (r : Request) (o : transactions.TransactionOutcome) (s : State) → TransactionsFit o → TakenFits s (on_outcome message.Transaction pending.Transactions r o s)
   unfolding answered
   of_transactions r (Replies sendings) s fits = refl
   of_transactions r (Calls c p) s fits = fits
 
-  of_loads : (r : Request) (o : loads.LoadOutcome) (s : State) → LoadsFit o → TakenFits s (on_loads_by r o s)
+  of_loads : (r : Request) (o : loads.LoadOutcome) (s : State) → LoadsFit o → TakenFits s (on_outcome message.ChannelDataLoad pending.Loads r o s)
   unfolding answered
   of_loads r (Replies sendings) s fits = refl
   of_loads r (Calls c p) s fits = fits
 
-  of_subscriptions : (r : Request) (o : subscribes.SubscribeOutcome) (s : State) → SubscriptionsFit o → TakenFits s (on_subscriptions_by r o s)
+  of_subscriptions : (r : Request) (o : subscribes.SubscribeOutcome) (s : State) → SubscriptionsFit o → TakenFits s (on_outcome message.ChannelSubscribe pending.Subscriptions r o s)
   unfolding answered
   of_subscriptions r (Replies sendings) s fits = refl
   of_subscriptions r (Calls c p) s fits = fits

@@ -18,13 +18,14 @@ use Rattle.etp_frame.specs.declared.message.Message.{Message}
 use Rattle.etp_frame.specs.declared.message.Message.TheVariants as message
 use Rattle.etp_values.specs.declared.code.ErrorCode.{ErrorCode}
 use Rattle.etp_values.specs.declared.code.ErrorCode.TheVariants as code
+use Rattle.keyed_requests.specs.declared.sending.Outcome.{Outcome}
 use Rattle.keyed_requests.specs.declared.sending.Outcome.TheVariants.{Replies, Calls}
 use Rattle.msg_core.specs.declared.core_messages.CoreMessage.{CoreMessage}
 use Rattle.msg_core.specs.declared.core_messages.CoreMessage.TheVariants as core
 use Rattle.msg_store.specs.declared.store_messages.StoreMessage.{StoreMessage}
 use Rattle.msg_store.specs.declared.store_messages.StoreMessage.TheVariants as object
 use Rattle.request_scope.specs.Scope.{is_read_only}
-use Rattle.session_rows.specs.Dataspaces.{DataspaceOutcome, dataspace_outcome, dataspace_reply}
+use Rattle.session_rows.specs.Dataspaces.{dataspace_outcome, dataspace_reply}
 use Rattle.session_rows.specs.Objects as objects
 use Rattle.session_rows.specs.Opening.{opening_of}
 use Rattle.session_rows.specs.Transactions as transactions
@@ -54,7 +55,7 @@ use Rattle.session_core.specs.declared.state.StagedPending.TheVariants as staged
 use Rattle.session_core.specs.State.{State}
 use Rattle.session_core.specs.Arriving.{Event, arrived, request_of}
 use Rattle.session_core.specs.Fitting.{AnswersFit, Fits}
-use Rattle.session_core.specs.Machine.{Taken, accepting, by_event, by_phase, given_to, join_code, may_acknowledge, no_call, on_arrays, on_arrays_answered, on_core, on_dataspaces, on_join, on_joined, on_loads_answered, on_loads_by, on_message, on_noted, on_objects, on_objects_answered, on_poll, on_protocol, on_received, on_row, on_store, on_subscriptions_answered, on_subscriptions_by, on_transactions_by, on_whole, opened, protocol_refusal, put_request, refuses, unread}
+use Rattle.session_core.specs.Machine.{Taken, accepting, by_event, by_phase, given_to, join_code, may_acknowledge, no_call, on_arrays, on_arrays_answered, on_core, on_join, on_joined, on_loads_answered, on_message, on_noted, on_objects, on_objects_answered, on_outcome, on_poll, on_protocol, on_received, on_row, on_store, on_subscriptions_answered, on_whole, opened, protocol_refusal, put_request, refuses, unread}
 use Rattle.session_core.specs.Noting.{noting, reply_noted}
 use Rattle.session_core.specs.Replies.{receipt, refusal, sayings_of, to_request}
 use Rattle.session_core.specs.Run.{AnswersAreLast, Course, answered_at, asked, first_course, happens, happens_unless, hears, moment_of, run, run_from, takes}
@@ -70,9 +71,9 @@ use Rattle.session_core.proofs.CommittedLemmas.{committed_is_serial}
 ready_said : (r : Request) (xs : List Saying) (s : State) → IsReady s → IsReady (said r xs s)
 ready_said r xs s is = (blobs-low s.limit s.blobs xs is.0, begun-spent (is_spent s.next_id (cut_all s.limit s.number s.blobs xs)) s.phase is.1)
 
-ready_dataspaces : (r : Request) (o : DataspaceOutcome) (s : State) → IsReady s → IsReady (on_dataspaces r o s).state
-ready_dataspaces r (Replies xs) s is = ready_said r (sayings_of message.Dataspace xs) s is
-ready_dataspaces r (Calls c p) s is = is
+ready_outcome : {P M : Type 0} (wrapped : M → Message) (kept : Request → P → Pending) (r : Request) (o : Outcome StoreCall P M) (s : State) → IsReady s → IsReady (on_outcome wrapped kept r o s).state
+ready_outcome wrapped kept r (Replies xs) s is = ready_said r (sayings_of wrapped xs) s is
+ready_outcome wrapped kept r (Calls c p) s is = is
 
 ready_objects : (r : Request) (o : objects.ObjectOutcome) (s : State) → IsReady s → IsReady (on_objects r o s).state
 ready_objects r (Replies xs) s is = ready_said r (sayings_of message.Store xs) s is
@@ -81,18 +82,6 @@ ready_objects r (Calls c p) s is = is
 ready_arrays : (r : Request) (o : arrays.ArrayOutcome) (s : State) → IsReady s → IsReady (on_arrays r o s).state
 ready_arrays r (Replies xs) s is = ready_said r (sayings_of message.DataArray xs) s is
 ready_arrays r (Calls c p) s is = is
-
-ready_transactions : (r : Request) (o : transactions.TransactionOutcome) (s : State) → IsReady s → IsReady (on_transactions_by r o s).state
-ready_transactions r (Replies xs) s is = ready_said r (sayings_of message.Transaction xs) s is
-ready_transactions r (Calls c p) s is = is
-
-ready_loads : (r : Request) (o : loads.LoadOutcome) (s : State) → IsReady s → IsReady (on_loads_by r o s).state
-ready_loads r (Replies xs) s is = ready_said r (sayings_of message.ChannelDataLoad xs) s is
-ready_loads r (Calls c p) s is = is
-
-ready_subscriptions : (r : Request) (o : subscribes.SubscribeOutcome) (s : State) → IsReady s → IsReady (on_subscriptions_by r o s).state
-ready_subscriptions r (Replies xs) s is = ready_said r (sayings_of message.ChannelSubscribe xs) s is
-ready_subscriptions r (Calls c p) s is = is
 
 ready_whole : (r : Request) (now : ℤ) (m : Message) (s : State) → IsReady s → IsReady (on_whole r now m s).state
 ready_whole r now (message.Store m) s is = ready_objects r (objects.object_outcome s.formats s.config.types s.stage now m) s is
@@ -125,14 +114,14 @@ ready_store h now (object.PutDataObjectsResponse m) s is = ready_whole (request_
 ready_store h now (object.DeleteDataObjectsResponse m) s is = ready_whole (request_of h) now (message.Store (object.DeleteDataObjectsResponse m)) s is
 
 ready_row : (h : Header) (now : ℤ) (m : Message) (s : State) → IsReady s → IsReady (on_row h now m s).state
-ready_row h now (message.Dataspace m) s is = ready_dataspaces (request_of h) (dataspace_outcome m (is_some s.stage)) s is
+ready_row h now (message.Dataspace m) s is = ready_outcome message.Dataspace pending.Dataspaces (request_of h) (dataspace_outcome m (is_some s.stage)) s is
 ready_row h now (message.Store m) s is = ready_store h now m s is
 ready_row h now (message.DataArray m) s is = ready_arrays (request_of h) (arrays.array_outcome s.stage now m) s is
 ready_row h now (message.Transaction m) s is =
     let t = transactions.transaction_request s.config.instance s.number s.stage s.starts m in
-    ready_transactions (request_of h) t.outcome (record s { stage = t.stage; starts = t.starts }) is
-ready_row h now (message.ChannelSubscribe m) s is = let l = subscribes.subscribe_outcome s.subs m in ready_subscriptions (request_of h) l.outcome (record s { subs = l.subs }) is
-ready_row h now (message.ChannelDataLoad m) s is = let l = loads.load_outcome s.opens now m in ready_loads (request_of h) l.outcome (record s { opens = l.opens }) is
+    ready_outcome message.Transaction pending.Transactions (request_of h) t.outcome (record s { stage = t.stage; starts = t.starts }) is
+ready_row h now (message.ChannelSubscribe m) s is = let l = subscribes.subscribe_outcome s.subs m in ready_outcome message.ChannelSubscribe pending.Subscriptions (request_of h) l.outcome (record s { subs = l.subs }) is
+ready_row h now (message.ChannelDataLoad m) s is = let l = loads.load_outcome s.opens now m in ready_outcome message.ChannelDataLoad pending.Loads (request_of h) l.outcome (record s { opens = l.opens }) is
 ready_row h now (message.Core m) s is = ready_said (request_of h) (to_request (refusal code.InvalidMessageType) ∷ []) s is
 
 ready_protocol : (why : Option ErrorCode) (h : Header) (now : ℤ) (m : Message) (s : State) → IsReady s → IsReady (on_protocol why h now m s).state

@@ -68,7 +68,7 @@ use Rattle.session_core.specs.declared.state.Phase.{Phase}
 use Rattle.session_core.specs.declared.state.Phase.TheVariants as phase
 use Rattle.session_core.specs.State.{State}
 use Rattle.session_core.specs.Arriving.{arrived, request_of}
-use Rattle.session_core.specs.Machine.{taken, acknowledged, by_phase, by_event, no_call, on_arrays, on_dataspaces, on_join, on_joined, on_loads_by, on_message, on_objects, on_poll, on_protocol, on_received, on_row, on_store, on_subscriptions_by, on_transactions_by, on_whole, protocol_refusal, put_request, refuses, accepting, given_to}
+use Rattle.session_core.specs.Machine.{taken, acknowledged, by_phase, by_event, no_call, on_arrays, on_outcome, on_join, on_joined, on_message, on_objects, on_poll, on_protocol, on_received, on_row, on_store, on_whole, protocol_refusal, put_request, refuses, accepting, given_to}
 use Rattle.session_core.proofs.ChannelCallLemmas.{CallsOfChannels, channels_ask, of_load_message, of_subscribe_message}
 use Rattle.session_core.specs.Run.{takes, hears, Asks, TakingAsks, AnswersAreLast}
 
@@ -224,9 +224,13 @@ module _ (h : List Entry) where
   of_transaction_message instance number stage starts (transacts.RollbackTransactionResponse m) = tt
 
   -- ---- a half step
-  of_dataspaces : (r : Request) (o : rows.DataspaceOutcome) (s : State) → CallsAsk o → IfSome (on_dataspaces r o s).call (IsCallAt h)
-  of_dataspaces r (Replies sendings) s asks = tt
-  of_dataspaces r (Calls c p) s asks = asks
+  of_outcome : {P M : Type 0} (wrapped : M → Message) (kept : Request → P → Pending) (r : Request) (o : Outcome StoreCall P M) (s : State) → CallsAsk o → IfSome (on_outcome wrapped kept r o s).call (IsCallAt h)
+  of_outcome wrapped kept r (Replies sendings) s asks = tt
+  of_outcome wrapped kept r (Calls c p) s asks = asks
+
+  of_channels : {P M : Type 0} (wrapped : M → Message) (kept : Request → P → Pending) (r : Request) (o : Outcome StoreCall P M) (s : State) → CallsOfChannels o → IfSome (on_outcome wrapped kept r o s).call (IsCallAt h)
+  of_channels wrapped kept r (Replies sendings) s of = tt
+  of_channels wrapped kept r (Calls c p) s of = channels_ask h c of
 
   of_objects : (r : Request) (o : objects.ObjectOutcome) (s : State) → CallsAsk o → IfSome (on_objects r o s).call (IsCallAt h)
   of_objects r (Replies sendings) s asks = tt
@@ -235,18 +239,6 @@ module _ (h : List Entry) where
   of_arrays : (r : Request) (o : arrays.ArrayOutcome) (s : State) → CallsAsk o → IfSome (on_arrays r o s).call (IsCallAt h)
   of_arrays r (Replies sendings) s asks = tt
   of_arrays r (Calls c p) s asks = asks
-
-  of_transactions : (r : Request) (o : transactions.TransactionOutcome) (s : State) → CallsAsk o → IfSome (on_transactions_by r o s).call (IsCallAt h)
-  of_transactions r (Replies sendings) s asks = tt
-  of_transactions r (Calls c p) s asks = asks
-
-  of_loads : (r : Request) (o : loads.LoadOutcome) (s : State) → CallsOfChannels o → IfSome (on_loads_by r o s).call (IsCallAt h)
-  of_loads r (Replies sendings) s of = tt
-  of_loads r (Calls c p) s of = channels_ask h c of
-
-  of_subscriptions : (r : Request) (o : subscribes.SubscribeOutcome) (s : State) → CallsOfChannels o → IfSome (on_subscriptions_by r o s).call (IsCallAt h)
-  of_subscriptions r (Replies sendings) s of = tt
-  of_subscriptions r (Calls c p) s of = channels_ask h c of
 
   of_whole : (r : Request) (moment : ℤ) (m : Message) (s : State) → IfSome (on_whole r moment m s).call (IsCallAt h)
   of_whole r moment (message.Store m) s = of_objects r (objects.object_outcome s.formats s.config.types s.stage moment m) s (of_object_message s.formats s.config.types s.stage moment m)
@@ -267,14 +259,14 @@ module _ (h : List Entry) where
   of_store hd moment m s = of_whole (request_of hd) moment (message.Store m) s
 
   of_row : (hd : Header) (moment : ℤ) (m : Message) (s : State) → IfSome (on_row hd moment m s).call (IsCallAt h)
-  of_row hd moment (message.Dataspace m) s = of_dataspaces (request_of hd) (rows.dataspace_outcome m (is_some s.stage)) s (dataspaces m (is_some s.stage))
+  of_row hd moment (message.Dataspace m) s = of_outcome message.Dataspace pending.Dataspaces (request_of hd) (rows.dataspace_outcome m (is_some s.stage)) s (dataspaces m (is_some s.stage))
   of_row hd moment (message.Store m) s = of_store hd moment m s
   of_row hd moment (message.DataArray m) s = of_arrays (request_of hd) (arrays.array_outcome s.stage moment m) s (of_array_message s.stage moment m)
   of_row hd moment (message.Transaction m) s =
       let t = transactions.transaction_request s.config.instance s.number s.stage s.starts m in
-      of_transactions (request_of hd) t.outcome (record s { stage = t.stage; starts = t.starts }) (of_transaction_message s.config.instance s.number s.stage s.starts m)
-  of_row hd moment (message.ChannelSubscribe m) s = of_subscriptions (request_of hd) (subscribes.subscribe_outcome s.subs m).outcome (record s { subs = (subscribes.subscribe_outcome s.subs m).subs }) (of_subscribe_message s.subs m)
-  of_row hd moment (message.ChannelDataLoad m) s = of_loads (request_of hd) (loads.load_outcome s.opens moment m).outcome (record s { opens = (loads.load_outcome s.opens moment m).opens }) (of_load_message s.opens moment m)
+      of_outcome message.Transaction pending.Transactions (request_of hd) t.outcome (record s { stage = t.stage; starts = t.starts }) (of_transaction_message s.config.instance s.number s.stage s.starts m)
+  of_row hd moment (message.ChannelSubscribe m) s = of_channels message.ChannelSubscribe pending.Subscriptions (request_of hd) (subscribes.subscribe_outcome s.subs m).outcome (record s { subs = (subscribes.subscribe_outcome s.subs m).subs }) (of_subscribe_message s.subs m)
+  of_row hd moment (message.ChannelDataLoad m) s = of_channels message.ChannelDataLoad pending.Loads (request_of hd) (loads.load_outcome s.opens moment m).outcome (record s { opens = (loads.load_outcome s.opens moment m).opens }) (of_load_message s.opens moment m)
   of_row hd moment _ s = tt
 
   of_protocol : (why : Option ErrorCode) (hd : Header) (moment : ℤ) (m : Message) (s : State) → IfSome (on_protocol why hd moment m s).call (IsCallAt h)

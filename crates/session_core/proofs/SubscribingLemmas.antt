@@ -58,7 +58,7 @@ use Rattle.session_core.specs.declared.state.Pending.TheVariants as pending
 use Rattle.session_core.specs.declared.state.Request.{Request}
 use Rattle.session_core.specs.declared.state.Saying.{Saying}
 use Rattle.session_core.specs.State.{State}
-use Rattle.session_core.specs.Machine.{Taken, asks, given, on_poll, on_subscriptions, on_subscriptions_answered, on_subscriptions_by, unread}
+use Rattle.session_core.specs.Machine.{Taken, asks, given, on_outcome, on_poll, on_subscriptions, on_subscriptions_answered, unread}
 use Rattle.session_core.specs.Replies.{saying_of, sayings_of}
 use Rattle.session_core.specs.Sending.{blobs_after, cut_all, ended}
 use Rattle.session_core.specs.Streams.{Heard, HasIds, hear_stops}
@@ -184,10 +184,10 @@ module _ (config : Config) (h : List Entry) (last : ℕ) (sent : List Outgoing) 
 
   -- ---- requests aside
 
-  replies_lead : (r : Request) (sendings : List (Sending ChannelSubscribeMessage)) (m : State) → AreQuietSendings sendings → Hushed s m → GoesTo (on_subscriptions_by r (Replies sendings) m)
+  replies_lead : (r : Request) (sendings : List (Sending ChannelSubscribeMessage)) (m : State) → AreQuietSendings sendings → Hushed s m → GoesTo (on_outcome message.ChannelSubscribe pending.Subscriptions r (Replies sendings) m)
   replies_lead r sendings m quiet q = quiet_leads config h last sent s flowing Causes CausesAt _ (hushed_said r (sayings_of message.ChannelSubscribe sendings) s m quiet q)
 
-  aside_leads : (r : Request) (c : StoreCall) (kept : SubscribePending) (m : State) → IsAside kept → Hushed s m → GoesTo (on_subscriptions_by r (Calls c kept) m)
+  aside_leads : (r : Request) (c : StoreCall) (kept : SubscribePending) (m : State) → IsAside kept → Hushed s m → GoesTo (on_outcome message.ChannelSubscribe pending.Subscriptions r (Calls c kept) m)
   aside_leads r c kept m is q =
       quiet_call config h last sent s flowing Causes CausesAt _ c (record { config = q.config; subs = q.subs; unheard = q.unheard })
       (λ a.
@@ -197,18 +197,18 @@ module _ (config : Config) (h : List Entry) (last : ℕ) (sent : List Outgoing) 
       (record { config = q.config; subs = t.subs ∙ q.subs; unheard = q.unheard }))
 
   metadata_leads : (r : Request) (items : List (List ℕ × Decision (Unit {0}))) (uris : _) (m : State) → Hushed s m
-      → GoesTo (on_subscriptions_by r (metadata_called (called metadata_response items uris)) m)
+      → GoesTo (on_outcome message.ChannelSubscribe pending.Subscriptions r (metadata_called (called metadata_response items uris)) m)
   metadata_leads r items [] m q = replies_lead r (unasked metadata_response items) m (quiet_replies metadata_response (λ g. (refl, refl)) [] (refused_keys items)) q
   metadata_leads r items (x ∷ xs) m q = aside_leads r (call.Meta (x ∷ xs)) (keeps_subscription.Metadata items) m tt q
 
-  unless_leads : (r : Request) (why : Option ErrorCode) (o : SubscribeOutcome) (m : State) → Hushed s m → GoesTo (on_subscriptions_by r o m) → GoesTo (on_subscriptions_by r (unless_refused why o) m)
+  unless_leads : (r : Request) (why : Option ErrorCode) (o : SubscribeOutcome) (m : State) → Hushed s m → GoesTo (on_outcome message.ChannelSubscribe pending.Subscriptions r o m) → GoesTo (on_outcome message.ChannelSubscribe pending.Subscriptions r (unless_refused why o) m)
   unless_leads r (Some code) o m q leads = replies_lead r (refusal_alone code) m ((refl, refl), tt) q
   unless_leads r None o m q leads = leads
 
   -- ---- UnsubscribeChannels
 
   stopping_leads : (r : Request) (v : Subbed) (ids : List (List ℕ × ℤ)) (m : State) → Causes Unsubscribed → v ≡ s.subs → Hushed s m
-      → GoesTo (on_subscriptions_by r (Replies (request_reply (stop_response Unsubscribed) (checked stop_one v ids))) (record m { subs = checked_state stop_one v ids }))
+      → GoesTo (on_outcome message.ChannelSubscribe pending.Subscriptions r (Replies (request_reply (stop_response Unsubscribed) (checked stop_one v ids))) (record m { subs = checked_state stop_one v ids }))
   stopping_leads r v ids m cause is q =
       let w : Subbed = checked_state stop_one v ids in
       let xs : List Saying = sayings_of message.ChannelSubscribe (request_reply (stop_response Unsubscribed) (checked stop_one v ids)) in
@@ -272,7 +272,7 @@ module _ (config : Config) (h : List Entry) (last : ℕ) (sent : List Outgoing) 
           ))))
           (λ c x e. begins.stays c x (ap (λ (y : Subbed). sub_of c y.subs) is ∙ e))
 
-  begins_lead : (r : Request) (items : List (List ℕ × ChannelSubscribeInfo)) (m : State) → Hushed s m → GoesTo (on_subscriptions_by r (begin_outcome m.subs.subs items) m)
+  begins_lead : (r : Request) (items : List (List ℕ × ChannelSubscribeInfo)) (m : State) → Hushed s m → GoesTo (on_outcome message.ChannelSubscribe pending.Subscriptions r (begin_outcome m.subs.subs items) m)
   begins_lead r items m q = by (sent_keys (λ a. a) (asked_of m.subs items)) refl
     where
       ds : List (List ℕ × Decision StartAsk)
@@ -290,7 +290,7 @@ module _ (config : Config) (h : List Entry) (last : ℕ) (sent : List Outgoing) 
           (λ i. (sym mark i, e i))
           (begins_after r m.subs items (record m { pending = None }) p q.subs (record { config = q.config; subs = q.subs; unheard = q.unheard }) le top))
 
-      by : (asks : List (List ℕ × StartAsk)) → sent_keys (λ a. a) (asked_of m.subs items) ≡ asks → GoesTo (on_subscriptions_by r (subscribe_called (called subscribe_response ds asks)) m)
+      by : (asks : List (List ℕ × StartAsk)) → sent_keys (λ a. a) (asked_of m.subs items) ≡ asks → GoesTo (on_outcome message.ChannelSubscribe pending.Subscriptions r (subscribe_called (called subscribe_response ds asks)) m)
       by [] e = replies_lead r (unasked subscribe_response ds) m (quiet_replies subscribe_response (λ g. (refl, refl)) [] (refused_keys ds)) q
       by (x ∷ xs) e = (record { config = q.config; subs = q.subs; unheard = q.unheard }, λ p le top. at_place p (x ∷ xs) e le top)
 

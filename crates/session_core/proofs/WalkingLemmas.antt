@@ -52,7 +52,7 @@ use Rattle.session_core.specs.declared.state.Request.{Request}
 use Rattle.session_core.specs.declared.state.StagedPending.TheVariants as staged
 use Rattle.session_core.specs.State.{State}
 use Rattle.session_core.specs.Arriving.{request_of}
-use Rattle.session_core.specs.Machine.{Taken, accepting, acknowledged, arrays_kept, asks, by_event, by_phase, given, given_to, join_code, may_acknowledge, no_call, objects_kept, on_arrays, on_arrays_answered, on_core, on_dataspaces, on_join, on_joined, on_loads_answered, on_loads_by, on_message, on_objects, on_objects_answered, on_ping, on_protocol, on_received, on_request_session, on_row, on_store, on_subscriptions, on_transactions_by, on_whole, opened, protocol_refusal, put_request, refuses, unread}
+use Rattle.session_core.specs.Machine.{Taken, accepting, acknowledged, arrays_kept, asks, by_event, by_phase, given, given_to, join_code, may_acknowledge, no_call, objects_kept, on_arrays, on_arrays_answered, on_core, on_join, on_joined, on_loads_answered, on_message, on_objects, on_objects_answered, on_outcome, on_ping, on_protocol, on_received, on_request_session, on_row, on_store, on_subscriptions, on_whole, opened, protocol_refusal, put_request, refuses, unread}
 use Rattle.session_core.specs.Noting.{noting, reply_noted}
 use Rattle.session_core.specs.Replies.{receipt, refusal, sayings_of, to_request}
 use Rattle.session_core.specs.Sending.{said}
@@ -143,7 +143,7 @@ module _ (config : Config) (h : List Entry) (last : ℕ) (sent : List Outgoing) 
       quiet_call (record m { pending = Some p }) c (record { config = q.config; subs = q.subs; unheard = q.unheard })
       (λ a. quiet_given s p is a (record m { pending = None }) (record { config = q.config; subs = q.subs; unheard = q.unheard }))
 
-  dataspaces_lead : (r : Request) (o : DataspaceOutcome) (m : State) → Hushed s m → LeadsTo (on_dataspaces r o m)
+  dataspaces_lead : (r : Request) (o : DataspaceOutcome) (m : State) → Hushed s m → LeadsTo (on_outcome message.Dataspace pending.Dataspaces r o m)
   dataspaces_lead r (Replies sendings) m q = quiet_leads _ (hushed_said r _ s m (quiet_sayings message.Dataspace (λ x. (refl, refl)) sendings) q)
   dataspaces_lead r (Calls c p) m q = asks_lead (pending.Dataspaces r p) tt c m q
 
@@ -155,11 +155,11 @@ module _ (config : Config) (h : List Entry) (last : ℕ) (sent : List Outgoing) 
   arrays_lead r (Replies sendings) m q = quiet_leads _ (hushed_said r _ s m (quiet_sayings message.DataArray (λ x. (refl, refl)) sendings) q)
   arrays_lead r (Calls c p) m q = asks_lead (arrays_kept m.stage r c p) (away_arrays m.stage r c p) c m q
 
-  loads_lead : (r : Request) (o : LoadOutcome) (m : State) → Hushed s m → LeadsTo (on_loads_by r o m)
+  loads_lead : (r : Request) (o : LoadOutcome) (m : State) → Hushed s m → LeadsTo (on_outcome message.ChannelDataLoad pending.Loads r o m)
   loads_lead r (Replies sendings) m q = quiet_leads _ (hushed_said r _ s m (quiet_sayings message.ChannelDataLoad (λ x. (refl, refl)) sendings) q)
   loads_lead r (Calls c p) m q = asks_lead (pending.Loads r p) tt c m q
 
-  transactions_lead : (r : Request) (o : TransactionOutcome) (m : State) → Hushed s m → LeadsTo (on_transactions_by r o m)
+  transactions_lead : (r : Request) (o : TransactionOutcome) (m : State) → Hushed s m → LeadsTo (on_outcome message.Transaction pending.Transactions r o m)
   transactions_lead r (Replies sendings) m q = quiet_leads _ (hushed_said r _ s m (quiet_sayings message.Transaction (λ x. (refl, refl)) sendings) q)
   transactions_lead r (Calls c p) m q = asks_lead (pending.Transactions r p) tt c m q
 

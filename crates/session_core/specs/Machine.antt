@@ -4,9 +4,9 @@ use Rattle.std.specs.List.{list_any}
 use Rattle.std.specs.Ordering.{int_eq}
 use Rattle.array_rows.specs.Arrays.{ArrayOutcome, ArraysAnswered, array_outcome, array_reply}
 use Rattle.array_rows.specs.declared.arrays.ArrayPending.{ArrayPending}
-use Rattle.channel_rows.specs.Loads.{LoadOutcome, Loaded, Loading, load_outcome, load_reply}
+use Rattle.channel_rows.specs.Loads.{Loaded, Loading, load_outcome, load_reply}
 use Rattle.channel_rows.specs.Notices.{Told}
-use Rattle.channel_rows.specs.Subscriptions.{SubscribeOutcome, Subscribing, news_call, subscribe_reply, subscribe_outcome}
+use Rattle.channel_rows.specs.Subscriptions.{Subscribing, news_call, subscribe_reply, subscribe_outcome}
 use Rattle.channel_rows.specs.declared.subscriptions.SubscribePending.TheVariants as subscribes
 use Rattle.etp_values.specs.declared.code.ErrorCode.{ErrorCode}
 use Rattle.etp_values.specs.declared.code.ErrorCode.TheVariants as code
@@ -19,6 +19,7 @@ use Rattle.etp_frame.specs.declared.joining.JoinError.{JoinError}
 use Rattle.etp_frame.specs.declared.joining.JoinError.TheVariants as join
 use Rattle.etp_frame.specs.declared.message.Message.{Message}
 use Rattle.etp_frame.specs.declared.message.Message.TheVariants as message
+use Rattle.keyed_requests.specs.declared.sending.Outcome.{Outcome}
 use Rattle.keyed_requests.specs.declared.sending.Outcome.TheVariants.{Replies, Calls}
 use Rattle.msg_core.specs.declared.core_messages.CoreMessage.{CoreMessage}
 use Rattle.msg_core.specs.declared.core_messages.CoreMessage.TheVariants as core
@@ -29,10 +30,10 @@ use Rattle.request_scope.specs.Scope.{is_read_only}
 use Rattle.store_machine.specs.declared.call.Answer.{Answer}
 use Rattle.store_machine.specs.declared.call.Reply.{Reply}
 use Rattle.store_machine.specs.declared.call.StoreCall.{StoreCall}
-use Rattle.session_rows.specs.Dataspaces.{DataspaceOutcome, dataspace_outcome, dataspace_reply}
+use Rattle.session_rows.specs.Dataspaces.{dataspace_outcome, dataspace_reply}
 use Rattle.session_rows.specs.Objects.{ObjectOutcome, ObjectsAnswered, object_outcome, object_reply}
 use Rattle.session_rows.specs.Opening.{opening_of}
-use Rattle.session_rows.specs.Transactions.{TransactionOutcome, transaction_reply, transaction_request}
+use Rattle.session_rows.specs.Transactions.{transaction_reply, transaction_request}
 use Rattle.session_rows.specs.declared.objects.ObjectPending.{ObjectPending}
 use Rattle.session_rows.specs.declared.opening.Opening.{Opening}
 use Rattle.session_rows.specs.declared.opening.Opening.TheVariants as opens
@@ -111,10 +112,11 @@ on_core live r moment (core.Acknowledge m) s = s
 
 -- ---- the other protocols: each is given what it needs to know, and returns its reply or a call
 
+-- what a protocol makes of a request, if `wrapped` makes its messages those of any protocol, and `kept` what it keeps of the request what any keeps:
 -- the reply is sent, or the call is made and the request awaits its answer
-abbrev pub on_dataspaces : Request → DataspaceOutcome → State → Taken
-on_dataspaces r (Replies sendings) s = no_call (said r (sayings_of message.Dataspace sendings) s)
-on_dataspaces r (Calls c p) s = asks (pending.Dataspaces r p) c s
+abbrev pub on_outcome : {P M : Type 0} → (M → Message) → (Request → P → Pending) → Request → Outcome StoreCall P M → State → Taken
+on_outcome wrapped kept r (Replies sendings) s = no_call (said r (sayings_of wrapped sendings) s)
+on_outcome wrapped kept r (Calls c p) s = asks (kept r p) c s
 
 -- in a transaction the keys that the call looks at are kept with what the request keeps
 abbrev pub objects_kept : Option Transaction → Request → StoreCall → ObjectPending → Pending
@@ -133,20 +135,8 @@ abbrev pub on_arrays : Request → ArrayOutcome → State → Taken
 on_arrays r (Replies sendings) s = no_call (said r (sayings_of message.DataArray sendings) s)
 on_arrays r (Calls c p) s = asks (arrays_kept s.stage r c p) c s
 
-abbrev pub on_transactions_by : Request → TransactionOutcome → State → Taken
-on_transactions_by r (Replies sendings) s = no_call (said r (sayings_of message.Transaction sendings) s)
-on_transactions_by r (Calls c p) s = asks (pending.Transactions r p) c s
-
 abbrev pub on_transactions : Request → Transacting → State → Taken
-on_transactions r t s = on_transactions_by r t.outcome (record s { stage = t.stage; starts = t.starts })
-
-abbrev pub on_loads_by : Request → LoadOutcome → State → Taken
-on_loads_by r (Replies sendings) s = no_call (said r (sayings_of message.ChannelDataLoad sendings) s)
-on_loads_by r (Calls c p) s = asks (pending.Loads r p) c s
-
-abbrev pub on_subscriptions_by : Request → SubscribeOutcome → State → Taken
-on_subscriptions_by r (Replies sendings) s = no_call (said r (sayings_of message.ChannelSubscribe sendings) s)
-on_subscriptions_by r (Calls c p) s = asks (pending.Subscriptions r p) c s
+on_transactions r t s = on_outcome message.Transaction pending.Transactions r t.outcome (record s { stage = t.stage; starts = t.starts })
 
 -- ---- puts that await chunks
 
@@ -190,10 +180,10 @@ on_store h moment m s = on_whole (request_of h) moment (message.Store m) s
 -- ---- channels
 
 abbrev pub on_loads : Request → Loading → State → Taken
-on_loads r l s = on_loads_by r l.outcome (record s { opens = l.opens })
+on_loads r l s = on_outcome message.ChannelDataLoad pending.Loads r l.outcome (record s { opens = l.opens })
 
 abbrev pub on_subscriptions : Request → Subscribing → State → Taken
-on_subscriptions r l s = on_subscriptions_by r l.outcome (record s { subs = l.subs })
+on_subscriptions r l s = on_outcome message.ChannelSubscribe pending.Subscriptions r l.outcome (record s { subs = l.subs })
 
 -- a poll asks for News, if there is any
 abbrev pub on_poll : Option StoreCall → State → Taken
@@ -202,7 +192,7 @@ on_poll (Some c) s = asks (pending.Subscriptions unread subscribes.News) c s
 
 -- ---- a message of an accepted protocol
 abbrev pub on_row : Header → ℤ → Message → State → Taken
-on_row h moment (message.Dataspace m) s = on_dataspaces (request_of h) (dataspace_outcome m (is_some s.stage)) s
+on_row h moment (message.Dataspace m) s = on_outcome message.Dataspace pending.Dataspaces (request_of h) (dataspace_outcome m (is_some s.stage)) s
 on_row h moment (message.Store m) s = on_store h moment m s
 on_row h moment (message.DataArray m) s = on_arrays (request_of h) (array_outcome s.stage moment m) s
 on_row h moment (message.Transaction m) s = on_transactions (request_of h) (transaction_request s.config.instance s.number s.stage s.starts m) s

@@ -3,15 +3,15 @@ ghost use Rattle.std.specs.Prelude.{◌≡◌, pos, None, Some, IfOk, IfSome, On
 ghost use Rattle.channel_rows.specs.Subscriptions.{news_call};
 ghost use Rattle.etp_frame.specs.declared.message.Message.TheVariants as frame;
 ghost use Rattle.session_core.specs.Arriving.{Receives, Polls, request_of};
-ghost use Rattle.session_core.specs.Machine.{accepting, acknowledged, by_event, by_phase, may_acknowledge, on_fresh, on_poll};
+ghost use Rattle.session_core.specs.Machine.{accepting, acknowledged, by_event, by_phase, may_acknowledge, on_fresh, on_message, on_poll};
 ghost use Rattle.session_core.specs.Run.{Asks, hears, takes};
 ghost use Rattle.session_core.specs.Sending.{IsWritable, max_id};
 ghost use Rattle.session_core.specs.Session.{bytes_of, end_of, next_bytes, sent_one};
 ghost use Rattle.session_core.specs.State.{first_state};
 
 mod answering;
+mod core;
 mod joining;
-mod opening;
 mod rows;
 mod saying;
 
@@ -270,6 +270,33 @@ impl Machine {
             return self.say(alloc, &request_of(header), List::from_vec(sayings));
         }
         Ok(())
+    }
+
+    /// A message of Core or of another protocol, in a session that has not ended.
+    fn on_message(
+        &mut self,
+        alloc: Global,
+        live: Live,
+        header: &Header,
+        moment: i64,
+        message: Message,
+    ) -> Result<Option<StoreCall>, NoMemory>
+        ensures call { IfOk result (λ call. call ≡ (on_message live header.now moment message self.old).call) }
+        ensures state { OnOk result (self.new ≡ (on_message live header.now moment message self.old).state) }
+    {
+        match message {
+            Message::Core(message) => {
+                self.on_core(
+                    alloc,
+                    live,
+                    &request_of(header),
+                    moment,
+                    message.into_inner(),
+                )?;
+                Ok(None)
+            }
+            other => self.on_protocol(alloc, live, header, moment, other),
+        }
     }
 
     /// A poll asks the store for News, if there is any.

@@ -1,8 +1,9 @@
-//! What is sent to a request, including the exceptions that refuse it.
+//! What comes of a protocol's answer to a request: what is sent, including the exceptions that refuse it, and what awaits the store.
 ghost use Rattle.std.specs.Prelude.{◌≡◌, IfOk};
 ghost use Rattle.session_core.specs.Replies.{error_info, receipt, refusal, refused_message, saying_of, sayings_of, to_request};
 
-use crate::state::{Addressee, Saying};
+use crate::state::{Addressee, Pending, Request, Saying};
+use channel_rows::{LoadPending, SubscribePending};
 use etp_frame::Message;
 use etp_values::{Boxed, ErrorCode, List, Named, NoMemory, Text};
 use keyed_requests::Sending;
@@ -11,6 +12,7 @@ use msg_core::{
     Acknowledge, CoreMessage, DataspaceMessage, ErrorInfo, ProtocolException, TransactionMessage,
 };
 use msg_store::{DataArrayMessage, StoreMessage};
+use session_rows::{DataspacePending, TransactionPending};
 use std::alloc::Global;
 
 /// A message of one protocol, as a message of any.
@@ -81,6 +83,70 @@ impl IntoMessage for DataspaceMessage {
 
     fn into_message(self, alloc: Global) -> Result<Message, NoMemory> {
         Ok(Message::Dataspace(Boxed::new(alloc, self)?))
+    }
+}
+
+/// What one protocol keeps of a request while the store is asked, as what any protocol keeps.
+pub(crate) trait IntoPending {
+    ghost use Rattle.std.specs.Prelude.{◌≡◌};
+    ghost use Rattle.session_core.specs.declared.state.Pending.{Pending};
+    ghost use Rattle.session_core.specs.declared.state.Request.{Request};
+
+    ghost kept: { Request → Self → Pending };
+
+    fn into_pending(self, request: Request) -> Pending
+        ensures { result ≡ kept request self };
+}
+
+impl IntoPending for DataspacePending {
+    ghost use Rattle.session_core.specs.declared.state.Pending.TheVariants.{Dataspaces};
+
+    ghost kept = { λ request pending. Dataspaces request pending };
+
+    fn into_pending(self, request: Request) -> Pending {
+        Pending::Dataspaces {
+            request,
+            pending: self,
+        }
+    }
+}
+
+impl IntoPending for TransactionPending {
+    ghost use Rattle.session_core.specs.declared.state.Pending.TheVariants.{Transactions};
+
+    ghost kept = { λ request pending. Transactions request pending };
+
+    fn into_pending(self, request: Request) -> Pending {
+        Pending::Transactions {
+            request,
+            pending: self,
+        }
+    }
+}
+
+impl IntoPending for LoadPending {
+    ghost use Rattle.session_core.specs.declared.state.Pending.TheVariants.{Loads};
+
+    ghost kept = { λ request pending. Loads request pending };
+
+    fn into_pending(self, request: Request) -> Pending {
+        Pending::Loads {
+            request,
+            pending: self,
+        }
+    }
+}
+
+impl IntoPending for SubscribePending {
+    ghost use Rattle.session_core.specs.declared.state.Pending.TheVariants.{Subscriptions};
+
+    ghost kept = { λ request pending. Subscriptions request pending };
+
+    fn into_pending(self, request: Request) -> Pending {
+        Pending::Subscriptions {
+            request,
+            pending: self,
+        }
     }
 }
 

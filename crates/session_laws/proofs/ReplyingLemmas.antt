@@ -76,7 +76,7 @@ use Rattle.session_core.specs.declared.state.StagedPending.TheVariants as staged
 use Rattle.session_core.specs.State.{State}
 use Rattle.session_core.specs.Arriving.{Event, request_of}
 use Rattle.session_core.specs.Granting.{IsAside, IsMatter, IsPoll, IsRead, IsReceipt, IsSent, IsToldTo, Matter, Aside, Begins, Ends, Stops, Tells, changes_in, first_in, request_in, speaks, subscribe_speaks}
-use Rattle.session_core.specs.Machine.{Taken, accepting, acknowledged, arrays_kept, asks, by_event, by_phase, given, given_to, join_code, may_acknowledge, no_call, objects_kept, on_arrays, on_arrays_answered, on_core, on_dataspaces, on_join, on_joined, on_loads_by, on_message, on_objects, on_objects_answered, on_ping, on_poll, on_protocol, on_received, on_request_session, on_row, on_store, on_subscriptions, on_subscriptions_answered, on_subscriptions_by, on_transactions_by, on_whole, opened, protocol_refusal, put_request, refuses, unread}
+use Rattle.session_core.specs.Machine.{Taken, accepting, acknowledged, arrays_kept, asks, by_event, by_phase, given, given_to, join_code, may_acknowledge, no_call, objects_kept, on_arrays, on_arrays_answered, on_core, on_join, on_joined, on_message, on_objects, on_objects_answered, on_outcome, on_ping, on_poll, on_protocol, on_received, on_request_session, on_row, on_store, on_subscriptions, on_subscriptions_answered, on_whole, opened, protocol_refusal, put_request, refuses, unread}
 use Rattle.session_core.specs.Noting.{noting, reply_noted}
 use Rattle.session_core.specs.Replies.{receipt, refusal, sayings_of, to_request}
 use Rattle.session_core.specs.Sending.{blobs_sent, cut_all, is_spent, max_id, next_after, numbered, outgoing, replies_in, said}
@@ -252,7 +252,7 @@ module _ (e : Event) (v : Subbed) where
   asks_lead : (p : Pending) → IsAway p → (c : StoreCall) (m : State) → IsQuiet v m → LeadsTo (asks p c m)
   asks_lead p is c m q = (record { subs = q.subs; out = q.out }, λ a fair live. away_says p is a (record m { pending = None }) (record { subs = q.subs; out = q.out }) live)
 
-  dataspaces_lead : (r : Request) (o : DataspaceOutcome) (m : State) → IsQuiet v m → LeadsTo (on_dataspaces r o m)
+  dataspaces_lead : (r : Request) (o : DataspaceOutcome) (m : State) → IsQuiet v m → LeadsTo (on_outcome message.Dataspace pending.Dataspaces r o m)
   dataspaces_lead r (Replies sendings) m q = aside_leads r _ m (aside_sayings message.Dataspace (λ x. refl) sendings) q
   dataspaces_lead r (Calls c p) m q = asks_lead (pending.Dataspaces r p) tt c m q
 
@@ -264,11 +264,11 @@ module _ (e : Event) (v : Subbed) where
   arrays_lead r (Replies sendings) m q = aside_leads r _ m (aside_sayings message.DataArray (λ x. refl) sendings) q
   arrays_lead r (Calls c p) m q = asks_lead (arrays_kept m.stage r c p) (away_arrays m.stage r c p) c m q
 
-  loads_lead : (r : Request) (o : LoadOutcome) (m : State) → IsQuiet v m → LeadsTo (on_loads_by r o m)
+  loads_lead : (r : Request) (o : LoadOutcome) (m : State) → IsQuiet v m → LeadsTo (on_outcome message.ChannelDataLoad pending.Loads r o m)
   loads_lead r (Replies sendings) m q = aside_leads r _ m (aside_sayings message.ChannelDataLoad (λ x. refl) sendings) q
   loads_lead r (Calls c p) m q = asks_lead (pending.Loads r p) tt c m q
 
-  transactions_lead : (r : Request) (o : TransactionOutcome) (m : State) → IsQuiet v m → LeadsTo (on_transactions_by r o m)
+  transactions_lead : (r : Request) (o : TransactionOutcome) (m : State) → IsQuiet v m → LeadsTo (on_outcome message.Transaction pending.Transactions r o m)
   transactions_lead r (Replies sendings) m q = aside_leads r _ m (aside_sayings message.Transaction (λ x. refl) sendings) q
   transactions_lead r (Calls c p) m q = asks_lead (pending.Transactions r p) tt c m q
 
@@ -330,7 +330,7 @@ module _ (e : Event) (v : Subbed) where
   unasked_aside [] = ((refl, refl), tt)
   unasked_aside (r ∷ rs) = ((refl, refl), tt)
 
-  replies_lead : (r : Request) (sendings : List (Sending ChannelSubscribeMessage)) (m : State) → AllByRecursion IsAside (sayings_of message.ChannelSubscribe sendings) → IsQuiet v m → LeadsTo (on_subscriptions_by r (Replies sendings) m)
+  replies_lead : (r : Request) (sendings : List (Sending ChannelSubscribeMessage)) (m : State) → AllByRecursion IsAside (sayings_of message.ChannelSubscribe sendings) → IsQuiet v m → LeadsTo (on_outcome message.ChannelSubscribe pending.Subscriptions r (Replies sendings) m)
   replies_lead r sendings m aside q = aside_leads r (sayings_of message.ChannelSubscribe sendings) m aside q
 
   told_aside : (r : Request) (t : Told) (m : State) → t.subs ≡ v → AllByRecursion IsAside (sayings_of message.ChannelSubscribe t.sendings) → IsQuiet v m → LiveState (on_subscriptions_answered r t m) → Says e v (on_subscriptions_answered r t m)
@@ -354,20 +354,20 @@ module _ (e : Event) (v : Subbed) where
   ranges_says defs limit r mark (answer.Refused code) m q live = told_aside r (replied defs limit mark m.subs keeps_subscription.Ranges (answer.Refused code)) m q.subs ((refl, refl), tt) q live
   ranges_says defs limit r mark a m q live = told_aside r (replied defs limit mark m.subs keeps_subscription.Ranges a) m q.subs tt q live
 
-  metadata_leads : (r : Request) (items : List (List ℕ × Decision (Unit {0}))) (uris : _) (m : State) → IsQuiet v m → LeadsTo (on_subscriptions_by r (metadata_called (called metadata_response items uris)) m)
+  metadata_leads : (r : Request) (items : List (List ℕ × Decision (Unit {0}))) (uris : _) (m : State) → IsQuiet v m → LeadsTo (on_outcome message.ChannelSubscribe pending.Subscriptions r (metadata_called (called metadata_response items uris)) m)
   metadata_leads r items [] m q = replies_lead r (unasked metadata_response items) m (aside_replies metadata_response (λ g. refl) [] (refused_keys items)) q
   metadata_leads r items (x ∷ xs) m q = (
     record { subs = q.subs; out = q.out },
     λ a fair live. metadata_says m.config.channels m.config.lag r items a.mark a.reply (record m { pending = None }) (record { subs = q.subs; out = q.out }) live,
   )
 
-  ranges_lead : (r : Request) (c : StoreCall) (m : State) → IsQuiet v m → LeadsTo (on_subscriptions_by r (Calls c keeps_subscription.Ranges) m)
+  ranges_lead : (r : Request) (c : StoreCall) (m : State) → IsQuiet v m → LeadsTo (on_outcome message.ChannelSubscribe pending.Subscriptions r (Calls c keeps_subscription.Ranges) m)
   ranges_lead r c m q = (
     record { subs = q.subs; out = q.out },
     λ a fair live. ranges_says m.config.channels m.config.lag r a.mark a.reply (record m { pending = None }) (record { subs = q.subs; out = q.out }) live,
   )
 
-  unless_leads : (r : Request) (why : Option ErrorCode) (o : SubscribeOutcome) (m : State) → IsQuiet v m → LeadsTo (on_subscriptions_by r o m) → LeadsTo (on_subscriptions_by r (unless_refused why o) m)
+  unless_leads : (r : Request) (why : Option ErrorCode) (o : SubscribeOutcome) (m : State) → IsQuiet v m → LeadsTo (on_outcome message.ChannelSubscribe pending.Subscriptions r o m) → LeadsTo (on_outcome message.ChannelSubscribe pending.Subscriptions r (unless_refused why o) m)
   unless_leads r (Some code) o m q leads = replies_lead r (refusal_alone code) m ((refl, refl), tt) q
   unless_leads r None o m q leads = leads
 
@@ -377,7 +377,7 @@ module _ (e : Event) (v : Subbed) where
   IsUnsubscribe hd x = IsRead e hd (message.ChannelSubscribe (subscribe.UnsubscribeChannels x))
 
   stopping_leads : (hd : Header) (x : UnsubscribeChannels) (w : Subbed) (m : State) → IsUnsubscribe hd x → w ≡ v → IsQuiet v m
-      → LeadsTo (on_subscriptions_by (request_of hd) (Replies (request_reply (stop_response Unsubscribed) (checked stop_one w x.channel_ids))) (record m { subs = checked_state stop_one w x.channel_ids }))
+      → LeadsTo (on_outcome message.ChannelSubscribe pending.Subscriptions (request_of hd) (Replies (request_reply (stop_response Unsubscribed) (checked stop_one w x.channel_ids))) (record m { subs = checked_state stop_one w x.channel_ids }))
   stopping_leads hd x w m read is q live =
       let matter : Matter = Ends hd x (checked stop_one w x.channel_ids) in
       record {
@@ -453,11 +453,11 @@ module _ (e : Event) (v : Subbed) where
   subscribed_says defs limit hd x mark (answer.Refused code) m read q fair live = told_aside (request_of hd) (told_by defs limit mark m x (answer.Refused code)) m q.subs ((refl, refl), tt) q live
   subscribed_says defs limit hd x mark a m read q fair live = told_aside (request_of hd) (told_by defs limit mark m x a) m q.subs tt q live
 
-  begins_lead : (hd : Header) (x : SubscribeChannels) (m : State) → IsSubscribe hd x → IsQuiet v m → LeadsTo (on_subscriptions_by (request_of hd) (begin_outcome m.subs.subs x.channels) m)
+  begins_lead : (hd : Header) (x : SubscribeChannels) (m : State) → IsSubscribe hd x → IsQuiet v m → LeadsTo (on_outcome message.ChannelSubscribe pending.Subscriptions (request_of hd) (begin_outcome m.subs.subs x.channels) m)
   begins_lead hd x m read q = by (sent_keys (λ a. a) (asked_of m.subs x)) refl
     where
       by : (asks : List (List ℕ × StartAsk)) → sent_keys (λ a. a) (asked_of m.subs x) ≡ asks
-          → LeadsTo (on_subscriptions_by (request_of hd) (subscribe_called (called subscribe_response (kept (λ a. a) (asked_of m.subs x)) asks)) m)
+          → LeadsTo (on_outcome message.ChannelSubscribe pending.Subscriptions (request_of hd) (subscribe_called (called subscribe_response (kept (λ a. a) (asked_of m.subs x)) asks)) m)
       by [] f = replies_lead (request_of hd) (unasked subscribe_response (kept (λ a. a) (asked_of m.subs x))) m (unasked_aside (refused_keys (kept (λ a. a) (asked_of m.subs x)))) q
       by (y ∷ ys) f = (
         record { subs = q.subs; out = q.out },

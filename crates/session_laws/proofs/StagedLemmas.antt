@@ -68,7 +68,7 @@ use Rattle.session_core.specs.declared.state.Phase.{Phase}
 use Rattle.session_core.specs.declared.state.Phase.TheVariants as phase
 use Rattle.session_core.specs.State.{State}
 use Rattle.session_core.specs.Arriving.{Event, arrived, request_of}
-use Rattle.session_core.specs.Machine.{Taken, accepting, arrays_kept, by_event, by_phase, may_acknowledge, no_call, objects_kept, on_arrays, on_dataspaces, on_join, on_joined, on_loads_by, on_message, on_objects, on_poll, on_protocol, on_received, on_row, on_store, on_subscriptions_by, on_transactions_by, on_whole, protocol_refusal, put_request, refuses}
+use Rattle.session_core.specs.Machine.{Taken, accepting, arrays_kept, by_event, by_phase, may_acknowledge, no_call, objects_kept, on_arrays, on_join, on_joined, on_message, on_objects, on_outcome, on_poll, on_protocol, on_received, on_row, on_store, on_whole, protocol_refusal, put_request, refuses}
 use Rattle.session_core.specs.Noting.{keys_in}
 use Rattle.session_core.specs.Replies.{receipt}
 use Rattle.session_core.specs.Run.{Course, answered_at, asked, at_place, happens, happens_unless, moment_of, own_number, run_from, takes}
@@ -188,19 +188,19 @@ module _ (x : Transaction) where
   of_arrays r (Replies sendings) s is looks = tt
   of_arrays r (Calls c p) s is looks = subst (λ (st : Option Transaction). IsCallWithin x c (arrays_kept st r c p)) (sym is) (looks_at c looks)
 
-  of_dataspaces : (r : Request) (o : DataspaceOutcome) (s : State) → OnlyLists o → Within (on_dataspaces r o s)
+  of_dataspaces : (r : Request) (o : DataspaceOutcome) (s : State) → OnlyLists o → Within (on_outcome message.Dataspace pending.Dataspaces r o s)
   of_dataspaces r (Replies sendings) s lists = tt
   of_dataspaces r (Calls c p) s lists = lists
 
-  of_transactions : (r : Request) (o : transactions.TransactionOutcome) (s : State) → OnlyCommits o → Within (on_transactions_by r o s)
+  of_transactions : (r : Request) (o : transactions.TransactionOutcome) (s : State) → OnlyCommits o → Within (on_outcome message.Transaction pending.Transactions r o s)
   of_transactions r (Replies sendings) s commits = tt
   of_transactions r (Calls c p) s commits = commits
 
-  of_loads : (r : Request) (o : loads.LoadOutcome) (s : State) → CallsOfChannels o → Within (on_loads_by r o s)
+  of_loads : (r : Request) (o : loads.LoadOutcome) (s : State) → CallsOfChannels o → Within (on_outcome message.ChannelDataLoad pending.Loads r o s)
   of_loads r (Replies sendings) s of = tt
   of_loads r (Calls c p) s of = of
 
-  of_subscriptions : (r : Request) (o : subscribes.SubscribeOutcome) (s : State) → CallsOfChannels o → Within (on_subscriptions_by r o s)
+  of_subscriptions : (r : Request) (o : subscribes.SubscribeOutcome) (s : State) → CallsOfChannels o → Within (on_outcome message.ChannelSubscribe pending.Subscriptions r o s)
   of_subscriptions r (Replies sendings) s of = tt
   of_subscriptions r (Calls c p) s of = of
 

@@ -9,7 +9,6 @@ ghost use Rattle.session_core.specs.Machine.{given_to, on_arrays_answered, on_lo
 use crate::machine::Machine;
 use crate::machine::rows::taken_subs;
 use crate::noting::note_reply;
-use crate::replies::sayings_of;
 use crate::state::{Pending, Request, StagedPending};
 use array_rows::{ArrayPending, array_reply};
 use channel_rows::{LoadPending, SubscribePending, load_reply, subscribe_reply};
@@ -34,8 +33,7 @@ impl Machine {
             None => unheard(answer),
             Some(Pending::Dataspaces { request, pending }) => {
                 let sendings = dataspace_reply(alloc, pending, reply_of(answer))?;
-                let sayings = sayings_of(alloc, sendings)?;
-                self.say(alloc, &request, sayings)
+                self.say_sendings(alloc, &request, sendings)
             }
             Some(Pending::Objects { request, pending }) => {
                 self.on_objects_answered(alloc, &request, pending, reply_of(answer))
@@ -52,8 +50,7 @@ impl Machine {
             ) => self.on_staged_answered(alloc, &request, keys, pending, answer),
             Some(Pending::Transactions { request, pending }) => {
                 let sendings = transaction_reply(alloc, pending, reply_of(answer))?;
-                let sayings = sayings_of(alloc, sendings)?;
-                self.say(alloc, &request, sayings)
+                self.say_sendings(alloc, &request, sendings)
             }
             Some(Pending::Loads { request, pending }) => {
                 self.on_loads_answered(alloc, &request, pending, reply_of(answer))
@@ -77,8 +74,7 @@ impl Machine {
         let answered = object_reply(alloc, self.stage.take(), pending, reply)?;
         let Answered { stage, sendings } = answered;
         put_back(&mut self.stage, stage);
-        let sayings = sayings_of(alloc, sendings)?;
-        self.say(alloc, request, sayings)
+        self.say_sendings(alloc, request, sendings)
     }
 
     fn on_arrays_answered(
@@ -94,8 +90,7 @@ impl Machine {
         let answered = array_reply(alloc, self.limit, self.stage.take(), pending, reply)?;
         let Answered { stage, sendings } = answered;
         put_back(&mut self.stage, stage);
-        let sayings = sayings_of(alloc, sendings)?;
-        self.say(alloc, request, sayings)
+        self.say_sendings(alloc, request, sendings)
     }
 
     /// The answer to a request in a transaction: its keys are noted before anything comes of what was found.
@@ -151,8 +146,7 @@ impl Machine {
     {
         let defs = self.config.channels.get();
         let sendings = load_reply(alloc, defs, &mut self.opens, pending, reply)?;
-        let sayings = sayings_of(alloc, sendings)?;
-        self.say(alloc, request, sayings)
+        self.say_sendings(alloc, request, sendings)
     }
 
     fn on_subscriptions_answered(
@@ -170,8 +164,7 @@ impl Machine {
         let lag = self.config.lag;
         let (subs, sendings) = subscribe_reply(alloc, defs, lag, subs, pending, answer)?;
         self.subs = Some(subs);
-        let sayings = sayings_of(alloc, sendings)?;
-        self.say(alloc, request, sayings)
+        self.say_sendings(alloc, request, sendings)
     }
 }
 

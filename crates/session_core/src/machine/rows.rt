@@ -5,7 +5,7 @@ ghost use Rattle.std.specs.Prelude.{◌≡◌, IfOk, OnOk, Some};
 ghost use Rattle.channel_rows.specs.Loads.{load_outcome};
 ghost use Rattle.channel_rows.specs.Subscriptions.{subscribe_outcome};
 ghost use Rattle.session_core.specs.Arriving.{request_of};
-ghost use Rattle.session_core.specs.Machine.{arrays_kept, asks, objects_kept, on_arrays, on_dataspaces, on_loads, on_loads_by, on_message, on_objects, on_protocol, on_row, on_subscriptions, on_subscriptions_by, on_transactions, on_transactions_by, protocol_refusal};
+ghost use Rattle.session_core.specs.Machine.{arrays_kept, asks, objects_kept, on_arrays, on_loads, on_objects, on_outcome, on_protocol, on_row, on_subscriptions, on_transactions, protocol_refusal};
 ghost use Rattle.session_core.specs.Noting.{keys_in};
 ghost use Rattle.session_core.specs.State.{subbed};
 ghost use Rattle.session_rows.specs.Transactions.{transaction_request};
@@ -13,52 +13,25 @@ ghost use Rattle.session_rows.specs.Transactions.{transaction_request};
 use crate::arriving::request_of;
 use crate::machine::{Machine, keep};
 use crate::noting::keys_in;
-use crate::replies::sayings_of;
+use crate::replies::{IntoMessage, IntoPending};
 use crate::state::{Live, Pending, Request, StagedPending};
 use array_rows::{ArrayOutcome, ArrayPending, array_outcome};
-use channel_rows::{LoadOutcome, SubscribeOutcome, load_outcome, subscribe_outcome};
+use channel_rows::{load_outcome, subscribe_outcome};
 use etp_frame::{Header, Message};
 use etp_values::{ErrorCode, NoMemory};
 use keyed_requests::Outcome;
 use msg_channel::{ChannelDataLoadMessage, ChannelSubscribeMessage};
 use msg_core::TransactionMessage;
 use session_rows::{
-    DataspaceOutcome, ObjectOutcome, ObjectPending, Transacting, TransactionOutcome,
-    dataspace_outcome, transaction_request,
+    ObjectOutcome, ObjectPending, Transacting, dataspace_outcome, transaction_request,
 };
 use std::alloc::Global;
 use store_machine::StoreCall;
 use subscribe_core::Subs;
 
 impl Machine {
-    pub(crate) fn on_message(
-        &mut self,
-        alloc: Global,
-        live: Live,
-        header: &Header,
-        moment: i64,
-        message: Message,
-    ) -> Result<Option<StoreCall>, NoMemory>
-        ensures call { IfOk result (λ call. call ≡ (on_message live header.now moment message self.old).call) }
-        ensures state { OnOk result (self.new ≡ (on_message live header.now moment message self.old).state) }
-    {
-        match message {
-            Message::Core(message) => {
-                self.on_core(
-                    alloc,
-                    live,
-                    &request_of(header),
-                    moment,
-                    message.into_inner(),
-                )?;
-                Ok(None)
-            }
-            other => self.on_protocol(alloc, live, header, moment, other),
-        }
-    }
-
     /// A message of a protocol other than Core.
-    fn on_protocol(
+    pub(crate) fn on_protocol(
         &mut self,
         alloc: Global,
         live: Live,
@@ -92,7 +65,7 @@ impl Machine {
         match message {
             Message::Dataspace(message) => {
                 let outcome = dataspace_outcome(alloc, message.into_inner(), self.stage.is_some())?;
-                self.on_dataspaces(alloc, request, outcome)
+                self.on_outcome(alloc, request, outcome)
             }
             Message::Store(message) => self.on_store(alloc, header, moment, message.into_inner()),
             Message::DataArray(message) => {
@@ -119,23 +92,23 @@ impl Machine {
         }
     }
 
-    fn on_dataspaces(
+    /// What comes of a request: its reply is sent, or its call is made and the request awaits the answer.
+    fn on_outcome<P: IntoPending, M: IntoMessage + Drop>(
         &mut self,
         alloc: Global,
         request: Request,
-        outcome: DataspaceOutcome,
+        outcome: Outcome<StoreCall, P, M>,
     ) -> Result<Option<StoreCall>, NoMemory>
-        ensures call { IfOk result (λ call. call ≡ (on_dataspaces request outcome self.old).call) }
-        ensures state { OnOk result (self.new ≡ (on_dataspaces request outcome self.old).state) }
+        ensures call { IfOk result (λ call. call ≡ (on_outcome M.wrapped P.kept request outcome self.old).call) }
+        ensures state { OnOk result (self.new ≡ (on_outcome M.wrapped P.kept request outcome self.old).state) }
     {
         match outcome {
             Outcome::Replies(sendings) => {
-                let sayings = sayings_of(alloc, sendings)?;
-                self.say(alloc, &request, sayings)?;
+                self.say_sendings(alloc, &request, sendings)?;
                 Ok(None)
             }
             Outcome::Calls { call, pending } => {
-                keep(&mut self.pending, Pending::Dataspaces { request, pending });
+                keep(&mut self.pending, pending.into_pending(request));
                 Ok(Some(call))
             }
         }
@@ -152,8 +125,7 @@ impl Machine {
     {
         match outcome {
             Outcome::Replies(sendings) => {
-                let sayings = sayings_of(alloc, sendings)?;
-                self.say(alloc, &request, sayings)?;
+                self.say_sendings(alloc, &request, sendings)?;
                 Ok(None)
             }
             Outcome::Calls { call, pending } => self.ask_objects(alloc, request, call, pending),
@@ -192,8 +164,7 @@ impl Machine {
     {
         match outcome {
             Outcome::Replies(sendings) => {
-                let sayings = sayings_of(alloc, sendings)?;
-                self.say(alloc, &request, sayings)?;
+                self.say_sendings(alloc, &request, sendings)?;
                 Ok(None)
             }
             Outcome::Calls { call, pending } => self.ask_arrays(alloc, request, call, pending),
@@ -283,32 +254,7 @@ impl Machine {
         } = transacting;
         self.stage = stage;
         self.starts = starts;
-        self.on_transactions_by(alloc, request, outcome)
-    }
-
-    fn on_transactions_by(
-        &mut self,
-        alloc: Global,
-        request: Request,
-        outcome: TransactionOutcome,
-    ) -> Result<Option<StoreCall>, NoMemory>
-        ensures call { IfOk result (λ call. call ≡ (on_transactions_by request outcome self.old).call) }
-        ensures state { OnOk result (self.new ≡ (on_transactions_by request outcome self.old).state) }
-    {
-        match outcome {
-            Outcome::Replies(sendings) => {
-                let sayings = sayings_of(alloc, sendings)?;
-                self.say(alloc, &request, sayings)?;
-                Ok(None)
-            }
-            Outcome::Calls { call, pending } => {
-                keep(
-                    &mut self.pending,
-                    Pending::Transactions { request, pending },
-                );
-                Ok(Some(call))
-            }
-        }
+        self.on_outcome(alloc, request, outcome)
     }
 
     /// A message of ChannelDataLoad.
@@ -326,29 +272,7 @@ impl Machine {
     {
         let defs = self.config.channels.get();
         let outcome = load_outcome(alloc, defs, &mut self.opens, moment, message)?;
-        self.on_loads_by(alloc, request, outcome)
-    }
-
-    fn on_loads_by(
-        &mut self,
-        alloc: Global,
-        request: Request,
-        outcome: LoadOutcome,
-    ) -> Result<Option<StoreCall>, NoMemory>
-        ensures call { IfOk result (λ call. call ≡ (on_loads_by request outcome self.old).call) }
-        ensures state { OnOk result (self.new ≡ (on_loads_by request outcome self.old).state) }
-    {
-        match outcome {
-            Outcome::Replies(sendings) => {
-                let sayings = sayings_of(alloc, sendings)?;
-                self.say(alloc, &request, sayings)?;
-                Ok(None)
-            }
-            Outcome::Calls { call, pending } => {
-                keep(&mut self.pending, Pending::Loads { request, pending });
-                Ok(Some(call))
-            }
-        }
+        self.on_outcome(alloc, request, outcome)
     }
 
     /// A message of ChannelSubscribe.
@@ -367,32 +291,7 @@ impl Machine {
         let defs = self.config.channels.get();
         let outcome = subscribe_outcome(alloc, defs, &mut subs, message)?;
         self.subs = Some(subs);
-        self.on_subscriptions_by(alloc, request, outcome)
-    }
-
-    fn on_subscriptions_by(
-        &mut self,
-        alloc: Global,
-        request: Request,
-        outcome: SubscribeOutcome,
-    ) -> Result<Option<StoreCall>, NoMemory>
-        ensures call { IfOk result (λ call. call ≡ (on_subscriptions_by request outcome self.old).call) }
-        ensures state { OnOk result (self.new ≡ (on_subscriptions_by request outcome self.old).state) }
-    {
-        match outcome {
-            Outcome::Replies(sendings) => {
-                let sayings = sayings_of(alloc, sendings)?;
-                self.say(alloc, &request, sayings)?;
-                Ok(None)
-            }
-            Outcome::Calls { call, pending } => {
-                keep(
-                    &mut self.pending,
-                    Pending::Subscriptions { request, pending },
-                );
-                Ok(Some(call))
-            }
-        }
+        self.on_outcome(alloc, request, outcome)
     }
 }
 

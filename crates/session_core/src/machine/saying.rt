@@ -1,14 +1,16 @@
 //! What a session sends.
 ghost use Rattle.std.specs.Prelude.{◌≡◌, None, IfOk, OnOk};
 ghost use Rattle.session_core.specs.Machine.{refuses, replies_one};
+ghost use Rattle.session_core.specs.Replies.{sayings_of};
 ghost use Rattle.session_core.specs.Sending.{said};
 
 use crate::machine::Machine;
 use crate::parting::{Parted, cut_all};
-use crate::replies::{refusal, to_request};
+use crate::replies::{IntoMessage, refusal, sayings_of, to_request};
 use crate::state::{End, Phase, Request, Saying};
 use etp_frame::Message;
 use etp_values::{ErrorCode, List, NoMemory};
+use keyed_requests::Sending;
 use std::alloc::Global;
 use store_machine::StoreCall;
 
@@ -54,6 +56,19 @@ impl Machine {
         let mut sayings = Vec::new(alloc);
         sayings.push(to_request(message))?;
         self.say(alloc, request, List::from_vec(sayings))
+    }
+
+    /// Sends what a protocol answers a request, and the notices after it.
+    pub(crate) fn say_sendings<M: IntoMessage + Drop>(
+        &mut self,
+        alloc: Global,
+        request: &Request,
+        sendings: List<Sending<M>>,
+    ) -> Result<(), NoMemory>
+        ensures { OnOk result (self.new ≡ said request.now (sayings_of M.wrapped sendings) self.old) }
+    {
+        let sayings = sayings_of(alloc, sendings)?;
+        self.say(alloc, request, sayings)
     }
 
     /// Queues a reply or notices, split into parts that take the session's next ids. Ends the session when the ids run out.
