@@ -1,15 +1,14 @@
 //! Links that come, each served in a thread of its own.
 ghost use Rattle.std.specs.Prelude.{◌≡◌, ◌≤◌, ◌+◌, ◌⊎◌, ◌<◌, [], suc, true, None, Some, length, IfNone, IfSome, IsSome};
-ghost use Rattle.std.specs.List.{AllByRecursion};
 ghost use Rattle.std.specs.VecDeque.{deque_capacity, deque_len};
 ghost use Rattle.etp_outside.specs.Doors.{IsAccepted, TakesBack, back_of};
 ghost use Rattle.etp_outside.specs.Faults.{Rose};
 ghost use Rattle.etp_outside.specs.Told.{Told};
 ghost use Rattle.store_hub.specs.Passes.{IsFresh, IsPassOf, config_of, known};
-ghost use Rattle.etp_serve.specs.Accepted.{Accepts, IsBegun, IsDone, IsOneLess, IsReached, ServesAll};
+ghost use Rattle.etp_serve.specs.Accepted.{IsDone, IsOneLess, IsReached, ServesAll};
 ghost use Rattle.etp_serve.specs.declared.served.Served.TheVariants.{Stopped};
 
-use crate::children::{Child, Handle, put_last, settle_all, settle_ended, take_in};
+use crate::children::{Child, Children, put_last, take_in};
 use crate::endings::Endings;
 use crate::laws::laws;
 use crate::served::Served;
@@ -33,6 +32,65 @@ const JOURNAL_FULL: u8 = 5;
 
 /// The same if memory ran out.
 const NO_MEMORY: u8 = 7;
+
+/// What stays as it is while links are accepted, with the listener and the pass as they were at first.
+#[derive(Drop)]
+pub(crate) struct Accepting<'s, 'e, A, C, G, R> {
+    pub(crate) rt: &'s R,
+    pub(crate) alloc: Global,
+    pub(crate) scope: &'s Scope<'s, &'e ()>,
+    pub(crate) hub: &'s Hub,
+    pub(crate) clock: &'s C,
+    pub(crate) gate: &'s G,
+    pub(crate) conf: &'s Config,
+    pub(crate) endings: &'s Endings,
+    pub(crate) opened: Snapshot<A>,
+    pub(crate) first: Snapshot<Pass>,
+}
+
+/// For contracts only: what holds of the listener, the pass and the children while links are accepted.
+pub(crate) trait Keeps {
+    type Door;
+
+    type Children;
+
+    ghost use Rattle.std.specs.Prelude.{ℕ};
+    ghost use Rattle.store_hub.specs.declared.pass.Pass.{Pass};
+    ghost use Rattle.etp_serve.specs.declared.served.Served.{Served};
+
+    /// The pass is one of the hub's, and each child serves a session of the same hub.
+    ghost holds: { Self → Pass → Self.Children → Type 0 };
+
+    /// If no more links are served for this reason, this many of those that were given out have no answer yet.
+    ghost way: { Self → Served → Pass → Self.Door → ℕ → Type 0 };
+
+    /// The pass keeps its number, and there is room for as many children as before, of which there are at most so many more. The listener gave
+    /// out no link and did not stop. It may have failed.
+    ghost keeps: { Self → Pass → Pass → Self.Door → Self.Door → Self.Children → Self.Children → ℕ → Type 0 };
+}
+
+impl<'s, 'e, A: Listener, C: Clock, G, R> Keeps for Accepting<'s, 'e, A, C, G, R> {
+    type Door = A;
+
+    type Children = Children<A::Link, C>;
+
+    ghost use Rattle.std.specs.Prelude.{◌≡◌, ◌≤◌, ◌+◌, length};
+    ghost use Rattle.std.specs.List.{AllByRecursion};
+    ghost use Rattle.std.specs.VecDeque.{deque_capacity, deque_len};
+    ghost use Rattle.store_hub.specs.Passes.{IsPassOf, config_of, known};
+    ghost use Rattle.etp_serve.specs.Accepted.{Accepts, IsBegun};
+
+    ghost holds = { λ on pass children. IsPassOf on.hub.now pass
+        × AllByRecursion (λ k. IsBegun A.Link.talk A.Link.faults A.Link.ended C.passes on.hub.now (C.passes on.clock.now)
+        (length (known on.first.value).seen) (A.backs on.opened.value) k.handle.promise) children.items };
+
+    ghost way = { λ on end pass door left. Accepts end (C.passes on.clock.now) (config_of on.hub.now) (known on.first.value) (known pass)
+        (A.given on.opened.value) (A.given door) left (A.backs on.opened.value) (A.backs door) };
+
+    ghost keeps = { λ on pass0 pass door0 door children0 children more. (pass.number ≡ pass0.number)
+        × (deque_len children ≤ deque_len children0 + more) × (deque_capacity children ≡ deque_capacity children0)
+        × (A.given door ≡ A.given door0) × (A.stopped door ≡ A.stopped door0) × (A.faults door0 ≤ A.faults door) };
+}
 
 /// A bit that none of the children has, or 0 if all are taken.
 fn free_bit<H>(children: &VecDeque<Child<H>>) -> u64 {
@@ -70,196 +128,6 @@ fn refuse_link<A: Listener>(door: &mut A, link: A::Link, end: u8)
     door.back(link, 0, end);
 }
 
-/// Serves a session that was let in, in a thread of the scope, or in this one if none can be started.
-fn begin<'s, 'e, A: Listener, C: Clock, G: Gate, R: Threads + Wait + Sync>(
-    rt: &'s R,
-    alloc: Global,
-    scope: &'s Scope<'s, &'e ()>,
-    door: &mut A,
-    hub: &'s Hub,
-    pass: &mut Pass,
-    clock: &C,
-    gate: &'s G,
-    conf: &'s Config,
-    endings: &'s Endings,
-    children: &mut VecDeque<Child<Handle<A::Link, C>>>,
-    opened: &Snapshot<A>,
-    first: &Snapshot<Pass>,
-    link: A::Link,
-    entered: Pass,
-)
-where
-    A::Link: 's,
-    C: 's,
-    requires own { IsPassOf hub.now pass.old }
-    requires conf { conf.now ≡ config_of hub.now }
-    requires entered { IsPassOf hub.now entered }
-    requires fresh { IsFresh entered }
-    requires alone { (known entered).met ≡ [] }
-    requires late { length (known first.now.value).seen ≤ entered.number }
-    requires link { IsAccepted (A.Link.talk link) (A.Link.faults link) (A.Link.ended link) }
-    requires tells { IsSome (A.backs opened.now.value) → IsSome (A.Link.talk link) }
-    requires all { AllByRecursion (λ k. IsBegun A.Link.talk A.Link.faults A.Link.ended C.passes hub.now (C.passes clock.now)
-        (length (known first.now.value).seen) (A.backs opened.now.value) k.handle.promise) children.old.items }
-    requires way { Accepts Stopped (C.passes clock.now) (config_of hub.now) (known first.now.value) (known pass.old)
-        (A.given opened.now.value) (A.given door.old) (suc (length children.old.items)) (A.backs opened.now.value) (A.backs door.old) }
-    requires room { deque_len children.old < deque_capacity children.old }
-    ensures own { IsPassOf hub.now pass.new × (pass.new.number ≡ pass.old.number) }
-    ensures all { AllByRecursion (λ k. IsBegun A.Link.talk A.Link.faults A.Link.ended C.passes hub.now (C.passes clock.now)
-        (length (known first.now.value).seen) (A.backs opened.now.value) k.handle.promise) children.new.items }
-    ensures way { Accepts Stopped (C.passes clock.now) (config_of hub.now) (known first.now.value) (known pass.new)
-        (A.given opened.now.value) (A.given door.new) (length children.new.items) (A.backs opened.now.value) (A.backs door.new) }
-    ensures more { deque_len children.new ≤ deque_len children.old + 1 }
-    ensures capacity { deque_capacity children.new ≡ deque_capacity children.old }
-    ensures given { A.given door.new ≡ A.given door.old }
-    ensures stopped { A.stopped door.new ≡ A.stopped door.old }
-    ensures kept { A.faults door.old ≤ A.faults door.new }
-{
-    // For the proof only: a full journal stays full.
-    room_laws();
-    let bit = claim_bit(children, endings);
-    let own = clock.another();
-    let started = Started {
-        hub: Snapshot::of(hub),
-        clock: Snapshot::of(&own),
-        link: Snapshot::of(&link),
-        number: entered.number(),
-    };
-    let work = move || -> Finished<A::Link>
-        requires own { IsPassOf hub.now entered }
-        requires conf { conf.now ≡ config_of hub.now }
-        requires fresh { IsFresh entered }
-        requires alone { (known entered).met ≡ [] }
-        requires anew { IfSome (C.told own) (λ moments. moments ≡ []) }
-        ensures own { IsPassOf hub.entry.now result.pass × (result.pass.number ≡ entered.number) }
-        ensures done { IsDone (C.passes own) (config_of hub.entry.now) entered.number (known result.pass) result.end
-            (A.Link.talk link) (A.Link.talk result.link) (A.Link.faults link) (A.Link.faults result.link) (A.Link.ended result.link) }
-    { serve_one(rt, alloc, link, hub, entered, own, gate, conf, endings, bit) };
-    match scope.spawn_with(started, work) {
-        Ok(handle) => put_last(children, Child { handle, bit }),
-        Err(refused) => {
-            let finished = (refused.value)();
-            take_in(hub, door, pass, finished);
-        }
-    }
-}
-
-/// Lets a session in for a link, and serves it. `None` if more links are served.
-fn let_in<'s, 'e, A: Listener, C: Clock, G: Gate, R: Threads + Wait + Sync>(
-    rt: &'s R,
-    alloc: Global,
-    scope: &'s Scope<'s, &'e ()>,
-    door: &mut A,
-    hub: &'s Hub,
-    pass: &mut Pass,
-    clock: &C,
-    gate: &'s G,
-    conf: &'s Config,
-    endings: &'s Endings,
-    children: &mut VecDeque<Child<Handle<A::Link, C>>>,
-    opened: &Snapshot<A>,
-    first: &Snapshot<Pass>,
-    link: A::Link,
-) -> Option<Served>
-where
-    A::Link: 's,
-    C: 's,
-    requires own { IsPassOf hub.now pass.old }
-    requires conf { conf.now ≡ config_of hub.now }
-    requires link { IsAccepted (A.Link.talk link) (A.Link.faults link) (A.Link.ended link) }
-    requires tells { IsSome (A.backs opened.now.value) → IsSome (A.Link.talk link) }
-    requires all { AllByRecursion (λ k. IsBegun A.Link.talk A.Link.faults A.Link.ended C.passes hub.now (C.passes clock.now)
-        (length (known first.now.value).seen) (A.backs opened.now.value) k.handle.promise) children.old.items }
-    requires way { Accepts Stopped (C.passes clock.now) (config_of hub.now) (known first.now.value) (known pass.old)
-        (A.given opened.now.value) (A.given door.old) (suc (length children.old.items)) (A.backs opened.now.value) (A.backs door.old) }
-    requires room { deque_len children.old < deque_capacity children.old }
-    ensures own { IsPassOf hub.now pass.new × (pass.new.number ≡ pass.old.number) }
-    ensures all { AllByRecursion (λ k. IsBegun A.Link.talk A.Link.faults A.Link.ended C.passes hub.now (C.passes clock.now)
-        (length (known first.now.value).seen) (A.backs opened.now.value) k.handle.promise) children.new.items }
-    ensures goes { IfNone result (Accepts Stopped (C.passes clock.now) (config_of hub.now) (known first.now.value) (known pass.new)
-        (A.given opened.now.value) (A.given door.new) (length children.new.items) (A.backs opened.now.value) (A.backs door.new)) }
-    ensures stops { IfSome result (λ end. Accepts end (C.passes clock.now) (config_of hub.now) (known first.now.value) (known pass.new)
-        (A.given opened.now.value) (A.given door.new) (length children.new.items) (A.backs opened.now.value) (A.backs door.new)) }
-    ensures lack { IfSome result (λ end. end ≡ Served.NoMemory) }
-    ensures more { deque_len children.new ≤ deque_len children.old + 1 }
-    ensures capacity { deque_capacity children.new ≡ deque_capacity children.old }
-    ensures given { A.given door.new ≡ A.given door.old }
-    ensures stopped { A.stopped door.new ≡ A.stopped door.old }
-    ensures kept { A.faults door.old ≤ A.faults door.new }
-{
-    // For the proof only: a full journal stays full.
-    room_laws();
-    match hub.enter(rt, alloc, pass, entering(clock)) {
-        Ok(entered) => {
-            begin(
-                rt, alloc, scope, door, hub, pass, clock, gate, conf, endings, children, opened,
-                first, link, entered,
-            );
-            None
-        }
-        Err(EnterError::JournalFull) => {
-            refuse_link(door, link, JOURNAL_FULL);
-            None
-        }
-        Err(EnterError::NoMemory) => {
-            refuse_link(door, link, NO_MEMORY);
-            Some(Served::NoMemory)
-        }
-    }
-}
-
-/// Waits for a link, and serves it. `None` if more links are served.
-fn welcome<'s, 'e, A: Listener, C: Clock, G: Gate, R: Threads + Wait + Sync>(
-    rt: &'s R,
-    alloc: Global,
-    scope: &'s Scope<'s, &'e ()>,
-    door: &mut A,
-    hub: &'s Hub,
-    pass: &mut Pass,
-    clock: &C,
-    gate: &'s G,
-    conf: &'s Config,
-    endings: &'s Endings,
-    children: &mut VecDeque<Child<Handle<A::Link, C>>>,
-    opened: &Snapshot<A>,
-    first: &Snapshot<Pass>,
-) -> Option<Served>
-where
-    A::Link: 's,
-    C: 's,
-    requires own { IsPassOf hub.now pass.old }
-    requires conf { conf.now ≡ config_of hub.now }
-    requires all { AllByRecursion (λ k. IsBegun A.Link.talk A.Link.faults A.Link.ended C.passes hub.now (C.passes clock.now)
-        (length (known first.now.value).seen) (A.backs opened.now.value) k.handle.promise) children.old.items }
-    requires way { Accepts Stopped (C.passes clock.now) (config_of hub.now) (known first.now.value) (known pass.old)
-        (A.given opened.now.value) (A.given door.old) (length children.old.items) (A.backs opened.now.value) (A.backs door.old) }
-    requires room { deque_len children.old < deque_capacity children.old }
-    ensures own { IsPassOf hub.now pass.new × (pass.new.number ≡ pass.old.number) }
-    ensures all { AllByRecursion (λ k. IsBegun A.Link.talk A.Link.faults A.Link.ended C.passes hub.now (C.passes clock.now)
-        (length (known first.now.value).seen) (A.backs opened.now.value) k.handle.promise) children.new.items }
-    ensures goes { IfNone result (Accepts Stopped (C.passes clock.now) (config_of hub.now) (known first.now.value) (known pass.new)
-        (A.given opened.now.value) (A.given door.new) (length children.new.items) (A.backs opened.now.value) (A.backs door.new)) }
-    ensures stops { IfSome result (λ end. Accepts end (C.passes clock.now) (config_of hub.now) (known first.now.value) (known pass.new)
-        (A.given opened.now.value) (A.given door.new) (length children.new.items) (A.backs opened.now.value) (A.backs door.new)) }
-    ensures more { deque_len children.new ≤ deque_len children.old + 1 }
-    ensures capacity { deque_capacity children.new ≡ deque_capacity children.old }
-    ensures one { IfNone result (A.given door.new ≡ A.given door.old + 1) }
-    ensures given { A.given door.new ≤ A.given door.old + 1 }
-    ensures stopped { result ≡ Some Served.Stopped → A.stopped door.new ≡ true }
-    ensures kept { A.faults door.old ≤ A.faults door.new }
-    ensures cause { result ≡ Some Served.ListenFault → Rose (A.faults door.old) (A.faults door.new) }
-{
-    match door.next(alloc) {
-        Next::Link(link) => let_in(
-            rt, alloc, scope, door, hub, pass, clock, gate, conf, endings, children, opened, first,
-            link,
-        ),
-        Next::Stop => Some(Served::Stopped),
-        Next::Failed => Some(Served::ListenFault),
-        Next::NoMemory => Some(Served::NoMemory),
-    }
-}
-
 /// How many links may come after one more, if the number is limited. `None` if no more may come.
 fn one_less(left: Option<u64>) -> Option<Option<u64>>
     ensures none { IfNone result (left ≡ Some 0) }
@@ -275,154 +143,213 @@ fn one_less(left: Option<u64>) -> Option<Option<u64>>
     }
 }
 
-/// Serves links until no more are to be served.
-fn serve_links<'s, 'e, A: Listener, C: Clock, G: Gate, R: Threads + Wait + Sync>(
-    rt: &'s R,
-    alloc: Global,
-    scope: &'s Scope<'s, &'e ()>,
-    door: &mut A,
-    hub: &'s Hub,
-    pass: &mut Pass,
-    clock: &C,
-    gate: &'s G,
-    conf: &'s Config,
-    endings: &'s Endings,
-    children: &mut VecDeque<Child<Handle<A::Link, C>>>,
-    opened: &Snapshot<A>,
-    first: &Snapshot<Pass>,
-    most: Option<u64>,
-) -> Served
+impl<'s, 'e, A: Listener, C: Clock, G: Gate, R: Threads + Wait + Sync> Accepting<'s, 'e, A, C, G, R>
 where
     A::Link: 's,
     C: 's,
-    requires own { IsPassOf hub.now pass.old }
-    requires conf { conf.now ≡ config_of hub.now }
-    requires all { AllByRecursion (λ k. IsBegun A.Link.talk A.Link.faults A.Link.ended C.passes hub.now (C.passes clock.now)
-        (length (known first.now.value).seen) (A.backs opened.now.value) k.handle.promise) children.old.items }
-    requires way { Accepts Stopped (C.passes clock.now) (config_of hub.now) (known first.now.value) (known pass.old)
-        (A.given opened.now.value) (A.given door.old) (length children.old.items) (A.backs opened.now.value) (A.backs door.old) }
-    requires room { 64 ≤ deque_capacity children.old }
-    requires few { deque_len children.old ≤ 64 }
-    ensures own { IsPassOf hub.now pass.new × (pass.new.number ≡ pass.old.number) }
-    ensures all { AllByRecursion (λ k. IsBegun A.Link.talk A.Link.faults A.Link.ended C.passes hub.now (C.passes clock.now)
-        (length (known first.now.value).seen) (A.backs opened.now.value) k.handle.promise) children.new.items }
-    ensures stops { Accepts result (C.passes clock.now) (config_of hub.now) (known first.now.value) (known pass.new)
-        (A.given opened.now.value) (A.given door.new) (length children.new.items) (A.backs opened.now.value) (A.backs door.new) }
-    ensures most { IfSome most (λ m. A.given door.new ≤ A.given door.old + m) }
-    ensures stop { result ≡ Served.Stopped
-        → (A.stopped door.new ≡ true) ⊎ IsReached most (A.given door.old) (A.given door.new) }
-    ensures kept { A.faults door.old ≤ A.faults door.new }
-    ensures cause { result ≡ Served.ListenFault → Rose (A.faults door.old) (A.faults door.new) }
 {
-    let mut left = most;
-    for _ in rt.forever() {
-        let Some(after) = one_less(left) else {
-            return Served::Stopped;
+    /// Serves a session that was let in, in a thread of the scope, or in this one if none can be started.
+    fn begin(
+        &self,
+        door: &mut A,
+        pass: &mut Pass,
+        children: &mut Children<A::Link, C>,
+        link: A::Link,
+        entered: Pass,
+    )
+        requires holds { ⟦<Self as Keeps>⟧.holds self.now pass.old children.old }
+        requires way { ⟦<Self as Keeps>⟧.way self.now Stopped pass.old door.old (suc (length children.old.items)) }
+        requires conf { self.now.conf.now ≡ config_of self.now.hub.now }
+        requires room { deque_len children.old < deque_capacity children.old }
+        requires entered { IsPassOf self.now.hub.now entered }
+        requires fresh { IsFresh entered }
+        requires alone { (known entered).met ≡ [] }
+        requires late { length (known self.now.first.value).seen ≤ entered.number }
+        requires link { IsAccepted (A.Link.talk link) (A.Link.faults link) (A.Link.ended link) }
+        requires tells { IsSome (A.backs self.now.opened.value) → IsSome (A.Link.talk link) }
+        ensures holds { ⟦<Self as Keeps>⟧.holds self.now pass.new children.new }
+        ensures way { ⟦<Self as Keeps>⟧.way self.now Stopped pass.new door.new (length children.new.items) }
+        ensures keeps { ⟦<Self as Keeps>⟧.keeps self.now pass.old pass.new door.old door.new children.old children.new 1 }
+    {
+        // For the proof only: a full journal stays full.
+        room_laws();
+        let bit = claim_bit(children, self.endings);
+        let own = self.clock.another();
+        let (rt, alloc, hub) = (self.rt, self.alloc, self.hub);
+        let (gate, conf, endings) = (self.gate, self.conf, self.endings);
+        let started = Started::of(hub, &own, &link, &entered);
+        let work = move || -> Finished<A::Link>
+            requires own { IsPassOf hub.now entered }
+            requires conf { conf.now ≡ config_of hub.now }
+            requires fresh { IsFresh entered }
+            requires alone { (known entered).met ≡ [] }
+            requires anew { IfSome (C.told own) (λ moments. moments ≡ []) }
+            ensures own { IsPassOf hub.entry.now result.pass × (result.pass.number ≡ entered.number) }
+            ensures done { IsDone (C.passes own) (config_of hub.entry.now) entered.number (known result.pass) result.end
+                (A.Link.talk link) (A.Link.talk result.link) (A.Link.faults link) (A.Link.faults result.link) (A.Link.ended result.link) }
+        { serve_one(rt, alloc, link, hub, entered, own, gate, conf, endings, bit) };
+        match self.scope.spawn_with(started, work) {
+            Ok(handle) => put_last(children, Child { handle, bit }),
+            Err(refused) => {
+                let finished = (refused.value)();
+                take_in(hub, door, pass, finished);
+            }
+        }
+    }
+
+    /// Lets a session in for a link, and serves it. `None` if more links are served.
+    fn let_in(
+        &self,
+        door: &mut A,
+        pass: &mut Pass,
+        children: &mut Children<A::Link, C>,
+        link: A::Link,
+    ) -> Option<Served>
+        requires holds { ⟦<Self as Keeps>⟧.holds self.now pass.old children.old }
+        requires way { ⟦<Self as Keeps>⟧.way self.now Stopped pass.old door.old (suc (length children.old.items)) }
+        requires conf { self.now.conf.now ≡ config_of self.now.hub.now }
+        requires room { deque_len children.old < deque_capacity children.old }
+        requires link { IsAccepted (A.Link.talk link) (A.Link.faults link) (A.Link.ended link) }
+        requires tells { IsSome (A.backs self.now.opened.value) → IsSome (A.Link.talk link) }
+        ensures holds { ⟦<Self as Keeps>⟧.holds self.now pass.new children.new }
+        ensures goes { IfNone result (⟦<Self as Keeps>⟧.way self.now Stopped pass.new door.new (length children.new.items)) }
+        ensures stops { IfSome result (λ end. ⟦<Self as Keeps>⟧.way self.now end pass.new door.new (length children.new.items)) }
+        ensures lack { IfSome result (λ end. end ≡ Served.NoMemory) }
+        ensures keeps { ⟦<Self as Keeps>⟧.keeps self.now pass.old pass.new door.old door.new children.old children.new 1 }
+    {
+        // For the proof only: a full journal stays full.
+        room_laws();
+        match self
+            .hub
+            .enter(self.rt, self.alloc, pass, entering(self.clock))
+        {
+            Ok(entered) => {
+                self.begin(door, pass, children, link, entered);
+                None
+            }
+            Err(EnterError::JournalFull) => {
+                refuse_link(door, link, JOURNAL_FULL);
+                None
+            }
+            Err(EnterError::NoMemory) => {
+                refuse_link(door, link, NO_MEMORY);
+                Some(Served::NoMemory)
+            }
+        }
+    }
+
+    /// Waits for a link, and serves it. `None` if more links are served.
+    fn welcome(
+        &self,
+        door: &mut A,
+        pass: &mut Pass,
+        children: &mut Children<A::Link, C>,
+    ) -> Option<Served>
+        requires holds { ⟦<Self as Keeps>⟧.holds self.now pass.old children.old }
+        requires way { ⟦<Self as Keeps>⟧.way self.now Stopped pass.old door.old (length children.old.items) }
+        requires conf { self.now.conf.now ≡ config_of self.now.hub.now }
+        requires room { deque_len children.old < deque_capacity children.old }
+        ensures holds { ⟦<Self as Keeps>⟧.holds self.now pass.new children.new }
+        ensures goes { IfNone result (⟦<Self as Keeps>⟧.way self.now Stopped pass.new door.new (length children.new.items)) }
+        ensures stops { IfSome result (λ end. ⟦<Self as Keeps>⟧.way self.now end pass.new door.new (length children.new.items)) }
+        ensures number { pass.new.number ≡ pass.old.number }
+        ensures more { deque_len children.new ≤ deque_len children.old + 1 }
+        ensures capacity { deque_capacity children.new ≡ deque_capacity children.old }
+        ensures one { IfNone result (A.given door.new ≡ A.given door.old + 1) }
+        ensures given { A.given door.new ≤ A.given door.old + 1 }
+        ensures stopped { result ≡ Some Served.Stopped → A.stopped door.new ≡ true }
+        ensures kept { A.faults door.old ≤ A.faults door.new }
+        ensures cause { result ≡ Some Served.ListenFault → Rose (A.faults door.old) (A.faults door.new) }
+    {
+        match door.next(self.alloc) {
+            Next::Link(link) => self.let_in(door, pass, children, link),
+            Next::Stop => Some(Served::Stopped),
+            Next::Failed => Some(Served::ListenFault),
+            Next::NoMemory => Some(Served::NoMemory),
+        }
+    }
+
+    /// Takes in the children that have ended. If there is no room for another, it waits until one ends, whichever that is.
+    fn make_room(&self, door: &mut A, pass: &mut Pass, children: &mut Children<A::Link, C>)
+        requires holds { ⟦<Self as Keeps>⟧.holds self.now pass.old children.old }
+        requires way { ⟦<Self as Keeps>⟧.way self.now Stopped pass.old door.old (length children.old.items) }
+        requires few { deque_len children.old ≤ 64 }
+        ensures holds { ⟦<Self as Keeps>⟧.holds self.now pass.new children.new }
+        ensures way { ⟦<Self as Keeps>⟧.way self.now Stopped pass.new door.new (length children.new.items) }
+        ensures keeps { ⟦<Self as Keeps>⟧.keeps self.now pass.old pass.new door.old door.new children.old children.new 0 }
+        ensures room { deque_len children.new < 64 }
+    {
+        for _ in self.rt.forever() {
+            let bits = self.endings.take();
+            self.settle_ended(door, pass, children, bits);
+            if children.len() < MOST {
+                return;
+            }
+            self.endings.wait(self.rt);
+        }
+        unreachable!()
+    }
+
+    /// Serves links until no more are to be served.
+    fn serve_links(
+        &self,
+        door: &mut A,
+        pass: &mut Pass,
+        children: &mut Children<A::Link, C>,
+        most: Option<u64>,
+    ) -> Served
+        requires holds { ⟦<Self as Keeps>⟧.holds self.now pass.old children.old }
+        requires way { ⟦<Self as Keeps>⟧.way self.now Stopped pass.old door.old (length children.old.items) }
+        requires conf { self.now.conf.now ≡ config_of self.now.hub.now }
+        requires room { 64 ≤ deque_capacity children.old }
+        requires few { deque_len children.old ≤ 64 }
+        ensures holds { ⟦<Self as Keeps>⟧.holds self.now pass.new children.new }
+        ensures stops { ⟦<Self as Keeps>⟧.way self.now result pass.new door.new (length children.new.items) }
+        ensures number { pass.new.number ≡ pass.old.number }
+        ensures most { IfSome most (λ m. A.given door.new ≤ A.given door.old + m) }
+        ensures stop { result ≡ Served.Stopped
+            → (A.stopped door.new ≡ true) ⊎ IsReached most (A.given door.old) (A.given door.new) }
+        ensures kept { A.faults door.old ≤ A.faults door.new }
+        ensures cause { result ≡ Served.ListenFault → Rose (A.faults door.old) (A.faults door.new) }
+    {
+        let mut left = most;
+        for _ in self.rt.forever() {
+            let Some(after) = one_less(left) else {
+                return Served::Stopped;
+            };
+            self.make_room(door, pass, children);
+            if let Some(end) = self.welcome(door, pass, children) {
+                return end;
+            }
+            left = after;
+        }
+        unreachable!()
+    }
+
+    /// Serves links in threads of the scope, and waits until all their sessions have ended.
+    fn accept(&self, door: &mut A, pass: &mut Pass, most: Option<u64>) -> Served
+        requires own { IsPassOf self.now.hub.now pass.old }
+        requires conf { self.now.conf.now ≡ config_of self.now.hub.now }
+        requires opened { self.now.opened.value ≡ door.old }
+        requires first { self.now.first.value ≡ pass.old }
+        ensures own { IsPassOf self.now.hub.now pass.new × (pass.new.number ≡ pass.old.number) }
+        ensures all { ServesAll result (C.passes self.now.clock.now) (config_of self.now.hub.now) (known pass.old) (known pass.new)
+            (A.given door.old) (A.given door.new) (A.backs door.old) (A.backs door.new) }
+        ensures most { IfSome most (λ m. A.given door.new ≤ A.given door.old + m) }
+        ensures stop { result ≡ Served.Stopped
+            → (A.stopped door.new ≡ true) ⊎ IsReached most (A.given door.old) (A.given door.new) }
+        ensures kept { A.faults door.old ≤ A.faults door.new }
+        ensures cause { result ≡ Served.ListenFault → Rose (A.faults door.old) (A.faults door.new) }
+    {
+        // For the proof only: what holds for runs over a longer history.
+        laws();
+        let Ok(mut children) = VecDeque::with_capacity(self.alloc, MOST) else {
+            return Served::NoMemory;
         };
-        make_room(rt, hub, door, pass, clock, endings, children, opened, first);
-        if let Some(end) = welcome(
-            rt, alloc, scope, door, hub, pass, clock, gate, conf, endings, children, opened, first,
-        ) {
-            return end;
-        }
-        left = after;
+        let end = self.serve_links(door, pass, &mut children, most);
+        self.settle_all(door, pass, children);
+        end
     }
-    unreachable!()
-}
-
-/// Takes in the children that have ended. If there is no room for another, it waits until one ends, whichever that is.
-fn make_room<A: Listener, C: Clock, R: Threads + Wait>(
-    rt: &R,
-    hub: &Hub,
-    door: &mut A,
-    pass: &mut Pass,
-    clock: &C,
-    endings: &Endings,
-    children: &mut VecDeque<Child<Handle<A::Link, C>>>,
-    opened: &Snapshot<A>,
-    first: &Snapshot<Pass>,
-)
-    requires own { IsPassOf hub.now pass.old }
-    requires all { AllByRecursion (λ k. IsBegun A.Link.talk A.Link.faults A.Link.ended C.passes hub.now (C.passes clock.now)
-        (length (known first.now.value).seen) (A.backs opened.now.value) k.handle.promise) children.old.items }
-    requires way { Accepts Stopped (C.passes clock.now) (config_of hub.now) (known first.now.value) (known pass.old)
-        (A.given opened.now.value) (A.given door.old) (length children.old.items) (A.backs opened.now.value) (A.backs door.old) }
-    requires few { deque_len children.old ≤ 64 }
-    ensures own { IsPassOf hub.now pass.new × (pass.new.number ≡ pass.old.number) }
-    ensures all { AllByRecursion (λ k. IsBegun A.Link.talk A.Link.faults A.Link.ended C.passes hub.now (C.passes clock.now)
-        (length (known first.now.value).seen) (A.backs opened.now.value) k.handle.promise) children.new.items }
-    ensures way { Accepts Stopped (C.passes clock.now) (config_of hub.now) (known first.now.value) (known pass.new)
-        (A.given opened.now.value) (A.given door.new) (length children.new.items) (A.backs opened.now.value) (A.backs door.new) }
-    ensures room { deque_len children.new < 64 }
-    ensures capacity { deque_capacity children.new ≡ deque_capacity children.old }
-    ensures given { A.given door.new ≡ A.given door.old }
-    ensures stopped { A.stopped door.new ≡ A.stopped door.old }
-    ensures kept { A.faults door.old ≤ A.faults door.new }
-{
-    for _ in rt.forever() {
-        let bits = endings.take();
-        settle_ended(rt, hub, door, pass, clock, children, bits, opened, first);
-        if children.len() < MOST {
-            return;
-        }
-        endings.wait(rt);
-    }
-    unreachable!()
-}
-
-/// Serves links in threads of a scope, and waits until all their sessions have ended.
-fn accept<'s, 'e, A: Listener, C: Clock, G: Gate, R: Threads + Wait + Sync>(
-    rt: &'s R,
-    alloc: Global,
-    scope: &'s Scope<'s, &'e ()>,
-    door: &mut A,
-    hub: &'s Hub,
-    pass: &mut Pass,
-    clock: &C,
-    gate: &'s G,
-    conf: &'s Config,
-    endings: &'s Endings,
-    most: Option<u64>,
-) -> Served
-where
-    A::Link: 's,
-    C: 's,
-    requires own { IsPassOf hub.now pass.old }
-    requires conf { conf.now ≡ config_of hub.now }
-    ensures own { IsPassOf hub.now pass.new × (pass.new.number ≡ pass.old.number) }
-    ensures all { ServesAll result (C.passes clock.now) (config_of hub.now) (known pass.old) (known pass.new)
-        (A.given door.old) (A.given door.new) (A.backs door.old) (A.backs door.new) }
-    ensures most { IfSome most (λ m. A.given door.new ≤ A.given door.old + m) }
-    ensures stop { result ≡ Served.Stopped
-        → (A.stopped door.new ≡ true) ⊎ IsReached most (A.given door.old) (A.given door.new) }
-    ensures kept { A.faults door.old ≤ A.faults door.new }
-    ensures cause { result ≡ Served.ListenFault → Rose (A.faults door.old) (A.faults door.new) }
-{
-    // For the proof only: what holds for runs over a longer history.
-    laws();
-    let opened = Snapshot::of(door);
-    let first = Snapshot::of(pass);
-    let Ok(mut children) = VecDeque::with_capacity(alloc, MOST) else {
-        return Served::NoMemory;
-    };
-    let end = serve_links(
-        rt,
-        alloc,
-        scope,
-        door,
-        hub,
-        pass,
-        clock,
-        gate,
-        conf,
-        endings,
-        &mut children,
-        &opened,
-        &first,
-        most,
-    );
-    settle_all(rt, hub, door, pass, clock, children, &opened, &first);
-    end
 }
 
 // Ties a returned reference to the one that lent it.
@@ -478,9 +405,19 @@ pub fn serve_all<A: Listener, C: Clock, G: Gate, R: Threads + Wait + Sync>(
             ensures kept { A.faults door.entry.now ≤ A.faults result.0.now }
             ensures cause { result.2 ≡ Served.ListenFault → Rose (A.faults door.entry.now) (A.faults result.0.now) }
         {
-            let end = accept(
-                rt, alloc, scope, door, hub, pass, clock, gate, conf, endings, most,
-            );
+            let on = Accepting {
+                rt,
+                alloc,
+                scope,
+                hub,
+                clock,
+                gate,
+                conf,
+                endings,
+                opened: Snapshot::of(door),
+                first: Snapshot::of(pass),
+            };
+            let end = on.accept(door, pass, most);
             (door, pass, end)
         },
     );

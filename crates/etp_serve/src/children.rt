@@ -1,6 +1,5 @@
 //! Sessions that are served in threads of their own, until they are taken in.
 ghost use Rattle.std.specs.Prelude.{◌≡◌, ◌≤◌, ◌<◌, ◌+◌, ◌++◌, ◌∷◌, [], ℕ, suc, List, ℤ, Bool, Option, length};
-ghost use Rattle.std.specs.List.{AllByRecursion};
 ghost use Rattle.std.specs.VecDeque.{deque_capacity, deque_len};
 ghost use Rattle.etp_outside.specs.Doors.{Back, TakesBack, back_of};
 ghost use Rattle.etp_outside.specs.Told.{Told};
@@ -11,11 +10,12 @@ ghost use Rattle.etp_serve.specs.Accepted.{Accepts, IsBegun, end_number};
 ghost use Rattle.etp_serve.specs.declared.served.Served.{Served};
 ghost use Rattle.etp_serve.specs.declared.served.Served.TheVariants.{Stopped};
 
+use crate::accepting::{Accepting, Keeps};
 use crate::ended::Ended;
 use crate::thread::{Finished, Started};
-use etp_outside::{Clock, Listener};
+use etp_outside::{Clock, Gate, Listener};
 use std::collections::VecDeque;
-use std::snapshot::Snapshot;
+use std::sync::Wait;
 use std::thread::{PromisedHandle, Threads};
 use store_hub::{Hub, Pass};
 use store_machine::room_laws;
@@ -29,6 +29,9 @@ pub(crate) struct Child<H> {
     pub(crate) handle: H,
     pub(crate) bit: u64,
 }
+
+/// The sessions that are served in threads, in the order in which they are looked at.
+pub(crate) type Children<L, C> = VecDeque<Child<Handle<L, C>>>;
 
 /// The number of an end: those of captures, plus 6 and 7 for the ends that no capture has.
 fn end_number_of(end: Ended) -> u8
@@ -109,101 +112,69 @@ pub(crate) fn put_last<T: Drop>(children: &mut VecDeque<T>, child: T)
     };
 }
 
-/// Takes in the first of the children, if its bit is one of these, and otherwise puts it after the others.
-fn settle_first<A: Listener, C: Clock, R: Threads>(
-    rt: &R,
-    hub: &Hub,
-    door: &mut A,
-    pass: &mut Pass,
-    clock: &C,
-    children: &mut VecDeque<Child<Handle<A::Link, C>>>,
-    bits: u64,
-    opened: &Snapshot<A>,
-    first: &Snapshot<Pass>,
-)
-    requires own { IsPassOf hub.now pass.old }
-    requires all { AllByRecursion (λ k. IsBegun A.Link.talk A.Link.faults A.Link.ended C.passes hub.now (C.passes clock.now)
-        (length (known first.now.value).seen) (A.backs opened.now.value) k.handle.promise) children.old.items }
-    requires way { Accepts Stopped (C.passes clock.now) (config_of hub.now) (known first.now.value) (known pass.old)
-        (A.given opened.now.value) (A.given door.old) (length children.old.items) (A.backs opened.now.value) (A.backs door.old) }
-    ensures own { IsPassOf hub.now pass.new × (pass.new.number ≡ pass.old.number) }
-    ensures all { AllByRecursion (λ k. IsBegun A.Link.talk A.Link.faults A.Link.ended C.passes hub.now (C.passes clock.now)
-        (length (known first.now.value).seen) (A.backs opened.now.value) k.handle.promise) children.new.items }
-    ensures way { Accepts Stopped (C.passes clock.now) (config_of hub.now) (known first.now.value) (known pass.new)
-        (A.given opened.now.value) (A.given door.new) (length children.new.items) (A.backs opened.now.value) (A.backs door.new) }
-    ensures fewer { deque_len children.new ≤ deque_len children.old }
-    ensures capacity { deque_capacity children.new ≡ deque_capacity children.old }
-    ensures given { A.given door.new ≡ A.given door.old }
-    ensures stopped { A.stopped door.new ≡ A.stopped door.old }
-    ensures kept { A.faults door.old ≤ A.faults door.new }
-{
-    let Some(child) = children.pop_front() else {
-        return;
-    };
-    if child.bit & bits == 0 {
-        put_last(children, child);
-    } else {
-        join_child(rt, hub, door, pass, child);
+impl<'s, 'e, A: Listener, C: Clock, G: Gate, R: Threads + Wait + Sync> Accepting<
+    's,
+    'e,
+    A,
+    C,
+    G,
+    R,
+> {
+    /// Takes in the first of the children, if its bit is one of these, and otherwise puts it after the others.
+    fn settle_first(
+        &self,
+        door: &mut A,
+        pass: &mut Pass,
+        children: &mut Children<A::Link, C>,
+        bits: u64,
+    )
+        requires holds { ⟦<Self as Keeps>⟧.holds self.now pass.old children.old }
+        requires way { ⟦<Self as Keeps>⟧.way self.now Stopped pass.old door.old (length children.old.items) }
+        ensures holds { ⟦<Self as Keeps>⟧.holds self.now pass.new children.new }
+        ensures way { ⟦<Self as Keeps>⟧.way self.now Stopped pass.new door.new (length children.new.items) }
+        ensures keeps { ⟦<Self as Keeps>⟧.keeps self.now pass.old pass.new door.old door.new children.old children.new 0 }
+    {
+        let Some(child) = children.pop_front() else {
+            return;
+        };
+        if child.bit & bits == 0 {
+            put_last(children, child);
+        } else {
+            join_child(self.rt, self.hub, door, pass, child);
+        }
     }
-}
 
-/// Takes in the children whose bits these are.
-pub(crate) fn settle_ended<A: Listener, C: Clock, R: Threads>(
-    rt: &R,
-    hub: &Hub,
-    door: &mut A,
-    pass: &mut Pass,
-    clock: &C,
-    children: &mut VecDeque<Child<Handle<A::Link, C>>>,
-    bits: u64,
-    opened: &Snapshot<A>,
-    first: &Snapshot<Pass>,
-)
-    requires own { IsPassOf hub.now pass.old }
-    requires all { AllByRecursion (λ k. IsBegun A.Link.talk A.Link.faults A.Link.ended C.passes hub.now (C.passes clock.now)
-        (length (known first.now.value).seen) (A.backs opened.now.value) k.handle.promise) children.old.items }
-    requires way { Accepts Stopped (C.passes clock.now) (config_of hub.now) (known first.now.value) (known pass.old)
-        (A.given opened.now.value) (A.given door.old) (length children.old.items) (A.backs opened.now.value) (A.backs door.old) }
-    ensures own { IsPassOf hub.now pass.new × (pass.new.number ≡ pass.old.number) }
-    ensures all { AllByRecursion (λ k. IsBegun A.Link.talk A.Link.faults A.Link.ended C.passes hub.now (C.passes clock.now)
-        (length (known first.now.value).seen) (A.backs opened.now.value) k.handle.promise) children.new.items }
-    ensures way { Accepts Stopped (C.passes clock.now) (config_of hub.now) (known first.now.value) (known pass.new)
-        (A.given opened.now.value) (A.given door.new) (length children.new.items) (A.backs opened.now.value) (A.backs door.new) }
-    ensures fewer { deque_len children.new ≤ deque_len children.old }
-    ensures capacity { deque_capacity children.new ≡ deque_capacity children.old }
-    ensures given { A.given door.new ≡ A.given door.old }
-    ensures stopped { A.stopped door.new ≡ A.stopped door.old }
-    ensures kept { A.faults door.old ≤ A.faults door.new }
-{
-    for _ in 0..children.len() {
-        settle_first(rt, hub, door, pass, clock, children, bits, opened, first);
+    /// Takes in the children whose bits these are.
+    pub(crate) fn settle_ended(
+        &self,
+        door: &mut A,
+        pass: &mut Pass,
+        children: &mut Children<A::Link, C>,
+        bits: u64,
+    )
+        requires holds { ⟦<Self as Keeps>⟧.holds self.now pass.old children.old }
+        requires way { ⟦<Self as Keeps>⟧.way self.now Stopped pass.old door.old (length children.old.items) }
+        ensures holds { ⟦<Self as Keeps>⟧.holds self.now pass.new children.new }
+        ensures way { ⟦<Self as Keeps>⟧.way self.now Stopped pass.new door.new (length children.new.items) }
+        ensures keeps { ⟦<Self as Keeps>⟧.keeps self.now pass.old pass.new door.old door.new children.old children.new 0 }
+    {
+        for _ in 0..children.len() {
+            self.settle_first(door, pass, children, bits);
+        }
     }
-}
 
-/// Waits until all children have ended, and takes them in.
-pub(crate) fn settle_all<A: Listener, C: Clock, R: Threads>(
-    rt: &R,
-    hub: &Hub,
-    door: &mut A,
-    pass: &mut Pass,
-    clock: &C,
-    children: VecDeque<Child<Handle<A::Link, C>>>,
-    opened: &Snapshot<A>,
-    first: &Snapshot<Pass>,
-)
-    requires own { IsPassOf hub.now pass.old }
-    requires all { AllByRecursion (λ k. IsBegun A.Link.talk A.Link.faults A.Link.ended C.passes hub.now (C.passes clock.now)
-        (length (known first.now.value).seen) (A.backs opened.now.value) k.handle.promise) children.items }
-    ensures own { IsPassOf hub.now pass.new × (pass.new.number ≡ pass.old.number) }
-    ensures settles { (end : Served) → Accepts end (C.passes clock.now) (config_of hub.now) (known first.now.value) (known pass.old)
-        (A.given opened.now.value) (A.given door.old) (length children.items) (A.backs opened.now.value) (A.backs door.old)
-        → Accepts end (C.passes clock.now) (config_of hub.now) (known first.now.value) (known pass.new)
-        (A.given opened.now.value) (A.given door.new) 0 (A.backs opened.now.value) (A.backs door.new) }
-    ensures given { A.given door.new ≡ A.given door.old }
-    ensures stopped { A.stopped door.new ≡ A.stopped door.old }
-    ensures kept { A.faults door.old ≤ A.faults door.new }
-{
-    for child in children {
-        join_child(rt, hub, door, pass, child);
+    /// Waits until all children have ended, and takes them in.
+    pub(crate) fn settle_all(&self, door: &mut A, pass: &mut Pass, children: Children<A::Link, C>)
+        requires holds { ⟦<Self as Keeps>⟧.holds self.now pass.old children }
+        ensures own { IsPassOf self.now.hub.now pass.new × (pass.new.number ≡ pass.old.number) }
+        ensures settles { (end : Served) → ⟦<Self as Keeps>⟧.way self.now end pass.old door.old (length children.items)
+            → ⟦<Self as Keeps>⟧.way self.now end pass.new door.new 0 }
+        ensures given { A.given door.new ≡ A.given door.old }
+        ensures stopped { A.stopped door.new ≡ A.stopped door.old }
+        ensures kept { A.faults door.old ≤ A.faults door.new }
+    {
+        for child in children {
+            join_child(self.rt, self.hub, door, pass, child);
+        }
     }
 }

@@ -32,6 +32,23 @@ pub(crate) struct Started<L, C> {
     pub(crate) number: u64,
 }
 
+impl<L: Link, C: Clock> Started<L, C> {
+    /// What a thread is given that serves the session of this pass over this link.
+    pub(crate) fn of(hub: &Hub, clock: &C, link: &L, pass: &Pass) -> Started<L, C>
+        ensures hub { result.hub.value ≡ hub.now }
+        ensures clock { result.clock.value ≡ clock.now }
+        ensures link { result.link.value ≡ link.now }
+        ensures number { result.number ≡ pass.now.number }
+    {
+        Started {
+            hub: Snapshot::of(hub),
+            clock: Snapshot::of(clock),
+            link: Snapshot::of(link),
+            number: pass.number(),
+        }
+    }
+}
+
 impl<L: Link, C: Clock> Promise<Finished<L>> for Started<L, C> {
     ghost use Rattle.std.specs.Prelude.{◌≡◌};
     ghost use Rattle.store_hub.specs.Passes.{IsPassOf, config_of, known};

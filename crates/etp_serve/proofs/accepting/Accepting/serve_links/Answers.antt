@@ -1,13 +1,13 @@
 use Rattle.std.proofs.Common.{ℕ, ◌+◌, Some, refl, ap, ◌∙◌, inl, inr, arith}
 use Rattle.etp_outside.proofs.FaultLemmas.{rose_later}
 use Rattle.etp_serve.proofs.AcceptLemmas.{left_most, left_next, left_over, left_start}
-use Rattle.etp_serve.proofs.accepting.serve_links.Goals as goal
+use Rattle.etp_serve.proofs.accepting.Accepting.serve_links.Goals as goal
 
 pub loop-init : goal.loop-init
 loop-init g c = record {
-  own = c.requires.own;
+  own = c.requires.holds.0;
   number = refl;
-  all = c.requires.all;
+  all = c.requires.holds.1;
   way = c.requires.way;
   few = c.requires.few;
   room = c.requires.room;
@@ -24,20 +24,17 @@ returns-in_default-clause-stop g c = λ is. inr (left_over c.args.most c.loop.le
 pub returns-in_default-clause-stops : goal.returns-in_default-clause-stops
 returns-in_default-clause-stops g c = c.loop.invariant.way
 
-pub returns-in_default-clause-own : goal.returns-in_default-clause-own
-returns-in_default-clause-own g c = (c.loop.invariant.own, c.loop.invariant.number)
+pub returns-in_default-clause-holds : goal.returns-in_default-clause-holds
+returns-in_default-clause-holds g c = (c.loop.invariant.own, c.loop.invariant.all)
 
-pub returns-in_default-clause-all : goal.returns-in_default-clause-all
-returns-in_default-clause-all g c = c.loop.invariant.all
+pub returns-in_default-clause-number : goal.returns-in_default-clause-number
+returns-in_default-clause-number g c = c.loop.invariant.number
 
 pub returns-in_default-clause-kept : goal.returns-in_default-clause-kept
 returns-in_default-clause-kept g c = c.loop.invariant.kept
 
-pub make_room-requires-clause-own : goal.make_room-requires-clause-own
-make_room-requires-clause-own g c = λ κs w. c.loop.invariant.own
-
-pub make_room-requires-clause-all : goal.make_room-requires-clause-all
-make_room-requires-clause-all g c = λ κs w. c.loop.invariant.all
+pub make_room-requires-clause-holds : goal.make_room-requires-clause-holds
+make_room-requires-clause-holds g c = λ κs w. (c.loop.invariant.own, c.loop.invariant.all)
 
 pub make_room-requires-clause-way : goal.make_room-requires-clause-way
 make_room-requires-clause-way g c = λ κs w. c.loop.invariant.way
@@ -46,35 +43,35 @@ pub make_room-requires-clause-few : goal.make_room-requires-clause-few
 make_room-requires-clause-few g c = λ κs w. c.loop.invariant.few
 
 pub welcome-requires-clause-room : goal.welcome-requires-clause-room
-welcome-requires-clause-room g c = λ κs w. omega (arith, c.make_room.ensures.room, c.make_room.ensures.capacity, c.loop.invariant.room)
+welcome-requires-clause-room g c = λ κs w. omega (arith, c.make_room.ensures.room, c.make_room.ensures.keeps.2, c.loop.invariant.room)
 
-pub returns-in-Some-welcome-clause-own : goal.returns-in-Some-welcome-clause-own
-returns-in-Some-welcome-clause-own g c = (c.welcome.ensures.own.0, c.welcome.ensures.own.1 ∙ (c.make_room.ensures.own.1 ∙ c.loop.invariant.number))
+pub returns-in-Some-welcome-clause-number : goal.returns-in-Some-welcome-clause-number
+returns-in-Some-welcome-clause-number g c = c.welcome.ensures.number ∙ (c.make_room.ensures.keeps.0 ∙ c.loop.invariant.number)
 
 pub returns-in-Some-welcome-clause-most : goal.returns-in-Some-welcome-clause-most
 returns-in-Some-welcome-clause-most g c =
     left_most c.args.most c.loop.left c.in-Some-one_less.after (g.A.Listener.given c.args.door.now) (g.A.Listener.given c.loop.door) (g.A.Listener.given c.welcome.new.door) c.loop.invariant.left c.in-Some-one_less.ensures.some
-    (omega (arith, c.make_room.ensures.given, c.welcome.ensures.given))
+    (omega (arith, c.make_room.ensures.keeps.3, c.welcome.ensures.given))
 
 pub returns-in-Some-welcome-clause-stop : goal.returns-in-Some-welcome-clause-stop
 returns-in-Some-welcome-clause-stop g c = λ is. inl (c.in-Some-welcome.ensures.stopped (ap Some is))
 
 pub returns-in-Some-welcome-clause-kept : goal.returns-in-Some-welcome-clause-kept
-returns-in-Some-welcome-clause-kept g c = omega (arith, c.loop.invariant.kept, c.make_room.ensures.kept, c.welcome.ensures.kept)
+returns-in-Some-welcome-clause-kept g c = omega (arith, c.loop.invariant.kept, c.make_room.ensures.keeps.5, c.welcome.ensures.kept)
 
 pub returns-in-Some-welcome-clause-cause : goal.returns-in-Some-welcome-clause-cause
 returns-in-Some-welcome-clause-cause g c = λ is.
-    rose_later (g.A.Listener.faults c.args.door.now) (g.A.Listener.faults c.make_room.new.door) (g.A.Listener.faults c.welcome.new.door) (omega (arith, c.loop.invariant.kept, c.make_room.ensures.kept)) (c.in-Some-welcome.ensures.cause (ap Some is))
+    rose_later (g.A.Listener.faults c.args.door.now) (g.A.Listener.faults c.make_room.new.door) (g.A.Listener.faults c.welcome.new.door) (omega (arith, c.loop.invariant.kept, c.make_room.ensures.keeps.5)) (c.in-Some-welcome.ensures.cause (ap Some is))
 
 pub loop-preserved : goal.loop-preserved
 loop-preserved g c = record {
-  own = c.welcome.ensures.own.0;
-  number = c.welcome.ensures.own.1 ∙ (c.make_room.ensures.own.1 ∙ c.loop.invariant.number);
-  all = c.welcome.ensures.all;
+  own = c.welcome.ensures.holds.0;
+  number = c.welcome.ensures.number ∙ (c.make_room.ensures.keeps.0 ∙ c.loop.invariant.number);
+  all = c.welcome.ensures.holds.1;
   way = c.in_default-welcome.ensures.goes;
   few = omega (arith, c.make_room.ensures.room, c.welcome.ensures.more);
-  room = omega (arith, c.make_room.ensures.capacity, c.welcome.ensures.capacity, c.loop.invariant.room);
+  room = omega (arith, c.make_room.ensures.keeps.2, c.welcome.ensures.capacity, c.loop.invariant.room);
   left = left_next c.args.most c.loop.left c.in-Some-one_less.after (g.A.Listener.given c.args.door.now) (g.A.Listener.given c.loop.door) (g.A.Listener.given c.welcome.new.door) c.loop.invariant.left c.in-Some-one_less.ensures.some
-      (c.in_default-welcome.ensures.one ∙ ap (λ (k : ℕ). k + 1) c.make_room.ensures.given);
-  kept = omega (arith, c.loop.invariant.kept, c.make_room.ensures.kept, c.welcome.ensures.kept);
+      (c.in_default-welcome.ensures.one ∙ ap (λ (k : ℕ). k + 1) c.make_room.ensures.keeps.3);
+  kept = omega (arith, c.loop.invariant.kept, c.make_room.ensures.keeps.5, c.welcome.ensures.kept);
 }

@@ -2,16 +2,16 @@ use Rattle.std.proofs.Common.{length, Err, ap, refl}
 use Rattle.store_hub.specs.Passes.{known, config_of}
 use Rattle.etp_serve.specs.declared.served.Served.TheVariants.{Stopped, NoMemory}
 use Rattle.etp_serve.proofs.AcceptLemmas.{accepts_as, accepts_full, accepts_lack}
-use Rattle.etp_serve.proofs.accepting.let_in.Goals as goal
+use Rattle.etp_serve.proofs.accepting.Accepting.let_in.Goals as goal
 
 pub returns-in-Err-JournalFull-clause-goes : goal.returns-in-Err-JournalFull-clause-goes
 returns-in-Err-JournalFull-clause-goes g c =
     let L = g.A.Listener in
-    let test = g.C.Clock.passes c.args.clock.now in
-    let config = config_of c.args.hub.now in
-    let v0 = known c.args.first.now.value in
-    let given0 = L.given c.args.opened.now.value in
-    let b0 = L.backs c.args.opened.now.value in
+    let test = g.C.Clock.passes c.args.self.now.clock.now in
+    let config = config_of c.args.self.now.hub.now in
+    let v0 = known c.args.self.now.first.value in
+    let given0 = L.given c.args.self.now.opened.value in
+    let b0 = L.backs c.args.self.now.opened.value in
     let v = known c.args.pass.now in
     let u = known c.enter.new.pass in
     let given = L.given c.args.door.now in
@@ -28,11 +28,11 @@ returns-in-Err-JournalFull-clause-goes g c =
 pub returns-in-Err-NoMemory-clause-stops : goal.returns-in-Err-NoMemory-clause-stops
 returns-in-Err-NoMemory-clause-stops g c =
     let L = g.A.Listener in
-    let test = g.C.Clock.passes c.args.clock.now in
-    let config = config_of c.args.hub.now in
-    let v0 = known c.args.first.now.value in
-    let given0 = L.given c.args.opened.now.value in
-    let b0 = L.backs c.args.opened.now.value in
+    let test = g.C.Clock.passes c.args.self.now.clock.now in
+    let config = config_of c.args.self.now.hub.now in
+    let v0 = known c.args.self.now.first.value in
+    let given0 = L.given c.args.self.now.opened.value in
+    let b0 = L.backs c.args.self.now.opened.value in
     let v = known c.args.pass.now in
     let u = known c.enter.new.pass in
     let given = L.given c.args.door.now in
