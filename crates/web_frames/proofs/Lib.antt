@@ -1,0 +1,5 @@
+pub mod Utf8Lemmas
+pub mod BufferLemmas
+pub mod MessageLemmas
+pub mod LookLemmas
+pub mod LawLemmas
