@@ -1,7 +1,6 @@
 -- Looks at whole frames, and pieces that are joined.
-use Rattle.std.proofs.Common.{◌≡◌, ℕ, ◌+◌, ◌<◌, ◌≤◌, ◌^◌, Bool, true, false, List, [], ◌++◌, length, take, drop, min, refl, sym, subst, ap, ◌∙◌, arith, append_assoc, length-append, add_assoc, Result, Ok, Err, Option, None, Some}
-use Rattle.std.specs.Prelude.{nat_lt, is_some, if◌then◌else◌}
-use Rattle.std.proofs.lemmas.Bool.Decides.{nat_tests}
+use Rattle.std.proofs.Common.{◌≡◌, ℕ, ◌≤◌, Bool, true, List, ◌++◌, length, take, drop, refl, sym, ap, ◌∙◌, arith, append_assoc, length-append, Result, Ok, Err, None, Some}
+use Rattle.std.specs.Prelude.{nat_lt, is_some}
 use Rattle.std.proofs.lemmas.List.{take_at, drop_at}
 use Rattle.websocket.specs.declared.protocol.frame.coding.OpCode.TheVariants as opcode
 use Rattle.websocket.specs.declared.protocol.frame.coding.Data.{Data}
@@ -12,18 +11,12 @@ use Rattle.websocket.specs.Mask.{apply_mask_if}
 use Rattle.websocket.proofs.FrameHeaderLemmas.{decode_header-encode_header, length-encode_header}
 use Rattle.websocket.proofs.MaskLemmas.{apply_mask_if-apply_mask_if, length-apply_mask_if}
 use Rattle.web_frames.specs.declared.breach.Breach.{Breach}
-use Rattle.web_frames.specs.declared.breach.Breach.TheVariants as breach
-use Rattle.web_frames.specs.declared.coming.Kind.TheVariants.{Binary, Text}
 use Rattle.web_frames.specs.declared.frames.Frame.{Frame}
-use Rattle.web_frames.specs.declared.utf8.Utf8.{Utf8}
 use Rattle.web_frames.specs.Headers.{may_come}
 use Rattle.web_frames.specs.Laws.{on_whole_frame}
-use Rattle.web_frames.specs.Messages.{Open, added, is_short, kept, with_piece, with_text}
-use Rattle.web_frames.specs.Reading.{Look, Reading, begun, look, on_added, on_data, on_frame_end, on_header, on_judged, on_opcode, on_payload, on_taken}
-use Rattle.web_frames.specs.Utf8.{after_bytes}
+use Rattle.web_frames.specs.Messages.{Open, added}
+use Rattle.web_frames.specs.Reading.{Reading, begun, look, on_added, on_header, on_judged, on_opcode, on_payload, on_taken}
 use Rattle.web_frames.proofs.LookLemmas.{look-none, min_here, not_below, on_data-is, on_payload-some}
-use Rattle.web_frames.proofs.MessageLemmas.{added-counted, added-uncounted}
-use Rattle.web_frames.proofs.Utf8Lemmas.{after_bytes-append}
 
 -- a piece that is all that was left of its frame
 on_added-whole : (r : Reading) (f : Frame) (n : ℕ) (e : Result Open Breach) → n ≡ f.left → on_added r f n e ≡ on_whole_frame r f.is_final e

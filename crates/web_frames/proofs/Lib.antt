@@ -3,3 +3,4 @@ pub mod BufferLemmas
 pub mod MessageLemmas
 pub mod LookLemmas
 pub mod LawLemmas
+pub mod JoinLemmas

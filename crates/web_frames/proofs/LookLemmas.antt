@@ -1,6 +1,6 @@
 -- A look, step by step.
-use Rattle.std.proofs.Common.{◌≡◌, ℕ, ◌+◌, ◌≤◌, Bool, true, false, List, [], length, take, drop, min, refl, sym, subst, ap, ◌∙◌, arith, inl, inr, Result, Ok, Err, Option, None, Some}
-use Rattle.std.specs.Prelude.{nat_lt, is_some, option_map, ◌⊎◌}
+use Rattle.std.proofs.Common.{◌≡◌, ℕ, ◌≤◌, Bool, true, false, List, [], length, take, drop, min, refl, sym, subst, ap, ◌∙◌, arith, inl, inr, Result, Ok, Err, Option, None, Some}
+use Rattle.std.specs.Prelude.{nat_lt, option_map}
 use Rattle.std.proofs.lemmas.Bool.Decides.{nat_tests}
 use Rattle.std.proofs.lemmas.List.{length-take-le}
 use Rattle.websocket.specs.declared.error.Error.{Error}
@@ -19,7 +19,7 @@ use Rattle.websocket.specs.Connection.{Connection, Effect, Outgoing, Sends, fail
 use Rattle.websocket.specs.Content.{received_content}
 use Rattle.websocket.specs.FrameHeader.{decode_header, header_len}
 use Rattle.websocket.specs.Mask.{apply_mask_if}
-use Rattle.websocket.specs.View.{GivesError, KeepsRest, ReadLeaves, Returns}
+use Rattle.websocket.specs.View.{GivesError, ReadLeaves, Returns}
 use Rattle.websocket.proofs.MaskLemmas.{length-apply_mask_if}
 use Rattle.web_frames.specs.declared.arrival.Arrival.{Arrival}
 use Rattle.web_frames.specs.declared.arrival.Arrival.TheVariants as arrival
@@ -30,9 +30,8 @@ use Rattle.web_frames.specs.declared.coming.Unadded.{Unadded}
 use Rattle.web_frames.specs.declared.coming.Unadded.TheVariants as unadded
 use Rattle.web_frames.specs.declared.frames.Frame.{Frame}
 use Rattle.web_frames.specs.declared.utf8.Utf8.TheVariants as utf8
-use Rattle.web_frames.specs.Headers.{may_come}
 use Rattle.web_frames.specs.Messages.{Adds, HandsOn, Open, added, finished, handed_on, is_short, opened}
-use Rattle.web_frames.specs.Reading.{Answers, Finds, IsMessage, Look, Reading, begun, breach_of, control_found, finds, look, look_at, on_added, on_control, on_data, on_finished, on_frame_end, on_header, on_judged, on_opcode, on_payload, on_piece, on_taken, refusal_of, rest_of, step_found, unadded_found}
+use Rattle.web_frames.specs.Reading.{Answers, Finds, IsMessage, Look, Reading, begun, breach_of, control_found, finds, look, look_at, on_added, on_control, on_data, on_finished, on_frame_end, on_header, on_judged, on_opcode, on_payload, on_piece, on_taken, refusal_of, step_found, unadded_found}
 use Rattle.web_frames.proofs.MessageLemmas.{added-whole}
 
 -- ---- what is known
@@ -67,14 +66,6 @@ answers_nothing l arrival.Nothing old new none same = sends_nothing l.next.conne
 answers_nothing l arrival.End old new none same = sends_nothing l.next.connection.role l.reply old new none same
 
 -- ---- data frames
-
-pub finds_handed : (r : Reading) (e : Result (List ℕ) Breach) (a : Arrival) → HandsOn e a → Finds (on_finished r e) a r
-finds_handed r e (arrival.Message m) h = subst (λ e. Finds (on_finished r e) (arrival.Message m) r) (sym h) (refl, refl)
-finds_handed r e (arrival.Breach b) h = subst (λ e. Finds (on_finished r e) (arrival.Breach b) r) (sym h) (refl, refl)
-finds_handed r e arrival.NoMemory h = tt
-finds_handed r e arrival.Frame h = absurd h
-finds_handed r e arrival.Nothing h = absurd h
-finds_handed r e arrival.End h = absurd h
 
 pub on_payload-none : (r : Reading) (f : Frame) → r.message ≡ None
     → on_payload r f ≡ finds (arrival.Breach breach.Protocol) (record r { frame = None })

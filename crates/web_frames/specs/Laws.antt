@@ -1,5 +1,5 @@
 -- What looks find, in the terms of RFC 6455.
-use Rattle.std.specs.Prelude.{◌≡◌, ℕ, ◌+◌, Bool, true, false, List, ◌++◌, length, is_some, Option, None, Some, Result, Ok, Err}
+use Rattle.std.specs.Prelude.{◌≡◌, ℕ, Bool, true, List, ◌++◌, length, is_some, None, Some, Result, Ok, Err}
 use Rattle.websocket.specs.declared.protocol.frame.coding.OpCode.TheVariants.{Data}
 use Rattle.websocket.specs.declared.protocol.frame.coding.Data.{Data as DataKind}
 use Rattle.websocket.specs.declared.protocol.frame.header.FrameHeader.{FrameHeader}
@@ -24,3 +24,8 @@ DataFrameIsTaken =
     → may_come r.role (is_some r.message) h (length payload) ≡ true → r.frame ≡ None → begun k r.message ≡ Some o
     → r.input ≡ encode_frame h payload ++ rest
     → look r ≡ on_whole_frame (record r { input = rest; frame = None; message = None }) h.is_final (added o payload)
+
+-- pieces are joined: what is added after a piece is what is added with it
+abbrev pub PiecesAreJoined : Type 0
+PiecesAreJoined =
+    (o joined : Open) (xs ys : List ℕ) → added o xs ≡ Ok joined → added joined ys ≡ added o (xs ++ ys)

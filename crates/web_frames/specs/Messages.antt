@@ -1,6 +1,5 @@
 -- A message that comes in pieces (RFC 6455, section 5.4).
-use Rattle.std.specs.Prelude.{◌≡◌, ℕ, ◌+◌, ◌^◌, Bool, true, false, if◌then◌else◌, nat_lt, nat_le, List, [], ◌++◌, length, replicate, ⊤, Option, None, Some, Result, Ok, Err}
-use Rattle.std.specs.declared.alloc.AllocError.{AllocError}
+use Rattle.std.specs.Prelude.{◌≡◌, ℕ, ◌+◌, ◌^◌, Bool, if◌then◌else◌, nat_lt, nat_le, List, [], ◌++◌, length, replicate, ⊤, Option, None, Some, Result, Ok, Err}
 use Rattle.web_frames.specs.declared.arrival.Arrival.{Arrival}
 use Rattle.web_frames.specs.declared.arrival.Arrival.TheVariants as arrival
 use Rattle.web_frames.specs.declared.breach.Breach.{Breach}

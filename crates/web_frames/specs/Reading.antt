@@ -1,9 +1,8 @@
 -- What the bytes that have come hold (RFC 6455, sections 5 and 7), one look at a time.
-use Rattle.std.specs.Prelude.{◌≡◌, ℕ, ◌+◌, ◌-◌, ◌%◌, ◌++◌, min, Bool, true, false, if◌then◌else◌, nat_lt, List, [], length, take, drop, ⊤, Option, None, Some, is_some, option_map, Result, Ok, Err}
+use Rattle.std.specs.Prelude.{◌≡◌, ℕ, ◌-◌, ◌%◌, ◌++◌, min, Bool, true, false, nat_lt, List, [], length, take, drop, ⊤, Option, None, Some, is_some, option_map, Result, Ok, Err}
 use Rattle.websocket.specs.declared.error.Error.{Error}
 use Rattle.websocket.specs.declared.error.Error.TheVariants as error
 use Rattle.websocket.specs.declared.protocol.config.Role.{Role}
-use Rattle.websocket.specs.declared.protocol.config.WebSocketConfig.{WebSocketConfig}
 use Rattle.websocket.specs.declared.protocol.state.WebSocketState.TheVariants.{Active}
 use Rattle.websocket.specs.declared.protocol.frame.coding.OpCode.{OpCode}
 use Rattle.websocket.specs.declared.protocol.frame.coding.OpCode.TheVariants.{Control, Data}
@@ -22,8 +21,6 @@ use Rattle.web_frames.specs.declared.arrival.Arrival.{Arrival}
 use Rattle.web_frames.specs.declared.arrival.Arrival.TheVariants as arrival
 use Rattle.web_frames.specs.declared.breach.Breach.{Breach}
 use Rattle.web_frames.specs.declared.breach.Breach.TheVariants as breach
-use Rattle.web_frames.specs.declared.coming.Coming.{Coming}
-use Rattle.web_frames.specs.declared.coming.Kind.{Kind}
 use Rattle.web_frames.specs.declared.coming.Kind.TheVariants as kind
 use Rattle.web_frames.specs.declared.coming.Unadded.{Unadded}
 use Rattle.web_frames.specs.declared.coming.Unadded.TheVariants as unadded

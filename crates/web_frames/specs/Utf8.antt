@@ -1,5 +1,5 @@
 -- Texts in pieces: UTF-8 by the syntax of RFC 3629, section 4, octet by octet.
-use Rattle.std.specs.Prelude.{◌≡◌, ℕ, Bool, true, false, ◌==◌, if◌then◌else◌, List, [], ◌∷◌, Option, None, Some}
+use Rattle.std.specs.Prelude.{ℕ, Bool, true, false, ◌==◌, if◌then◌else◌, List, [], ◌∷◌, Option, None, Some}
 use Rattle.std.specs.Option.{option_and_then}
 use Rattle.std.specs.Int.{is_in_range}
 use Rattle.web_frames.specs.declared.utf8.Utf8.{Utf8}

@@ -1,4 +1,4 @@
-use Rattle.std.proofs.Common.{ℕ, arith, length, take, ◌≡◌, ◌≤◌, ◌<◌, ◌-◌, sym, length-take, length-drop}
+use Rattle.std.proofs.Common.{ℕ, arith, length, take, ◌≡◌, ◌<◌, ◌-◌, sym, length-take, length-drop}
 use Rattle.std.proofs.lemmas.Bool.Decides.{nat_tests}
 use Rattle.web_frames.proofs.BufferLemmas.{window-read, window-unread}
 use Rattle.web_frames.proofs.buffer.Input.read.Goals as goal

@@ -1,5 +1,5 @@
 use Rattle.std.proofs.Common.{subst, sym, ap, ◌∙◌}
-use Rattle.web_frames.specs.Messages.{Adds, added, shown, with_piece}
+use Rattle.web_frames.specs.Messages.{Adds, shown, with_piece}
 use Rattle.web_frames.proofs.MessageLemmas.{added-uncounted, added-counted}
 use Rattle.web_frames.proofs.coming.Coming.add.Goals as goal
 

@@ -3,7 +3,6 @@ use denote.Enum.Bare.{same_true}
 use Rattle.websocket.specs.contracts.protocol.frame.coding.Data.{the_type}
 use Rattle.websocket.specs.declared.protocol.frame.coding.Data.{Data}
 use Rattle.websocket.specs.declared.protocol.frame.coding.Data.TheVariants.{Binary}
-use Rattle.websocket.specs.Mask.{apply_mask_if}
 use Rattle.web_frames.specs.declared.frames.Frame.{Frame}
 use Rattle.web_frames.specs.Input.{bytes_of}
 use Rattle.web_frames.specs.Reading.{Finds, Look, Reading, begun, on_data, on_payload, reading_of}

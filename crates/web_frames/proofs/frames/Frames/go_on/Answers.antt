@@ -1,4 +1,4 @@
-use Rattle.std.proofs.Common.{◌≡◌, subst, sym, ap, ◌∙◌, refl, min, None, Ok, drop}
+use Rattle.std.proofs.Common.{subst, sym, ap, ◌∙◌, refl, min, None, Ok, drop}
 use Rattle.std.specs.Prelude.{option_map}
 use Rattle.web_frames.specs.declared.arrival.Arrival.{Arrival}
 use Rattle.web_frames.specs.Input.{bytes_of}

@@ -1,4 +1,4 @@
-use Rattle.std.proofs.Common.{◌≡◌, subst, sym, ap, ◌∙◌, refl, None, Some}
+use Rattle.std.proofs.Common.{subst, sym, ap, ◌∙◌, refl, None}
 use Rattle.websocket.specs.FrameHeader.{decode_header}
 use Rattle.web_frames.specs.Input.{bytes_of}
 use Rattle.web_frames.specs.Reading.{Answers, Finds, Look, Reading, look, on_header, on_payload, reading_of}

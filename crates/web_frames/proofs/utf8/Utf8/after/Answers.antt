@@ -1,4 +1,4 @@
-use Rattle.std.proofs.Common.{drop, ◌+◌, Some, None, sym, ◌∙◌, ap}
+use Rattle.std.proofs.Common.{drop, ◌+◌, Some, sym, ◌∙◌, ap}
 use Rattle.web_frames.specs.Utf8.{after_bytes}
 use Rattle.web_frames.proofs.Utf8Lemmas.{after_bytes-none, after_bytes-step, after_bytes-end}
 use Rattle.web_frames.proofs.utf8.Utf8.after.Goals as goal
