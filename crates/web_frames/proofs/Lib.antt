@@ -4,3 +4,4 @@ pub mod MessageLemmas
 pub mod LookLemmas
 pub mod LawLemmas
 pub mod JoinLemmas
+pub mod CutLemmas

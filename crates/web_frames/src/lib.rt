@@ -21,4 +21,4 @@ pub use breach::Breach;
 pub use coming::MAX_MESSAGE;
 pub use frames::Frames;
 pub use input::Filled;
-pub use laws::{data_frame_is_taken, pieces_are_joined};
+pub use laws::{data_frame_is_taken, payload_may_be_cut, pieces_are_joined};
