@@ -2,6 +2,7 @@
 ghost use Rattle.std.specs.Prelude.{◌≡◌, ℕ, List, IfOk, IfSome};
 ghost use Rattle.websocket.specs.Handshake.{response_bytes};
 ghost use Rattle.tungstenite.specs.Heads.{HeardAnswer};
+ghost use Rattle.outside_net.specs.Head.{IsAcceptance};
 
 use crate::head::Upgrade;
 use crate::head_only::HeadOnly;
@@ -56,7 +57,9 @@ fn limits() -> WebSocketConfig {
 
 /// The answer that accepts a request for a WebSocket. The subprotocol is chosen if it was offered; a client that offers none, or others, is
 /// accepted too.
-pub(crate) fn acceptance(alloc: Global, upgrade: &Upgrade) -> Option<Vec<u8>> {
+pub(crate) fn acceptance(alloc: Global, upgrade: &Upgrade) -> Option<Vec<u8>>
+    ensures { IfSome result (λ v. IsAcceptance upgrade.now.offered upgrade.now.accept v.items) }
+{
     if upgrade.offered {
         let chosen = Header {
             name: "sec-websocket-protocol",
