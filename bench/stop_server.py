@@ -3,10 +3,11 @@
 
     python3 stop_server.py ETPD
 
-ETPD is the built program. It is run by `deploy/etpd-run`, with no client, with one, with ten that keep asking, with 64 after
-connections that were reset before they were answered, with 64 of which one reads nothing, and beside connections that never become
-clients. Each time it has to end with status 0 within 35 seconds, write its report, and tell each client that it goes away (a Close frame
-with 1001). A server whose standard input has ended before it began has to serve. It needs the standard library alone.
+ETPD is the built program. It is run by `deploy/etpd-run`, with no client, with one, with ten that keep asking, with four that send
+without a pause and read late, with 64 after connections that were reset before they were answered, with 64 of which one reads nothing,
+and beside connections that never become clients. Each time it has to end with status 0 within 35 seconds, write its report, and tell
+each client that it goes away (a Close frame with 1001). A server whose standard input has ended before it began has to serve. It needs
+the standard library alone.
 """
 import asyncio
 import os
@@ -39,6 +40,8 @@ ASK = (
 UNREAD = 20_000
 # How many questions a busy client sends together, how long it then pauses, and for how long it does so before the stop, in seconds.
 BATCH, PAUSE, BUSY = 10, 0.05, 2
+# How much later than the stop a client reads that sends without a pause, in seconds.
+LATE = 0.4
 
 
 async def opened(port):
@@ -70,18 +73,34 @@ async def ask_always(link):
         pass
 
 
-async def visit(port, clients, busy, lazy, stop):
+async def flood(link):
+    """Sends Pong frames one by one, without a pause, until the server's Close frame has come. A connection that is reset meanwhile loses it."""
+    pong, open_code = web_socket.frame(web_socket.PONG, b""), link.close_code
+    try:
+        while link.close_code == open_code:
+            link.writer.write(pong)
+            await link.writer.drain()
+            await asyncio.sleep(0)
+    except ConnectionError:
+        pass
+
+
+async def visit(port, clients, busy, floods, lazy, stop):
     """Opens sessions, has the server stop, and gives the codes of the Close frames."""
-    links = [await opened(port) for _ in range(clients + busy)]
+    links = [await opened(port) for _ in range(clients + busy + floods)]
     codes = [asyncio.create_task(close_code(link)) for link in links]
-    work = [asyncio.create_task(ask_always(link)) for link in links[clients:]]
-    if busy:
+    work = [asyncio.create_task(ask_always(link)) for link in links[clients : clients + busy]]
+    work += [asyncio.create_task(flood(link)) for link in links[clients + busy :]]
+    if work:
         await asyncio.sleep(BUSY)
     sleeper = await opened(port) if lazy else None
     if sleeper:
         # It asks for more than its socket holds, and reads nothing.
         sleeper.transport.pause_reading()
         sleeper.writer.write(web_socket.frame(web_socket.PING, b"a" * 125) * UNREAD)
+    for link in links[clients + busy :]:
+        link.transport.pause_reading()
+        asyncio.get_running_loop().call_later(LATE, link.transport.resume_reading)
     stop()
     codes = await asyncio.gather(*codes)
     for task in work:
@@ -101,7 +120,7 @@ def leave(port):
         link.sendall(ASK)
 
 
-def check(config, name, clients, busy=0, lazy=False, strangers=0, leavers=0):
+def check(config, name, clients, busy=0, floods=0, lazy=False, strangers=0, leavers=0):
     server, port = start(config, [str(RUN)], stdin=subprocess.DEVNULL)
     for _ in range(leavers):
         leave(port)
@@ -115,7 +134,7 @@ def check(config, name, clients, busy=0, lazy=False, strangers=0, leavers=0):
         server.send_signal(signal.SIGTERM)
 
     try:
-        codes = asyncio.run(visit(port, clients, busy, lazy, stop))
+        codes = asyncio.run(visit(port, clients, busy, floods, lazy, stop))
         report, _ = server.communicate(timeout=END + 10)
     finally:
         server.kill()
@@ -150,6 +169,7 @@ def main():
         check(str(config), "no client", 0)
         check(str(config), "one client", 1)
         check(str(config), "ten clients that keep asking", 0, busy=10)
+        check(str(config), "four clients that send without a pause and read late", 0, floods=4)
         check(str(config), "64 clients after 200 that left before they were answered", 64, leavers=200)
         check(str(config), "63 clients, and one that reads nothing", 63, lazy=True)
         check(str(config), "8 clients beside 100 strangers", 8, strangers=100)

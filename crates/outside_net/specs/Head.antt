@@ -1,6 +1,7 @@
--- Which keys a door answers.
-use Rattle.std.specs.Prelude.{◌≡◌, List, ℕ}
-use Rattle.websocket.specs.Handshake.{IsValidKey, accept_key_of}
+-- Which keys a door answers, and how.
+use Rattle.std.specs.Prelude.{◌≡◌, Bool, true, false, List, [], ◌∷◌, ℕ, codes}
+use Rattle.httparse.specs.declared.borrowed.Header.{Header}
+use Rattle.websocket.specs.Handshake.{IsValidKey, accept_key_of, response_bytes}
 use Rattle.outside_net.specs.declared.head.Head.{Head}
 use Rattle.outside_net.specs.declared.head.Head.TheVariants.{Part, Asks, Refused}
 use Rattle.outside_net.specs.declared.head.Upgrade.{Upgrade}
@@ -14,3 +15,10 @@ abbrev pub IfAsks : Head → (Upgrade → Type 0) → Type 0
 IfAsks Part P = Unit {0}
 IfAsks (Asks u) P = P u
 IfAsks (Refused r) P = Unit {0}
+
+-- the answer that accepts a request: with the subprotocol, if it was offered, and otherwise with no line more
+abbrev pub IsAcceptance : Bool → List ℕ → List ℕ → Type 0
+IsAcceptance true accept bytes =
+    (h : Header) × (h.name.now ≡ codes "sec-websocket-protocol") × (h.value.now ≡ codes "etp12.energistics.org")
+    × (bytes ≡ response_bytes accept (h ∷ []))
+IsAcceptance false accept bytes = bytes ≡ response_bytes accept []

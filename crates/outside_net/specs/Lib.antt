@@ -1,4 +1,4 @@
-pub mod Coming
+pub mod Handing
 pub mod Head
-pub mod Headers
+pub mod Refusals
 pub mod Silence

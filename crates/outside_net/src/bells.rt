@@ -250,6 +250,11 @@ impl Post {
         }
     }
 
+    /// Whether the link that waits here is told what the others did.
+    pub(crate) fn has_bell(&self) -> bool {
+        self.bell.is_some()
+    }
+
     /// The peer of the link that waits here.
     pub(crate) fn peer(&self) -> Option<SocketAddr> {
         self.peer
@@ -290,6 +295,20 @@ impl Post {
     /// earlier wait.
     pub(crate) fn wait_for_socket(&mut self, limit: u64) -> Woken {
         self.sleep(limit)
+    }
+
+    /// Sleeps for this many milliseconds, whatever comes on the socket meanwhile. What has come by then is reported at the next wait.
+    pub(crate) fn pause(&mut self, length: u64) {
+        let socket = self.socket;
+        let mut source = SourceFd(&socket);
+        if self.poll.registry().deregister(&mut source).is_err() {
+            return;
+        }
+        self.sleep(length);
+        let _ = self
+            .poll
+            .registry()
+            .register(&mut source, SOCKET, Interest::READABLE);
     }
 
     /// Looks how often the bells have been rung. Any ring from now on ends the next wait.

@@ -100,8 +100,8 @@ impl<'a, R: Net<Listener = TcpListener, Stream = TcpStream> + RandomSource> TcpD
         let stream = socket.into_inner().into_stream();
         let keys = RandomKeys::new(self.rt);
         match WsLink::new(alloc, Role::Client, stream, keys, Vec::new(alloc), post) {
-            Some(link) => Ok(link),
-            None => Err(Missed::Fault),
+            Ok(link) => Ok(link),
+            Err(_) => Err(Missed::Fault),
         }
     }
 }

@@ -1,5 +1,6 @@
 //! A listener over TCP.
-ghost use Rattle.std.specs.Prelude.{◌≡◌, ◌≤◌, ◌+◌, ◌||◌, None, false, IfSome};
+ghost use Rattle.std.specs.Prelude.{◌≡◌, ◌≤◌, ◌+◌, ◌||◌, None, false, IfSome, IfOk};
+ghost use Rattle.std.specs.Option.{option_copied};
 ghost use Rattle.etp_outside.specs.Faults.{Rose};
 ghost use Rattle.etp_outside.specs.Doors.{IfLink, IsAccepted, is_stop, links};
 
@@ -26,8 +27,8 @@ pub type ServerLink = WsLink<TcpStream, NoMask>;
 ///
 /// While it is asked for a link it waits for the listener and all connections in their handshake at the same time, and reads from each what
 /// has come. So a connection that is silent, slow or sends rubbish delays nobody, and needs no thread. Each has 2 seconds until its head is
-/// complete, and 65,536 bytes. At most 256 are at this point: one more takes the place of the one that has waited longest. A refused one is
-/// answered with an HTTP status and the cause. A connection is told that it is accepted when its link is handed out, so one for which there
+/// complete, and 65,536 bytes. At most 256 are at this point: one more takes the place of one that was refused and has not left, or else of
+/// the one that has waited longest. A refused one is answered with an HTTP status and the cause. A connection is told that it is accepted when its link is handed out, so one for which there
 /// is no session yet waits for its answer.
 ///
 /// If the system has no descriptor or memory for a new connection, that one or the one that has waited longest is turned away, and the door
@@ -82,7 +83,9 @@ impl<'a, R: Net<Listener = TcpListener, Stream = TcpStream> + Clock> TcpDoor<'a,
     }
 
     /// The port that it listens at, which matters if port 0, any free port, was asked for.
-    pub fn port(&self) -> Option<u16> {
+    pub fn port(&self) -> Option<u16>
+        ensures { self.now.listener ≡ None → result ≡ None }
+    {
         let Some(listener) = &self.listener else {
             return None;
         };
@@ -93,7 +96,9 @@ impl<'a, R: Net<Listener = TcpListener, Stream = TcpStream> + Clock> TcpDoor<'a,
     }
 
     /// Why it could not listen when it was last asked to.
-    pub fn cause(&self) -> Option<&io::Error> {
+    pub fn cause(&self) -> Option<&io::Error>
+        ensures { option_copied result ≡ self.now.cause }
+    {
         self.cause.as_ref()
     }
 
@@ -154,11 +159,14 @@ impl<'a, R: Net<Listener = TcpListener, Stream = TcpStream> + Clock> TcpDoor<'a,
             log.refused(&peer, refusal);
             return None;
         }
-        let link = link_of(alloc, caller, post);
-        if link.is_none() {
-            log.refused(&peer, Refusal::NoPlace);
+        match link_of(alloc, caller, post) {
+            Ok(link) => Some(link),
+            Err(post) => {
+                self.keep(post);
+                log.refused(&peer, Refusal::NoPlace);
+                None
+            }
         }
-        link
     }
 
     /// The connection that is ready, if one is.
@@ -319,9 +327,9 @@ fn accept(alloc: Global, caller: &mut Caller, upgrade: &Upgrade) -> Result<(), R
     }
 }
 
-/// The link over a connection that was accepted. `None` if the system refuses what it needs.
-fn link_of(alloc: Global, caller: Caller, post: Post) -> Option<ServerLink>
-    ensures { IfSome result (λ l. IsAccepted (⟦<ServerLink as Link>⟧.talk l) (⟦<ServerLink as Link>⟧.faults l) (⟦<ServerLink as Link>⟧.ended l)) }
+/// The link over a connection that was accepted. The post is given back if the system refuses what the link needs.
+fn link_of(alloc: Global, caller: Caller, post: Post) -> Result<ServerLink, Post>
+    ensures { IfOk result (λ l. IsAccepted (⟦<ServerLink as Link>⟧.talk l) (⟦<ServerLink as Link>⟧.faults l) (⟦<ServerLink as Link>⟧.ended l)) }
 {
     WsLink::new(
         alloc,

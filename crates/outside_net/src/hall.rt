@@ -204,7 +204,7 @@ impl Hall {
             Fate::System => {
                 log.unaccepted(error);
                 self.pause = true;
-                if !self.room.cut_oldest(alloc, now, log) {
+                if !self.room.cut_least_needed(alloc, now, log) {
                     self.turn_away(alloc, listener, now, log);
                 }
             }

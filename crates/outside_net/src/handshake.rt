@@ -1,4 +1,9 @@
 //! The opening handshakes of a server and of a client.
+ghost use Rattle.std.specs.Prelude.{◌≡◌, ℕ, List, IfOk, IfSome};
+ghost use Rattle.websocket.specs.Handshake.{response_bytes};
+ghost use Rattle.tungstenite.specs.Heads.{HeardAnswer};
+ghost use Rattle.outside_net.specs.Head.{IsAcceptance};
+
 use crate::head::Upgrade;
 use crate::head_only::HeadOnly;
 use http::{HeaderName, HeaderValue, Request};
@@ -17,7 +22,7 @@ pub const SUBPROTOCOL: &str = "etp12.energistics.org";
 
 /// Why a client got no WebSocket.
 #[derive(Clone, Copy, Debug, PartialEq, Eq)]
-pub enum Missed {
+pub(crate) enum Missed {
     /// The system failed, or the server did not answer as a server of the subprotocol does.
     Fault,
     /// Out of memory.
@@ -52,20 +57,23 @@ fn limits() -> WebSocketConfig {
 
 /// The answer that accepts a request for a WebSocket. The subprotocol is chosen if it was offered; a client that offers none, or others, is
 /// accepted too.
-pub fn acceptance(alloc: Global, upgrade: &Upgrade) -> Option<Vec<u8>> {
-    let chosen = Header {
-        name: "sec-websocket-protocol",
-        value: SUBPROTOCOL.as_bytes(),
-    };
+pub(crate) fn acceptance(alloc: Global, upgrade: &Upgrade) -> Option<Vec<u8>>
+    ensures { IfSome result (λ v. IsAcceptance upgrade.now.offered upgrade.now.accept v.items) }
+{
     if upgrade.offered {
-        acceptance_with(alloc, &upgrade.accept, &[chosen])
-    } else {
-        acceptance_with(alloc, &upgrade.accept, &[])
+        let chosen = Header {
+            name: "sec-websocket-protocol",
+            value: SUBPROTOCOL.as_bytes(),
+        };
+        return acceptance_with(alloc, &upgrade.accept, &[chosen]);
     }
+    acceptance_with(alloc, &upgrade.accept, &[])
 }
 
 /// The answer that accepts a request, with these lines.
-fn acceptance_with(alloc: Global, accept: &[u8; 28], extra: &[Header]) -> Option<Vec<u8>> {
+fn acceptance_with(alloc: Global, accept: &[u8; 28], extra: &[Header]) -> Option<Vec<u8>>
+    ensures { IfSome result (λ v. v.items ≡ response_bytes accept.now extra.now) }
+{
     let mut answer = Vec::new(alloc);
     match write_response(accept, extra, &mut answer) {
         Ok(()) => Some(answer),
@@ -97,13 +105,15 @@ fn request_at(alloc: Global, url: &str) -> Result<Request<()>, Missed> {
 
 /// The WebSocket of a new connection: its server has answered the request, and has chosen the subprotocol. A read of the handshake waits no
 /// longer than the timeout.
-pub fn ask_for_upgrade<'a, R: RandomSource>(
+pub(crate) fn ask_for_upgrade<'a, R: RandomSource>(
     alloc: Global,
     stream: TcpStream,
     random: &'a R,
     url: &str,
     patience: Duration,
-) -> Result<WebSocket<HeadOnly, RandomKeys<&'a R>>, Missed> {
+) -> Result<WebSocket<HeadOnly, RandomKeys<&'a R>>, Missed>
+    ensures { IfOk result (λ s. (key : List ℕ) × HeardAnswer key) }
+{
     stream.set_nodelay(true)?;
     stream.set_read_timeout(Some(patience))?;
     stream.set_write_timeout(Some(patience))?;

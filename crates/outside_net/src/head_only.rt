@@ -1,11 +1,13 @@
 //! A stream of which nothing after a head is read.
+ghost use Rattle.std.specs.Prelude.{◌≡◌};
+
 use std::io::{self, Read, Write};
 use std::net::TcpStream;
 
 /// A stream during a handshake: it gives what has come up to the end of the head, the first empty line after a line, and leaves what
 /// follows for whoever reads the stream next.
 #[derive(Drop)]
-pub struct HeadOnly {
+pub(crate) struct HeadOnly {
     stream: TcpStream,
     /// Whether the current line has any bytes.
     filled: bool,
@@ -15,7 +17,9 @@ pub struct HeadOnly {
 
 impl HeadOnly {
     /// The stream, before its first byte.
-    pub fn new(stream: TcpStream) -> HeadOnly {
+    pub(crate) fn new(stream: TcpStream) -> HeadOnly
+        ensures { result.stream ≡ stream }
+    {
         HeadOnly {
             stream,
             filled: false,
@@ -24,7 +28,9 @@ impl HeadOnly {
     }
 
     /// The stream, after the head.
-    pub fn into_stream(self) -> TcpStream {
+    pub(crate) fn into_stream(self) -> TcpStream
+        ensures { result ≡ self.stream }
+    {
         let HeadOnly { stream, .. } = self;
         stream
     }

@@ -1,12 +1,10 @@
 //! A WebSocket as a link.
-ghost use Rattle.std.specs.Prelude.{◌≡◌, ◌≤◌, ◌||◌, None, false, true, IfSome};
+ghost use Rattle.std.specs.Prelude.{◌≡◌, ◌≤◌, ◌||◌, None, false, true, IfOk};
 ghost use Rattle.etp_outside.specs.Faults.{Rose};
 ghost use Rattle.etp_outside.specs.Talk.{is_end};
+ghost use Rattle.outside_net.specs.Handing.{recv_of};
 
-use crate::arrival::Arrival;
 use crate::bells::{Post, Woken};
-use crate::frames::Frames;
-use crate::input::Filled;
 use crate::pace::Pace;
 use crate::silence::{Call, Silence};
 use crate::writing::write_all;
@@ -16,6 +14,7 @@ use std::alloc::Global;
 use std::io::{Read, Write};
 use std::net::{OpenStream, Shutdown};
 use std::os::fd::AsRawFd;
+use web_frames::{Arrival, Filled, Frames};
 use websocket::error::Error;
 use websocket::protocol::frame::MaskKeys;
 use websocket::protocol::frame::coding::CloseCode;
@@ -44,13 +43,14 @@ const PIECE_COUNTS: u64 = 2;
 
 const DROP: usize = 256;
 
-/// How long a goodbye lasts at most, in what its reads count: one that brings nothing waits and counts 50 milliseconds, one that brings
-/// few bytes counts 10, and one that brings many counts 1.
+/// How long a goodbye lasts at most, in what its reads count: one that brings nothing waits and counts 50 milliseconds, and one that brings
+/// something counts 10, for which the link sleeps before it reads again. So the time that a peer has to read its Close frame does not
+/// depend on how fast it sends.
 const GOODBYE: u64 = 1_000;
 
 const GOODBYE_WAIT: u64 = 50;
 
-const FEW_BYTES: usize = 4_096;
+const GOODBYE_READ: u64 = 10;
 
 /// A WebSocket as a link.
 ///
@@ -97,7 +97,7 @@ pub struct WsLink<S, K> {
 
 impl<S: Read + Write + OpenStream + AsRawFd + Drop, K: MaskKeys + Drop> WsLink<S, K> {
     /// A link over a stream whose handshake is done, at the end with this role. `early` is what came after the handshake. It waits at a
-    /// post. `None` if the stream can't be made non-blocking, or can't be waited for.
+    /// post, which is given back if the stream can't be made non-blocking, or can't be waited for.
     pub(crate) fn new(
         alloc: Global,
         role: Role,
@@ -105,15 +105,15 @@ impl<S: Read + Write + OpenStream + AsRawFd + Drop, K: MaskKeys + Drop> WsLink<S
         keys: K,
         early: Vec<u8>,
         post: Post,
-    ) -> Option<WsLink<S, K>>
-        ensures faults { IfSome result (λ l. l.faults ≡ 0) }
-        ensures ended { IfSome result (λ l. l.ended ≡ false) }
+    ) -> Result<WsLink<S, K>, Post>
+        ensures faults { IfOk result (λ l. l.faults ≡ 0) }
+        ensures ended { IfOk result (λ l. l.ended ≡ false) }
     {
         let mut post = post;
         if stream.set_nonblocking(true).is_err() || !post.watch(stream.as_raw_fd()) {
-            return None;
+            return Err(post);
         }
-        Some(WsLink {
+        Ok(WsLink {
             alloc,
             role,
             stream,
@@ -210,6 +210,7 @@ impl<S: Read + Write + OpenStream + Drop, K: MaskKeys + Drop> WsLink<S, K> {
 
     /// Hands on what came.
     fn hand_on(&mut self, arrival: Arrival) -> Recv
+        ensures handed { result ≡ recv_of arrival }
         ensures kept { self.old.faults ≤ self.new.faults }
         ensures cause { result ≡ Recv.Failed → Rose self.old.faults self.new.faults }
         ensures ended { self.new.ended ≡ (self.old.ended || is_end result) }
@@ -235,6 +236,7 @@ impl<S: Read + Write + OpenStream + Drop, K: MaskKeys + Drop> WsLink<S, K> {
 
     /// A turn in which memory ran out. The message may be lost.
     fn spent(&mut self) -> Recv
+        ensures spent { result ≡ Recv.NoMemory }
         ensures kept { self.old.faults ≤ self.new.faults }
         ensures cause { result ≡ Recv.Failed → Rose self.old.faults self.new.faults }
         ensures ended { self.new.ended ≡ (self.old.ended || is_end result) }
@@ -246,6 +248,7 @@ impl<S: Read + Write + OpenStream + Drop, K: MaskKeys + Drop> WsLink<S, K> {
 
     /// Sends the peer a Close frame with this code, which says why the link fails.
     fn refuse(&mut self, code: CloseCode) -> Recv
+        ensures failed { result ≡ Recv.Failed }
         ensures kept { self.old.faults ≤ self.new.faults }
         ensures cause { result ≡ Recv.Failed → Rose self.old.faults self.new.faults }
         ensures ended { self.new.ended ≡ (self.old.ended || is_end result) }
@@ -333,7 +336,7 @@ impl<S: Read + Write + OpenStream + Drop, K: MaskKeys + Drop> WsLink<S, K> {
                 self.silent(wait.whole())
             }
             Woken::Time => {
-                self.pace.quiet();
+                self.pace.quiet(self.post.has_bell());
                 self.silent(wait.whole())
             }
         }
@@ -484,10 +487,14 @@ impl<S: Read + Write + OpenStream + Drop, K: MaskKeys + Drop> WsLink<S, K> {
             return;
         }
         let mut left = GOODBYE;
+        let mut counted = 0;
         for _ in 0..u64::MAX {
             match self.next() {
                 Arrival::Message(_) | Arrival::Frame => {}
-                Arrival::Nothing => left = left.saturating_sub(self.refill()),
+                Arrival::Nothing => {
+                    counted = self.refill(counted);
+                    left = left.saturating_sub(counted);
+                }
                 Arrival::End | Arrival::Breach(_) | Arrival::NoMemory => return,
             }
             if left == 0 {
@@ -502,8 +509,10 @@ impl<S: Read + Write + OpenStream + Drop, K: MaskKeys + Drop> WsLink<S, K> {
         ensures ended { self.new.ended ≡ self.old.ended }
     {
         let mut left = GOODBYE;
+        let mut counted = 0;
         for _ in 0..GOODBYE {
-            left = left.saturating_sub(self.refill());
+            counted = self.refill(counted);
+            left = left.saturating_sub(counted);
             if left == 0 {
                 return;
             }
@@ -511,13 +520,17 @@ impl<S: Read + Write + OpenStream + Drop, K: MaskKeys + Drop> WsLink<S, K> {
         }
     }
 
-    /// Reads once for a goodbye, waiting if nothing is there. Returns what that counts.
-    fn refill(&mut self) -> u64
+    /// Reads once for a goodbye, after what the read before counted, and waits if nothing is there. Returns what that counts. A peer that
+    /// goes on sending is given as long as a silent one: before it is read again the link sleeps for what the last read counted.
+    fn refill(&mut self, before: u64) -> u64
         ensures faults { self.new.faults ≡ self.old.faults }
         ensures ended { self.new.ended ≡ self.old.ended }
     {
+        if before == GOODBYE_READ {
+            self.post.pause(GOODBYE_READ);
+        }
         match self.frames.fill(&mut self.stream) {
-            Filled::Bytes { count, .. } => { if count < FEW_BYTES { 10 } else { 1 } }
+            Filled::Bytes { .. } => GOODBYE_READ,
             Filled::Nothing => match self.post.wait_for_socket(GOODBYE_WAIT) {
                 Woken::Time => GOODBYE_WAIT,
                 Woken::Socket | Woken::Bell => 1,
@@ -547,7 +560,9 @@ impl<S: Read + Write + OpenStream + Drop, K: MaskKeys + Drop> WsLink<S, K> {
             return;
         }
         self.closed = true;
-        self.ring();
+        // What a session does as it ends may concern the others too.
+        self.handed = 0;
+        self.post.ring();
         if self.refused {
             self.drain();
         } else if !self.ended && !self.broken {

@@ -1,10 +1,13 @@
 //! How long a link waits.
 
 /// The shortest and the longest time that a link waits for its socket and its bell, in milliseconds. Each turn in which nothing
-/// came doubles the wait, so that a quiet link costs little.
+/// came doubles the wait, so that a quiet link costs next to nothing: whatever concerns it ends the wait.
 const SHORTEST: u64 = 4;
 
-const LONGEST: u64 = 32;
+const LONGEST: u64 = 1_024;
+
+/// The longest time, in milliseconds, that a link waits without hearing a bell, and that it waits after the bell rang or without having one.
+const LONGEST_DEAF: u64 = 32;
 
 /// After a turn in which a link sent this many messages its session may have more to send: a poll sends no more than some hundreds of
 /// changes.
@@ -69,7 +72,7 @@ impl Pace {
         } else if sent > 0 {
             self.rest = 0;
         } else if belled {
-            self.rest = self.rest.saturating_mul(2).max(1).min(LONGEST);
+            self.rest = self.rest.saturating_mul(2).max(1).min(LONGEST_DEAF);
         }
         Wait {
             rest: self.rest,
@@ -81,7 +84,7 @@ impl Pace {
     pub(crate) fn hushed(&mut self) -> u64 {
         self.sent = 0;
         self.belled = false;
-        LONGEST
+        LONGEST_DEAF
     }
 
     /// A message came.
@@ -95,14 +98,16 @@ impl Pace {
         self.sent = self.sent.saturating_add(1);
     }
 
-    /// The time was over.
-    pub(crate) fn quiet(&mut self) {
-        self.limit = self.limit.saturating_mul(2).max(SHORTEST).min(LONGEST);
+    /// The time was over. A link without a bell does not wait long: nothing tells it what the others did.
+    pub(crate) fn quiet(&mut self, has_bell: bool) {
+        let longest = if has_bell { LONGEST } else { LONGEST_DEAF };
+        self.limit = self.limit.saturating_mul(2).max(SHORTEST).min(longest);
         self.rest = 0;
     }
 
-    /// The bell rang.
+    /// The bell rang. The whole wait counts then, so the next are short again.
     pub(crate) fn belled(&mut self) {
         self.belled = true;
+        self.limit = self.limit.min(LONGEST_DEAF);
     }
 }

@@ -1,4 +1,7 @@
 //! Why a connection was given no link, and what it is answered.
+ghost use Rattle.std.specs.Prelude.{◌≡◌};
+ghost use Rattle.outside_net.specs.Refusals.{words_of};
+
 use std::alloc::{AllocError, Global};
 use std::fmt;
 
@@ -66,7 +69,9 @@ impl Refusal {
     }
 
     /// The cause in words.
-    pub fn words(self) -> &'static str {
+    pub fn words(self) -> &'static str
+        ensures { result.now ≡ words_of self }
+    {
         match self {
             Refusal::NotHttp => "this is no HTTP request",
             Refusal::TooLong => "the request is too long",

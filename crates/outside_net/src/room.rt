@@ -48,7 +48,8 @@ impl Room {
         self.ready.pop_front()
     }
 
-    /// Takes in a connection that was accepted at this moment. If all places are taken, the one that has waited longest is refused for it.
+    /// Takes in a connection that was accepted at this moment. If all places are taken, one that was refused before is closed for it, or
+    /// else the one that has waited longest is refused.
     pub(crate) fn admit<L: DoorLog>(
         &mut self,
         alloc: Global,
@@ -77,14 +78,19 @@ impl Room {
         if let Some(place) = self.places.iter().position(|place| place.is_none()) {
             return Some(place);
         }
-        let place = self.oldest()?;
+        let place = self.least_needed()?;
         self.cut(alloc, place, Refusal::NoPlace, now, log);
         Some(place)
     }
 
-    /// Refuses the connection that has waited longest. False if there is none.
-    pub(crate) fn cut_oldest<L: DoorLog>(&mut self, alloc: Global, now: u64, log: &mut L) -> bool {
-        let Some(place) = self.oldest() else {
+    /// Refuses the connection that is needed least. False if there is none.
+    pub(crate) fn cut_least_needed<L: DoorLog>(
+        &mut self,
+        alloc: Global,
+        now: u64,
+        log: &mut L,
+    ) -> bool {
+        let Some(place) = self.least_needed() else {
             return false;
         };
         self.cut(alloc, place, Refusal::NoPlace, now, log);
@@ -93,7 +99,11 @@ impl Room {
 
     /// Looks at the connection of a token for which something came.
     pub(crate) fn look<L: DoorLog>(&mut self, alloc: Global, token: Token, now: u64, log: &mut L) {
-        let place = token.0.saturating_sub(FIRST);
+        self.look_at(alloc, token.0.saturating_sub(FIRST), now, log);
+    }
+
+    /// Looks at the connection at a place.
+    fn look_at<L: DoorLog>(&mut self, alloc: Global, place: usize, now: u64, log: &mut L) {
         let Some(mut caller) = self.take(place) else {
             return;
         };
@@ -121,8 +131,16 @@ impl Room {
     pub(crate) fn expire<L: DoorLog>(&mut self, alloc: Global, now: u64, log: &mut L) {
         for place in 0..self.places.len() {
             if self.is_late(place, now) {
-                self.cut(alloc, place, Refusal::Late, now, log);
+                self.end_wait(alloc, place, now, log);
             }
+        }
+    }
+
+    /// Refuses the connection at a place, whose time is over, unless what has come of it by now completes its head.
+    fn end_wait<L: DoorLog>(&mut self, alloc: Global, place: usize, now: u64, log: &mut L) {
+        self.look_at(alloc, place, now, log);
+        if self.is_late(place, now) {
+            self.cut(alloc, place, Refusal::Late, now, log);
         }
     }
 
@@ -147,6 +165,14 @@ impl Room {
         if !caller.is_refused() {
             log.refused(&caller.peer(), refusal);
             caller.refuse(alloc, refusal, now);
+        }
+    }
+
+    /// The place of a connection that was refused before, or else of the one whose time is over first.
+    fn least_needed(&self) -> Option<usize> {
+        match self.places.iter().position(|place| is_refused(place)) {
+            Some(place) => Some(place),
+            None => self.oldest(),
         }
     }
 
@@ -191,6 +217,14 @@ impl Room {
         if let Some(slot) = self.places.get_mut(place) {
             *slot = Some(caller);
         }
+    }
+}
+
+/// Whether there is a connection at a place that was refused before.
+fn is_refused(place: &Option<Caller>) -> bool {
+    match place {
+        Some(caller) => caller.is_refused(),
+        None => false,
     }
 }
 

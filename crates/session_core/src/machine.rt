@@ -10,7 +10,7 @@ ghost use Rattle.session_core.specs.Session.{bytes_of, end_of, next_bytes, sent_
 ghost use Rattle.session_core.specs.State.{first_state};
 
 mod answering;
-mod core;
+mod core_messages;
 mod joining;
 mod rows;
 mod saying;

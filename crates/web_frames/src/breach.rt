@@ -1,6 +1,6 @@
 //! Breaches of the protocol, and the headers that may come.
 ghost use Rattle.std.specs.Prelude.{◌≡◌};
-ghost use Rattle.outside_net.specs.Headers.{close_code, may_come, fits_opcode, has_mask_of};
+ghost use Rattle.web_frames.specs.Headers.{close_code, may_come, fits_opcode, has_mask_of};
 
 use websocket::protocol::Role;
 use websocket::protocol::frame::FrameHeader;
@@ -10,7 +10,7 @@ use websocket::protocol::frame::coding::{CloseCode, Data, OpCode};
 const MAX_CONTROL: u64 = 125;
 
 /// How a peer broke the protocol.
-#[derive(Clone, Copy)]
+#[derive(Clone, Copy, Debug, PartialEq, Eq)]
 pub enum Breach {
     /// A frame that is not allowed, or not at this point.
     Protocol,
@@ -35,7 +35,7 @@ impl Breach {
 
 /// Whether an endpoint of this role accepts a frame with this header and a payload of this many bytes. `within` says that a message has
 /// begun of which a fragment is still to come. It is decided before waiting for any of the payload.
-pub fn may_come(role: Role, within: bool, header: &FrameHeader, length: u64) -> bool
+pub(crate) fn may_come(role: Role, within: bool, header: &FrameHeader, length: u64) -> bool
     ensures { result ≡ may_come role within header.now length }
 {
     if header.rsv1 || header.rsv2 || header.rsv3 {

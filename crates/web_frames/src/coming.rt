@@ -1,6 +1,7 @@
 //! A message of which not everything has come.
-ghost use Rattle.std.specs.Prelude.{◌≡◌, ℕ, Bool, List, ◌+◌, [], length, IfOk, OnOk};
-ghost use Rattle.outside_net.specs.Coming.{added, kept, is_short, IsWhole, IsTooLong};
+ghost use Rattle.std.specs.Prelude.{◌≡◌, ℕ, Bool, List, IfOk};
+ghost use Rattle.web_frames.specs.declared.utf8.Utf8.{Utf8};
+ghost use Rattle.web_frames.specs.Messages.{Adds, HandsOn, added, finished, handed_on, is_short, kept, opened, shown, too_long, with_piece};
 
 use crate::arrival::Arrival;
 use crate::breach::Breach;
@@ -24,7 +25,7 @@ const LARGE: u64 = 1_048_576;
 const MAPPED: usize = 33_619_968;
 
 /// What a message is made of.
-#[derive(Clone, Copy)]
+#[derive(Clone, Copy, Debug, PartialEq, Eq)]
 pub enum Kind {
     Binary,
     /// A text is not a message of the protocol. It is checked, and handed on as an empty message, so that it is refused as one.
@@ -32,7 +33,7 @@ pub enum Kind {
 }
 
 /// Why a piece was not added.
-#[derive(Clone, Copy)]
+#[derive(Clone, Copy, Debug)]
 pub enum Unadded {
     /// The message breaks the protocol.
     Breach(Breach),
@@ -54,25 +55,21 @@ pub struct Coming {
 
 impl Coming {
     /// A message of which nothing has come yet.
-    pub fn new(alloc: Global, kind: Kind) -> Coming
-        ensures bytes { result.bytes.items ≡ [] }
-        ensures count { result.count ≡ 0 }
-        ensures kind { result.kind ≡ kind }
+    pub(crate) fn new(alloc: Global, kind: Kind) -> Coming
+        ensures { shown result ≡ opened kind }
     {
         Coming {
             alloc,
             kind,
             bytes: Vec::new(alloc),
             count: 0,
-            utf8: Utf8::new(),
+            utf8: Utf8::Whole,
         }
     }
 
     /// Adds a piece of the payload.
-    pub fn add(&mut self, piece: &[u8]) -> Result<(), Unadded>
-        ensures kind { self.new.kind ≡ self.old.kind }
-        ensures count { OnOk result (self.new.count ≡ self.old.count + length piece.now) }
-        ensures bytes { OnOk result (self.new.bytes.items ≡ added self.old.kind self.new.count self.old.bytes.items piece.now) }
+    pub(crate) fn add(&mut self, piece: &[u8]) -> Result<(), Unadded>
+        ensures { Adds (added (shown self.old) piece.now) result (shown self.new) }
     {
         let Some(count) = self.count.checked_add(piece.len() as u64) else {
             return Err(Unadded::Breach(Breach::TooLong));
@@ -85,22 +82,21 @@ impl Coming {
 
     /// Checks a piece of a text, of which this many bytes have come including it.
     fn check(&mut self, count: u64, piece: &[u8]) -> Result<(), Unadded>
-        ensures kind { self.new.kind ≡ self.old.kind }
-        ensures count { OnOk result (self.new.count ≡ count) }
-        ensures bytes { self.new.bytes ≡ self.old.bytes }
+        requires { self.old.kind ≡ Kind.Text }
+        ensures { Adds (with_piece Kind.Text (shown self.old) count piece.now) result (shown self.new) }
     {
-        if !self.utf8.takes(piece) {
+        let Some(utf8) = self.utf8.after(piece) else {
             return Err(Unadded::Breach(Breach::Utf8));
-        }
+        };
+        self.utf8 = utf8;
         self.count = count;
         Ok(())
     }
 
     /// Keeps a piece of a binary message, of which this many bytes have come including it.
     fn keep(&mut self, count: u64, piece: &[u8]) -> Result<(), Unadded>
-        ensures kind { self.new.kind ≡ self.old.kind }
-        ensures count { OnOk result (self.new.count ≡ count) }
-        ensures bytes { OnOk result (self.new.bytes.items ≡ kept count self.old.bytes.items piece.now) }
+        requires { self.old.kind ≡ Kind.Binary }
+        ensures { Adds (with_piece Kind.Binary (shown self.old) count piece.now) result (shown self.new) }
     {
         if !is_short(count) {
             self.bytes = Vec::new(self.alloc);
@@ -116,8 +112,7 @@ impl Coming {
 
     /// Makes room for a message of this many bytes, if it becomes large.
     fn make_room(&mut self, count: u64) -> Result<(), AllocError>
-        ensures kind { self.new.kind ≡ self.old.kind }
-        ensures bytes { self.new.bytes.items ≡ self.old.bytes.items }
+        ensures { shown self.new ≡ shown self.old }
     {
         if count <= LARGE || self.bytes.capacity() >= MAPPED {
             return Ok(());
@@ -128,8 +123,8 @@ impl Coming {
     }
 
     /// The complete message.
-    pub fn finish(self) -> Arrival
-        ensures { IsWhole self.kind (is_short self.count) self.bytes.items result }
+    pub(crate) fn finish(self) -> Arrival
+        ensures { HandsOn (finished (shown self)) result }
     {
         let Coming {
             alloc,
@@ -146,7 +141,7 @@ impl Coming {
 }
 
 /// Whether a message of this many bytes is handed on as it is.
-fn is_short(count: u64) -> bool
+pub(crate) fn is_short(count: u64) -> bool
     ensures { result ≡ is_short count }
 {
     count <= MAX_MESSAGE
@@ -154,7 +149,7 @@ fn is_short(count: u64) -> bool
 
 /// A complete text.
 fn finish_text(utf8: Utf8) -> Arrival
-    ensures { (short : Bool) (bytes : List ℕ) → IsWhole Kind.Text short bytes result }
+    ensures { (short : Bool) (bytes : List ℕ) → HandsOn (handed_on Kind.Text short bytes utf8) result }
 {
     if utf8.is_whole() {
         Arrival::Message(Blob::new())
@@ -165,7 +160,7 @@ fn finish_text(utf8: Utf8) -> Arrival
 
 /// A complete binary message, of which this many bytes came.
 fn finish_binary(alloc: Global, bytes: Vec<u8>, count: u64) -> Arrival
-    ensures { IsWhole Kind.Binary (is_short count) bytes.items result }
+    ensures { (text : Utf8) → HandsOn (handed_on Kind.Binary (is_short count) bytes.items text) result }
 {
     if !is_short(count) {
         drop(bytes);
@@ -189,7 +184,7 @@ fn finish_binary(alloc: Global, bytes: Vec<u8>, count: u64) -> Arrival
 
 /// What is handed on for a message that is too long.
 fn zeros(alloc: Global) -> Result<Vec<u8>, AllocError>
-    ensures { IfOk result (λ v. IsTooLong v.items) }
+    ensures { IfOk result (λ v. v.items ≡ too_long) }
 {
     let mut bytes = Vec::with_capacity(alloc, MAPPED)?;
     bytes.resize(TOO_LONG, 0)?;

@@ -8,8 +8,8 @@ use Rattle.websocket.specs.declared.protocol.frame.coding.Data.TheVariants.{Cont
 use Rattle.websocket.specs.declared.protocol.frame.coding.CloseCode.{CloseCode}
 use Rattle.websocket.specs.declared.protocol.frame.coding.CloseCode.TheVariants as code
 use Rattle.websocket.specs.declared.protocol.frame.header.FrameHeader.{FrameHeader}
-use Rattle.outside_net.specs.declared.breach.Breach.{Breach}
-use Rattle.outside_net.specs.declared.breach.Breach.TheVariants.{Protocol, Utf8, TooLong}
+use Rattle.web_frames.specs.declared.breach.Breach.{Breach}
+use Rattle.web_frames.specs.declared.breach.Breach.TheVariants.{Protocol, Utf8, TooLong}
 
 -- the code of the Close frame that answers a breach
 abbrev pub close_code : Breach → CloseCode
