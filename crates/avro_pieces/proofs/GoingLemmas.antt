@@ -36,10 +36,6 @@ pub all_front : {X : Type 0} (P : X → Type 0) (front inner : List X) → AllBy
 all_front P [] inner all = tt
 all_front P (x ∷ front) inner all = (all.0, all_front P front inner all.1)
 
-pub all_inner : {X : Type 0} (P : X → Type 0) (front inner : List X) → AllByRecursion P (front ++ inner) → AllByRecursion P inner
-all_inner P [] inner all = all
-all_inner P (x ∷ front) inner all = all_inner P front inner all.1
-
 pub all_both : {X : Type 0} (P : X → Type 0) (front inner : List X) → AllByRecursion P front → AllByRecursion P inner → AllByRecursion P (front ++ inner)
 all_both P [] inner f i = i
 all_both P (x ∷ front) inner f i = (f.0, all_both P front inner f.1 i)

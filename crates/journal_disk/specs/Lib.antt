@@ -1,0 +1,5 @@
+pub mod Disks
+pub mod Platter
+pub mod MemDisks
+pub mod MemDiskLaws
+pub mod Untold

@@ -1,0 +1,4 @@
+pub mod Layout
+pub mod Gates
+pub mod Rest
+pub mod Opening
