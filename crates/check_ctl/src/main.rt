@@ -13,7 +13,7 @@ mod cases;
 mod shows;
 
 use cases::{Case, case_of};
-use client_forms::run_client;
+use client_forms::{Streams, run_client};
 use etp_outside::{MemDial, MemLink, MemSink, Status, StepClock};
 use etp_values::{List, NoMemory};
 use shows::digits_of;
@@ -78,22 +78,23 @@ fn run_case<R: AllocGlobal + Print + Wait>(
         words,
         mut host,
         mut dialer,
-        mut input,
+        input,
     } = case;
-    let mut out = MemSink::new(Vec::new(alloc), List::new(alloc));
-    let mut clock = StepClock::new(FIRST_MOMENT, 1);
-    let status = run_client(
+    let streams = Streams {
+        input,
+        out: MemSink::new(Vec::new(alloc), List::new(alloc)),
+        clock: StepClock::new(FIRST_MOMENT, 1),
+    };
+    let (status, streams) = run_client(
         rt,
         alloc,
         words.as_slice(),
         &mut host,
         &mut dialer,
-        &mut input,
-        &mut out,
-        &mut clock,
+        streams,
         views,
     );
-    io::writer(rt).write_all(out.as_bytes())?;
+    io::writer(rt).write_all(streams.out.as_bytes())?;
     print_status(rt, status)?;
     print_links(rt, &dialer)
 }

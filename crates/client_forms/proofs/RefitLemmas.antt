@@ -4,8 +4,9 @@ use Rattle.std.proofs.KnownBytes.{Appends-nil}
 use Rattle.std.proofs.lemmas.List.{append-nil}
 use Rattle.etp_outside.proofs.ToldLemmas.{told_self}
 use Rattle.etp_outside.specs.declared.status.Status.{Status}
-use Rattle.client_forms.specs.Ctl.{Course, Place, ends}
-use Rattle.client_forms.specs.Work.{Outside, Kept, Did, IsAt, Goes, Ends, Fronts, Breaks, Cuts, Stops, Works}
+use Rattle.client_core.specs.State.{State}
+use Rattle.client_forms.specs.Ctl.{Course, Place, Stage, ends}
+use Rattle.client_forms.specs.Work.{Outside, Kept, Did, IsAt, Goes, Ends, Fronts, Breaks, Cuts, Steps, Stops, Works}
 use Rattle.client_forms.specs.declared.stop.Stop.{Stop}
 use Rattle.client_forms.specs.declared.stop.Stop.TheVariants as stop
 use Rattle.client_forms.proofs.CourseLemmas.{stepped, at_path, set_at, nothing_moved, Grows}
@@ -93,3 +94,7 @@ stops_refit stop.Left f h p q x y same k = absurd k
 pub works_refit : (w : Result (Unit {0}) Stop) (f h : Course → Course) (p q r : Place) (x y : Outside) → Refit f h p q → Works w h q r x y → Works w f p r x y
 works_refit (Ok u) f h p q r x y same k = goes_refit f h p q r x y same k
 works_refit (Err e) f h p q r x y same k = stops_refit e f h p q x y same k
+
+-- steps from what is the same outside
+pub steps_from : (r : Result (Unit {0}) Stop) (stands : Stage → Type 0) (f : Course → Course) (p : Place) (s : State) (x y z : Outside) → x ≡ y → Steps r stands f p s x z → Steps r stands f p s y z
+steps_from r stands f p s x y z same h = subst (λ v. Steps r stands f p s v z) same h

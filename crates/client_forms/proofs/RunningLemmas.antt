@@ -306,3 +306,7 @@ module _ (shown : ℤ → List ChangeMsg → List ℕ) (job : Job) (moment : ℤ
 pub not_begun : (shown : ℤ → List ChangeMsg → List ℕ) (job : Job) (moment : ℤ) (before after : Option (List ℤ)) → Told before after (λ xs ys. ys ≡ xs ++ moment ∷ []) → (l : Line) (o : Output) (i : Input) → Ended (stop.Cut cause.Memory) shown job (outside l before o i) (outside l after o i)
 not_begun shown job moment before after tick l o i =
     start_ends shown job moment before after (begun moment) refl tick o i cause.Memory [] l l (no_less l.faults) (quiet l.talk) ((begun moment).out, refl) tt
+
+-- what is the same outside
+pub going_at : (stands : Option (List ℕ) → Stage → Type 0) (shown : ℤ → List ChangeMsg → List ℕ) (job : Job) (s : State) (x y z : Outside) → z ≡ y → Going (stands y.input.left) shown job s x y → Going (stands z.input.left) shown job s x z
+going_at stands shown job s x y z same h = subst (λ v. Going (stands v.input.left) shown job s x v) (sym same) h

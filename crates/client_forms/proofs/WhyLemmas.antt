@@ -91,6 +91,9 @@ reads_less l told o i j less = record { line = no_less l.faults; output = no_les
 pub hears_less : (l m : Line) (told : Option (List ℤ)) (o : Output) (i : Input) → l.faults ≤ m.faults → NoLess (outside l told o i) (outside m told o i)
 hears_less l m told o i less = record { line = less; output = no_less o.faults; input = no_less i.faults }
 
+pub ticks_less : (l : Line) (told later : Option (List ℤ)) (o : Output) (i : Input) → NoLess (outside l told o i) (outside l later o i)
+ticks_less l told later o i = record { line = no_less l.faults; output = no_less o.faults; input = no_less i.faults }
+
 pub gives_up_why : (e : Stop) (l : Line) (told : Option (List ℤ)) (o : Output) (i j : Input) → i.faults ≤ j.faults → GivesUp e i.faults j.faults → NoLess (outside l told o i) (outside l told o j) × IsWhy e (outside l told o i) (outside l told o j)
 gives_up_why e l told o i j less h = (reads_less l told o i j less, given_up e l told o i j h)
 

@@ -6,7 +6,7 @@ ghost use Rattle.client_forms.specs.Plans.{GivesAction, Waits};
 ghost use Rattle.client_forms.specs.declared.action.Action.TheVariants as action;
 
 use crate::action::Action;
-use crate::command::Command;
+use crate::command::Job;
 use crate::stop::{Cause, Stop};
 use client_core::{Ask, Got};
 use etp_outside::Source;
@@ -31,7 +31,7 @@ impl Get {
     }
 }
 
-impl Command for Get {
+impl Job for Get {
     ghost owes = { λ s seen shown job left stage rest. IsGet s.uri s.asked job stage × Waits rest };
 
     ghost stands = { λ s seen shown job left stage. IsGet s.uri s.asked job stage };

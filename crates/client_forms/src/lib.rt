@@ -2,9 +2,9 @@
 //!
 //! What a command sends, writes and answers is `ctl` of `specs/Ctl`: a fold over the items that its link took, by the moments that its
 //! clock returned. [`talk`] has the steps that commands are made of, each a step of that fold, and each command is a
-//! [`Command`](command::Command).
+//! [`Job`](command::Job).
 //!
-//! [`run_client`] does what words ask for over any host, dialer, input, output and clock, and [`finish`] reports how that ended.
+//! [`run_client`] does what words ask for over any host, dialer, input, output and clock ([`Streams`]), and [`finish`] reports how that ended.
 #![tactic(auto)]
 
 mod action;
@@ -12,6 +12,7 @@ mod batch;
 mod command;
 mod getting;
 mod hear;
+mod io;
 mod loading;
 mod program;
 mod putting;
@@ -20,5 +21,6 @@ mod stop;
 mod talk;
 mod watching;
 
+pub use io::Streams;
 pub use program::finish;
 pub use run::run_client;

@@ -14,7 +14,7 @@ ghost use Rattle.client_forms.specs.declared.action.Action.TheVariants as action
 
 use crate::action::Action;
 use crate::batch::Batch;
-use crate::command::Command;
+use crate::command::Job;
 use crate::stop::{Cause, Stop};
 use client_core::{Ask, Got};
 use etp_outside::{Source, Status};
@@ -188,7 +188,7 @@ impl Load {
     }
 }
 
-impl Command for Load {
+impl Job for Load {
     ghost owes = { λ s seen shown job left stage rest. OwesLoad s.uri s.stage s.reader job left stage rest };
 
     ghost stands = { λ s seen shown job left stage. IsLoad s.uri s.stage s.reader job left stage };

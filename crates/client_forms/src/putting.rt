@@ -7,7 +7,7 @@ ghost use Rattle.client_forms.specs.Plans.{GivesAction, Waits};
 ghost use Rattle.client_forms.specs.declared.action.Action.TheVariants as action;
 
 use crate::action::Action;
-use crate::command::Command;
+use crate::command::Job;
 use crate::stop::{Cause, Stop};
 use client_core::{Ask, Got};
 use etp_outside::Source;
@@ -37,7 +37,7 @@ impl Put {
     }
 }
 
-impl Command for Put {
+impl Job for Put {
     ghost owes = { λ s seen shown job left stage rest. IsPut s.uri s.payload s.asked job stage × Waits rest };
 
     ghost stands = { λ s seen shown job left stage. IsPut s.uri s.payload s.asked job stage };

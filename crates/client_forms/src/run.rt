@@ -10,25 +10,25 @@ ghost use Rattle.etp_outside.specs.declared.status.Status.TheVariants.{Done, Lin
 ghost use Rattle.client_forms.specs.Ctl.{Job, Opening, Stage, ctl};
 ghost use Rattle.client_forms.specs.Jobs.{HasRead};
 ghost use Rattle.client_forms.specs.Runs.{Ended, Going, ReadsFile, Turns, status_of, unread_status};
-ghost use Rattle.client_forms.specs.Shown.{lines_after, seen_on, viewing};
+ghost use Rattle.client_forms.specs.Shown.{Seen, lines_after, seen_on, viewing};
 ghost use Rattle.client_forms.specs.Top.{Answers, CameFrom, Dials, Fulfils, HasCause, Runs, dials, host_of, port_of, server_of, world};
-ghost use Rattle.client_forms.specs.Work.{IsWhy, NoLess, Outside, Why, input, line, output, outside};
-ghost use Rattle.client_forms.specs.Work.{input as bytes_left};
+ghost use Rattle.client_forms.specs.Work.{IsWhy, NoLess, Outside, Why, input, output, outside};
 ghost use Rattle.watch_views.specs.Boards.{reading};
 ghost use Rattle.client_words.specs.Forms.{as_form};
 ghost use Rattle.etp_outside.specs.Dials.{IsDialed};
 ghost use Rattle.etp_outside.specs.declared.link.Address.{Address};
 
-use crate::command::Command;
+use crate::command::Job;
 use crate::getting::Get;
 use crate::hear::on_message;
+use crate::io::{Io, Streams};
 use crate::loading::Load;
 use crate::putting::Put;
 use crate::stop::{Cause, Stop};
 use crate::talk::send_all;
 use crate::watching::Watch;
 use client_core::Client;
-use client_words::{Command as Words, Form, form_of};
+use client_words::{Command, Form, form_of};
 use command_words::words_of;
 use etp_outside::{
     Clock, Dialed, Dialer, Host, Link, Opened, Recv, Sink, Source, Status, Unread, read_all,
@@ -61,31 +61,26 @@ fn status_of(stop: Stop) -> Status
 }
 
 /// What a command does with what came over its link.
-fn turn<J: Command, L: Link, C: Clock, W: Sink, R: Source>(
+fn turn<J: Job, L: Link, C: Clock, W: Sink, R: Source>(
     alloc: Global,
     command: &mut J,
     client: &mut Client,
-    link: &mut L,
-    clock: &mut C,
+    io: &mut Io<L, C, W, R>,
     board: &mut Board,
-    out: &mut W,
-    from: &mut R,
 ) -> Result<(), Stop>
-    ensures turns { (shown : ℤ → List ChangeMsg → List ℕ) (job : Job) (x : Outside)
-        → Going (J.stands command.old (seen_on (reading (λ s. s.channel) (λ s. (⟦<dyn View as View>⟧ s.view.vtable).held s.view.value) (λ s. (⟦<dyn View as View>⟧ s.view.vtable).step s.view.value) (λ s. (⟦<dyn View as View>⟧ s.view.vtable).shown s.view.value)) board.old.shelves.items) shown job (R.left from.old)) shown job client.old x
-        (outside (line (L.talk link.old) (L.faults link.old) (L.ended link.old)) (C.told clock.old) (output (W.held out.old) (W.faults out.old)) (input (R.left from.old) (R.faults from.old)))
-        → Turns result (J.stands command.new (seen_on (reading (λ s. s.channel) (λ s. (⟦<dyn View as View>⟧ s.view.vtable).held s.view.value) (λ s. (⟦<dyn View as View>⟧ s.view.vtable).step s.view.value) (λ s. (⟦<dyn View as View>⟧ s.view.vtable).shown s.view.value)) board.new.shelves.items) shown job (R.left from.new)) shown job client.new x
-        (outside (line (L.talk link.new) (L.faults link.new) (L.ended link.new)) (C.told clock.new) (output (W.held out.new) (W.faults out.new)) (input (R.left from.new) (R.faults from.new))) }
-    ensures read { result ≡ Err (Stop.Over Done) → (shown : ℤ → List ChangeMsg → List ℕ) (job : Job) (stage : Stage)
-        → J.stands command.old (seen_on (reading (λ s. s.channel) (λ s. (⟦<dyn View as View>⟧ s.view.vtable).held s.view.value) (λ s. (⟦<dyn View as View>⟧ s.view.vtable).step s.view.value) (λ s. (⟦<dyn View as View>⟧ s.view.vtable).shown s.view.value)) board.old.shelves.items) shown job (R.left from.old) stage → HasRead job (R.left from.new) }
-    ensures why { Why result
-        (outside (line (L.talk link.old) (L.faults link.old) (L.ended link.old)) (C.told clock.old) (output (W.held out.old) (W.faults out.old)) (input (R.left from.old) (R.faults from.old)))
-        (outside (line (L.talk link.new) (L.faults link.new) (L.ended link.new)) (C.told clock.new) (output (W.held out.new) (W.faults out.new)) (input (R.left from.new) (R.faults from.new))) }
+    ensures turns { let seen : List _ → List Seen = λ bs. seen_on (reading (λ s. s.channel) (λ s. (⟦<dyn View as View>⟧ s.view.vtable).held s.view.value)
+        (λ s. (⟦<dyn View as View>⟧ s.view.vtable).step s.view.value) (λ s. (⟦<dyn View as View>⟧ s.view.vtable).shown s.view.value)) bs in
+        (shown : ℤ → List ChangeMsg → List ℕ) (job : Job) (x : Outside)
+        → Going (J.stands command.old (seen board.old.shelves.items) shown job io.old.input.left) shown job client.old x io.old
+        → Turns result (J.stands command.new (seen board.new.shelves.items) shown job io.new.input.left) shown job client.new x io.new }
+    ensures read { let seen : List _ → List Seen = λ bs. seen_on (reading (λ s. s.channel) (λ s. (⟦<dyn View as View>⟧ s.view.vtable).held s.view.value)
+        (λ s. (⟦<dyn View as View>⟧ s.view.vtable).step s.view.value) (λ s. (⟦<dyn View as View>⟧ s.view.vtable).shown s.view.value)) bs in
+        result ≡ Err (Stop.Over Done) → (shown : ℤ → List ChangeMsg → List ℕ) (job : Job) (stage : Stage)
+        → J.stands command.old (seen board.old.shelves.items) shown job io.old.input.left stage → HasRead job io.new.input.left }
+    ensures why { Why result io.old io.new }
 {
-    match link.recv(alloc) {
-        Recv::Got(message) => on_message(
-            alloc, command, &message, client, link, clock, board, out, from,
-        ),
+    match io.link.recv(alloc) {
+        Recv::Got(message) => on_message(alloc, command, &message, client, io, board),
         Recv::Idle => Ok(()),
         Recv::End => Err(Stop::Left),
         Recv::Failed => Err(Stop::Cut(Cause::Link)),
@@ -94,35 +89,28 @@ fn turn<J: Command, L: Link, C: Clock, W: Sink, R: Source>(
 }
 
 /// Takes what comes over a link, turn by turn, until the command stops.
-fn hear_all<J: Command, L: Link, C: Clock, W: Sink, R: Source, T: Wait>(
+fn hear_all<J: Job, L: Link, C: Clock, W: Sink, R: Source, T: Wait>(
     rt: &T,
     alloc: Global,
     command: &mut J,
     client: &mut Client,
-    link: &mut L,
-    clock: &mut C,
+    io: &mut Io<L, C, W, R>,
     board: &mut Board,
-    out: &mut W,
-    from: &mut R,
 ) -> Stop
-    ensures ended { (shown : ℤ → List ChangeMsg → List ℕ) (job : Job) (x : Outside)
-        → Going (J.stands command.old (seen_on (reading (λ s. s.channel) (λ s. (⟦<dyn View as View>⟧ s.view.vtable).held s.view.value) (λ s. (⟦<dyn View as View>⟧ s.view.vtable).step s.view.value) (λ s. (⟦<dyn View as View>⟧ s.view.vtable).shown s.view.value)) board.old.shelves.items) shown job (R.left from.old)) shown job client.old x
-        (outside (line (L.talk link.old) (L.faults link.old) (L.ended link.old)) (C.told clock.old) (output (W.held out.old) (W.faults out.old)) (input (R.left from.old) (R.faults from.old)))
-        → Ended result shown job x
-        (outside (line (L.talk link.new) (L.faults link.new) (L.ended link.new)) (C.told clock.new) (output (W.held out.new) (W.faults out.new)) (input (R.left from.new) (R.faults from.new))) }
-    ensures read { result ≡ Stop.Over Done → (shown : ℤ → List ChangeMsg → List ℕ) (job : Job) (x : Outside)
-        → Going (J.stands command.old (seen_on (reading (λ s. s.channel) (λ s. (⟦<dyn View as View>⟧ s.view.vtable).held s.view.value) (λ s. (⟦<dyn View as View>⟧ s.view.vtable).step s.view.value) (λ s. (⟦<dyn View as View>⟧ s.view.vtable).shown s.view.value)) board.old.shelves.items) shown job (R.left from.old)) shown job client.old x
-        (outside (line (L.talk link.old) (L.faults link.old) (L.ended link.old)) (C.told clock.old) (output (W.held out.old) (W.faults out.old)) (input (R.left from.old) (R.faults from.old)))
-        → HasRead job (R.left from.new) }
-    ensures why { NoLess
-        (outside (line (L.talk link.old) (L.faults link.old) (L.ended link.old)) (C.told clock.old) (output (W.held out.old) (W.faults out.old)) (input (R.left from.old) (R.faults from.old)))
-        (outside (line (L.talk link.new) (L.faults link.new) (L.ended link.new)) (C.told clock.new) (output (W.held out.new) (W.faults out.new)) (input (R.left from.new) (R.faults from.new)))
-        × IsWhy result
-        (outside (line (L.talk link.old) (L.faults link.old) (L.ended link.old)) (C.told clock.old) (output (W.held out.old) (W.faults out.old)) (input (R.left from.old) (R.faults from.old)))
-        (outside (line (L.talk link.new) (L.faults link.new) (L.ended link.new)) (C.told clock.new) (output (W.held out.new) (W.faults out.new)) (input (R.left from.new) (R.faults from.new))) }
+    ensures ended { let seen : List _ → List Seen = λ bs. seen_on (reading (λ s. s.channel) (λ s. (⟦<dyn View as View>⟧ s.view.vtable).held s.view.value)
+        (λ s. (⟦<dyn View as View>⟧ s.view.vtable).step s.view.value) (λ s. (⟦<dyn View as View>⟧ s.view.vtable).shown s.view.value)) bs in
+        (shown : ℤ → List ChangeMsg → List ℕ) (job : Job) (x : Outside)
+        → Going (J.stands command.old (seen board.old.shelves.items) shown job io.old.input.left) shown job client.old x io.old
+        → Ended result shown job x io.new }
+    ensures read { let seen : List _ → List Seen = λ bs. seen_on (reading (λ s. s.channel) (λ s. (⟦<dyn View as View>⟧ s.view.vtable).held s.view.value)
+        (λ s. (⟦<dyn View as View>⟧ s.view.vtable).step s.view.value) (λ s. (⟦<dyn View as View>⟧ s.view.vtable).shown s.view.value)) bs in
+        result ≡ Stop.Over Done → (shown : ℤ → List ChangeMsg → List ℕ) (job : Job) (x : Outside)
+        → Going (J.stands command.old (seen board.old.shelves.items) shown job io.old.input.left) shown job client.old x io.old
+        → HasRead job io.new.input.left }
+    ensures why { NoLess io.old io.new × IsWhy result io.old io.new }
 {
     for _ in rt.forever() {
-        if let Err(stop) = turn(alloc, command, client, link, clock, board, out, from) {
+        if let Err(stop) = turn(alloc, command, client, io, board) {
             return stop;
         }
     }
@@ -130,114 +118,111 @@ fn hear_all<J: Command, L: Link, C: Clock, W: Sink, R: Source, T: Wait>(
 }
 
 /// Sends what a client that has begun at a moment has to send, and takes what comes.
-fn start<J: Command, L: Link, C: Clock, W: Sink, R: Source, T: Wait>(
+fn start<J: Job, L: Link, C: Clock, W: Sink, R: Source, T: Wait>(
     rt: &T,
     alloc: Global,
     command: &mut J,
     client: &mut Client,
-    link: &mut L,
-    clock: &mut C,
+    io: &mut Io<L, C, W, R>,
     board: &mut Board,
-    out: &mut W,
-    from: &mut R,
 ) -> Stop
-    ensures ended { (shown : ℤ → List ChangeMsg → List ℕ) (job : Job) (moment : ℤ) (before : Option (List ℤ)) → client.old ≡ begun moment
-        → Told before (C.told clock.old) (λ xs ys. ys ≡ xs ++ moment ∷ [])
-        → J.stands command.old (seen_on (reading (λ s. s.channel) (λ s. (⟦<dyn View as View>⟧ s.view.vtable).held s.view.value) (λ s. (⟦<dyn View as View>⟧ s.view.vtable).step s.view.value) (λ s. (⟦<dyn View as View>⟧ s.view.vtable).shown s.view.value)) board.old.shelves.items) shown job (R.left from.old) Opening
-        → Ended result shown job
-        (outside (line (L.talk link.old) (L.faults link.old) (L.ended link.old)) before (output (W.held out.old) (W.faults out.old)) (input (R.left from.old) (R.faults from.old)))
-        (outside (line (L.talk link.new) (L.faults link.new) (L.ended link.new)) (C.told clock.new) (output (W.held out.new) (W.faults out.new)) (input (R.left from.new) (R.faults from.new))) }
-    ensures read { result ≡ Stop.Over Done → (shown : ℤ → List ChangeMsg → List ℕ) (job : Job) (moment : ℤ) (before : Option (List ℤ)) → client.old ≡ begun moment
-        → Told before (C.told clock.old) (λ xs ys. ys ≡ xs ++ moment ∷ [])
-        → J.stands command.old (seen_on (reading (λ s. s.channel) (λ s. (⟦<dyn View as View>⟧ s.view.vtable).held s.view.value) (λ s. (⟦<dyn View as View>⟧ s.view.vtable).step s.view.value) (λ s. (⟦<dyn View as View>⟧ s.view.vtable).shown s.view.value)) board.old.shelves.items) shown job (R.left from.old) Opening → HasRead job (R.left from.new) }
-    ensures why { NoLess
-        (outside (line (L.talk link.old) (L.faults link.old) (L.ended link.old)) (C.told clock.old) (output (W.held out.old) (W.faults out.old)) (input (R.left from.old) (R.faults from.old)))
-        (outside (line (L.talk link.new) (L.faults link.new) (L.ended link.new)) (C.told clock.new) (output (W.held out.new) (W.faults out.new)) (input (R.left from.new) (R.faults from.new)))
-        × IsWhy result
-        (outside (line (L.talk link.old) (L.faults link.old) (L.ended link.old)) (C.told clock.old) (output (W.held out.old) (W.faults out.old)) (input (R.left from.old) (R.faults from.old)))
-        (outside (line (L.talk link.new) (L.faults link.new) (L.ended link.new)) (C.told clock.new) (output (W.held out.new) (W.faults out.new)) (input (R.left from.new) (R.faults from.new))) }
+    ensures ended { let seen : List _ → List Seen = λ bs. seen_on (reading (λ s. s.channel) (λ s. (⟦<dyn View as View>⟧ s.view.vtable).held s.view.value)
+        (λ s. (⟦<dyn View as View>⟧ s.view.vtable).step s.view.value) (λ s. (⟦<dyn View as View>⟧ s.view.vtable).shown s.view.value)) bs in
+        (shown : ℤ → List ChangeMsg → List ℕ) (job : Job) (moment : ℤ) (before : Option (List ℤ)) → client.old ≡ begun moment
+        → Told before io.old.told (λ xs ys. ys ≡ xs ++ moment ∷ [])
+        → J.stands command.old (seen board.old.shelves.items) shown job io.old.input.left Opening
+        → Ended result shown job (outside io.old.line before io.old.output io.old.input) io.new }
+    ensures read { let seen : List _ → List Seen = λ bs. seen_on (reading (λ s. s.channel) (λ s. (⟦<dyn View as View>⟧ s.view.vtable).held s.view.value)
+        (λ s. (⟦<dyn View as View>⟧ s.view.vtable).step s.view.value) (λ s. (⟦<dyn View as View>⟧ s.view.vtable).shown s.view.value)) bs in
+        result ≡ Stop.Over Done → (shown : ℤ → List ChangeMsg → List ℕ) (job : Job) (moment : ℤ) (before : Option (List ℤ)) → client.old ≡ begun moment
+        → Told before io.old.told (λ xs ys. ys ≡ xs ++ moment ∷ [])
+        → J.stands command.old (seen board.old.shelves.items) shown job io.old.input.left Opening → HasRead job io.new.input.left }
+    ensures why { NoLess io.old io.new × IsWhy result io.old io.new }
 {
-    match send_all(alloc, client, link) {
-        Ok(()) => hear_all(rt, alloc, command, client, link, clock, board, out, from),
+    match send_all(alloc, client, &mut io.link) {
+        Ok(()) => hear_all(rt, alloc, command, client, io, board),
         Err(cause) => Stop::Cut(cause),
     }
 }
 
 /// Runs a command over a link that was dialed, from the first message to the last.
-fn converse<J: Command, L: Link, C: Clock, W: Sink, R: Source, T: Wait>(
+fn converse<J: Job, L: Link, C: Clock, W: Sink, R: Source, T: Wait>(
     rt: &T,
     alloc: Global,
     command: &mut J,
-    link: &mut L,
-    clock: &mut C,
+    io: &mut Io<L, C, W, R>,
     board: &mut Board,
-    out: &mut W,
-    from: &mut R,
 ) -> Stop
-    ensures ended { (shown : ℤ → List ChangeMsg → List ℕ) (job : Job)
-        → J.stands command.old (seen_on (reading (λ s. s.channel) (λ s. (⟦<dyn View as View>⟧ s.view.vtable).held s.view.value) (λ s. (⟦<dyn View as View>⟧ s.view.vtable).step s.view.value) (λ s. (⟦<dyn View as View>⟧ s.view.vtable).shown s.view.value)) board.old.shelves.items) shown job (R.left from.old) Opening
-        → Ended result shown job
-        (outside (line (L.talk link.old) (L.faults link.old) (L.ended link.old)) (C.told clock.old) (output (W.held out.old) (W.faults out.old)) (input (R.left from.old) (R.faults from.old)))
-        (outside (line (L.talk link.new) (L.faults link.new) (L.ended link.new)) (C.told clock.new) (output (W.held out.new) (W.faults out.new)) (input (R.left from.new) (R.faults from.new))) }
-    ensures read { result ≡ Stop.Over Done → (shown : ℤ → List ChangeMsg → List ℕ) (job : Job)
-        → J.stands command.old (seen_on (reading (λ s. s.channel) (λ s. (⟦<dyn View as View>⟧ s.view.vtable).held s.view.value) (λ s. (⟦<dyn View as View>⟧ s.view.vtable).step s.view.value) (λ s. (⟦<dyn View as View>⟧ s.view.vtable).shown s.view.value)) board.old.shelves.items) shown job (R.left from.old) Opening → HasRead job (R.left from.new) }
-    ensures why { NoLess
-        (outside (line (L.talk link.old) (L.faults link.old) (L.ended link.old)) (C.told clock.old) (output (W.held out.old) (W.faults out.old)) (input (R.left from.old) (R.faults from.old)))
-        (outside (line (L.talk link.new) (L.faults link.new) (L.ended link.new)) (C.told clock.new) (output (W.held out.new) (W.faults out.new)) (input (R.left from.new) (R.faults from.new)))
-        × IsWhy result
-        (outside (line (L.talk link.old) (L.faults link.old) (L.ended link.old)) (C.told clock.old) (output (W.held out.old) (W.faults out.old)) (input (R.left from.old) (R.faults from.old)))
-        (outside (line (L.talk link.new) (L.faults link.new) (L.ended link.new)) (C.told clock.new) (output (W.held out.new) (W.faults out.new)) (input (R.left from.new) (R.faults from.new))) }
+    ensures ended { let seen : List _ → List Seen = λ bs. seen_on (reading (λ s. s.channel) (λ s. (⟦<dyn View as View>⟧ s.view.vtable).held s.view.value)
+        (λ s. (⟦<dyn View as View>⟧ s.view.vtable).step s.view.value) (λ s. (⟦<dyn View as View>⟧ s.view.vtable).shown s.view.value)) bs in
+        (shown : ℤ → List ChangeMsg → List ℕ) (job : Job)
+        → J.stands command.old (seen board.old.shelves.items) shown job io.old.input.left Opening
+        → Ended result shown job io.old io.new }
+    ensures read { let seen : List _ → List Seen = λ bs. seen_on (reading (λ s. s.channel) (λ s. (⟦<dyn View as View>⟧ s.view.vtable).held s.view.value)
+        (λ s. (⟦<dyn View as View>⟧ s.view.vtable).step s.view.value) (λ s. (⟦<dyn View as View>⟧ s.view.vtable).shown s.view.value)) bs in
+        result ≡ Stop.Over Done → (shown : ℤ → List ChangeMsg → List ℕ) (job : Job)
+        → J.stands command.old (seen board.old.shelves.items) shown job io.old.input.left Opening → HasRead job io.new.input.left }
+    ensures why { NoLess io.old io.new × IsWhy result io.old io.new }
 {
-    let moment = clock.now();
+    let moment = io.clock.now();
     match Client::begin(alloc, moment) {
         Ok(client) => {
             let mut client = client;
-            start(
-                rt,
-                alloc,
-                command,
-                &mut client,
-                link,
-                clock,
-                board,
-                out,
-                from,
-            )
+            start(rt, alloc, command, &mut client, io, board)
         }
         Err(_) => Stop::Cut(Cause::Memory),
     }
 }
 
-/// Runs a command over a link that was dialed, and hands the link back.
-fn run_over<J: Command, D: Dialer, C: Clock, W: Sink, R: Source, T: Wait>(
+/// Runs a command over a link that was dialed, and hands the link back to the dialer and the streams to the caller.
+fn run_over<J: Job, D: Dialer, C: Clock, W: Sink, R: Source, T: Wait>(
     rt: &T,
     alloc: Global,
     link: D::Link,
     command: J,
     dialer: &mut D,
-    clock: &mut C,
+    streams: Streams<R, W, C>,
     board: &mut Board,
-    out: &mut W,
-    from: &mut R,
-) -> Status
-    ensures runs { (shown : ℤ → List ChangeMsg → List ℕ) (job : Job) (server : Address) (d : Dials) → CameFrom d (dials (D.backs dialer.old) (D.ended dialer.old) (D.faults dialer.old))
+) -> (Status, Streams<R, W, C>)
+    ensures runs { let seen : List _ → List Seen = λ bs. seen_on (reading (λ s. s.channel) (λ s. (⟦<dyn View as View>⟧ s.view.vtable).held s.view.value)
+        (λ s. (⟦<dyn View as View>⟧ s.view.vtable).step s.view.value) (λ s. (⟦<dyn View as View>⟧ s.view.vtable).shown s.view.value)) bs in
+        (shown : ℤ → List ChangeMsg → List ℕ) (job : Job) (server : Address) (d : Dials) → CameFrom d (dials (D.backs dialer.old) (D.ended dialer.old) (D.faults dialer.old))
         → IsDialed server (D.Link.talk link) (D.Link.faults link) (D.Link.ended link) → (IsSome (D.backs dialer.old) → IsSome (D.Link.talk link))
-        → J.stands command (seen_on (reading (λ s. s.channel) (λ s. (⟦<dyn View as View>⟧ s.view.vtable).held s.view.value) (λ s. (⟦<dyn View as View>⟧ s.view.vtable).step s.view.value) (λ s. (⟦<dyn View as View>⟧ s.view.vtable).shown s.view.value)) board.old.shelves.items) shown job (R.left from.old) Opening
-        → Runs result server (ctl shown job)
-        (world (input (R.left from.old) (R.faults from.old)) (output (W.held out.old) (W.faults out.old)) (C.told clock.old) d)
-        (world (input (R.left from.new) (R.faults from.new)) (output (W.held out.new) (W.faults out.new)) (C.told clock.new) (dials (D.backs dialer.new) (D.ended dialer.new) (D.faults dialer.new))) }
-    ensures read { result ≡ Done → (shown : ℤ → List ChangeMsg → List ℕ) (job : Job)
-        → J.stands command (seen_on (reading (λ s. s.channel) (λ s. (⟦<dyn View as View>⟧ s.view.vtable).held s.view.value) (λ s. (⟦<dyn View as View>⟧ s.view.vtable).step s.view.value) (λ s. (⟦<dyn View as View>⟧ s.view.vtable).shown s.view.value)) board.old.shelves.items) shown job (R.left from.old) Opening → HasRead job (R.left from.new) }
-    ensures why { D.Link.faults link ≡ 0 → HasCause result
-        (world (input (R.left from.old) (R.faults from.old)) (output (W.held out.old) (W.faults out.old)) (C.told clock.old) (dials (D.backs dialer.old) (D.ended dialer.old) (D.faults dialer.old)))
-        (world (input (R.left from.new) (R.faults from.new)) (output (W.held out.new) (W.faults out.new)) (C.told clock.new) (dials (D.backs dialer.new) (D.ended dialer.new) (D.faults dialer.new))) }
+        → J.stands command (seen board.old.shelves.items) shown job (R.left streams.input) Opening
+        → Runs result.0 server (ctl shown job)
+        (world (input (R.left streams.input) (R.faults streams.input)) (output (W.held streams.out) (W.faults streams.out)) (C.told streams.clock) d)
+        (world (input (R.left result.1.input) (R.faults result.1.input)) (output (W.held result.1.out) (W.faults result.1.out)) (C.told result.1.clock) (dials (D.backs dialer.new) (D.ended dialer.new) (D.faults dialer.new))) }
+    ensures read { let seen : List _ → List Seen = λ bs. seen_on (reading (λ s. s.channel) (λ s. (⟦<dyn View as View>⟧ s.view.vtable).held s.view.value)
+        (λ s. (⟦<dyn View as View>⟧ s.view.vtable).step s.view.value) (λ s. (⟦<dyn View as View>⟧ s.view.vtable).shown s.view.value)) bs in
+        result.0 ≡ Done → (shown : ℤ → List ChangeMsg → List ℕ) (job : Job)
+        → J.stands command (seen board.old.shelves.items) shown job (R.left streams.input) Opening → HasRead job (R.left result.1.input) }
+    ensures why { D.Link.faults link ≡ 0 → HasCause result.0
+        (world (input (R.left streams.input) (R.faults streams.input)) (output (W.held streams.out) (W.faults streams.out)) (C.told streams.clock) (dials (D.backs dialer.old) (D.ended dialer.old) (D.faults dialer.old)))
+        (world (input (R.left result.1.input) (R.faults result.1.input)) (output (W.held result.1.out) (W.faults result.1.out)) (C.told result.1.clock) (dials (D.backs dialer.new) (D.ended dialer.new) (D.faults dialer.new))) }
     ensures kept { D.faults dialer.old ≤ D.faults dialer.new }
 {
     let mut command = command;
-    let mut link = link;
-    let stop = converse(rt, alloc, &mut command, &mut link, clock, board, out, from);
+    let Streams { input, out, clock } = streams;
+    let mut io = Io {
+        link,
+        clock,
+        out,
+        from: input,
+    };
+    let stop = converse(rt, alloc, &mut command, &mut io, board);
+    let Io {
+        link,
+        clock,
+        out,
+        from,
+    } = io;
     dialer.hang_up(link);
-    status_of(stop)
+    let streams = Streams {
+        input: from,
+        out,
+        clock,
+    };
+    (status_of(stop), streams)
 }
 
 /// The host and the port of an address.
@@ -251,33 +236,35 @@ fn server_of(address: &Url) -> (&str, u16)
 }
 
 /// Dials a server, runs a command over the link, and hands the link back.
-fn run_at<J: Command, D: Dialer, C: Clock, W: Sink, R: Source, T: Wait>(
+fn run_at<J: Job, D: Dialer, C: Clock, W: Sink, R: Source, T: Wait>(
     rt: &T,
     alloc: Global,
     address: &Url,
     command: J,
     dialer: &mut D,
-    clock: &mut C,
+    streams: Streams<R, W, C>,
     board: &mut Board,
-    out: &mut W,
-    from: &mut R,
-) -> Status
-    ensures runs { (shown : ℤ → List ChangeMsg → List ℕ) (job : Job)
-        → J.stands command (seen_on (reading (λ s. s.channel) (λ s. (⟦<dyn View as View>⟧ s.view.vtable).held s.view.value) (λ s. (⟦<dyn View as View>⟧ s.view.vtable).step s.view.value) (λ s. (⟦<dyn View as View>⟧ s.view.vtable).shown s.view.value)) board.old.shelves.items) shown job (R.left from.old) Opening
-        → Runs result (server_of address.now) (ctl shown job)
-        (world (input (R.left from.old) (R.faults from.old)) (output (W.held out.old) (W.faults out.old)) (C.told clock.old) (dials (D.backs dialer.old) (D.ended dialer.old) (D.faults dialer.old)))
-        (world (input (R.left from.new) (R.faults from.new)) (output (W.held out.new) (W.faults out.new)) (C.told clock.new) (dials (D.backs dialer.new) (D.ended dialer.new) (D.faults dialer.new))) }
-    ensures read { result ≡ Done → (shown : ℤ → List ChangeMsg → List ℕ) (job : Job)
-        → J.stands command (seen_on (reading (λ s. s.channel) (λ s. (⟦<dyn View as View>⟧ s.view.vtable).held s.view.value) (λ s. (⟦<dyn View as View>⟧ s.view.vtable).step s.view.value) (λ s. (⟦<dyn View as View>⟧ s.view.vtable).shown s.view.value)) board.old.shelves.items) shown job (R.left from.old) Opening → HasRead job (R.left from.new) }
-    ensures why { HasCause result
-        (world (input (R.left from.old) (R.faults from.old)) (output (W.held out.old) (W.faults out.old)) (C.told clock.old) (dials (D.backs dialer.old) (D.ended dialer.old) (D.faults dialer.old)))
-        (world (input (R.left from.new) (R.faults from.new)) (output (W.held out.new) (W.faults out.new)) (C.told clock.new) (dials (D.backs dialer.new) (D.ended dialer.new) (D.faults dialer.new))) }
+) -> (Status, Streams<R, W, C>)
+    ensures runs { let seen : List _ → List Seen = λ bs. seen_on (reading (λ s. s.channel) (λ s. (⟦<dyn View as View>⟧ s.view.vtable).held s.view.value)
+        (λ s. (⟦<dyn View as View>⟧ s.view.vtable).step s.view.value) (λ s. (⟦<dyn View as View>⟧ s.view.vtable).shown s.view.value)) bs in
+        (shown : ℤ → List ChangeMsg → List ℕ) (job : Job)
+        → J.stands command (seen board.old.shelves.items) shown job (R.left streams.input) Opening
+        → Runs result.0 (server_of address.now) (ctl shown job)
+        (world (input (R.left streams.input) (R.faults streams.input)) (output (W.held streams.out) (W.faults streams.out)) (C.told streams.clock) (dials (D.backs dialer.old) (D.ended dialer.old) (D.faults dialer.old)))
+        (world (input (R.left result.1.input) (R.faults result.1.input)) (output (W.held result.1.out) (W.faults result.1.out)) (C.told result.1.clock) (dials (D.backs dialer.new) (D.ended dialer.new) (D.faults dialer.new))) }
+    ensures read { let seen : List _ → List Seen = λ bs. seen_on (reading (λ s. s.channel) (λ s. (⟦<dyn View as View>⟧ s.view.vtable).held s.view.value)
+        (λ s. (⟦<dyn View as View>⟧ s.view.vtable).step s.view.value) (λ s. (⟦<dyn View as View>⟧ s.view.vtable).shown s.view.value)) bs in
+        result.0 ≡ Done → (shown : ℤ → List ChangeMsg → List ℕ) (job : Job)
+        → J.stands command (seen board.old.shelves.items) shown job (R.left streams.input) Opening → HasRead job (R.left result.1.input) }
+    ensures why { HasCause result.0
+        (world (input (R.left streams.input) (R.faults streams.input)) (output (W.held streams.out) (W.faults streams.out)) (C.told streams.clock) (dials (D.backs dialer.old) (D.ended dialer.old) (D.faults dialer.old)))
+        (world (input (R.left result.1.input) (R.faults result.1.input)) (output (W.held result.1.out) (W.faults result.1.out)) (C.told result.1.clock) (dials (D.backs dialer.new) (D.ended dialer.new) (D.faults dialer.new))) }
 {
     let (host, port) = server_of(address);
     match dialer.dial(alloc, host, port, address.path()) {
-        Dialed::Link(link) => run_over(rt, alloc, link, command, dialer, clock, board, out, from),
-        Dialed::Failed => Status::LinkFault,
-        Dialed::NoMemory => Status::NoMemory,
+        Dialed::Link(link) => run_over(rt, alloc, link, command, dialer, streams, board),
+        Dialed::Failed => (Status::LinkFault, streams),
+        Dialed::NoMemory => (Status::NoMemory, streams),
     }
 }
 
@@ -327,57 +314,47 @@ fn run<H: Host, D: Dialer, R: Source, W: Sink, C: Clock, T: Wait>(
     form: Form,
     host: &mut H,
     dialer: &mut D,
-    input: &mut R,
-    out: &mut W,
-    clock: &mut C,
+    streams: Streams<R, W, C>,
     views: Vec<Box<dyn View>>,
-) -> Status
-    ensures fulfils { Fulfils result (as_form form.entry)
+) -> (Status, Streams<R, W, C>)
+    ensures fulfils { Fulfils result.0 (as_form form.entry)
         (lines_after (viewing (λ v. (⟦<dyn View as View>⟧ v.vtable).held v.value) (λ v. (⟦<dyn View as View>⟧ v.vtable).step v.value) (λ v. (⟦<dyn View as View>⟧ v.vtable).shown v.value)) views.items)
         (H.content host.old)
-        (world (bytes_left (R.left input.old) (R.faults input.old)) (output (W.held out.old) (W.faults out.old)) (C.told clock.old) (dials (D.backs dialer.old) (D.ended dialer.old) (D.faults dialer.old)))
-        (world (bytes_left (R.left input.new) (R.faults input.new)) (output (W.held out.new) (W.faults out.new)) (C.told clock.new) (dials (D.backs dialer.new) (D.ended dialer.new) (D.faults dialer.new))) }
-    ensures form { result ≢ Usage }
-    ensures read_cause { result ≡ ReadFault → Rose (H.faults host.old) (H.faults host.new) ⊎ Rose (R.faults input.old) (R.faults input.new) }
-    ensures write_cause { result ≡ WriteFault → Rose (W.faults out.old) (W.faults out.new) }
-    ensures link_cause { result ≡ LinkFault → Rose (D.faults dialer.old) (D.faults dialer.new) }
+        (world (input (R.left streams.input) (R.faults streams.input)) (output (W.held streams.out) (W.faults streams.out)) (C.told streams.clock) (dials (D.backs dialer.old) (D.ended dialer.old) (D.faults dialer.old)))
+        (world (input (R.left result.1.input) (R.faults result.1.input)) (output (W.held result.1.out) (W.faults result.1.out)) (C.told result.1.clock) (dials (D.backs dialer.new) (D.ended dialer.new) (D.faults dialer.new))) }
+    ensures form { result.0 ≢ Usage }
+    ensures read_cause { result.0 ≡ ReadFault → Rose (H.faults host.old) (H.faults host.new) ⊎ Rose (R.faults streams.input) (R.faults result.1.input) }
+    ensures write_cause { result.0 ≡ WriteFault → Rose (W.faults streams.out) (W.faults result.1.out) }
+    ensures link_cause { result.0 ≡ LinkFault → Rose (D.faults dialer.old) (D.faults dialer.new) }
 {
     let Form { address, command } = form;
     let Ok(mut board) = Board::of(alloc, 0, views) else {
-        return Status::NoMemory;
+        return (Status::NoMemory, streams);
     };
     match command {
-        Words::Put { uri, file } => match read_payload(alloc, host, file) {
+        Command::Put { uri, file } => match read_payload(alloc, host, file) {
             Ok(payload) => {
                 let command = Put::new(uri, payload);
-                run_at(
-                    rt, alloc, &address, command, dialer, clock, &mut board, out, input,
-                )
+                run_at(rt, alloc, &address, command, dialer, streams, &mut board)
             }
-            Err(status) => status,
+            Err(status) => (status, streams),
         },
-        Words::Get(uri) => {
+        Command::Get(uri) => {
             let command = Get::new(uri);
-            run_at(
-                rt, alloc, &address, command, dialer, clock, &mut board, out, input,
-            )
+            run_at(rt, alloc, &address, command, dialer, streams, &mut board)
         }
-        Words::Load(uri) => {
+        Command::Load(uri) => {
             let command = Load::new(alloc, uri);
-            run_at(
-                rt, alloc, &address, command, dialer, clock, &mut board, out, input,
-            )
+            run_at(rt, alloc, &address, command, dialer, streams, &mut board)
         }
-        Words::Watch { uri, count } => {
+        Command::Watch { uri, count } => {
             let command = Watch::new(uri, count);
-            run_at(
-                rt, alloc, &address, command, dialer, clock, &mut board, out, input,
-            )
+            run_at(rt, alloc, &address, command, dialer, streams, &mut board)
         }
     }
 }
 
-/// Does what the words say, and returns how that ended. The forms are `put URL URI FILE`, `get URL URI`, `load URL URI` and `watch URL URI
+/// Does what the words say, and returns how that ended, with the streams. The forms are `put URL URI FILE`, `get URL URI`, `load URL URI` and `watch URL URI
 /// COUNT`. The views show the channel that is watched.
 pub fn run_client<H: Host, D: Dialer, R: Source, W: Sink, C: Clock, T: Wait>(
     rt: &T,
@@ -385,30 +362,28 @@ pub fn run_client<H: Host, D: Dialer, R: Source, W: Sink, C: Clock, T: Wait>(
     words: &[String],
     host: &mut H,
     dialer: &mut D,
-    input: &mut R,
-    out: &mut W,
-    clock: &mut C,
+    streams: Streams<R, W, C>,
     views: Vec<Box<dyn View>>,
-) -> Status
-    ensures usage { result ≡ Usage → form_in (map string_bytes words.now) ≡ None }
-    ensures no_form { form_in (map string_bytes words.now) ≡ None → result ≢ Status.NoMemory → result ≡ Usage }
-    ensures answers { Answers result (form_in (map string_bytes words.now))
+) -> (Status, Streams<R, W, C>)
+    ensures usage { result.0 ≡ Usage → form_in (map string_bytes words.now) ≡ None }
+    ensures no_form { form_in (map string_bytes words.now) ≡ None → result.0 ≢ Status.NoMemory → result.0 ≡ Usage }
+    ensures answers { Answers result.0 (form_in (map string_bytes words.now))
         (lines_after (viewing (λ v. (⟦<dyn View as View>⟧ v.vtable).held v.value) (λ v. (⟦<dyn View as View>⟧ v.vtable).step v.value) (λ v. (⟦<dyn View as View>⟧ v.vtable).shown v.value)) views.items)
         (H.content host.old)
-        (world (bytes_left (R.left input.old) (R.faults input.old)) (output (W.held out.old) (W.faults out.old)) (C.told clock.old) (dials (D.backs dialer.old) (D.ended dialer.old) (D.faults dialer.old)))
-        (world (bytes_left (R.left input.new) (R.faults input.new)) (output (W.held out.new) (W.faults out.new)) (C.told clock.new) (dials (D.backs dialer.new) (D.ended dialer.new) (D.faults dialer.new))) }
-    ensures read_cause { result ≡ ReadFault → Rose (H.faults host.old) (H.faults host.new) ⊎ Rose (R.faults input.old) (R.faults input.new) }
-    ensures write_cause { result ≡ WriteFault → Rose (W.faults out.old) (W.faults out.new) }
-    ensures link_cause { result ≡ LinkFault → Rose (D.faults dialer.old) (D.faults dialer.new) }
+        (world (input (R.left streams.input) (R.faults streams.input)) (output (W.held streams.out) (W.faults streams.out)) (C.told streams.clock) (dials (D.backs dialer.old) (D.ended dialer.old) (D.faults dialer.old)))
+        (world (input (R.left result.1.input) (R.faults result.1.input)) (output (W.held result.1.out) (W.faults result.1.out)) (C.told result.1.clock) (dials (D.backs dialer.new) (D.ended dialer.new) (D.faults dialer.new))) }
+    ensures read_cause { result.0 ≡ ReadFault → Rose (H.faults host.old) (H.faults host.new) ⊎ Rose (R.faults streams.input) (R.faults result.1.input) }
+    ensures write_cause { result.0 ≡ WriteFault → Rose (W.faults streams.out) (W.faults result.1.out) }
+    ensures link_cause { result.0 ≡ LinkFault → Rose (D.faults dialer.old) (D.faults dialer.new) }
 {
     let plain = match words_of(alloc, words) {
         Ok(Some(plain)) => plain,
-        Ok(None) => return Status::Usage,
-        Err(_) => return Status::NoMemory,
+        Ok(None) => return (Status::Usage, streams),
+        Err(_) => return (Status::NoMemory, streams),
     };
     match form_of(alloc, plain.as_slice()) {
-        Ok(Some(form)) => run(rt, alloc, form, host, dialer, input, out, clock, views),
-        Ok(None) => Status::Usage,
-        Err(_) => Status::NoMemory,
+        Ok(Some(form)) => run(rt, alloc, form, host, dialer, streams, views),
+        Ok(None) => (Status::Usage, streams),
+        Err(_) => (Status::NoMemory, streams),
     }
 }

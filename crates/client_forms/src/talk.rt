@@ -3,11 +3,12 @@ ghost use Rattle.std.specs.Prelude.{◌≡◌, ◌≤◌, Err};
 ghost use Rattle.etp_outside.specs.declared.status.Status.TheVariants.{Done};
 ghost use Rattle.client_forms.specs.Ctl.{Stage, asks, closes, unclosed, writes};
 ghost use Rattle.client_forms.specs.Sending.{SendCause, SendsAll, closed_by, refused_by, sent_by, short_by, unclosed_by, unsent_by};
-ghost use Rattle.client_forms.specs.Work.{Input, MayClose, Output, Stops, Works, line, output, outside, place};
+ghost use Rattle.client_forms.specs.Work.{MayClose, Stops, Works, place};
 
+use crate::io::Io;
 use crate::stop::{Cause, Stop};
 use client_core::{Ask, Client, ClientError};
-use etp_outside::{Clock, Link, Sent, Sink, Status, Written, write_all};
+use etp_outside::{Clock, Link, Sent, Sink, Source, Status, Written, write_all};
 use std::alloc::Global;
 
 /// Sends all that the client has to send.
@@ -32,20 +33,19 @@ pub(crate) fn send_all<L: Link>(
 }
 
 /// Asks at a moment of the clock's, and sends what that takes.
-pub(crate) fn ask<L: Link, C: Clock>(
+pub(crate) fn ask<L: Link, C: Clock, W: Sink, R: Source>(
     alloc: Global,
     ask: Ask,
     client: &mut Client,
-    link: &mut L,
-    clock: &mut C,
+    io: &mut Io<L, C, W, R>,
 ) -> Result<(), Stop>
-    ensures { (stage : Stage) (o : Output) (i : Input) → Works result (asks ask) (place client.old stage) (place client.new stage)
-        (outside (line (L.talk link.old) (L.faults link.old) (L.ended link.old)) (C.told clock.old) o i)
-        (outside (line (L.talk link.new) (L.faults link.new) (L.ended link.new)) (C.told clock.new) o i) }
+    ensures works { (stage : Stage) → Works result (asks ask) (place client.old stage) (place client.new stage) io.old io.new }
+    ensures output { io.new.output ≡ io.old.output }
+    ensures input { io.new.input ≡ io.old.input }
 {
-    let moment = clock.now();
+    let moment = io.clock.now();
     match client.ask(alloc, ask, moment) {
-        Ok(_) => sent_by(send_all(alloc, client, link)),
+        Ok(_) => sent_by(send_all(alloc, client, &mut io.link)),
         Err(error) => Err(refused_by(error)),
     }
 }
@@ -72,20 +72,19 @@ fn refused_by(error: ClientError) -> Stop
 
 /// Closes the session of a command that ends with this status. If the command was done and the link fails then, that is why it stops; an
 /// earlier cause takes precedence.
-pub(crate) fn close<L: Link, C: Clock>(
+pub(crate) fn close<L: Link, C: Clock, W: Sink, R: Source>(
     alloc: Global,
     status: Status,
     client: &mut Client,
-    link: &mut L,
-    clock: &mut C,
+    io: &mut Io<L, C, W, R>,
 ) -> Stop
-    ensures { (stage : Stage) (o : Output) (i : Input) → MayClose status → Stops result (closes status) (place client.old stage)
-        (outside (line (L.talk link.old) (L.faults link.old) (L.ended link.old)) (C.told clock.old) o i)
-        (outside (line (L.talk link.new) (L.faults link.new) (L.ended link.new)) (C.told clock.new) o i) }
+    ensures stops { (stage : Stage) → MayClose status → Stops result (closes status) (place client.old stage) io.old io.new }
+    ensures output { io.new.output ≡ io.old.output }
+    ensures input { io.new.input ≡ io.old.input }
 {
-    let moment = clock.now();
+    let moment = io.clock.now();
     match client.ask(alloc, Ask::Close, moment) {
-        Ok(_) => closed_by(status, send_all(alloc, client, link)),
+        Ok(_) => closed_by(status, send_all(alloc, client, &mut io.link)),
         Err(error) => unclosed_by(status, error),
     }
 }
@@ -140,20 +139,17 @@ fn unclosed(status: Status) -> Status
 }
 
 /// Writes what a command has to show once it is done, and closes its session.
-pub(crate) fn report<L: Link, C: Clock, W: Sink>(
+pub(crate) fn report<L: Link, C: Clock, W: Sink, R: Source>(
     alloc: Global,
     bytes: &[u8],
     client: &mut Client,
-    link: &mut L,
-    clock: &mut C,
-    out: &mut W,
+    io: &mut Io<L, C, W, R>,
 ) -> Stop
-    ensures { (stage : Stage) (i : Input) → Stops result (λ c. closes Done (writes bytes.now c)) (place client.old stage)
-        (outside (line (L.talk link.old) (L.faults link.old) (L.ended link.old)) (C.told clock.old) (output (W.held out.old) (W.faults out.old)) i)
-        (outside (line (L.talk link.new) (L.faults link.new) (L.ended link.new)) (C.told clock.new) (output (W.held out.new) (W.faults out.new)) i) }
+    ensures stops { (stage : Stage) → Stops result (λ c. closes Done (writes bytes.now c)) (place client.old stage) io.old io.new }
+    ensures input { io.new.input ≡ io.old.input }
 {
-    match write_all(out, bytes) {
-        Written::Done => close(alloc, Status::Done, client, link, clock),
+    match write_all(&mut io.out, bytes) {
+        Written::Done => close(alloc, Status::Done, client, io),
         Written::Failed => Stop::Cut(Cause::Output),
     }
 }

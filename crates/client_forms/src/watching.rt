@@ -8,7 +8,7 @@ ghost use Rattle.client_forms.specs.declared.action.Action.TheVariants as action
 ghost use Rattle.watch_views.specs.Boards.{lines_of, reading};
 
 use crate::action::Action;
-use crate::command::Command;
+use crate::command::Job;
 use crate::stop::{Cause, Stop};
 use client_core::{Ask, Got};
 use etp_outside::Source;
@@ -53,7 +53,7 @@ impl Watch {
     }
 }
 
-impl Command for Watch {
+impl Job for Watch {
     ghost owes = { λ s seen shown job left stage rest. IsWatch s.uri s.most s.stage s.count seen shown job stage × Waits rest };
 
     ghost stands = { λ s seen shown job left stage. IsWatch s.uri s.most s.stage s.count seen shown job stage };

@@ -1,7 +1,7 @@
 //! The client over the system: its words, files, sockets and streams.
 use crate::counted_source::CountedSource;
 use crate::progress::Progress;
-use client_forms::run_client;
+use client_forms::{Streams, run_client};
 use etp_outside::{DirHost, Sink, Status, StdSink, StdSource, WallClock};
 use outside_net::TcpDial;
 use program_status::words;
@@ -52,20 +52,21 @@ where
     let Ok(buffered) = BufReader::with_capacity(alloc, READ_AHEAD, rt.reader()) else {
         return Status::NoMemory;
     };
-    let mut input = CountedSource::new(StdSource::new(buffered), points);
-    let mut out = StdSink::new(io::writer(rt));
+    let streams = Streams {
+        input: CountedSource::new(StdSource::new(buffered), points),
+        out: StdSink::new(io::writer(rt)),
+        clock: WallClock::new(rt),
+    };
     let mut host = DirHost::new(rt);
     let mut dialer = TcpDial::new(rt);
-    let mut clock = WallClock::new(rt);
-    run_client(
+    let (status, _) = run_client(
         rt,
         alloc,
         words.as_slice(),
         &mut host,
         &mut dialer,
-        &mut input,
-        &mut out,
-        &mut clock,
+        streams,
         views,
-    )
+    );
+    status
 }

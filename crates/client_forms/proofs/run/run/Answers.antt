@@ -11,13 +11,13 @@ use Rattle.client_forms.proofs.WatchLemmas.{board_shows_first, watch_starts}
 use Rattle.client_forms.proofs.run.run.Goals as goal
 
 pub returns-in_default-clause-fulfils : goal.returns-in_default-clause-fulfils
-returns-in_default-clause-fulfils g c = no_memory c.args.form.address c.args.form.command (lines_after (viewing (λ v. (goal.View-dyn g (v.vtable, v.value)).held v.value) (λ v. (goal.View-dyn g (v.vtable, v.value)).step v.value) (λ v. (goal.View-dyn g (v.vtable, v.value)).shown v.value)) c.args.views.items) (g.H.Host.content c.args.host.now) (world (input (g.R.Source.left c.args.input.now) (g.R.Source.faults c.args.input.now)) (output (g.W.Sink.held c.args.out.now) (g.W.Sink.faults c.args.out.now)) (g.C.Clock.told c.args.clock.now) (dials (g.D.Dialer.backs c.args.dialer.now) (g.D.Dialer.ended c.args.dialer.now) (g.D.Dialer.faults c.args.dialer.now)))
+returns-in_default-clause-fulfils g c = no_memory c.args.form.address c.args.form.command (lines_after (viewing (λ v. (goal.View-dyn g (v.vtable, v.value)).held v.value) (λ v. (goal.View-dyn g (v.vtable, v.value)).step v.value) (λ v. (goal.View-dyn g (v.vtable, v.value)).shown v.value)) c.args.views.items) (g.H.Host.content c.args.host.now) (world (input (g.R.Source.left c.args.streams.input) (g.R.Source.faults c.args.streams.input)) (output (g.W.Sink.held c.args.streams.out) (g.W.Sink.faults c.args.streams.out)) (g.C.Clock.told c.args.streams.clock) (dials (g.D.Dialer.backs c.args.dialer.now) (g.D.Dialer.ended c.args.dialer.now) (g.D.Dialer.faults c.args.dialer.now)))
 
 pub returns-in-Ok-read_payload-clause-fulfils : goal.returns-in-Ok-read_payload-clause-fulfils
 returns-in-Ok-read_payload-clause-fulfils g c =
-    let w = world (input (g.R.Source.left c.args.input.now) (g.R.Source.faults c.args.input.now)) (output (g.W.Sink.held c.args.out.now) (g.W.Sink.faults c.args.out.now)) (g.C.Clock.told c.args.clock.now) (dials (g.D.Dialer.backs c.args.dialer.now) (g.D.Dialer.ended c.args.dialer.now) (g.D.Dialer.faults c.args.dialer.now)) in
-    let z = world (input (g.R.Source.left c.run_at.new.from) (g.R.Source.faults c.run_at.new.from)) (output (g.W.Sink.held c.run_at.new.out) (g.W.Sink.faults c.run_at.new.out)) (g.C.Clock.told c.run_at.new.clock) (dials (g.D.Dialer.backs c.run_at.new.dialer) (g.D.Dialer.ended c.run_at.new.dialer) (g.D.Dialer.faults c.run_at.new.dialer)) in
-    ran_put c.run_at.result c.args.form.address c.args.form.command (lines_after (viewing (λ v. (goal.View-dyn g (v.vtable, v.value)).held v.value) (λ v. (goal.View-dyn g (v.vtable, v.value)).step v.value) (λ v. (goal.View-dyn g (v.vtable, v.value)).shown v.value)) c.args.views.items) (g.H.Host.content c.args.host.now) w z c.in-Put.uri c.in-Put.file c.in-Put.is c.in-Ok-read_payload.payload c.in-Ok-read_payload.ensures.file
+    let w = world (input (g.R.Source.left c.args.streams.input) (g.R.Source.faults c.args.streams.input)) (output (g.W.Sink.held c.args.streams.out) (g.W.Sink.faults c.args.streams.out)) (g.C.Clock.told c.args.streams.clock) (dials (g.D.Dialer.backs c.args.dialer.now) (g.D.Dialer.ended c.args.dialer.now) (g.D.Dialer.faults c.args.dialer.now)) in
+    let z = world (input (g.R.Source.left c.run_at.result.1.input) (g.R.Source.faults c.run_at.result.1.input)) (output (g.W.Sink.held c.run_at.result.1.out) (g.W.Sink.faults c.run_at.result.1.out)) (g.C.Clock.told c.run_at.result.1.clock) (dials (g.D.Dialer.backs c.run_at.new.dialer) (g.D.Dialer.ended c.run_at.new.dialer) (g.D.Dialer.faults c.run_at.new.dialer)) in
+    ran_put c.run_at.result.0 c.args.form.address c.args.form.command (lines_after (viewing (λ v. (goal.View-dyn g (v.vtable, v.value)).held v.value) (λ v. (goal.View-dyn g (v.vtable, v.value)).step v.value) (λ v. (goal.View-dyn g (v.vtable, v.value)).shown v.value)) c.args.views.items) (g.H.Host.content c.args.host.now) w z c.in-Put.uri c.in-Put.file c.in-Put.is c.in-Ok-read_payload.payload c.in-Ok-read_payload.ensures.file
     (c.run_at.ensures.runs (lines_after (viewing (λ v. (goal.View-dyn g (v.vtable, v.value)).held v.value) (λ v. (goal.View-dyn g (v.vtable, v.value)).step v.value) (λ v. (goal.View-dyn g (v.vtable, v.value)).shown v.value)) c.args.views.items) (Putting c.in-Put.uri c.in-Ok-read_payload.payload) (put_begins c.in-Put.uri c.new-command.result.uri c.in-Ok-read_payload.payload c.new-command.result.payload c.new-command.result.asked c.new-command.ensures))
 
 pub returns-in-Ok-read_payload-clause-form : goal.returns-in-Ok-read_payload-clause-form
@@ -34,9 +34,9 @@ returns-in-Ok-read_payload-clause-link_cause g c = λ e. c.run_at.ensures.why.li
 
 pub returns-in-Get-clause-fulfils : goal.returns-in-Get-clause-fulfils
 returns-in-Get-clause-fulfils g c =
-    let w = world (input (g.R.Source.left c.args.input.now) (g.R.Source.faults c.args.input.now)) (output (g.W.Sink.held c.args.out.now) (g.W.Sink.faults c.args.out.now)) (g.C.Clock.told c.args.clock.now) (dials (g.D.Dialer.backs c.args.dialer.now) (g.D.Dialer.ended c.args.dialer.now) (g.D.Dialer.faults c.args.dialer.now)) in
-    let z = world (input (g.R.Source.left c.run_at-in-Get.new.from) (g.R.Source.faults c.run_at-in-Get.new.from)) (output (g.W.Sink.held c.run_at-in-Get.new.out) (g.W.Sink.faults c.run_at-in-Get.new.out)) (g.C.Clock.told c.run_at-in-Get.new.clock) (dials (g.D.Dialer.backs c.run_at-in-Get.new.dialer) (g.D.Dialer.ended c.run_at-in-Get.new.dialer) (g.D.Dialer.faults c.run_at-in-Get.new.dialer)) in
-    ran_get c.run_at-in-Get.result c.args.form.address c.args.form.command (lines_after (viewing (λ v. (goal.View-dyn g (v.vtable, v.value)).held v.value) (λ v. (goal.View-dyn g (v.vtable, v.value)).step v.value) (λ v. (goal.View-dyn g (v.vtable, v.value)).shown v.value)) c.args.views.items) (g.H.Host.content c.args.host.now) w z c.in-Get.uri c.in-Get.is
+    let w = world (input (g.R.Source.left c.args.streams.input) (g.R.Source.faults c.args.streams.input)) (output (g.W.Sink.held c.args.streams.out) (g.W.Sink.faults c.args.streams.out)) (g.C.Clock.told c.args.streams.clock) (dials (g.D.Dialer.backs c.args.dialer.now) (g.D.Dialer.ended c.args.dialer.now) (g.D.Dialer.faults c.args.dialer.now)) in
+    let z = world (input (g.R.Source.left c.run_at-in-Get.result.1.input) (g.R.Source.faults c.run_at-in-Get.result.1.input)) (output (g.W.Sink.held c.run_at-in-Get.result.1.out) (g.W.Sink.faults c.run_at-in-Get.result.1.out)) (g.C.Clock.told c.run_at-in-Get.result.1.clock) (dials (g.D.Dialer.backs c.run_at-in-Get.new.dialer) (g.D.Dialer.ended c.run_at-in-Get.new.dialer) (g.D.Dialer.faults c.run_at-in-Get.new.dialer)) in
+    ran_get c.run_at-in-Get.result.0 c.args.form.address c.args.form.command (lines_after (viewing (λ v. (goal.View-dyn g (v.vtable, v.value)).held v.value) (λ v. (goal.View-dyn g (v.vtable, v.value)).step v.value) (λ v. (goal.View-dyn g (v.vtable, v.value)).shown v.value)) c.args.views.items) (g.H.Host.content c.args.host.now) w z c.in-Get.uri c.in-Get.is
     (c.run_at-in-Get.ensures.runs (lines_after (viewing (λ v. (goal.View-dyn g (v.vtable, v.value)).held v.value) (λ v. (goal.View-dyn g (v.vtable, v.value)).step v.value) (λ v. (goal.View-dyn g (v.vtable, v.value)).shown v.value)) c.args.views.items) (Getting c.in-Get.uri) (get_begins c.in-Get.uri c.new-command-in-Get.result.uri c.new-command-in-Get.result.asked c.new-command-in-Get.ensures))
 
 pub returns-in-Get-clause-form : goal.returns-in-Get-clause-form
@@ -53,11 +53,11 @@ returns-in-Get-clause-link_cause g c = λ e. c.run_at-in-Get.ensures.why.link e
 
 pub returns-in-Load-clause-fulfils : goal.returns-in-Load-clause-fulfils
 returns-in-Load-clause-fulfils g c =
-    let w = world (input (g.R.Source.left c.args.input.now) (g.R.Source.faults c.args.input.now)) (output (g.W.Sink.held c.args.out.now) (g.W.Sink.faults c.args.out.now)) (g.C.Clock.told c.args.clock.now) (dials (g.D.Dialer.backs c.args.dialer.now) (g.D.Dialer.ended c.args.dialer.now) (g.D.Dialer.faults c.args.dialer.now)) in
-    let z = world (input (g.R.Source.left c.run_at-in-Load.new.from) (g.R.Source.faults c.run_at-in-Load.new.from)) (output (g.W.Sink.held c.run_at-in-Load.new.out) (g.W.Sink.faults c.run_at-in-Load.new.out)) (g.C.Clock.told c.run_at-in-Load.new.clock) (dials (g.D.Dialer.backs c.run_at-in-Load.new.dialer) (g.D.Dialer.ended c.run_at-in-Load.new.dialer) (g.D.Dialer.faults c.run_at-in-Load.new.dialer)) in
-    ran_load c.run_at-in-Load.result c.args.form.address c.args.form.command (lines_after (viewing (λ v. (goal.View-dyn g (v.vtable, v.value)).held v.value) (λ v. (goal.View-dyn g (v.vtable, v.value)).step v.value) (λ v. (goal.View-dyn g (v.vtable, v.value)).shown v.value)) c.args.views.items) (g.H.Host.content c.args.host.now) w z c.in-Load.uri c.in-Load.is
-    (λ bytes told. c.run_at-in-Load.ensures.runs (lines_after (viewing (λ v. (goal.View-dyn g (v.vtable, v.value)).held v.value) (λ v. (goal.View-dyn g (v.vtable, v.value)).step v.value) (λ v. (goal.View-dyn g (v.vtable, v.value)).shown v.value)) c.args.views.items) (Loading c.in-Load.uri (lines_in bytes)) (load_begins c.in-Load.uri c.new-command-in-Load.result.uri c.new-command-in-Load.result.stage c.new-command-in-Load.result.reader bytes (g.R.Source.left c.args.input.now) c.new-command-in-Load.ensures.0 c.new-command-in-Load.ensures.1 c.new-command-in-Load.ensures.2 told))
-    (λ bytes told e. c.run_at-in-Load.ensures.read e (lines_after (viewing (λ v. (goal.View-dyn g (v.vtable, v.value)).held v.value) (λ v. (goal.View-dyn g (v.vtable, v.value)).step v.value) (λ v. (goal.View-dyn g (v.vtable, v.value)).shown v.value)) c.args.views.items) (Loading c.in-Load.uri (lines_in bytes)) (load_begins c.in-Load.uri c.new-command-in-Load.result.uri c.new-command-in-Load.result.stage c.new-command-in-Load.result.reader bytes (g.R.Source.left c.args.input.now) c.new-command-in-Load.ensures.0 c.new-command-in-Load.ensures.1 c.new-command-in-Load.ensures.2 told))
+    let w = world (input (g.R.Source.left c.args.streams.input) (g.R.Source.faults c.args.streams.input)) (output (g.W.Sink.held c.args.streams.out) (g.W.Sink.faults c.args.streams.out)) (g.C.Clock.told c.args.streams.clock) (dials (g.D.Dialer.backs c.args.dialer.now) (g.D.Dialer.ended c.args.dialer.now) (g.D.Dialer.faults c.args.dialer.now)) in
+    let z = world (input (g.R.Source.left c.run_at-in-Load.result.1.input) (g.R.Source.faults c.run_at-in-Load.result.1.input)) (output (g.W.Sink.held c.run_at-in-Load.result.1.out) (g.W.Sink.faults c.run_at-in-Load.result.1.out)) (g.C.Clock.told c.run_at-in-Load.result.1.clock) (dials (g.D.Dialer.backs c.run_at-in-Load.new.dialer) (g.D.Dialer.ended c.run_at-in-Load.new.dialer) (g.D.Dialer.faults c.run_at-in-Load.new.dialer)) in
+    ran_load c.run_at-in-Load.result.0 c.args.form.address c.args.form.command (lines_after (viewing (λ v. (goal.View-dyn g (v.vtable, v.value)).held v.value) (λ v. (goal.View-dyn g (v.vtable, v.value)).step v.value) (λ v. (goal.View-dyn g (v.vtable, v.value)).shown v.value)) c.args.views.items) (g.H.Host.content c.args.host.now) w z c.in-Load.uri c.in-Load.is
+    (λ bytes told. c.run_at-in-Load.ensures.runs (lines_after (viewing (λ v. (goal.View-dyn g (v.vtable, v.value)).held v.value) (λ v. (goal.View-dyn g (v.vtable, v.value)).step v.value) (λ v. (goal.View-dyn g (v.vtable, v.value)).shown v.value)) c.args.views.items) (Loading c.in-Load.uri (lines_in bytes)) (load_begins c.in-Load.uri c.new-command-in-Load.result.uri c.new-command-in-Load.result.stage c.new-command-in-Load.result.reader bytes (g.R.Source.left c.args.streams.input) c.new-command-in-Load.ensures.0 c.new-command-in-Load.ensures.1 c.new-command-in-Load.ensures.2 told))
+    (λ bytes told e. c.run_at-in-Load.ensures.read e (lines_after (viewing (λ v. (goal.View-dyn g (v.vtable, v.value)).held v.value) (λ v. (goal.View-dyn g (v.vtable, v.value)).step v.value) (λ v. (goal.View-dyn g (v.vtable, v.value)).shown v.value)) c.args.views.items) (Loading c.in-Load.uri (lines_in bytes)) (load_begins c.in-Load.uri c.new-command-in-Load.result.uri c.new-command-in-Load.result.stage c.new-command-in-Load.result.reader bytes (g.R.Source.left c.args.streams.input) c.new-command-in-Load.ensures.0 c.new-command-in-Load.ensures.1 c.new-command-in-Load.ensures.2 told))
 
 pub returns-in-Load-clause-form : goal.returns-in-Load-clause-form
 returns-in-Load-clause-form g c = c.run_at-in-Load.ensures.why.form
@@ -73,9 +73,9 @@ returns-in-Load-clause-link_cause g c = λ e. c.run_at-in-Load.ensures.why.link 
 
 pub returns-clause-fulfils : goal.returns-clause-fulfils
 returns-clause-fulfils g c =
-    let w = world (input (g.R.Source.left c.args.input.now) (g.R.Source.faults c.args.input.now)) (output (g.W.Sink.held c.args.out.now) (g.W.Sink.faults c.args.out.now)) (g.C.Clock.told c.args.clock.now) (dials (g.D.Dialer.backs c.args.dialer.now) (g.D.Dialer.ended c.args.dialer.now) (g.D.Dialer.faults c.args.dialer.now)) in
-    let z = world (input (g.R.Source.left c.run_at-in-Watch.new.from) (g.R.Source.faults c.run_at-in-Watch.new.from)) (output (g.W.Sink.held c.run_at-in-Watch.new.out) (g.W.Sink.faults c.run_at-in-Watch.new.out)) (g.C.Clock.told c.run_at-in-Watch.new.clock) (dials (g.D.Dialer.backs c.run_at-in-Watch.new.dialer) (g.D.Dialer.ended c.run_at-in-Watch.new.dialer) (g.D.Dialer.faults c.run_at-in-Watch.new.dialer)) in
-    ran_watch c.run_at-in-Watch.result c.args.form.address c.args.form.command (lines_after (viewing (λ v. (goal.View-dyn g (v.vtable, v.value)).held v.value) (λ v. (goal.View-dyn g (v.vtable, v.value)).step v.value) (λ v. (goal.View-dyn g (v.vtable, v.value)).shown v.value)) c.args.views.items) (g.H.Host.content c.args.host.now) w z c.in-Watch.uri c.in-Watch.count c.in-Watch.is
+    let w = world (input (g.R.Source.left c.args.streams.input) (g.R.Source.faults c.args.streams.input)) (output (g.W.Sink.held c.args.streams.out) (g.W.Sink.faults c.args.streams.out)) (g.C.Clock.told c.args.streams.clock) (dials (g.D.Dialer.backs c.args.dialer.now) (g.D.Dialer.ended c.args.dialer.now) (g.D.Dialer.faults c.args.dialer.now)) in
+    let z = world (input (g.R.Source.left c.run_at-in-Watch.result.1.input) (g.R.Source.faults c.run_at-in-Watch.result.1.input)) (output (g.W.Sink.held c.run_at-in-Watch.result.1.out) (g.W.Sink.faults c.run_at-in-Watch.result.1.out)) (g.C.Clock.told c.run_at-in-Watch.result.1.clock) (dials (g.D.Dialer.backs c.run_at-in-Watch.new.dialer) (g.D.Dialer.ended c.run_at-in-Watch.new.dialer) (g.D.Dialer.faults c.run_at-in-Watch.new.dialer)) in
+    ran_watch c.run_at-in-Watch.result.0 c.args.form.address c.args.form.command (lines_after (viewing (λ v. (goal.View-dyn g (v.vtable, v.value)).held v.value) (λ v. (goal.View-dyn g (v.vtable, v.value)).step v.value) (λ v. (goal.View-dyn g (v.vtable, v.value)).shown v.value)) c.args.views.items) (g.H.Host.content c.args.host.now) w z c.in-Watch.uri c.in-Watch.count c.in-Watch.is
     (c.run_at-in-Watch.ensures.runs (lines_after (viewing (λ v. (goal.View-dyn g (v.vtable, v.value)).held v.value) (λ v. (goal.View-dyn g (v.vtable, v.value)).step v.value) (λ v. (goal.View-dyn g (v.vtable, v.value)).shown v.value)) c.args.views.items) (Watching c.in-Watch.uri c.in-Watch.count) (watch_starts c.in-Watch.uri c.new-command-in-Watch.result.uri c.in-Watch.count c.new-command-in-Watch.result.most c.new-command-in-Watch.result.stage c.new-command-in-Watch.result.count _ (lines_after (viewing (λ v. (goal.View-dyn g (v.vtable, v.value)).held v.value) (λ v. (goal.View-dyn g (v.vtable, v.value)).step v.value) (λ v. (goal.View-dyn g (v.vtable, v.value)).shown v.value)) c.args.views.items) c.new-command-in-Watch.ensures.0 c.new-command-in-Watch.ensures.1 c.new-command-in-Watch.ensures.2 c.new-command-in-Watch.ensures.3
     (subst (λ bs. Show (lines_after (viewing (λ v. (goal.View-dyn g (v.vtable, v.value)).held v.value) (λ v. (goal.View-dyn g (v.vtable, v.value)).step v.value) (λ v. (goal.View-dyn g (v.vtable, v.value)).shown v.value)) c.args.views.items) (seen_on (reading (λ s. s.channel) (λ s. (goal.View-dyn g (s.view.vtable, s.view.value)).held s.view.value) (λ s. (goal.View-dyn g (s.view.vtable, s.view.value)).step s.view.value) (λ s. (goal.View-dyn g (s.view.vtable, s.view.value)).shown s.view.value)) bs)) (sym c.in-Ok.ensures) (board_shows_first (viewing (λ v. (goal.View-dyn g (v.vtable, v.value)).held v.value) (λ v. (goal.View-dyn g (v.vtable, v.value)).step v.value) (λ v. (goal.View-dyn g (v.vtable, v.value)).shown v.value)) (reading (λ s. s.channel) (λ s. (goal.View-dyn g (s.view.vtable, s.view.value)).held s.view.value) (λ s. (goal.View-dyn g (s.view.vtable, s.view.value)).step s.view.value) (λ s. (goal.View-dyn g (s.view.vtable, s.view.value)).shown s.view.value)) _ (λ x. refl) (λ x. refl) (λ x. refl) c.args.views.items))))
 

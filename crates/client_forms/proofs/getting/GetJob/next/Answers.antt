@@ -6,7 +6,7 @@ use Rattle.client_forms.specs.Plans.{Waits, standing}
 use Rattle.client_forms.specs.Work.{input, outside, place}
 use Rattle.client_forms.specs.declared.action.Action.TheVariants as action
 use Rattle.client_forms.proofs.PlanningLemmas.{get_reads, goes_fronts, plan_given}
-use Rattle.client_forms.proofs.getting.GetCommand.next.Goals as goal
+use Rattle.client_forms.proofs.getting.GetJob.next.Goals as goal
 
 pub returns-in-Object-clause-plans : goal.returns-in-Object-clause-plans
 returns-in-Object-clause-plans g c = λ shown job stage l told o there.

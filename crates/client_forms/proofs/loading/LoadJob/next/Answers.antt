@@ -7,7 +7,7 @@ use Rattle.client_forms.specs.Plans.{standing}
 use Rattle.client_forms.specs.Work.{input, outside, place}
 use Rattle.client_forms.proofs.LoadLemmas.{asked_is, first_loading, load_done, load_opened, plans_refit, waits_asked, waits_loaded, waits_opening}
 use Rattle.client_forms.proofs.PlanningLemmas.{goes_fronts}
-use Rattle.client_forms.proofs.loading.LoadCommand.next.Goals as goal
+use Rattle.client_forms.proofs.loading.LoadJob.next.Goals as goal
 
 pub returns-in-Opened-clause-plans : goal.returns-in-Opened-clause-plans
 returns-in-Opened-clause-plans g c = λ shown job stage l told o h.

@@ -6,7 +6,7 @@ use Rattle.client_forms.specs.Plans.{Waits, standing}
 use Rattle.client_forms.specs.Work.{input, outside, place}
 use Rattle.client_forms.specs.declared.action.Action.TheVariants as action
 use Rattle.client_forms.proofs.PlanningLemmas.{put_reads, goes_fronts, plan_given}
-use Rattle.client_forms.proofs.putting.PutCommand.next.Goals as goal
+use Rattle.client_forms.proofs.putting.PutJob.next.Goals as goal
 
 pub returns-in-Done-clause-plans : goal.returns-in-Done-clause-plans
 returns-in-Done-clause-plans g c = λ shown job stage l told o there.

@@ -2,7 +2,7 @@ use Rattle.std.proofs.Common.{◌≡◌, ◌++◌, ap, sym, subst, ◌∙◌}
 use Rattle.std.specs.Prelude.{OnOk}
 use Rattle.client_forms.specs.Ctl.{showing}
 use Rattle.client_forms.proofs.WatchLemmas.{board_shows, watched_is}
-use Rattle.client_forms.proofs.watching.WatchCommand.show.Goals as goal
+use Rattle.client_forms.proofs.watching.WatchJob.show.Goals as goal
 
 pub returns-in-Watched : goal.returns-in-Watched
 returns-in-Watched g c = λ shown job left stage h.

@@ -8,7 +8,7 @@ use Rattle.client_forms.specs.declared.stop.Cause.TheVariants as cause
 use Rattle.client_forms.specs.declared.stop.Stop.TheVariants as stop
 use Rattle.watch_views.specs.Boards.{each, lines_of, reading}
 use Rattle.client_forms.proofs.WatchLemmas.{asked_is, board_shows, fed_none, opening_is, fed_on, watch_begins, watch_fails, watch_feeds, watch_opened, watched_is}
-use Rattle.client_forms.proofs.watching.WatchCommand.next.Goals as goal
+use Rattle.client_forms.proofs.watching.WatchJob.next.Goals as goal
 
 pub returns-in-Opened-clause-plans : goal.returns-in-Opened-clause-plans
 returns-in-Opened-clause-plans g c = λ shown job stage l told o h.

@@ -5,7 +5,7 @@ use Rattle.client_forms.specs.Jobs.{HasRead}
 use Rattle.client_forms.specs.Plans.{Plans}
 use Rattle.client_forms.specs.Work.{input, outside}
 use Rattle.client_forms.proofs.LoadLemmas.{reading_is}
-use Rattle.client_forms.proofs.loading.LoadCommand.more.Goals as goal
+use Rattle.client_forms.proofs.loading.LoadJob.more.Goals as goal
 
 pub returns-in-Reading-clause-plans : goal.returns-in-Reading-clause-plans
 returns-in-Reading-clause-plans g c = λ seen shown job stage rest l told o h.
