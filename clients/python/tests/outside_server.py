@@ -144,11 +144,11 @@ class LimitedServer(transactions.Server):
 class OutsideServer:
     """The tables and the sessions; each connection is a tag."""
 
-    def __init__(self, channels, lag=65_536, journal=4_194_304, types=None):
+    def __init__(self, channels, lag=65_536, journal=4_194_304, types=None, port=0):
         self.machine = LimitedServer(channels, lag, journal, types)
         self.writers, self.next_tag, self.heard = {}, 0, []
         self.lock = threading.Lock()
-        self.thread = LoopThread(self.serve)
+        self.thread = LoopThread(self.serve, port)
         self.port, self.url = self.thread.port, self.thread.url
 
     def play(self, kind, tag, data=b""):

@@ -65,6 +65,7 @@ class RealServer:
         self.url = f"ws://127.0.0.1:{self.port}/"
 
     def close(self):
+        """Ends the server at once, as a kill does."""
         if self.process.returncode is not None:
             return
         self.process.kill()
@@ -79,11 +80,11 @@ def program(name):
     return str(path) if PROGRAMS and path.exists() else None
 
 
-def start_server(channels=CHANNELS, lag=65_536, journal=4_194_304, types=None):
+def start_server(channels=CHANNELS, lag=65_536, journal=4_194_304, types=None, port=0):
     built = program("etpd")
     if built:
-        return RealServer(built, channels=channels, lag=lag, journal=journal, types=types)
-    return outside_server.OutsideServer(channels, lag, journal, types)
+        return RealServer(built, port, channels=channels, lag=lag, journal=journal, types=types)
+    return outside_server.OutsideServer(channels, lag, journal, types, port)
 
 
 class ServerCase(unittest.TestCase):

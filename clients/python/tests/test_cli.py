@@ -62,7 +62,7 @@ class Commands(CommandCase):
         path.write_text("time,x\n2026-12-01T00:00:00Z,1\n2026-12-01T00:00:01Z,\n1796083202000000,3\n")
         self.assertEqual(run("load", self.url, channel_uri(4), path, "--csv"), "loaded 3\n")
         self.assertEqual(run("load", self.url, channel_uri(4), path, "--csv", "--skip-known"), "loaded 0 skipped 3\n")
-        self.assertIn("refused 31 from index 1796083200000000 on", run("load", self.url, channel_uri(4), path, "--csv", status=9))
+        self.assertIn("refused 31, the points from index 1796083200000000 on", run("load", self.url, channel_uri(4), path, "--csv", status=9))
         self.assertEqual(run("range", self.url, channel_uri(4), "--csv", "--microseconds"), "index_us,c4\n1796083200000000,1\n1796083201000000,\n1796083202000000,3\n")
 
     def test_a_follower_sees_what_is_loaded_as_it_comes(self):
@@ -86,13 +86,13 @@ class Commands(CommandCase):
 
     def test_statuses(self):
         for words, status, text in (
-                ([], 1, "usage"), (["no"], 1, "invalid choice"), (["get", self.url], 1, "required"), (["get", "http://x/", well_uri(1)], 12, "no address"),
+                ([], 1, "usage"), (["no"], 1, "invalid choice"), (["get", self.url], 1, "required"), (["get", "http://x/", well_uri(1)], 12, "not an address"),
                 (["get", "ws://127.0.0.1:1/", well_uri(1)], 10, "no connection"), (["put", self.url, well_uri(1), "/none"], 4, "/none"),
                 (["range", self.url, channel_uri(99)], 9, "refused 11"), (["range", self.url, channel_uri(0), "yesterday"], 12, "yesterday"),
-                (["plot", self.url, channel_uri(2), "-o", "x.png"], 12, "no numbers"), (["check-config", "/none"], 4, "/none")):
+                (["plot", self.url, channel_uri(2), "-o", "x.png"], 12, "not numbers"), (["check-config", "/none"], 4, "/none")):
             with self.subTest(words=words):
                 self.assertIn(text, run(*words, status=status))
-        for line, text in (("x 1", "line 1"), ("1", "no value"), ("1 x", "line 1"), ("5 1\n4 1", "doesn't rise")):
+        for line, text in (("x 1", "line 1"), ("1", "no value"), ("1 x", "line 1"), ("5 1\n4 1", "does not rise")):
             with self.subTest(line=line):
                 self.assertIn(text, run("load", self.url, channel_uri(1), given=line + "\n", status=12))
 

@@ -46,7 +46,7 @@ class Copies(unittest.TestCase):
             if each["kind"] in points:
                 source.channel(each["uri"]).load([10, 20, 30], points[each["kind"]])
         lines = self.copy()
-        self.assertIn(f"channel {channel_uri(0)}: 3 points, 0 there already", lines)
+        self.assertIn(f"channel {channel_uri(0)}: 3 points, 0 already there", lines)
         self.assertEqual(target.get(well_uri(1, "w"))[:6], source.get(well_uri(1, "w"))[:6])
         self.assertEqual(target.get(well_uri(2), "json").data, b"{}")
         self.assertEqual({each.path: each.custom for each in target.spaces()}, {"": {}, "w": {"k": 1}})
@@ -56,10 +56,10 @@ class Copies(unittest.TestCase):
             self.assertEqual(repr(list(target.channel(channel_uri(number)).range())), repr(list(source.channel(channel_uri(number)).range())))
         source.channel(channel_uri(0)).load([40], [4.0])
         lines = self.copy()
-        self.assertIn(f"channel {channel_uri(0)}: 1 points, 3 there already", lines)
-        self.assertIn(f"object {well_uri(2)}: there already", lines)
+        self.assertIn(f"channel {channel_uri(0)}: 1 points, 3 already there", lines)
+        self.assertIn(f"object {well_uri(2)}: already there", lines)
         source.channel(channel_uri(0)).replace(10, 10, [10], [9.0])
-        self.assertIn("has other points", self.copy(status=17))
+        self.assertIn("are not the first points", self.copy(status=17))
 
     def test_what_is_not_there(self):
         self.assertIn("refused 11", self.copy(status=9))
