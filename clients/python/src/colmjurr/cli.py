@@ -235,8 +235,7 @@ def open_input(path: Optional[str]) -> BinaryIO:
 
 
 class Input:
-    """Points in lines `INDEX VALUE`, or in the first two columns of a CSV file after a line of heads, in which an empty value is null. Raises
-    `InputError` with the number of the first malformed line, counted from 1."""
+    """Points in lines `INDEX VALUE`, or in the first two columns of a CSV file after a line of heads, in which an empty value is null."""
 
     def __init__(self, stream: BinaryIO, kind: str, is_csv: bool):
         self.stream, self.kind, self.is_csv = stream, kind, is_csv
@@ -244,46 +243,57 @@ class Input:
         self.last: Optional[int] = None
 
     def lots(self) -> Iterator[list[tuple[int, Any]]]:
-        """The points, each time as many as have arrived."""
+        """The points, each time as many as have arrived. Raises `InputError` with the number of the first malformed line, counted from 1,
+        after the points before it were given."""
         rest = b""
         while data := self.stream.read(READ):
             rest += data
             end = rest.rfind(b"\n") + 1
             # a row of CSV may have line breaks within quotation marks
             if end and not (self.is_csv and rest[:end].count(b'"') % 2):
-                yield self.points(rest[:end])
+                yield from self.lot(rest[:end])
                 rest = rest[end:]
         if rest:
-            yield self.points(rest)
+            yield from self.lot(rest)
 
-    def points(self, data: bytes) -> list[tuple[int, Any]]:
-        """The points of whole lines."""
+    def lot(self, data: bytes) -> Iterator[list[tuple[int, Any]]]:
+        """The points of whole lines, also those before a malformed one."""
+        found: list[tuple[int, Any]] = []
         try:
-            text = data.decode()
-        except UnicodeDecodeError as error:
-            raise InputError(f"input line {self.number + 1 + data.count(10, 0, error.start)}: not UTF-8") from None
-        return self.rows(text) if self.is_csv else self.lines(text)
+            for each in self.points(data):
+                found.append(each)
+        except InputError:
+            yield found
+            raise
+        yield found
 
-    def lines(self, text: str) -> list[tuple[int, Any]]:
-        found = []
+    def points(self, data: bytes) -> Iterator[tuple[int, Any]]:
+        try:
+            text, problem = data.decode(), None
+        except UnicodeDecodeError as error:
+            good = data[:data.rfind(b"\n", 0, error.start) + 1]
+            text, problem = good.decode(), InputError(f"input line {self.number + 1 + good.count(10)}: not UTF-8")
+        if text:
+            yield from self.rows(text) if self.is_csv else self.lines(text)
+        if problem is not None:
+            raise problem
+
+    def lines(self, text: str) -> Iterator[tuple[int, Any]]:
         for line in text.removesuffix("\n").split("\n"):
             self.number += 1
             index, space, value = line.removesuffix("\r").partition(" ")
-            found.append(self.point(self.number, index, value if space else None))
-        return found
+            yield self.point(self.number, index, value if space else None)
 
-    def rows(self, text: str) -> list[tuple[int, Any]]:
-        found = []
+    def rows(self, text: str) -> Iterator[tuple[int, Any]]:
         rows = csv.reader(line + "\n" for line in text.removesuffix("\n").split("\n"))
         before = self.number
         try:
             for row in rows:
                 begin, self.number = self.number + 1, before + rows.line_num
                 if begin > 1 and row:
-                    found.append(self.point(begin, row[0], row[1] if len(row) > 1 else None))
+                    yield self.point(begin, row[0], row[1] if len(row) > 1 else None)
         except csv.Error as error:
             raise InputError(f"input line {self.number + 1}: {error}") from None
-        return found
 
     def point(self, number: int, index: str, text: Optional[str]) -> tuple[int, Any]:
         """The point of a line's index and value."""
