@@ -131,15 +131,14 @@ class Kills(unittest.TestCase):
             time.sleep(0.1)
 
     def until_more(self, loaded):
-        """Returns when the bridge has written a point that was loaded after the call."""
-        end, before = time.monotonic() + WAIT, loaded[-1] if loaded else -1
+        """Returns when the bridge has written a point whose load began after the call."""
+        end, before = time.monotonic() + WAIT, len(loaded)
         while True:
-            try:
+            # the first load that ends after the call may have begun before it
+            if len(loaded) > before + 1:
                 found = self.engine.points(channel_uri(0), "double")
-            except OSError:
-                found = []
-            if found and found[-1][0] > before:
-                return
+                if found and found[-1][0] >= loaded[before + 1]:
+                    return
             self.assertLess(time.monotonic(), end, self.said[-5:])
             time.sleep(0.05)
 

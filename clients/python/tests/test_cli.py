@@ -278,7 +278,8 @@ class Conformance(unittest.TestCase):
         with tempfile.TemporaryDirectory() as folder:
             script, number = Path(folder, "restart"), Path(folder, "pid")
             script.write_text(
-                f'#!/bin/sh\n[ -f {number} ] && kill -9 "$(cat {number})"\n{etpd} "$1" 127.0.0.1:{port} > /dev/null 2>&1 &\necho $! > {number}\n')
+                f'#!/bin/sh\nif [ -f {number} ]; then old=$(cat {number}); kill -9 $old; while ls /proc/$old/fd/0; do sleep 0.02; done > /dev/null 2>&1; fi\n'
+                f'{etpd} "$1" 127.0.0.1:{port} < /dev/null > /dev/null 2>&1 &\necho $! > {number}\n')
             script.chmod(0o755)
             try:
                 words = ["conformance", f"ws://127.0.0.1:{port}/", samples / "one_put.cap", samples / "full_journal.cap", "--restart", script]

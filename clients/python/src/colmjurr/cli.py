@@ -680,7 +680,8 @@ def add_other_commands(command: Callable[..., argparse.ArgumentParser]) -> None:
         "the address of a server without a history, and captures NAME.cap beside NAME.answers.cap or folders of them; "
         "in the repository docs/samples is the default"))
     made.add_argument("--restart", metavar="COMMAND", help=(
-        "run before each sample, with the path of its configuration as the last word: it starts the server at the address again, empty"))
+        "run before each sample, with the path of its configuration as the last word: it ends the server at the address, starts it again "
+        "without a history, and returns"))
     made.add_argument("--etpd", metavar="PROGRAM", help="the program of a server, called as PROGRAM CONFIG ADDRESS: each sample gets a fresh one")
     made.add_argument("--settings", metavar="FILE", help="a configuration for samples that have none of their own")
     made.add_argument("--most", type=count, default=5, metavar="N", help="how many differences of a sample are shown (5)")
