@@ -1,7 +1,7 @@
-"""A server for the tests that shares nothing with the product or the package: the tables of outside/transactions.py behind a WebSocket.
+"""A server for the tests that shares nothing with the product or the package: the tables of outside/transactions.py over a WebSocket.
 
-It serves any number of clients in a thread of its own, on one port of the loopback. It is plain and slow; what it answers is what
-the profile says.
+It serves any number of clients in a thread of its own, on a port of the loopback interface. It is plain and slow, and answers as the
+profile says.
 """
 import asyncio
 import base64

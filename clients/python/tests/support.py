@@ -19,11 +19,11 @@ sys.path.insert(0, str(HERE))
 
 import outside_server  # noqa: E402
 
-# a proxy that cuts links makes asyncio say that it writes to what is gone
+# asyncio logs each write to a connection that a proxy has cut
 logging.getLogger("asyncio").setLevel(logging.CRITICAL)
 
 PROGRAMS = os.environ.get("COLMJURR_PROGRAMS", "")
-# A server with run-time checks is slow: this many times as long is waited.
+# All time limits are multiplied by this, for a server that is slow because of its run-time checks.
 PATIENCE = float(os.environ.get("COLMJURR_PATIENCE", "1"))
 KINDS = ["double", "long", "string", "boolean", "int", "float", "bytes"]
 

@@ -270,7 +270,7 @@ class Conformance(unittest.TestCase):
         self.assertEqual([each.place for each in conformance.compare(0, wanted, broken)], ["reply 2"])
 
     def test_a_server_that_a_command_starts_again(self):
-        """Two samples, each against a server that is started anew on the same port."""
+        """Two samples, each against a server that is started again on the same port."""
         etpd, samples = support.program("etpd"), ROOT / "docs" / "samples"
         if etpd is None:
             self.skipTest("no built etpd")

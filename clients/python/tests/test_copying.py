@@ -1,4 +1,4 @@
-"""Copies of a store: whole, broken off and begun again, and into a store that has something else."""
+"""Copies of a store: whole, interrupted and continued, and into a store that has something else."""
 import asyncio
 import tempfile
 import unittest

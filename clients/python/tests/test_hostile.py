@@ -1,4 +1,4 @@
-"""Servers that answer otherwise: each is told by a named error within its time limit, and never waited for."""
+"""Servers that break the protocol: each is met with a named error within the time limit, and none with a hang."""
 import asyncio
 import socket
 import ssl

@@ -103,7 +103,7 @@ class Cuts(ServerCase):
         rig, office = colmjurr.connect(self.server.url, **how), colmjurr.connect(self.server.url, **how)
         self.addCleanup(rig.close)
         self.addCleanup(office.close)
-        # the stores were opened without the proxy: from now on each connection goes through it
+        # the stores were opened without the proxy; every further connection goes through it
         for store in (rig, office):
             store._held._dial = lambda: colmjurr.store.websocket.connect(proxy.url, headers={}, timeout=20 * PATIENCE)
             store._runner.run(self.drop(store))
@@ -185,7 +185,7 @@ class Away(ProxyCase):
             self.assertEqual([each.path for each in spaces], [""])
 
     def test_a_loader_that_is_idle_outlives_many_breaks(self):
-        """Each break is waited for anew: what counts is not the time since the first one."""
+        """The patience counts from each break, not from the first one."""
         proxy = self.proxy()
         channel = self.through(proxy, patience=1.5 * PATIENCE).channel(channel_uri(1))
         last = channel.last or 0
@@ -355,7 +355,7 @@ class Resuming(ProxyCase):
                     self.assertEqual(watch.restarts, 1)
 
     def stop(self, watch, reason):
-        """Ends the subscriptions as a server does that was left too far behind."""
+        """Ends the subscriptions as a server does whose client has fallen too far behind."""
         session = watch._held._session
 
         async def end():

@@ -2,7 +2,7 @@
 """Writes src/colmjurr/schema.py from messages.txt.
 
     python3 write_schema.py            writes the file
-    python3 write_schema.py --check    compares, and exits with 1 where the file is another
+    python3 write_schema.py --check    compares, and exits with 1 if the file differs
 """
 import sys
 from pathlib import Path

@@ -80,7 +80,7 @@ def fold(entries: Iterable[Entry], into: Optional[Copy] = None) -> Copy:
     for entry in entries:
         if entry.change == "append":
             if copy.indexes and entry.points and entry.points[0][0] <= copy.indexes[-1]:
-                raise ValueError(f"an append at {entry.points[0][0]} behind {copy.indexes[-1]}")
+                raise ValueError(f"an append at {entry.points[0][0]} after {copy.indexes[-1]}")
             copy.cut(len(copy.indexes), len(copy.indexes), entry.points)
         elif entry.change == "replace":
             copy.replace(entry.start, entry.end, entry.points)
