@@ -4,6 +4,7 @@ import socket
 import ssl
 import time
 import unittest
+import unittest.mock
 
 import outside_server
 import support
@@ -188,6 +189,34 @@ class Frames(Peer):
 
 def reply(number, correlation=4, flags=2, spaces=()):
     return server_frame(2, message(24, 2, number, correlation, flags, dataspaces=list(spaces)))
+
+
+class Silence(Peer):
+    """A server that shakes hands and opens a session, and then says nothing, not even to pings."""
+
+    def lost_after(self, ask_timeout):
+        async def serve(reader, writer):
+            await outside_server.shake_hands(reader, writer)
+            await outside_server.read_client_message(reader, writer)
+            writer.write(server_frame(2, open_session()))
+            while await reader.read(1000):
+                pass
+
+        with unittest.mock.patch.multiple("colmjurr.session", PING_AFTER=0.3, GIVE_UP_AFTER=1.0):
+            store = self.connect(self.listen(serve), ask_timeout=ask_timeout, patience=0.0)
+            session, begun = store._held._session, time.monotonic()
+            while session.lost is None:
+                self.assertLess(time.monotonic() - begun, 20 * max(1, PATIENCE))
+                time.sleep(0.02)
+            return time.monotonic() - begun, session.lost
+
+    def test_it_is_given_up(self):
+        seconds, lost = self.lost_after(0.5)
+        self.assertGreater(seconds, 0.8)
+        self.assertIn("nothing arrived from the server for", str(lost))
+
+    def test_a_longer_time_limit_of_requests_counts(self):
+        self.assertGreater(self.lost_after(2.5)[0], 2.2)
 
 
 class Messages(Peer):

@@ -10,7 +10,7 @@ import tempfile
 import unittest
 
 from support import HERE
-from colmjurr import ValueRefused, index_of, object_uri, space_uri, time_of
+from colmjurr import Bar, ValueRefused, index_of, object_uri, space_uri, time_of
 from colmjurr.points import Points, columns_of, moment_text
 from colmjurr.uris import read_object, read_space
 
@@ -50,6 +50,25 @@ class Moments(unittest.TestCase):
         self.assertEqual(index_of(time_of(-1)), -1)
         with self.assertRaises(ValueRefused):
             time_of(1 << 62)
+
+
+class Bars(unittest.TestCase):
+    def test_a_bar(self):
+        out = io.StringIO()
+        with Bar("range", "bytes", stream=out, is_shown=True) as bar:
+            bar(500)
+            bar(1000, 4000)
+            bar.clear()
+        lines = out.getvalue().split("\r")
+        self.assertTrue(lines[1].startswith("range: 500 bytes, "), lines)
+        self.assertEqual(lines[2], "\x1b[K")
+        self.assertTrue(lines[3].startswith("range: [#######.......................]  25 %, "), lines)
+        self.assertTrue(lines[3].endswith("\n"))
+        hidden = io.StringIO()
+        with Bar("range", stream=hidden) as bar:
+            bar(1)
+            bar.clear()
+        self.assertEqual(hidden.getvalue(), "")
 
 
 class Uris(unittest.TestCase):

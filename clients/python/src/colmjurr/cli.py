@@ -432,10 +432,14 @@ def copy_(words: argparse.Namespace) -> None:
         raise ValueRefused(f"{words.objects}: {error}") from None
     copied = [*uris_of(words.catalog), *words.channel]
 
+    def told(line: str) -> None:
+        bar.clear()
+        print(line, flush=True)
+
     async def run(bar: Bar) -> None:
         how = {**how_to_connect(words), "ask_timeout": words.ask_timeout}
         async with aio.connect(words.source, **how) as source, aio.connect(words.target, **how) as target:
-            await copy(source, target, copied, objects, lambda line: print(line, flush=True), bar)
+            await copy(source, target, copied, objects, told, bar)
 
     with Bar("copy", "points") as bar:
         asyncio.run(run(bar))

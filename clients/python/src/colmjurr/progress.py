@@ -34,6 +34,12 @@ class Bar:
             self.stream.write("\n")
             self.stream.flush()
 
+    def clear(self) -> None:
+        """Removes the bar from its line, so that another line can be written there. The next call shows it again."""
+        if self.is_shown and self.shown_at:
+            self.stream.write("\r\x1b[K")
+            self.stream.flush()
+
     def __call__(self, done: int, of: Optional[int] = None) -> None:
         self.last = done, of
         now = time.monotonic()

@@ -25,7 +25,8 @@ MESSAGE_LIMIT = 16_777_216
 REPLY_LIMIT, BLOBS_LIMIT = 1 << 30, 67_108_864
 # A request has a second more for each so many bytes that are sent or arrive: a slow line is waited for, one that only drips is not.
 LEAST_RATE = 16_384
-# Seconds of silence after which a ping is sent, and after which the connection is given up.
+# Seconds of silence after which a ping is sent, and after which the connection is given up. A longer time limit of requests counts instead,
+# since a server does not answer pings while it works on a request.
 PING_AFTER, GIVE_UP_AFTER = 30.0, 90.0
 # Seconds for the goodbye of a closed connection.
 LINGER = 3.0
@@ -385,7 +386,7 @@ class Session:
         while True:
             await asyncio.sleep(PING_AFTER / 3)
             silent = reader.clock() - reader.heard
-            if silent > GIVE_UP_AFTER:
+            if silent > max(GIVE_UP_AFTER, self.timeout):
                 self.link.abort()
                 self.fail(LinkLost(f"nothing arrived from the server for {silent:.0f} s"))
             elif silent > PING_AFTER:
