@@ -73,8 +73,8 @@ class Copies(unittest.TestCase):
         for uri in objects:
             source.put(uri, uri.encode())
         for number in (0, 2):
-            values = [f"{place}" if number else place / 7 for place in range(20_000)]
-            source.channel(channel_uri(number)).load(list(range(20_000)), values)
+            values = [f"{place}" if number else place / 7 for place in range(4_000)]
+            source.channel(channel_uri(number)).load(list(range(4_000)), values)
         runs, lines = 0, []
 
         async def copied(url):
@@ -84,7 +84,7 @@ class Copies(unittest.TestCase):
                 await copying.copy(one, other, [channel_uri(0), channel_uri(2)], named, lines.append, lambda done, of: steps.append((done, of)))
 
         steps = []
-        with unittest.mock.patch("colmjurr.loading.BULK", 2000):
+        with unittest.mock.patch("colmjurr.loading.BULK", 200):
             while True:
                 runs += 1
                 self.assertLess(runs, 30)
@@ -97,7 +97,7 @@ class Copies(unittest.TestCase):
                     pass
         self.assertGreater(runs, 2)
         self.assertTrue(any("already there" in line for line in lines))
-        self.assertEqual(steps[-1], (20_000, 20_000))
+        self.assertEqual(steps[-1], (4_000, 4_000))
         for uri in objects:
             self.assertEqual(target.get(uri).data, uri.encode())
         for number in (0, 2):
