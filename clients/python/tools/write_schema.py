@@ -77,7 +77,7 @@ def schema_text(table):
         written("MESSAGES", f"dict[tuple[int, int], tuple[str, str, {fields}]]", table["message"]),
         "\n# By number: the messages that every protocol has.",
         written("COMMON", f"dict[int, tuple[str, str, {fields}]]", table["common"]),
-        "\n# The field whose items go on from part to part, where a message comes in parts.",
+        "\n# The field whose items are continued in each part, if a message is sent in parts.",
         written("GROWING", "dict[str, str]", growing),
     ]
     return "\n".join(parts) + "\n"

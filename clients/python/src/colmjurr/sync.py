@@ -35,7 +35,7 @@ class Runner:
             if future.done():
                 raise
             future.cancel()
-            raise TimeLimit(f"nothing came within {timeout:g} s") from error
+            raise TimeLimit(f"nothing arrived within {timeout:g} s") from error
         except BaseException:
             future.cancel()
             raise
