@@ -187,6 +187,20 @@ class Lines(CommandCase):
                 out, _ = rig.communicate(timeout=WAIT)
                 self.assertEqual((out, rig.returncode), ("loaded 3\n", 0))
 
+    def test_an_input_that_does_not_block(self):
+        with self.connect() as store:
+            begin = (store.channel(channel_uri(1)).last or 0) + 1
+        there, here = os.pipe()
+        os.set_blocking(there, False)
+        rig = subprocess.Popen(
+            [sys.executable, "-m", "colmjurr", "load", self.url, channel_uri(1)], stdin=there, stdout=subprocess.PIPE, env=environment(), text=True)
+        os.close(there)
+        with open(here, "wb", buffering=0) as pipe:
+            for index in (begin, begin + 1):
+                time.sleep(0.5)
+                pipe.write(f"{index} 1\n".encode())
+        self.assertEqual((rig.communicate(timeout=WAIT)[0], rig.returncode), ("loaded 2\n", 0))
+
     def test_channels(self):
         path = self.folder / "server.toml"
         path.write_text(support.configuration())

@@ -374,6 +374,16 @@ class Resuming(ProxyCase):
             channel.load([1], ["a"])
             self.assertEqual(list(again.next(20 * PATIENCE).points), [(1, "a")])
 
+    def test_a_watch_that_is_left_can_be_begun_again(self):
+        """As a cell of a notebook is run again: the watch that its loop has left does not keep the channel."""
+        channel = self.connect().channel(channel_uri(2))
+        last = (channel.last or 0) + 1
+        channel.load([last], ["a"])
+        for _ in range(3):
+            for change in channel.watch(start=last):
+                self.assertEqual(list(change.points), [(last, "a")])
+                break
+
     def test_where_a_watch_begins(self):
         store = self.connect()
         channel = store.channel(channel_uri(1))

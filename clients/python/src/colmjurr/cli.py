@@ -13,6 +13,7 @@ import json
 import math
 import os
 import re
+import select
 import shlex
 import socket
 import subprocess
@@ -230,6 +231,8 @@ def load(words: argparse.Namespace) -> None:
 def open_input(path: Optional[str]) -> BinaryIO:
     """A file, or the standard input, without a buffer: what has arrived can be read without waiting for more."""
     if path in (None, "-"):
+        if sys.stdin is None:
+            raise InputError("there is no standard input")
         return open(sys.stdin.fileno(), "rb", buffering=0, closefd=False)  # type: ignore[return-value]
     return open(str(path), "rb", buffering=0)  # type: ignore[return-value]
 
@@ -246,7 +249,11 @@ class Input:
         """The points, each time as many as have arrived. Raises `InputError` with the number of the first malformed line, counted from 1,
         after the points before it were given."""
         rest = b""
-        while data := self.stream.read(READ):
+        while (data := self.stream.read(READ)) != b"":
+            if data is None:
+                # an input that does not block has nothing just now
+                select.select([self.stream], [], [])
+                continue
             rest += data
             end = rest.rfind(b"\n") + 1
             # a row of CSV may have line breaks within quotation marks

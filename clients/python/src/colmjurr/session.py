@@ -134,6 +134,8 @@ class Session:
         self.put_turn = asyncio.Lock()
         self.load_refused: dict[int, Callable[[Refused], None]] = {}
         self.followers: dict[int, Callable[[str, Any], None]] = {}
+        # the watch of each channel that has a follower
+        self.watches: dict[int, Any] = {}
         self.on_lost: list[Callable[[EtpError], None]] = []
         self.task = asyncio.create_task(self._read_all())
         self.beat = asyncio.create_task(self._keep_alive())

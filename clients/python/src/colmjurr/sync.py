@@ -454,6 +454,11 @@ class Watch:
     def __exit__(self, *error: Any) -> None:
         self.close()
 
+    def __del__(self) -> None:
+        # a watch that was left by `break` and that nobody holds is closed, so that its channels can be watched again
+        if self._runner.loop.is_running():
+            asyncio.run_coroutine_threadsafe(self._held.close(), self._runner.loop)
+
     def __iter__(self) -> Iterator[Change]:
         while (change := self._runner.run(self._next())) is not None:
             yield change

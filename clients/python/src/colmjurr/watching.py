@@ -117,6 +117,7 @@ class Watch:
         self._session: Optional[Session] = None
         self._broken: Optional[EtpError] = None
         self._is_closed = False
+        self._ended = asyncio.Event()
         self._patience = self.store.patient()
         self._going: Optional[asyncio.Task[None]] = None
 
@@ -203,11 +204,13 @@ class Watch:
             await asyncio.gather(self._going, return_exceptions=True)
             self._going = None
         session = self._session
-        if session is not None and session.lost is None:
-            try:
+        try:
+            if session is not None and session.lost is None:
                 await self._unsubscribe(session)
-            except EtpError:
-                pass
+        except EtpError:
+            pass
+        finally:
+            self._ended.set()
 
     # -- subscribing
 
@@ -216,13 +219,17 @@ class Watch:
         self._session, self._broken = session, None
         session.on_lost.append(lambda error: self._break(session, error))
         for channel in self.followed:
-            if channel in session.followers:
+            other = session.watches.get(channel)
+            if other is not None and other._is_closed:
+                await other._ended.wait()
+            if channel in session.watches:
                 raise Refused(8, "the channel is already watched in this session")
         for number, followed in self.followed.items():
             followed.begins_anew = lost is not None and self.resume == "full"
             followed.tail_from = followed.last + 1 if lost is not None and self.resume == "tail" and followed.last is not None else None
             if lost is not None and self.resume == "tail":
                 self._put(Gap(followed.channel, str(lost)))
+            session.watches[number] = self
             session.followers[number] = functools.partial(self._take, session, followed)
         try:
             await self._ask_for(session, list(self.followed), self.latest)
@@ -268,12 +275,18 @@ class Watch:
         self._waiting += len(before)
 
     async def _unsubscribe(self, session: Session) -> None:
-        numbers = {str(number): number for number in self.followed}
+        numbers = {str(number): number for number in self.followed if session.watches.get(number) is self}
         try:
-            await session.ask("UnsubscribeChannels", {"channelIds": numbers})
+            if numbers:
+                await session.ask("UnsubscribeChannels", {"channelIds": numbers})
         finally:
-            for number in self.followed:
-                session.followers.pop(number, None)
+            self._let_go(session)
+
+    def _let_go(self, session: Session) -> None:
+        """Leaves the channels to other watches of the session."""
+        for number in self.followed:
+            if session.watches.get(number) is self:
+                del session.watches[number], session.followers[number]
 
     async def _go_on(self) -> None:
         """Begins again after a break, within the store's patience."""
@@ -313,8 +326,7 @@ class Watch:
         if session is not self._session or self._broken is not None:
             return
         if what == "stopped":
-            for number in self.followed:
-                session.followers.pop(number, None)
+            self._let_go(session)
             self._break(session, Stopped(value))
             return
         if self._waiting > WAITING:
