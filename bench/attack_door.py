@@ -6,7 +6,7 @@
 In each round the connections are of one kind: they say nothing, or send a byte of a request each 50 milliseconds, or send rubbish, or
 are of all three kinds. One that the server ends is opened again at once. Meanwhile honest clients come, one after the other: each connects,
 asks for a WebSocket, sends its RequestSession and waits for the first message back. For each round a line has the median and the worst
-time of that, in milliseconds; the status is 0 where the worst one of all is at most 200. It needs the standard library alone.
+time of that, in milliseconds; the status is 0 if the worst of all is at most 200. It needs only the standard library.
 """
 import base64
 import os
@@ -61,7 +61,7 @@ class Stranger:
 
 
 class Siege(threading.Thread):
-    """Strangers of these kinds, until it is told to end."""
+    """Strangers of these kinds, until it is stopped."""
 
     def __init__(self, address, kinds, count):
         super().__init__(daemon=True)
@@ -124,7 +124,7 @@ def honest(address, message):
 
 
 def measure(address, message, kinds, strangers, clients):
-    """The times of honest clients beside strangers, and how many of them were not served."""
+    """The times of honest clients among strangers, and how many of them were not served."""
     siege = Siege(address, kinds, strangers)
     siege.start()
     time.sleep(1)

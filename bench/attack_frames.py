@@ -3,12 +3,12 @@
 
     python3 attack_frames.py ECHO_BENCH                  the echo of crates/bench_echo
     python3 attack_frames.py ETPD CONFIG                 the server, with a configuration
-    python3 attack_frames.py .. --slow                   and the limits of time too, which takes two minutes more
+    python3 attack_frames.py .. --slow                   the time limits too, which takes two minutes more
 
 Each case has a connection of its own and one line in which it says what it sends; what has to come is what the RFC says: the pong of a
 ping, the echo of a message, or the Close frame with the code of the breach (section 7.4.1), and then the end of the connection. Only the
-standard library is used. The last lines are the memory that connections take which keep back the last byte of a long frame, and that the program
-keeps when they have gone. The status is 1 where a case fails.
+standard library is used. The last lines are the memory of connections that keep back the last byte of a long frame, and the memory that the program
+keeps after they have left. The status is 1 if a case fails.
 """
 import argparse
 import base64
@@ -33,7 +33,7 @@ REQUEST = (
 
 
 class Wrong(Exception):
-    """Something else came than the RFC says."""
+    """Something arrived that the RFC does not allow."""
 
 
 def masked(data, key=KEY):
@@ -77,7 +77,7 @@ class Peer:
         self.rest = b""
 
     def send(self, data, size=None, pause=0.0):
-        """Sends all at once, or in pieces of a size with a pause behind each. A peer that has ended the connection takes no more."""
+        """Sends all at once, or in pieces of a size with a pause after each. A peer that has ended the connection takes no more."""
         try:
             for start in range(0, len(data), size or len(data) or 1):
                 self.socket.sendall(data[start : start + (size or len(data))])
@@ -119,7 +119,7 @@ class Run:
 
     def case(self, name, data, *expected, size=None, pause=0.0):
         """Sends these bytes. `expected` are the frames that have to come: pairs of an opcode and a payload, a code of a Close frame, or
-        OPEN, which says that the connection still answers. Where the program is no echo, messages are not looked at."""
+        OPEN, which says that the connection still answers. If the program is not an echo, messages are ignored."""
         self.cases += 1
         try:
             peer = Peer(self.port)
@@ -316,7 +316,7 @@ def memory(run):
 
 
 def slow(run):
-    """The limits of time, all at once."""
+    """The time limits, all at once."""
 
     def lasts(*steps):
         peer, begun, got = Peer(run.port), time.monotonic(), None

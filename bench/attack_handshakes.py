@@ -1,12 +1,12 @@
 #!/usr/bin/env python3
-"""Asks a running server for WebSockets in good and in bad form, and compares what it answers with what RFC 6455 (sections 4.1, 4.2 and
-4.4) and RFC 9112 want. It needs the standard library alone.
+"""Asks a running server for WebSockets by well-formed and malformed requests, and compares its answers with those that RFC 6455 (sections 4.1,
+4.2 and 4.4) and RFC 9112 require. It needs only the standard library.
 
     python3 attack_handshakes.py HOST PORT
 
-Each case is a connection of its own. It prints a line for each case that is answered otherwise, and how many are as wanted; the
-status is 0 where all are. A case wants 101, one of several refusals, or a connection that is closed without an answer, where the
-bytes are no HTTP. A 101 has to have the key's answer, and the subprotocol exactly where it was offered; a 426 has to name version 13,
+Each case is a connection of its own. It prints a line for each case with a wrong answer, and how many are right; the
+status is 0 if all are. The right answer is 101, one of several refusals, or, if the bytes are not HTTP, a connection that is closed without
+an answer. A 101 has to have the key's answer, and the subprotocol exactly if it was offered; a 426 has to name version 13,
 and a 405 the method GET.
 """
 import base64
@@ -161,7 +161,7 @@ def cases():
 
 
 def answer(client):
-    """The status and the fields of the answer, or None where the connection ended without one."""
+    """The status and the fields of the answer, or None if the connection ended without one."""
     data = b""
     while b"\r\n\r\n" not in data:
         piece = client.recv(65_536)

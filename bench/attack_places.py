@@ -6,8 +6,8 @@
 64 clients open a session each, and one more connects, which has to wait. In each round one of the sessions ends, every second one by
 CloseSession and the others by a connection that is cut, but never the oldest, and the client that waits has to be answered then. A line
 for each round has which of the clients left, by its age among the 64, and how many milliseconds it took from the end of its
-connection to the answer. The status is 0 where none took more than 50, no answer came while all places were taken, and the oldest session
-was served to the end. It needs the standard library alone.
+connection to the answer. The status is 0 if none took more than 50, no answer came while all places were taken, and the oldest session
+was served to the end. It needs only the standard library.
 """
 import asyncio
 import sys

@@ -13,7 +13,7 @@
 //! names the message that it answers by its correlation id; that of an echo, which is the message itself, by its id. Whatever
 //! else comes ends the program with a status that is not 0, and so does an answer that does not come within ten seconds.
 //!
-//! It stands on Rust's std alone, and shares nothing with the servers.
+//! It needs only Rust's std, and shares nothing with the servers.
 use std::collections::VecDeque;
 use std::env;
 use std::io::{self, Read, Write};

@@ -1,5 +1,5 @@
 #!/usr/bin/env python3
-"""Measures a running server beside a plain echo, and prints the tables of README.md.
+"""Measures a running server and a plain echo, and prints the tables of README.md.
 
     python3 measure_server.py ETPD ECHO_BENCH [SECONDS]
 

@@ -1,5 +1,5 @@
 #!/usr/bin/env python3
-"""How long after a load a quiet subscriber of the running server is told of it, and what idle sessions cost.
+"""How long after a load a quiet subscriber of the running server gets the notice, and what idle sessions cost.
 
     python3 notice_delay.py ETPD
 

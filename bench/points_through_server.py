@@ -3,8 +3,8 @@
 
     python3 points_through_server.py ETPD
 
-ETPD is the built server. A rig sends what it loads as fast as the server takes it, and behind it a Ping, whose Pong ends the loading.
-Each office subscribes to the channel before the first point, counts the points that it is told of, and is done with the last one. The
+ETPD is the built server. A rig sends its points as fast as the server takes them, and then a Ping, whose Pong ends the loading.
+Each office subscribes to the channel before the first point, counts the points that it receives, and is done with the last one. The
 rig's messages are made before the clock starts, and an office reads of each message no more than it has to; all of them run on
 the machine of the server, each as a process of its own. Of the server it says how much processor time it took, user and system, and the
 greatest memory that it had.
@@ -40,7 +40,7 @@ def framed(data):
 
 
 def frame_at(held):
-    """The opcode of a server's first frame, and where its bytes begin and end; none where not all of it is there."""
+    """The opcode of a server's first frame, and where its bytes begin and end; none if not all of it has arrived."""
     if len(held) < 2:
         return None
     size, start = held[1], 2
@@ -119,7 +119,7 @@ def number(data, at):
 
 
 def office(port, points, ready, told):
-    """Counts the points that it is told of: the numbers in front of a message are its header's and then how many there are."""
+    """Counts the points that it receives: a message begins with the numbers of its header, and then has their count."""
     peer = Peer(port)
     start = dict(startIndex=dict(item=(1, 0)), dataChanges=True, requestLatestIndexCount=(0, None))
     peer.ask(21, 3, dict(channels={"c": dict(channelId=0, **start)}))
@@ -150,7 +150,7 @@ def loads(peer, size, count):
 
 
 def measured(port, size, count, offices):
-    """The seconds until all is loaded, and until the last office was told of all."""
+    """The seconds until all is loaded, and until the last office has received all."""
     ready, told = multiprocessing.Queue(), multiprocessing.Queue()
     watching = [multiprocessing.Process(target=office, args=(port, size * count, ready, told)) for _ in range(offices)]
     for each in watching:

@@ -1,6 +1,6 @@
 #!/usr/bin/env python3
 """Writes a capture of about SIZE megabytes for `etptool replay`: one session that puts ten dataspaces and then sends
-GetDataspaces and Ping by turns.
+GetDataspaces and Ping alternately.
 
     python3 replay_capture.py SIZE > FILE
 """

@@ -1,14 +1,14 @@
 #!/usr/bin/env python3
-"""Captures for `etptool replay` that are measured, and their configuration.
+"""Captures for measuring `etptool replay`, and their configuration.
 
     python3 row_load.py config > row_load.toml
     python3 row_load.py objects > FILE              1,000 objects of 60 KB are put one by one, and then got one by one
     python3 row_load.py arrays > FILE               an array of 4,194,304 doubles is made, patched and then read by slices of 65,536
     python3 row_load.py points SIZE SUBSCRIBERS [CHANNELS] > FILE
                                                     a million points of eight channels, or of so many, are loaded, SIZE a message,
-                                                    while so many other sessions are told of them, polled once in a while
+                                                    while so many other sessions follow them, polled once in a while
     python3 row_load.py commits COUNT SIZE ENTRIES > FILE
-                                                    behind ENTRIES loads of a point, each an entry, COUNT transactions put the same SIZE
+                                                    after ENTRIES loads of a point, each an entry, COUNT transactions put the same SIZE
                                                     objects each, and are committed
     python3 row_load.py patches COUNT > FILE       one transaction of COUNT patches of one array of 4,194,304 doubles, and its commit
     python3 row_load.py texts KEYS > FILE          an array of 3,145,728 texts is made; then one request patches one text of it under each of KEYS
@@ -129,7 +129,7 @@ def commits(count, size, entries):
 
 
 def patches(count, size=4_194_304, part=16):
-    """One transaction of so many patches of one array, by turns at its beginning and its end."""
+    """One transaction of so many patches of one array, alternately at its beginning and its end."""
     client = Client()
     client.open()
     client.put(1, b"")

@@ -1,11 +1,11 @@
 #!/usr/bin/env python3
-"""Runs the server where the system gives it few descriptors, and checks that it goes on.
+"""Runs the server with few file descriptors, and checks that it goes on.
 
     python3 starve_server.py ETPD
 
 ETPD is the built program. For each limit clients come until one is not served, or 64 are. That one has to be refused with 503 or has to
 wait. Once three of the others have left, a newcomer has to be served, and after all have left another one. For each limit a line says
-how many were served at a time. It needs the standard library alone.
+how many were served at a time. It needs only the standard library.
 """
 import resource
 import socket

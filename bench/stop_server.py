@@ -3,11 +3,11 @@
 
     python3 stop_server.py ETPD
 
-ETPD is the built program. It is run by `deploy/etpd-run`, with no client, with one, with ten that keep asking, with four that send
-without a pause and read late, with 64 after connections that were reset before they were answered, with 64 of which one reads nothing,
-and beside connections that never become clients. Each time it has to end with status 0 within 35 seconds, write its report, and tell
-each client that it goes away (a Close frame with 1001). A server whose standard input has ended before it began has to serve. It needs
-the standard library alone.
+ETPD is the built program. It is run by `deploy/etpd-run`, with no client, with one, with ten that keep asking, with four that send without
+a pause and read late, with 64 after connections that were reset before they were answered, with 64 of which one reads nothing, and with
+connections that never become clients. Each time it has to end with status 0 within 35 seconds, write its report, and tell each client that
+it goes away (a Close frame with 1001). A server whose standard input ended before it started has to serve. It needs only the standard
+library.
 """
 import asyncio
 import os
@@ -148,7 +148,7 @@ def check(config, name, clients, busy=0, floods=0, lazy=False, strangers=0, leav
 
 
 def check_ended_input(config):
-    """An input that has ended before the server began asks nobody to stop."""
+    """An input that ended before the server started does not stop it."""
     read, write = os.pipe()
     os.close(write)
     server, port = start(config, [], stdin=read)

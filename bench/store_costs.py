@@ -1,5 +1,5 @@
 #!/usr/bin/env python3
-"""Measures what calls of the store cost in the cases that are dear where a look-up is one in name only.
+"""Measures what calls of the store cost in the cases that become expensive if a look-up walks over everything.
 
     python3 store_costs.py ETPTOOL [CASE..]
 
@@ -7,11 +7,11 @@ ETPTOOL is the built tool, which replays captures. What a case costs is the diff
 calls that are measured: the processor time of each is the median of five runs. The cases are
 
     spaces      new dataspaces, put 1,000 a message
-    behind      subscriptions that are told of 65,536 entries at once, and polls of one that is told of nothing
-    removed     objects that are removed beside very many arrays
+    behind      subscriptions that catch up with 65,536 entries at once, and polls of one that has no changes
+    removed     objects that are removed from a store with very many arrays
     empty       slices of regions without elements, in a small array and in a large one
     patches     patches of one array of 4,194,304 doubles in one transaction
-    appends     points loaded behind few and behind many
+    appends     points loaded after few and after many
 """
 import io
 import resource

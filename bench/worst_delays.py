@@ -4,9 +4,9 @@
     python3 worst_delays.py ETPD [NAME..]        NAME: only the rows whose names begin so
 
 ETPD is the built server; each row has a fresh one. While the request is made, one other session sends Pings one by one, one sends
-GetDataspaces, and one connects anew again and again; each is a process of its own. A row has the request's bytes, the seconds until it is
-answered, the server's processor seconds, and the worst delay of each of the others within that time. Ping asks the store nothing; GetDataspaces
-waits for its turn at it, so its column is how long the turn was held, and above the first row's by what the processors are shared.
+GetDataspaces, and one connects again and again; each is a process of its own. A row has the request's bytes, the seconds until it is
+answered, the server's processor seconds, and the worst delay of each of the others within that time. Ping does not need the store; GetDataspaces
+waits for its turn at it, so its column says how long the turn was held. What the first row has is the cost of sharing the processors.
 """
 import multiprocessing
 import os
@@ -124,7 +124,7 @@ class Session:
 
 
 def watch(kind, port, told, over):
-    """Makes one small request after the other, and tells when each began and how long it took."""
+    """Makes one small request after the other, and notes when each began and how long it took."""
     session, spent = None if kind == "session" else Session(port), []
     told.put("ready")
     while not over.is_set():

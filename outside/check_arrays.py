@@ -1,10 +1,10 @@
 #!/usr/bin/env python3
-"""The calls of the program check_arrays, and what they give, over plain lists.
+"""The calls of the program check_arrays, and their results, computed with plain lists.
 
 `cases` prints the calls, one a line, and `answer` what each gives. A line has a call and its words:
 
     dims DIMS COUNT                            how many elements there are; COUNT may be `any`
-    judge DIMS KIND ELEMENTS                   why a record is no array
+    judge DIMS KIND ELEMENTS                   why a record is not an array
     reserve MORE                               makes room for more arrays
     put SPACE PATH DIMS KIND ELEMENTS AT       puts an array that was written at AT
     get SPACE PATH                             the array
@@ -76,7 +76,7 @@ def dims_of(dims, count):
 
 
 def places(dims, starts, counts):
-    """Where the elements of a region stand, in row-major order. A region without elements is not walked."""
+    """The places of a region's elements, in row-major order. A region without elements is not walked."""
     if product(counts) == 0:
         return []
     spans = [range(start, start + count) for start, count in zip(starts, counts)]
@@ -99,7 +99,7 @@ class Store:
         self.arrays = {}
 
     def region(self, array, starts, counts):
-        """Where a region's elements stand, or why it is none."""
+        """The places of a region's elements, or why it is not a region of the array."""
         if len(starts) != len(array["dims"]) or len(counts) != len(array["dims"]):
             return RANK
         for dim, start, count in zip(array["dims"], starts, counts):

@@ -1,10 +1,10 @@
 #!/usr/bin/env python3
-"""Asks and messages for the program `check_client`, and what a client sends and hands out.
+"""Requests and messages for the program `check_client`, and what a client sends and hands out.
 
     python3 check_client.py ../crates/check_client
 
-writes its input and its expected output. The bytes are those of `wire.py`; what a message hands out, and why it is refused, stands
-beside it in the tables below.
+writes its input and its expected output. The bytes are those of `wire.py`; what a message hands out, and why it is refused, is
+next to it in the tables below.
 """
 import pathlib
 import sys
@@ -90,7 +90,7 @@ class Table:
             self.open()
 
     def ask(self, line, protocol, kind, value, *more):
-        """An ask that is sent as one message, and as the chunks `more` behind it."""
+        """A request that is sent as one message, followed by the chunks `more`."""
         number = self.asked = self.asked + 2
         messages = [message(protocol, kind, "C", value, 0, number, 0 if more else 2)]
         for place, chunk in enumerate(more):

@@ -4,7 +4,7 @@
     python3 check_ctl.py ../crates/check_ctl
 
 writes its input and its expected output. The bytes are those of `wire.py`; what the server of a link answers is what a session of two
-channels answers to the same requests (`row_captures.py` has such answers). What the client does stands beside it, run by run.
+channels answers to the same requests (`row_captures.py` has such answers). What the client does is listed run by run.
 """
 import pathlib
 import sys

@@ -96,7 +96,7 @@ class Run:
                 ends[tag] = LINK_FAULT
             writes[numbers[tag]] += server.store.length - length
         for tag in numbers:
-            # behind the last message the peer has gone, which a call tells
+            # after the last message the peer is gone, which a call reports
             if ends[tag] is None:
                 try:
                     calls[tag].make()

@@ -1,8 +1,8 @@
 #!/usr/bin/env python3
-"""The lines of the program check_store, and what they give, by a store of plain lists and tables.
+"""The lines of the program check_store, and their results, computed by a store of plain lists and tables.
 
 `cases` prints the lines, and `answer` what each gives. A line begins a store, prints its journal, or is a call of a session at
-a moment; the items of a call stand behind a colon, with semicolons between them:
+a moment; the items of a call come after a colon, separated by semicolons:
 
     limits                             the greatest numbers of the profile, by their names
     store JOURNAL TYPES KINDS          a store whose journal takes so many entries, with channels of these kinds
@@ -11,7 +11,7 @@ a moment; the items of a call stand behind a colon, with semicolons between them
     BY AT spaces [NEWER]               the dataspaces, or those written after a moment
     BY AT put_spaces:NAME PATH CUSTOM  puts dataspaces
     BY AT drop_spaces:NAME PATH        drops dataspaces
-    BY AT look:WANT                    what stands at keys: space PATH, known URI, object URI, array URI PATH, shape URI PATH or
+    BY AT look:WANT                    what is at keys: space PATH, known URI, object URI, array URI PATH, shape URI PATH or
                                        slice URI PATH STARTS COUNTS
     BY AT put:NAME AT KEY WHAT         operations. A key is space/PATH, object/SPACE/TYPE/NUMBER or array/SPACE/TYPE/NUMBER/PATH, and
                                        what is done is gone, object URI OTHERS NAME CHANGED ACTIVE CUSTOM FORMAT DATA,
@@ -27,7 +27,7 @@ a moment; the items of a call stand behind a colon, with semicolons between them
 A URI is three words, SPACE TYPE NUMBER; the type `-` is that of a dataspace's URI. A channel's is the type Channel and its number, in the
 dataspace `w` where the number is odd. `-` is the empty text, list or table. A value is a letter and its content: n for null, b, i, l, f, d
 (floats by their bits), s (text), x (bytes), L (a list of longs), S (a list of texts). A text may be PIECE*COUNT, and is shown by its
-length where it is long.
+length if it is long.
 """
 import random
 import sys
@@ -365,7 +365,7 @@ class Store:
         return None, op.counted(), op.change()
 
     def op_code(self, op):
-        """The code by which what stands refuses an operation."""
+        """The code with which the store, as it is, refuses an operation."""
         if op.what == "object":
             return None if op.key[0] in self.spaces else 11
         if op.what == "gone":
@@ -376,7 +376,7 @@ class Store:
         return self.patch_code(found, op.starts, op.counts, op.values) if found else 11
 
     def do(self, op):
-        """Does an operation that goes with its key, whatever stands."""
+        """Does an operation on its key, whatever the store has there."""
         space, uri, path = op.key
         if op.what == "object":
             made = self.objects.get(uri, {"created": op.at})["created"]
@@ -834,7 +834,7 @@ STORES = [
 
 
 class Draw:
-    """Draws lines for a store, by what stands in it."""
+    """Draws lines for a store from what is in it."""
 
     def __init__(self, draw, store):
         self.draw, self.store, self.at = draw, store, 10
@@ -852,7 +852,7 @@ class Draw:
         return self.draw.choice(PATHS)
 
     def present(self):
-        """The path of a dataspace that stands, mostly."""
+        """The path of a dataspace, mostly of one that exists."""
         path = self.path() if self.rare(5) else self.draw.choice(list(self.store.spaces))
         return path or "-"
 
@@ -883,7 +883,7 @@ class Draw:
         return [self.present(), "-" if self.rare(40) else self.draw.choice(TYPES), str(self.one(1, 1, 2, 3))]
 
     def object_uri(self):
-        """The words of an object's URI that stands, mostly."""
+        """The words of an object's URI, mostly of one that exists."""
         return self.uri() if not self.store.objects or self.rare(4) else list(self.draw.choice(list(self.store.objects.values()))["words"])
 
     def array_words(self):

@@ -160,7 +160,7 @@ USAGE = (
     "etptool replay CONFIG < CAPTURE > ANSWERS\netptool show < CAPTURE\netptool check < CAPTURE\n"
     "etptool capture N > CAPTURE\netptool generate N\n"
 )
-# the number of bytes from which on an output is told as its digest
+# outputs of at least this many bytes are given by their digest
 LONG = 400_000
 NUMBERS = {"usage": 1, "config refused": 2, "capture refused": 3, "read fault": 4, "write fault": 5, "refused": 9}
 
@@ -252,7 +252,7 @@ def add_configs(cases):
 
 
 def add_bad_frames(cases):
-    """Captures of which a frame is none: the first one, or the one behind it."""
+    """Captures with a malformed frame: the first one, or the one after it."""
     head = lambda kind, length: wire.FRAME_HEAD.pack(kind, 0, 0, length)
     rows = [
         ("kind_4", b"\4"), ("cut_head", b"\1\0"), ("cut_payload", head(1, 2) + b"a"), ("long_message", head(1, 33_554_433)),
@@ -437,7 +437,7 @@ def add_loads(cases):
 
 
 def add_faulty_system(cases):
-    """What is told where the tool runs behind the cases over a system that fails: of its output, and of memory."""
+    """What is reported when, after the cases, the tool runs over a system that fails: its output, and memory."""
     cases.answers.append(b"write fault\nno memory\n")
 
 

@@ -1,13 +1,13 @@
 #!/usr/bin/env python3
-"""The client beside a server that we did not write, and beside the running server.
+"""The client against a server that we did not write, and against the running server.
 
     python3 client_from_outside.py ETPCTL
     python3 client_from_outside.py ETPCTL ETPD LOADERS POINTS
 
 ETPCTL is the built client. In the first form each of its commands talks to a server over the library `websockets` (Debian's
 `python3-websockets`) whose messages `wire.py` reads and writes, and what it prints, its status, its line on standard error and all that the
-server took are compared with what they have to be; then come addresses that are none, peers that answer nothing, garbage, half a
-message or another subprotocol, and lines that are no points.
+server took are compared with what they have to be; then come malformed addresses, peers that answer nothing, garbage, half a
+message or another subprotocol, and malformed lines of points.
 
 In the second form ETPD is the built server: so many loaders each load POINTS points into a channel of their own while as many watchers
 each watch one of these channels, and the last points and the counts that they print have to be those that were loaded. It prints the

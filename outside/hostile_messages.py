@@ -102,7 +102,7 @@ def digest(start, data):
 
 
 def answer(capture, words=()):
-    """The lines of all messages where there is a third word, and else a line for every thousand."""
+    """The lines of all messages if there is a third word, and else a line for every thousand."""
     seed, thousands = (int(word) for word in words[:2] or (1, 10))
     samples = [frame for frame in wire.read_frames(capture) if frame.kind in wire.SENDERS]
     lines = refused = 0

@@ -179,7 +179,7 @@ def debug_shared(field, node, value):
 
 
 def debug_field(field, node, value):
-    """A field of a point. Of its indexes a single one stands in the point itself."""
+    """A field of a point. If it has only one index, that is shown in the point itself."""
     if field != "indexes":
         return debug(node, value)
     held = f"One([{debug(node.item, value[0])}])" if len(value) == 1 else f"Many({debug(node, value)})"
@@ -310,7 +310,7 @@ def sentence(fault, data):
 
 
 def framed(messages):
-    """Frames of these kinds and bytes, each behind the one before it, and what else is said of each."""
+    """Frames of these kinds and bytes, one after the other, with whatever else is said of each."""
     offset = len(wire.MAGIC)
     for place, (kind, data, *more) in enumerate(messages):
         frame = wire.Frame(offset, kind, place % 3, 1000 * place - 5000, data)

@@ -5,8 +5,8 @@
     part_samples.py answer      what it prints
     part_samples.py parts       the parts themselves
 
-A frame's tag is the number of the session that sends its message, and its moment the limit of bytes. Groups here are tried out:
-a further item stays in a group while the group's bytes, written anew, are few enough.
+A frame's tag is the number of the session that sends its message, and its moment the limit of bytes. Groups are found by trial:
+a further item stays in a group as long as the group, written again, has few enough bytes.
 """
 
 import random
@@ -64,7 +64,7 @@ def has_room(node, group, limit):
 
 
 def groups(node, items, limit):
-    """Each item goes into the last group if there is room, and else begins another; where there is room for all, that is one group."""
+    """Each item goes into the last group if there is room, and else begins another; if there is room for all, that is one group."""
     items = like(items, in_order(items))
     if has_room(node, items, limit):
         return [items]

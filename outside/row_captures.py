@@ -368,7 +368,7 @@ def channels():
 
 
 def lag():
-    """Subscriptions that end for their lag, where it is at most two."""
+    """Subscriptions that end because they lag; at most two entries are allowed."""
     script = Script()
     script.open([21, 22])
     asked = script.say(22, 1, dict(uris={"a": channel(0), "d": channel(1)}))
@@ -448,7 +448,7 @@ SCRIPTS = {
     "chunks": (chunks, "two_channels"), "puts": (puts, "two_channels"), "arrays": (arrays, "two_channels"), "channels": (channels, "two_channels"),
     "lag": (lag, "lag_of_two"), "doubles": (doubles, "one_double"),
 }
-# how far behind a subscriber may be, and one more: its subscription is stopped
+# how far a subscriber may fall behind, and one more, for which its subscription is stopped
 FAR_BEHIND = {"as_far_as_it_may": 65_536, "too_far": 65_537}
 
 

@@ -132,7 +132,7 @@ def dims_code(dims, count, size):
 
 
 class Contents:
-    """What stands in the dataspaces: tables by path, by URI, and by URI and path."""
+    """The contents of the dataspaces: tables by path, by URI, and by URI and path."""
 
     def __init__(self):
         self.spaces = {"": {"written": 0, "created": 0, "custom": {}}}
@@ -220,7 +220,7 @@ class Contents:
 
 
 class Store(Contents):
-    """What stands in the dataspaces, the channels' points, and of each entry what it did to channels."""
+    """The contents of the dataspaces, the channels' points, and what each entry did to channels."""
 
     def __init__(self, channels, journal):
         super().__init__()
@@ -235,7 +235,7 @@ class Store(Contents):
         self.entries.append(list(changes))
 
     def judged(self, items):
-        """The codes of operations: the accepted ones make one entry, or none where there are none."""
+        """The codes of operations. Those that are accepted make one entry, if there are any."""
         before = self.tables()
         codes, done = self.accepted(items)
         if done:
@@ -806,7 +806,7 @@ class Session:
             return (item["channelId"], item["newEndIndex"]["item"][1]) if item["newEndIndex"]["item"][0] == 1 else 20
 
         cut = lambda items: self.store.truncate(items, moment)
-        # a moment is a number too, so it stands in a list until the reply is made
+        # a moment is a number too, so it is kept in a list until the reply is made
         done = lambda made: {"channelsTruncatedTime": {key: item[0] for key, item in made.items()}}
         return self.by_verdicts(22, value["channels"], check, cut, 10, done, lambda item: [moment])
 
@@ -1042,7 +1042,7 @@ class Client:
             "blobId": (0, None) if blob is None else (1, blob), "data": data}
 
     def put_data_objects(self):
-        """A put, perhaps with the chunks that it awaits behind it."""
+        """A put, perhaps followed by the chunks that it awaits."""
         keys = sorted(self.keys())
         blobs = {key: self.draw.randbytes(16) for key in keys if self.rare(4)}
         if blobs and self.rare(12):
@@ -1106,7 +1106,7 @@ class Client:
         return self.message(9, 9, {"dataArrays": {key: one() for key in self.keys()}})
 
     def region(self, uid):
-        """A region of what stands there, most often."""
+        """A region, mostly one of the array that is there."""
         name = self.session().array_name(uid)
         array = None if isinstance(name, int) else self.session().store.arrays.get(name)
         dims = array["dims"] if array else [2, 2]

@@ -9,7 +9,7 @@ from sessions import CUSTOM, CUSTOM_LIMIT, dataspace_uri
 
 VERSION = {"major": 1, "minor": 2, "revision": 0, "patch": 0}
 
-# A payload with no other byte is written as a number where it is longer than this.
+# A longer payload that is all zeros is written as a number.
 SHORT = 65_536
 
 

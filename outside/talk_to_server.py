@@ -4,7 +4,7 @@
     /usr/bin/python3 talk_to_server.py ETPD ETPTOOL
 
 ETPD and ETPTOOL are the built programs. The first nine clients are those of Debian's python3-websockets, a peer that we did not
-write. What it can't do is left to web_socket.py, which shares nothing with the product either. Where the package is missing all
+write. What it can't do is left to web_socket.py, which shares nothing with the product either. If the package is missing, all
 clients are those of web_socket.py, and a line says so.
 
 Before the first client there are strangers: one that says nothing, one that goes at once, one with a request that is no
@@ -14,8 +14,8 @@ byte too long. Meanwhile a tenth has asked for more lists than its socket holds,
 the ninth has gone. An eleventh goes in the middle of a frame. The server takes eleven links and then ends.
 
 From the answers this learns the sessions' numbers and the moments of their messages, writes them down as a capture, and has
-the tool replay it. All answers have to be the same bytes, but for the lists of the second phase, which depend on the order
-in which the threads came: of these the own dataspaces have to be there, and every other one has to be one that was put.
+the tool replay it. All answers have to be the same bytes, except for the lists of the second phase, which depend on the order
+of the threads: in these the client's own dataspaces have to be there, and every other one has to be one that was put.
 """
 import asyncio
 import re
@@ -44,7 +44,7 @@ LONGEST = 16_777_216
 LISTS = 10_000
 PATIENCE = 10
 
-# The code that stands for a connection without a goodbye (RFC 6455, section 7.4.1).
+# The code for a connection that ended without a goodbye (RFC 6455, section 7.4.1).
 NO_GOODBYE = 1006
 
 

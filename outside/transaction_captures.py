@@ -330,7 +330,7 @@ def transaction_starts():
     for uri in well(1), "eml:///dataspace('')", space("w" * 257), "eml:///dataspace('w')/":
         rig.ask_start(uris=[space("w"), uri])
         rig.refused(9)
-    # none of those that were refused counts; the dataspaces may be listed twice, and need not stand
+    # none of those that were refused counts; the dataspaces may be listed twice, and need not exist
     rig.start(paths=[""] * 1022 + ["none"] * 2)
     rig.ask_start(uris=[""] * 1025)
     rig.refused(15)
@@ -363,7 +363,7 @@ def transaction_starts():
 
 
 def transaction_refusals():
-    """Each cause that refuses a request or a key within a transaction, where those before it are passed and some behind it stand."""
+    """Each cause that refuses a request or a key within a transaction, where the ones before it do not apply and some of the ones after it do."""
     script = Script("wells")
     rig = script.client(limit=65_536, formats=("xml", "json"))
     space_moment = rig.puts_space("w")
@@ -431,7 +431,7 @@ def transaction_refusals():
         "g": blank(well(9, "w"), "p", largest, 4), "h": blank(well(9, "w"), "p", largest, 4), "i": blank(well(9, "w"), "p", largest, 4),
         "j": blank(well(9, "w"), "p", [0], 4, (), text(16_384)), "k": blank(well(9, "w"), "p", [0], 4)})
     rig.answered(12, {}, {"a": 9, "b": 5, "c": 6, "d": 5, "e": 17, "f": 5, "g": 11, "h": 11, "i": 17, "j": 17, "k": 11})
-    # arrays patched; what has to stand comes before what has to fit
+    # arrays patched; that the array exists is tested before that the patch fits
     fours = well(4, "w")
     rig.patch({
         "a": patch("", "", [], [], ints()), "b": patch(well(8), "", [], [], ints()), "c": patch(well(8), "p", [], [], ints()),
@@ -450,7 +450,7 @@ def transaction_refusals():
     rig.describe({key: names[key] for key in "abcd"})
     rig.answered(7, {}, {"a": 9, "b": 5, "c": 6, "d": 11})
     rig.commit()
-    # only what was granted stands
+    # only what was granted is in the store
     rig.get({"1": well(1, "w"), "5": well(5, "w")})
     rig.answered(4, {"5": given(well(5, "w"), b"5", written=staged, created=staged)}, {"1": 11})
     return script
@@ -601,7 +601,7 @@ def transaction_views():
 
 
 def transactions_of_ended_sessions():
-    """Sessions that end with a transaction open: nothing of it is applied, and nobody meets it."""
+    """Sessions that end with a transaction open: nothing of it is applied, and no other session sees it."""
     script = Script()
     office = script.client()
     moment = office.puts(well(1), b"1")
@@ -648,7 +648,7 @@ def dropped_dataspace():
     rig.puts_array(x, "c", [1], ints(6))
     office.drops_space("w")
     place = script.place
-    # what is staged is still over what stands, and a patch has nothing left to stand over
+    # what is staged still covers the store, and a patch has nothing left to apply to
     rig.get({"x": x, "y": y})
     rig.answered(4, {"y": given(y, b"y", written=staged, created=staged)}, {"x": 11})
     rig.get_arrays({"a": uid(x, "a"), "b": uid(x, "b"), "c": uid(x, "c"), "d": uid(y, "a")})
@@ -672,7 +672,7 @@ def dropped_dataspace():
     rig.removes(x)
     office.drops_space("v")
     rig.commit()
-    # one that is put again is altered, and what stands in it is not
+    # one that is put again is altered, and what it contains is not
     rig.start(paths=["w"])
     rig.misses(x)
     office.puts_space("w")
@@ -732,7 +732,7 @@ def transactions_beside_others():
     rig.start(paths=["w"])
     rig.chunk(put, b"five", blobs[0])
     rig.answered(9, {}, {"a": 6})
-    # channels stand outside
+    # channels are not part of transactions
     channel = thing("Channel", 0)
     rig.say(22, 1, dict(uris={"c": channel}))
     index = dict(
@@ -766,7 +766,7 @@ def transactions_beside_others():
 
 
 # What a session does in its transaction over the dataspace `w`, and which of the things that another one does then are a conflict. There
-# x stands, with an array a; y and its arrays don't, nor does x's array b.
+# x exists, with an array a; y and its arrays don't, nor does x's array b.
 CLASHES = {
     "gets x": {"puts x", "removes x", "drops w", "commits"},
     "gets y": {"puts y", "drops w"},
@@ -928,7 +928,7 @@ def first_conflicts():
     rig.misses(well(5))
     office.puts(well(4), b"")
     rig.commit(f"conflict {script.place}")
-    # three transactions over one key: the first commit stands, also where the others began before it
+    # three transactions over one key: the first commit holds, even if the others began before it
     for client in rig, office, other:
         client.start()
     other.puts(well(0), b"3")
@@ -975,7 +975,7 @@ def commits_to_full_journal():
     rig.start()
     rig.puts(well(4), b"")
     other = script.client(protocols=(18, 4))
-    # the journal is full: a conflict is told all the same
+    # the journal is full: a conflict is reported all the same
     office.commit("conflict 4")
     rig.commit("journal full")
     rig.ask_commit()
@@ -1046,7 +1046,7 @@ def most_operations():
 
 
 def most_keys():
-    """A transaction that touches 16,384 keys: one more is refused, whatever stands there, and those that were touched never."""
+    """A transaction that touches 16,384 keys: one more is refused, whatever is there, and those that were touched never are."""
     script = Script()
     rig, office = script.client(), script.client()
     first = rig.puts(small(1), b"1")
@@ -1054,7 +1054,7 @@ def most_keys():
     rig.puts_array(small(2), "a", [1], ints(2))
     rig.start()
     rig.gets(small(1), b"1", first, first)
-    # an object and its array each, none of which stand
+    # an object and its array each, none of which exist
     number = 9
     for count in range(8):
         names = NAMES[: 1023 if count == 7 else 1024]
@@ -1079,7 +1079,7 @@ def most_keys():
     rig.answered(9, {}, {"a": 12, "b": 12})
     rig.removes(small(1))
     rig.misses(small(1))
-    # what had no key is no conflict; the object that took the last one is
+    # what got no key does not conflict; the object that got the last one does
     office.puts(small(4), b"4")
     office.puts_array(small(2), "a", [1], ints(5))
     office.puts(small(2), b"3")
@@ -1100,7 +1100,7 @@ def most_staged_bytes():
     left = 67_108_864 - 3 * (256 + len(x) + 1) - 8 * (first + second)
     rig.make_arrays({"a": blank(x, "a", [first], 4), "b": blank(x, "b", [second], 2)})
     rig.answered(12, {"a": "", "b": ""})
-    # a later key that has room is granted; what has to stand comes first
+    # a later key that has room is granted; that its object exists is tested first
     rig.make_arrays({"a": blank(x, "c", [left + 1], 6), "b": blank(x, "c", [left], 6), "c": blank(x, "d", [0], 6), "d": blank(well(2), "c", [0], 6)})
     made = script.moment
     rig.answered(12, {"b": ""}, {"a": 12, "c": 12, "d": 11})
@@ -1168,10 +1168,10 @@ def most_payload():
     rig.patch({path: patch(x, path, [0], [0 if path == "d" else 1], pieces[path]["data"]) for path in "abcde"})
     third = script.moment
     rig.answered(11, {path: "" for path in "abd"}, {"c": 12, "e": 12})
-    # a region that lies outside an array that was given is refused for that, and counts in the look all the same
+    # a region outside an array that was given is refused for that, and counts in the look all the same
     rig.slice({"a": region(x, "a", [largest], [1]), "b": regions["b"], "c": region(x, "c", [largest], [1]), "e": regions["e"]})
     rig.answered(8, {"b": pieces["b"]}, {"a": 5, "c": 12, "e": 12})
-    # so it is with an array that is staged anew, and is small: what the look refused is not known
+    # the same with an array that is staged again, and is small: what the look refused is not known
     fourth = rig.put_arrays({"c": array(x, "c", [1], ints(1))})
     rig.answered(10, {"c": ""})
     rig.describe({path: ids[path] for path in "abc"})
@@ -1180,7 +1180,7 @@ def most_payload():
     rig.describe({path: ids[path] for path in "ace"})
     rig.answered(7, {"a": written["a"], "c": shape([1], 1, 4, fourth, second)}, {"e": 12})
     rig.roll_back()
-    # what is staged is greater than what stands: it is counted once more, and what does not fit counts nothing then
+    # what is staged is larger than what is in the store: it is counted once more, and what does not fit then counts nothing
     rig.start()
     fifth = rig.make_arrays({"d": blank(x, "d", [largest], 4)})
     rig.answered(12, {"d": ""})
@@ -1197,7 +1197,7 @@ def most_payload():
     rig.answered(11, {"d": "", "e": ""}, {"a": 5, "f": 12})
     rig.remove({"k": x})
     rig.answered(10, {"k": dict(values=[x])})
-    # what is removed is looked at as it stands
+    # what is removed is looked at as it is in the store
     rig.describe({path: ids[path] for path in "abce"})
     rig.answered(7, {}, {"a": 11, "b": 11, "c": 12, "e": 12})
     rig.commit()

@@ -334,7 +334,7 @@ def value_at(tables, key):
 
 
 class Laws:
-    """Plays a capture, and tests each transaction by what it has to be."""
+    """Plays a capture, and tests that each transaction is as it has to be."""
 
     def __init__(self, journal):
         self.server, self.plain = transactions.Server([], 65_536, journal, None), PlainServer([], 65_536, 4_194_304, None)

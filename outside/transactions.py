@@ -1,7 +1,7 @@
-"""A server whose sessions have transactions, written as the one of `row_samples.py` and beside it, of plain tables.
+"""A server whose sessions have transactions, made of plain tables like that of `row_samples.py`, on which it builds.
 
-A transaction keeps its operations in order. What it sees are the tables of the store as they stand, with these done over a copy. Each key
-that it touched has the length that the journal had then; the store tells the open transactions of each entry that alters one of these.
+A transaction keeps its operations in order. What it sees is a copy of the store's present tables on which these were done. With each key
+that it touched it keeps the length of the journal at that time; the store notifies open transactions of each entry that alters a key.
 """
 import uuid
 
@@ -25,7 +25,7 @@ def path_of(key):
 
 
 def touched_by(operation):
-    """The keys that an operation touches, in the order in which they are looked at, each with whether what stands there is weighed."""
+    """The keys that an operation touches, in the order in which they are looked at, each with whether what is there is weighed."""
     what, name = operation[:2]
     match what:
         case "put_object":
@@ -39,7 +39,7 @@ def touched_by(operation):
 
 
 def alters(operation, key):
-    """Whether an operation alters what stands at a key."""
+    """Whether an operation alters what is at a key."""
     what, name = operation[:2]
     match what:
         case "put_space":
@@ -140,7 +140,7 @@ class Store(row_samples.Store):
             transaction.hear(len(self.entries) - 1, operations)
 
     def weight(self, key):
-        """How many bytes of payload stand at the key of an object or array."""
+        """How many bytes of payload the object or array of a key has."""
         kind, name = key
         if kind == "object":
             return len(self.objects[name]["data"]) if name in self.objects else 0
@@ -156,7 +156,7 @@ class Transaction:
         store.open.append(self)
 
     def hear(self, place, operations):
-        """Notes the first entry behind a touch that alters what was touched."""
+        """Notes the first entry after a touch that alters what was touched."""
         if self.first_clash is None and any(alters(operation, key) for operation in operations for key in self.touched):
             self.first_clash = place
 
@@ -164,7 +164,7 @@ class Transaction:
         self.store.open.remove(self)
 
     def commit(self):
-        """Why the operations don't become an entry, or nothing where they do, or where there are none."""
+        """Why the operations don't become an entry; empty if they do, or if there are none."""
         self.end()
         if self.first_clash is not None:
             return f"conflict {self.first_clash}"
@@ -180,8 +180,8 @@ class Transaction:
     # -- looking
 
     def look(self, wants):
-        """Looks at keys and notes them. By the names of a request `wants` has keys, each with whether what stands there is weighed; the
-        names that are refused are answered."""
+        """Looks at keys and notes them. For each name of a request `wants` has keys, each with whether what is there is weighed. Returns
+        the names that are refused."""
         given, refused, mark = 0, set(), len(self.store.entries)
         for name, keys in wants.items():
             for key, weighed in keys:
@@ -200,7 +200,7 @@ class Transaction:
         return refused
 
     def view(self):
-        """What stands in the store, with what is staged done over it."""
+        """The contents of the store, with the staged operations done on them."""
         view = Contents()
         view.spaces, view.objects, view.arrays = self.store.tables()
         for operation in self.operations:

@@ -5,8 +5,8 @@
 
 ETPD is the built server. The rig opens three channels, loads points, replaces ranges and truncates. One office watches from the first
 point on; one begins when half is loaded; one ends its subscriptions in the middle; one reads nothing for a while, until the lag ends
-its subscriptions. Each keeps a copy by what it is told. In the end the copies of the first two have to be the channels' points as
-GetRanges gives them, the third's those at one place of the rig's work, and the fourth's too, with `lagged` as the last that it is told.
+its subscriptions. Each keeps a copy from the notices that it gets. In the end the copies of the first two have to be the channels' points as
+GetRanges gives them. The third's and the fourth's have to be the points at one step of the rig's work, and the fourth's last notice `lagged`.
 """
 import asyncio
 import re
@@ -26,7 +26,7 @@ KINDS = ["long", "double", "string"]
 LAG = 64
 STEPS = 600
 PATIENCE = 30
-# of texts that are long enough to fill a socket that nobody reads
+# texts that are long enough to fill a socket that nobody reads
 TEXT = "t" * 30_000
 VERSION = dict(major=1, minor=2, revision=0, patch=0)
 
@@ -118,7 +118,7 @@ class Office(Client):
                 copy[index] = item["value"]["item"]
 
     async def watch(self, is_done):
-        """Takes what it is told until this holds."""
+        """Takes notices until this holds."""
         while not is_done():
             header, body, value = await self.hear()
             assert header["correlationId"] == 0
@@ -129,7 +129,7 @@ class Office(Client):
 
 
 class Rig(Client):
-    """Loads, and knows what stands after each step."""
+    """Loads, and knows the points after each step."""
 
     def __init__(self):
         super().__init__()

@@ -36,7 +36,7 @@ class WebSocket:
     def __init__(self, reader, writer, subprotocol):
         self.reader, self.writer, self.subprotocol = reader, writer, subprotocol
         self.transport = writer.transport
-        # The code of the server's Close, or what stands for none (section 7.4.1).
+        # The code of the server's Close, or 1006 if there was none (section 7.4.1).
         self.close_code = 1006
 
     async def send(self, data):

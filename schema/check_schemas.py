@@ -5,10 +5,13 @@
 
 1. With the reader from outside, outside/wire.py, whose tables are written by hand: every schema, number, name and sender.
 2. With the product: the table of etp_schema with the names of capture_text, read as text.
-3. With python3-avro (`apt-get install python3-avro`): each sample message of crates/check_frames is read by its schema to the
-   values that the reader from outside reads. Without the package this part is skipped, which is said.
+3. With python3-avro (`apt-get install python3-avro`): each message of docs/samples, clients' and servers', and each sample message
+   of crates/check_frames is read by its schema to the values that the reader from outside reads, and the program that
+   docs/WIRE.md prints reads the samples to the same values. Without the package this part is skipped, and the check says so.
 
-Prints what differs, and ends with 1 then.
+It prints each difference, and ends with 1 if there is one.
+
+    schema/check_schemas.py samples     the third part alone
 """
 import io
 import json
@@ -26,7 +29,9 @@ sys.path.insert(0, str(TOP / "outside"))
 import wire
 
 SENDERS = {"C": ("client", "both"), "S": ("server", "both")}
-SAMPLES = ["messages.cap", "joins.cap", "parts.cap"]
+# Captures with a message for each refusal and each place where one may end: read as far as their frames go.
+FRAMES = [TOP / "crates/check_frames/data" / name for name in ("messages.cap", "joins.cap", "parts.cap")]
+SAMPLES = sorted((TOP / "docs/samples").glob("*.cap"))
 
 
 class Differences:
@@ -162,16 +167,17 @@ def compare_product(differences):
 # --- python3-avro ------------------------------------------------------------------------------------------------------
 
 
-def sample_messages():
-    """The letter of the sender and the bytes of each sample message that the reader from outside takes."""
-    for name in SAMPLES:
-        capture = (TOP / "crates/check_frames/data" / name).read_bytes()
+def sample_messages(paths):
+    """The sender's letter and the bytes of each message in these captures. Only the captures of FRAMES may end in the middle of a
+    frame."""
+    for path in paths:
         frames = []
         try:
-            for frame in wire.read_frames(capture):
+            for frame in wire.read_frames(path.read_bytes()):
                 frames.append(frame)
         except wire.Unreadable:
-            pass
+            if path not in FRAMES:
+                raise
         for frame in frames:
             if frame.kind in wire.SENDERS:
                 yield wire.SENDERS[frame.kind], frame.data
@@ -210,7 +216,7 @@ def bits(value):
 
 
 def compare_samples(differences):
-    """With python3-avro, which this Python has."""
+    """With python3-avro, which this Python has. Returns how many messages were compared."""
     import avro.io
     import avro.schema
     files, parsed, seen, count = messages(), {}, set(), 0
@@ -220,7 +226,7 @@ def compare_samples(differences):
             parsed[file] = avro.schema.parse((SCHEMAS / file).read_text())
         return parsed[file]
 
-    for sender, data in sample_messages():
+    for sender, data in sample_messages([*SAMPLES, *FRAMES]):
         try:
             header, body, value = wire.read_message(data, sender)
         except wire.Fault:
@@ -240,11 +246,36 @@ def compare_samples(differences):
         count += 1
     missing = {name for (_, _, letter), (name, _) in files.items() if letter in "CS"} - {files[key][0] for key in seen}
     differences.compare("messages without a sample", missing, set())
+    differences.compare("whether docs/samples has captures", bool(SAMPLES), True)
+    return count
+
+
+def printed_program():
+    """The program that docs/WIRE.md prints for another maker."""
+    return re.search(r"```python\n(.*?)```", (TOP / "docs/WIRE.md").read_text(), re.S)[1]
+
+
+def compare_program(differences):
+    """Runs the program of docs/WIRE.md over each sample all of whose messages have a body, as its reader would. Returns how many."""
+    count = 0
+    for path in SAMPLES:
+        wanted = []
+        try:
+            for sender, data in sample_messages([path]):
+                header, body, value = wire.read_message(data, sender)
+                wanted.append(f"{(header, outside_value(body, value))}")
+        except wire.Fault:
+            # the sample of refusals, in which clients send what no schema has
+            continue
+        done = subprocess.run([sys.executable, "-c", printed_program(), path], cwd=TOP, stdout=subprocess.PIPE, text=True)
+        differences.compare(f"the status of WIRE.md's program on {path.name}", done.returncode, 0)
+        differences.compare(f"what WIRE.md's program prints of {path.name}", done.stdout.splitlines(), wanted)
+        count += 1
     return count
 
 
 def check_samples():
-    """Compares the samples, with the system's Python where this one has no avro; None where there is none."""
+    """Compares the samples, with the system's Python if this one has no avro. Returns the status, or None if neither has it."""
     try:
         import avro.io  # noqa: F401
     except ImportError:
@@ -255,7 +286,10 @@ def check_samples():
         return done.returncode
     differences = Differences()
     count = compare_samples(differences)
-    print(f"python3-avro read {count} sample messages, {differences.found} differences")
+    print(f"python3-avro read {count} messages of {len(SAMPLES) + len(FRAMES)} captures: {differences.found} differences")
+    before = differences.found
+    count = compare_program(differences)
+    print(f"the program of docs/WIRE.md read {count} samples: {differences.found - before} differences")
     return 1 if differences.found else 0
 
 
@@ -263,7 +297,7 @@ def main(words):
     if words == ["samples"]:
         done = check_samples()
         if done is None:
-            print("python3-avro is not installed: the sample messages were not read by it")
+            print("skipped: python3-avro is not installed, so it did not read the samples")
         return done or 0
     differences = Differences()
     print(f"{compare_outside(differences)} schemas and outside/wire.py: {differences.found} differences")

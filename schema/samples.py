@@ -2,25 +2,21 @@
 """Writes docs/samples, captures of sessions with their answers, and docs/WIRE.md with the bytes of their messages.
 
     schema/samples.py                    writes them
-    schema/samples.py --check            writes nothing; ends with 1 if one would change, or if the program that docs/WIRE.md shows
-                                         does not read the samples to the values of the reader from outside
+    schema/samples.py --check            writes nothing; ends with 1 if one would change
     schema/samples.py --check ETPTOOL    also plays each sample by this etptool, whose answers and shown lines must be the same
 
-What is answered is said by the server from outside, outside/transactions.py, which shares nothing with the product. The prose of
-docs/WIRE.md is schema/by_hand/WIRE.md, with text of this script in the place of each line {{word ..}}.
+The answers are those of the server from outside, outside/transactions.py, which shares nothing with the product. The prose of
+docs/WIRE.md is schema/by_hand/WIRE.md, in which this script replaces each line {{word ..}}.
 """
-import ast
 import pathlib
 import re
 import subprocess
 import sys
-import tempfile
 
 TOP = pathlib.Path(__file__).resolve().parent.parent
 FOLDER = TOP / "docs/samples"
 sys.dont_write_bytecode = True
 sys.path[:0] = [str(TOP / "schema"), str(TOP / "outside")]
-import check_schemas
 import sample_sessions
 import short_sessions
 import wire
@@ -269,52 +265,28 @@ def write():
 
 
 def differing():
-    """The files that are not as they are written, and those that nothing writes."""
+    """The files that differ from what is written, and those that nothing writes."""
     made = dict(files())
     for path, content in made.items():
         if not path.exists() or path.read_bytes() != content:
-            yield f"{path.relative_to(TOP)} is not as it is written"
+            yield f"{path.relative_to(TOP)} differs from what is written"
     for path in FOLDER.glob("*"):
         if path not in made:
-            yield f"{path.relative_to(TOP)} is written by nothing"
-
-
-def shown_program():
-    """The lines that the program in docs/WIRE.md prints of a sample and that it should; nothing where there is no avro."""
-    program = re.search(r"```python\n(.*?)```", (TOP / "docs/WIRE.md").read_text(), re.S)[1]
-    python = next((each for each in (sys.executable, check_schemas.SYSTEM_PYTHON)
-                   if subprocess.run([each, "-c", "import avro.io"], capture_output=True).returncode == 0), None)
-    if python is None:
-        print("python3-avro is not installed: the program of docs/WIRE.md was not run")
-        return
-    with tempfile.NamedTemporaryFile("w", suffix=".py") as file:
-        file.write(program)
-        file.flush()
-        for name in "first_session.cap", "first_session.answers.cap", "notices.answers.cap":
-            done = subprocess.run([python, file.name, FOLDER / name], cwd=TOP, capture_output=True, text=True)
-            wanted = [(header, check_schemas.outside_value(body, value)) for header, body, value in read_all(FOLDER / name)]
-            if done.returncode or [ast.literal_eval(line) for line in done.stdout.splitlines()] != wanted:
-                yield f"the program of docs/WIRE.md reads {name} otherwise: {done.stderr[-300:]}"
-
-
-def read_all(path):
-    for frame in wire.read_frames(path.read_bytes()):
-        if frame.kind in wire.SENDERS:
-            yield wire.read_message(frame.data, wire.SENDERS[frame.kind])
+            yield f"{path.relative_to(TOP)} is not a file that is written"
 
 
 def played(tool):
-    """What an etptool answers otherwise."""
+    """The samples to which an etptool gives other answers."""
     found, _ = samples()
     for sample in found.values():
         done = subprocess.run([tool, "replay", FOLDER / f"{sample.config_name}.toml"], input=sample.capture, capture_output=True)
         if done.returncode or done.stdout != sample.answers:
-            yield f"{sample.name}: etptool replay answers otherwise (status {done.returncode}) {done.stderr.decode()[:200]}"
+            yield f"{sample.name}: etptool replay gives other answers (status {done.returncode}) {done.stderr.decode()[:200]}"
         for capture in sample.capture, sample.answers:
             lines = "".join(wire.show_line(each) for each in wire.read_frames(capture))
             done = subprocess.run([tool, "show"], input=capture, capture_output=True)
             if done.returncode or done.stdout.decode() != lines:
-                yield f"{sample.name}: etptool show writes otherwise (status {done.returncode})"
+                yield f"{sample.name}: etptool show writes other lines (status {done.returncode})"
     print(f"{len(found)} samples were played by {tool}")
 
 
@@ -325,7 +297,7 @@ def main(words):
     if words[0] != "--check" or len(words) > 2:
         print(__doc__.strip(), file=sys.stderr)
         return 2
-    lines = [*differing(), *shown_program(), *(played(words[1]) if words[1:] else ())]
+    lines = [*differing(), *(played(words[1]) if words[1:] else ())]
     print("\n".join(lines) if lines else "docs/samples and docs/WIRE.md are as they are written")
     return 1 if lines else 0
 

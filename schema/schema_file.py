@@ -9,7 +9,7 @@ LEAVES = "null boolean int long float double bytes string Uuid".split()
 
 
 class SchemaError(Exception):
-    """A line of messages.txt that can't be taken, with its number."""
+    """A malformed line of messages.txt, with its number."""
 
 
 def snake(name):

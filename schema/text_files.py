@@ -64,7 +64,7 @@ class TextFile:
 
     def put(self, paragraphs):
         """Puts (comment, code) pairs in their places; a new one comes after the one before it. With None the
-        existing comment stays, and a comment that begins with a question mark is used where there is none."""
+        existing comment stays, and a comment that begins with a question mark is used only if there is none."""
         self.must_stand()
         last = None
         for comment, code in paragraphs:
@@ -85,7 +85,7 @@ class TextFile:
             last = at
 
     def counts(self):
-        """How many lines of the file as it stands are written, and how many by hand, without blank ones."""
+        """How many lines of the present file are generated, and how many are by hand, not counting blank ones."""
         standing = re.split(r"\n\n(?=\S)", self.before.rstrip("\n"))
         if self.tail is not None:
             written = lines_of(self.before[self.tail:])
@@ -94,7 +94,7 @@ class TextFile:
         return written, lines_of(self.before) - written
 
     def put_after(self, key, comment, code):
-        """The same of one paragraph, which comes after that of `key` where it is new."""
+        """The same for one paragraph, which is put after that of `key` if it is new."""
         if self.place(key_of(code)) is None:
             at = self.place(key)
             if at is None:

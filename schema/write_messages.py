@@ -1,5 +1,5 @@
-"""Writes what the crates msg_* and message_trees have of each record, enumeration and message: its form, its bytes and its tree;
-and of each protocol: its enum, the numbers of its messages, and what finds a message by its number."""
+"""Writes what the crates msg_* and message_trees have for each record, enumeration and message: its form, its bytes and its tree;
+and for each protocol: its enum, the numbers of its messages, and how a message is found by its number."""
 from schema_file import Enumeration, Message, Record, snake
 
 FORMS = {"null": "null_form", "boolean": "boolean_form", "int": "int_form", "long": "long_form", "float": "float_form",
@@ -19,7 +19,7 @@ def variant(symbol):
 
 
 def rust_type(type):
-    """The Rust type of a field, where nothing asks for another."""
+    """The usual Rust type of a field."""
     match type.kind:
         case "list":
             return f"List<{rust_type(type.parts[0])}>"
@@ -61,7 +61,7 @@ def record_form(record):
 
 
 def symbol_forms(what, alias):
-    """An enumeration's symbols in order, the place of each, and the form that they have by that."""
+    """An enumeration's symbols in order, the place of each, and the form that follows from it."""
     symbols, word, words = [alias + variant(each) for each in what.symbols], what.word, what.words
     comment = f"?-- {', '.join(what.symbols)}\n"
     yield comment, f"abbrev pub {words} : List {what.name}\n{words} = {' ∷ '.join(symbols)} ∷ []"
@@ -95,7 +95,7 @@ def declared(what):
 
 
 def forms_in(type):
-    """The names of the forms that a type takes, with the file where that is a named type's."""
+    """The names of the forms that a type needs, with the file if it is a named type's."""
     for part in type.parts:
         yield from forms_in(part)
     if type.kind == "named":
@@ -139,7 +139,7 @@ def import_forms(schema, written, crate, name, types):
 
 
 def skeleton(what):
-    """A struct or enum without comments, for one that is not there yet."""
+    """A struct or enum without comments, for one that does not exist yet."""
     fields = "".join(f"    pub {each.rust}: {rust_type(each.type)},\n" for each in what.fields)
     return f"#[derive(Debug, Drop)]\npub struct {what.name} {{\n{fields}}}"
 

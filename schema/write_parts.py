@@ -1,5 +1,5 @@
-"""Writes what the crates above the messages have case by case: the parts of long messages (etp_frame), how a client puts them
-together (client_parts), and the lemmas that go over all messages of a protocol (etp_frame, session_core, client_laws)."""
+"""Writes what the crates above the messages have for each message: the parts of long messages (etp_frame), how a client joins them
+(client_parts), and the lemmas about all messages of a protocol (etp_frame, session_core, client_laws)."""
 from write_messages import form, rust_type
 
 PARTS_FILES = {"Core": "exceptions"}
@@ -28,7 +28,7 @@ def regrown(protocol, alias, message):
 
 
 def cut(protocol):
-    """The messages whose parts are written: those of which no chunks follow."""
+    """The messages whose parts are generated: those that are not followed by chunks."""
     return [each for each in protocol.growing if not each.chunks]
 
 
@@ -79,7 +79,7 @@ def with_items(protocol, alias, message):
 
 
 def parts_function(protocol, alias, message):
-    """The function of one message's parts. Where it has further fields beside a list, its list is taken out of it."""
+    """The function that makes one message's parts. If it has other fields besides a list, the list is taken out of it."""
     own, holder, parts = message.grows.rust, "Named", "parts_of_entries"
     if not is_map(message):
         holder, parts = "List", "parts_of_elements"
@@ -110,7 +110,7 @@ def parts_match(protocol, written):
 
 
 def names_of(schema, message):
-    """The types of a message and of its items, where both are of one crate."""
+    """The types of a message and of its items, if both are of one crate."""
     item = schema.named.get(message.grows.type.parts[0].name)
     same = item is not None and item.file.crate == message.file.crate
     return [message.name, item.name] if same else [message.name]
@@ -296,7 +296,7 @@ def write_client_parts(schema, file):
 
 
 def each_lemma(protocol, written):
-    """What holds of all messages of a protocol holds of a message's parts."""
+    """What holds for all messages of a protocol holds for a message's parts."""
     alias = written.alias(f"{protocol.enum}.TheVariants")
     name, lines = f"{alias[:-1]}_each", []
     for each in protocol.messages:
@@ -336,7 +336,7 @@ def ends_lemma(protocol, written):
 
 
 def shape_lemma(protocol, written):
-    """That a message is its one part, or its parts are like it."""
+    """That a message is its only part, or that its parts are like it."""
     alias = written.alias(f"{protocol.enum}.TheVariants")
     name = ends_word(protocol, alias) + "_shape"
 

@@ -1,4 +1,4 @@
-"""Writes what etp_frame has protocol by protocol: the enum of all messages, how one is read and written, its parts, and the lemmas on
+"""Writes what etp_frame has for each protocol: the enum of all messages, how one is read and written, its parts, and the lemmas about
 which messages a protocol has."""
 from write_messages import nested
 

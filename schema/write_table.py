@@ -1,5 +1,5 @@
-"""Writes what etp_schema and capture_text have of the schema: the table of its nodes, their places, shapes and names, and which
-message has which body."""
+"""Writes the schema as etp_schema and capture_text have it: the table of its nodes, their places, shapes and names, and which message
+has which body."""
 import textwrap
 from dataclasses import dataclass
 

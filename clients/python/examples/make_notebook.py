@@ -2,7 +2,7 @@
 """Writes well_log.ipynb: a notebook that loads a well's log, reads it back and plots it.
 
     python3 make_notebook.py            writes the notebook
-    python3 make_notebook.py --check    compares, and exits with 1 where it is another
+    python3 make_notebook.py --check    compares, and exits with 1 if it differs
 
 The notebook takes the server's address from COLMJURR_URL, and the two channels, of kind double, from COLMJURR_CHANNELS.
 """
@@ -14,8 +14,8 @@ TARGET = Path(__file__).with_name("well_log.ipynb")
 CELLS = [
     ("markdown", """# A well's log
 
-This notebook puts a well, loads two channels of it, reads them back as a table and plots them, time down the page. It needs a server
-with two channels of kind `double`; their URIs are those of its configuration."""),
+This notebook stores a well, loads two of its channels, reads them back as a table and plots them, time down the page. It needs a server
+with two channels of kind `double`; their URIs are in its configuration."""),
     ("code", """import os
 
 import numpy as np
@@ -29,13 +29,13 @@ CHANNELS = os.environ.get(
     "eml:///witsml21.Channel(00000000-0000-0000-0000-000000000001) eml:///witsml21.Channel(00000000-0000-0000-0000-000000000002)").split()
 store = colmjurr.connect(URL)
 store.info"""),
-    ("markdown", "An object is put with its data, here a well in a dataspace of its own."),
+    ("markdown", "An object is stored with its data: here a well, in a dataspace of its own."),
     ("code", """store.put_space("north field")
 WELL = colmjurr.object_uri("witsml21.Well", "0c2d5fe6-3e8a-4d2c-9a55-1f0a5c8c4a10", "north field")
 store.put(WELL, b"<Well><Citation><Title>N-7</Title></Citation></Well>", name="N-7")
 store.get(WELL).name, [space.path for space in store.spaces()]"""),
-    ("markdown", """Four hours of a rate of penetration and a hook load, one point a second. A channel's points rise in time, so what stands there from an
-earlier run is removed first."""),
+    ("markdown", """Four hours of a rate of penetration and a hook load, one point a second. A channel's points rise in time, so the points of an
+earlier run are removed first."""),
     ("code", """times = pd.date_range("2026-12-01T06:00", periods=4 * 3600, freq="s", tz="UTC")
 draw = np.random.default_rng(7)
 rate = 18 + 6 * np.sin(np.arange(len(times)) / 900) + draw.normal(0, 0.8, len(times))
@@ -45,7 +45,7 @@ for channel, values in ((rop, rate), (hook, load)):
     channel.truncate("1970-01-01")
     channel.load(pd.DataFrame({channel.name: values}, index=times))
 rop.refresh(); rop.first, rop.last"""),
-    ("markdown", "A range comes as a table over time in UTC."),
+    ("markdown", "A range as a table over time in UTC."),
     ("code", """table = rop.range("2026-12-01T07:00", "2026-12-01T07:59:59").to_pandas()
 assert len(table) == 3600
 table.describe()"""),

@@ -1,7 +1,7 @@
-"""A server for the tests that shares nothing with the product or the package: the tables of outside/transactions.py behind a WebSocket.
+"""A server for the tests that shares nothing with the product or the package: the tables of outside/transactions.py over a WebSocket.
 
-It serves any number of clients in a thread of its own, on one port of the loopback. It is plain and slow; what it answers is what
-the profile says.
+It serves any number of clients in a thread of its own, on a port of the loopback interface. It is plain and slow, and answers as the
+profile says.
 """
 import asyncio
 import base64
@@ -144,11 +144,11 @@ class LimitedServer(transactions.Server):
 class OutsideServer:
     """The tables and the sessions; each connection is a tag."""
 
-    def __init__(self, channels, lag=65_536, journal=4_194_304, types=None):
+    def __init__(self, channels, lag=65_536, journal=4_194_304, types=None, port=0):
         self.machine = LimitedServer(channels, lag, journal, types)
         self.writers, self.next_tag, self.heard = {}, 0, []
         self.lock = threading.Lock()
-        self.thread = LoopThread(self.serve)
+        self.thread = LoopThread(self.serve, port)
         self.port, self.url = self.thread.port, self.thread.url
 
     def play(self, kind, tag, data=b""):

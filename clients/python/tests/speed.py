@@ -1,10 +1,12 @@
 #!/usr/bin/env python3
 """How long a million points take, from a server into a DataFrame and from arrays into a server.
 
-    python3 speed.py            against a peer that only sends what was made before, and takes what comes: the client's own share
-    python3 speed.py ETPD       against a built server
+    python3 speed.py                  against a peer that sends prepared answers and ignores what it is sent: the client's own share
+    python3 speed.py ETPD             against a built server
+    python3 speed.py ETPD --strict    the same, and ends with 1 if a time is above its aim
 
-It prints the seconds on the clock and the seconds of the client's processor; the best of three counts.
+It prints the seconds on the clock and the seconds of the client's processor: the best of three runs, or of as many as are done in 20 s, and
+of one run where a server is loaded, which takes each point once. The aims are less than 2 s on the clock for reading and 3 s for loading.
 """
 import asyncio
 import multiprocessing
@@ -19,6 +21,7 @@ import colmjurr
 import numpy
 
 COUNT, LOT = 1_000_000, 500_000
+READ_AIM, LOAD_AIM = 2.0, 3.0
 BEGIN, STEP = 1_796_083_200_000_000, 100_000
 INDEXES = BEGIN + numpy.arange(COUNT) * STEP
 VALUES = numpy.random.default_rng(1).random(COUNT)
@@ -84,36 +87,39 @@ def run_canned(pipe):
     asyncio.run(run())
 
 
-def timed(what, action, times=3):
+def timed(what, action, times=3, aim=None):
     clock, processor, result = [], [], None
     for _ in range(times):
         begun, used = time.perf_counter(), time.process_time()
         result = action()
         clock.append(time.perf_counter() - begun)
         processor.append(time.process_time() - used)
-    print(f"{what}: {min(clock):.2f} s, of the client's processor {min(processor):.2f} s", flush=True)
+        if sum(clock) > 20:
+            break
+    judged = "" if aim is None else f"; the aim of less than {aim:g} s is {'met' if min(clock) < aim else 'missed'}"
+    print(f"{what}: {min(clock):.2f} s, of the client's processor {min(processor):.2f} s{judged}", flush=True)
     return result, min(clock), min(processor)
 
 
-def read(url):
-    with colmjurr.connect(url, ask_timeout=300) as store:
+def read(url, aim=None):
+    with colmjurr.connect(url, ask_timeout=300 * support.PATIENCE) as store:
         channel = store.channel(KIND["uri"])
-        frame, clock, processor = timed("a million points into a DataFrame", lambda: channel.range().to_pandas())
+        frame, clock, processor = timed("a million points into a DataFrame", lambda: channel.range().to_pandas(), aim=aim)
         assert len(frame) == COUNT and (frame["rop"].values == VALUES).all(), "other points"
         assert frame.index[-1].value == int(INDEXES[-1]) * 1000, "other times"
     return clock, processor
 
 
-def load(url, times):
-    with colmjurr.connect(url, ask_timeout=300) as store:
+def load(url, times, aim=None):
+    with colmjurr.connect(url, ask_timeout=300 * support.PATIENCE) as store:
         channel = store.channel(KIND["uri"])
-        loaded, clock, processor = timed("a million points loaded", lambda: channel.load(INDEXES, VALUES), times)
+        loaded, clock, processor = timed("a million points loaded", lambda: channel.load(INDEXES, VALUES), times, aim)
         assert loaded == COUNT
     return clock, processor
 
 
 def measure_canned():
-    """Clock and processor of reading and of loading, against the peer that does nothing itself."""
+    """Clock and processor of reading and of loading, against the peer with prepared answers."""
     here, there = multiprocessing.Pipe()
     peer = multiprocessing.Process(target=run_canned, args=(there,), daemon=True)
     peer.start()
@@ -131,10 +137,12 @@ def main():
         return
     server = support.RealServer(sys.argv[1], channels=[KIND])
     try:
-        load(server.url, 1)
-        read(server.url)
+        loaded, _ = load(server.url, 1, LOAD_AIM)
+        came, _ = read(server.url, READ_AIM)
     finally:
         server.close()
+    if sys.argv[2:] == ["--strict"] and not (loaded < LOAD_AIM and came < READ_AIM):
+        sys.exit(1)
 
 
 if __name__ == "__main__":

@@ -19,11 +19,11 @@ sys.path.insert(0, str(HERE))
 
 import outside_server  # noqa: E402
 
-# a proxy that cuts links makes asyncio say that it writes to what is gone
+# asyncio logs each write to a connection that a proxy has cut
 logging.getLogger("asyncio").setLevel(logging.CRITICAL)
 
 PROGRAMS = os.environ.get("COLMJURR_PROGRAMS", "")
-# A server with run-time checks is slow: this many times as long is waited.
+# All time limits are multiplied by this, for a server that is slow because of its run-time checks.
 PATIENCE = float(os.environ.get("COLMJURR_PATIENCE", "1"))
 KINDS = ["double", "long", "string", "boolean", "int", "float", "bytes"]
 
@@ -65,6 +65,7 @@ class RealServer:
         self.url = f"ws://127.0.0.1:{self.port}/"
 
     def close(self):
+        """Ends the server at once, as a kill does."""
         if self.process.returncode is not None:
             return
         self.process.kill()
@@ -79,11 +80,11 @@ def program(name):
     return str(path) if PROGRAMS and path.exists() else None
 
 
-def start_server(channels=CHANNELS, lag=65_536, journal=4_194_304, types=None):
+def start_server(channels=CHANNELS, lag=65_536, journal=4_194_304, types=None, port=0):
     built = program("etpd")
     if built:
-        return RealServer(built, channels=channels, lag=lag, journal=journal, types=types)
-    return outside_server.OutsideServer(channels, lag, journal, types)
+        return RealServer(built, port, channels=channels, lag=lag, journal=journal, types=types)
+    return outside_server.OutsideServer(channels, lag, journal, types, port)
 
 
 class ServerCase(unittest.TestCase):

@@ -3,7 +3,6 @@ import asyncio
 import random
 import shutil
 import signal
-import socket
 import subprocess
 import tempfile
 import threading
@@ -14,19 +13,14 @@ from pathlib import Path
 import outside_server
 import support
 from support import channel_uri
-from test_cli import begin
+from test_cli import begin_command, free_port
 from test_links import Proxy
 import colmjurr
 from colmjurr import bridge
 
 WAIT = 60 * max(1, support.PATIENCE)
+HOW = {"ask_timeout": 30 * support.PATIENCE, "timeout": 20 * support.PATIENCE}
 CHANNELS = [dict(uri=channel_uri(number), name=f"c{number}", kind=kind, uom="") for number, kind in enumerate(("double", "long", "string"))]
-
-
-def free_port():
-    with socket.socket() as found:
-        found.bind(("127.0.0.1", 0))
-        return found.getsockname()[1]
 
 
 class Engine:
@@ -110,7 +104,7 @@ class Kills(unittest.TestCase):
         self.addCleanup(self.stop)
 
     def start(self):
-        process = begin("bridge", "--store", f"{self.proxy.url}={self.catalog}", "--redis", f"redis://127.0.0.1:{self.engine.port}/0")
+        process = begin_command("bridge", "--store", f"{self.proxy.url}={self.catalog}", "--redis", f"redis://127.0.0.1:{self.engine.port}/0")
         self.bridges.append(process)
         self.said = []
         threading.Thread(target=lambda: self.said.extend(process.stderr), daemon=True).start()
@@ -136,52 +130,76 @@ class Kills(unittest.TestCase):
             self.assertLess(time.monotonic(), end, self.said[-5:])
             time.sleep(0.1)
 
-    def test_each_of_the_three_is_stopped_under_load(self):
+    def until_more(self, loaded):
+        """Returns when the bridge has written a point whose load began after the call."""
+        end, before = time.monotonic() + WAIT, len(loaded)
+        while True:
+            # the first load that ends after the call may have begun before it
+            if len(loaded) > before + 1:
+                found = self.engine.points(channel_uri(0), "double")
+                if found and found[-1][0] >= loaded[before + 1]:
+                    return
+            self.assertLess(time.monotonic(), end, self.said[-5:])
+            time.sleep(0.05)
+
+    def test_each_of_the_three_is_killed_under_load(self):
+        """Redis, the bridge, the link and the server in turn. A server keeps its data in memory, so the one that comes after it is empty."""
         process = self.start()
         done = threading.Event()
         loaded = []
         rig = threading.Thread(target=self.load, args=(done, loaded), daemon=True)
         rig.start()
         for _ in range(2):
-            time.sleep(0.7)
+            self.until_more(loaded)
             self.engine.kill()
             time.sleep(0.4)
             self.engine.start()
-            time.sleep(0.7)
+            self.until_more(loaded)
             process.send_signal(signal.SIGKILL)
             process.wait()
             time.sleep(0.3)
             process = self.start()
-            time.sleep(0.7)
+            self.until_more(loaded)
             self.proxy.cut_all()
+            self.until_more(loaded)
+            self.server.close()
+            time.sleep(0.3)
+            self.server = support.start_server(channels=CHANNELS)
+            self.addCleanup(self.server.close)
+            self.proxy.target = self.server.port
+            self.until_more(loaded)
         done.set()
         rig.join(WAIT)
-        with colmjurr.connect(self.server.url) as store:
+        with colmjurr.connect(self.server.url, **HOW) as store:
             held = self.until_same(store)
         self.assertGreater(len(held[channel_uri(0)]), 20)
         self.assertEqual(loaded[-1], held[channel_uri(0)][-1][0])
         self.assertIsNone(process.poll())
 
     def load(self, done, loaded):
-        """Loads three channels, and corrects them now and then."""
-        with colmjurr.connect(self.server.url) as store:
-            rop, count, remark = store.channels([each["uri"] for each in CHANNELS])
-            place = 0
-            while not done.is_set():
-                begin, place = 10 * place, place + 10
-                at = range(10 * begin, 10 * begin + 100, 10)
-                rop.load(list(at), [index / 8 for index in at])
-                count.load(list(at), list(at))
-                remark.load([at[0]], [f"step {place}"])
-                if place % 50 == 0:
-                    rop.replace(at[2], at[4], [at[3]], [-1.0])
-                    count.truncate(at[7])
-                loaded.append(at[-1])
-                time.sleep(0.01)
+        """Loads three channels, and corrects them now and then, on the server of the moment."""
+        place = 0
+        while not done.is_set():
+            try:
+                with colmjurr.connect(self.server.url, patience=0, **HOW) as store:
+                    rop, count, remark = store.channels([each["uri"] for each in CHANNELS])
+                    while not done.is_set():
+                        begin, place = 10 * place, place + 10
+                        at = range(10 * begin, 10 * begin + 100, 10)
+                        rop.load(list(at), [index / 8 for index in at])
+                        count.load(list(at), list(at))
+                        remark.load([at[0]], [f"step {place}"])
+                        if place % 50 == 0:
+                            rop.replace(at[2], at[4], [at[3]], [-1.0])
+                            count.truncate(at[7])
+                        loaded.append(at[-1])
+                        time.sleep(0.01)
+            except colmjurr.LinkError:
+                time.sleep(0.05)
 
     def test_a_server_that_comes_back_empty(self):
         self.start()
-        with colmjurr.connect(self.server.url) as store:
+        with colmjurr.connect(self.server.url, **HOW) as store:
             store.channel(channel_uri(1)).load([1, 2, 3], [1, 2, 3])
             self.until_same(store)
         self.server.close()
@@ -189,7 +207,7 @@ class Kills(unittest.TestCase):
         self.addCleanup(again.close)
         self.proxy.target = again.port
         self.proxy.cut_all()
-        with colmjurr.connect(again.url) as store:
+        with colmjurr.connect(again.url, **HOW) as store:
             store.channel(channel_uri(1)).load([2, 5], [2, 5])
             self.until_same(store)
         changes = [entry.change for entry in self.engine.entries(channel_uri(1), "long")]
@@ -197,7 +215,7 @@ class Kills(unittest.TestCase):
 
     def test_two_bridges_of_one_channel(self):
         self.start()
-        with colmjurr.connect(self.server.url) as store:
+        with colmjurr.connect(self.server.url, **HOW) as store:
             store.channel(channel_uri(1)).load([1], [1])
             self.until_same(store)
             self.start()

@@ -1,4 +1,4 @@
-"""The fast way for points beside the general one: the same points, the same bytes, the same refusals."""
+"""The fast reader and writer of points compared with the general ones: the same points, the same bytes, the same refusals."""
 import random
 import struct
 import unittest

@@ -1,4 +1,4 @@
-"""The codec beside the reader from outside: every message, other spellings, every prefix, and broken messages."""
+"""The codec compared with the reader from outside: every message, other spellings, every prefix, and broken messages."""
 import struct
 import unittest
 

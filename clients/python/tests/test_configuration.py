@@ -13,7 +13,7 @@ from colmjurr.configuration import catalog, read_configuration
 HEAD = 'instance = "00000000-0000-0000-0000-000000000001"\nname = "wd"\n'
 CHANNEL = f'[[channel]]\nuri = "{channel_uri(1)}"\nname = "c"\nkind = "long"\n'
 
-# Documents, the line that is told, the key, and the server's numbers of key and channel.
+# Documents, the line that the error names, the key, and the server's numbers of key and channel.
 CASES = [
     ("", 0, "instance", 1, 0),
     ('name = "x"\n', 0, "instance", 1, 0),
@@ -42,7 +42,7 @@ CASES = [
     (HEAD + CHANNEL + f'uom = "{"x" * 65}"\n', 7, "uom", 10, 1),
     (HEAD + CHANNEL + "uom = 1\n", 7, "uom", 10, 1),
 ]
-# Those that the server tells in other words than the key's number.
+# Those that the server refuses without a key's number.
 OTHERS = [
     (HEAD + CHANNEL.replace(channel_uri(1), "eml:///"), 4, "uri"),
     (HEAD + CHANNEL.replace(channel_uri(1), "x"), 4, "uri"),

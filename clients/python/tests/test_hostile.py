@@ -1,9 +1,10 @@
-"""Servers that answer otherwise: each is told by a named error within its time limit, and never waited for."""
+"""Servers that break the protocol: each is met with a named error within the time limit, and none with a hang."""
 import asyncio
 import socket
 import ssl
 import time
 import unittest
+import unittest.mock
 
 import outside_server
 import support
@@ -84,10 +85,10 @@ class Handshakes(Peer):
         accept = "Sec-WebSocket-Accept: x\r\n"
         upgrade = "HTTP/1.1 101 X\r\nUpgrade: websocket\r\nConnection: Upgrade\r\n"
         for answer, text, status in (
-                ("HTTP/1.1 401 Unauthorized\r\n\r\n", "name and password", 401), ("HTTP/1.1 403 Forbidden\r\n\r\n", "denied", 403),
+                ("HTTP/1.1 401 Unauthorized\r\n\r\n", "a user name and a password", 401), ("HTTP/1.1 403 Forbidden\r\n\r\n", "denied", 403),
                 ("HTTP/1.1 503 Busy\r\n\r\n", "too many clients", 503), ("HTTP/1.1 200 OK\r\n\r\n", "200", 200),
                 ("HTTP/1.1 301 Moved\r\nLocation: /x\r\n\r\n", "301", 301), ("garbage\r\n\r\n", "not HTTP", 0), ("\r\n\r\n", "not HTTP", 0),
-                ("HTTP/1.1\r\n\r\n", "answers", 0), (upgrade + accept + "\r\n", "another key", 101), ("HTTP/1.1 101 X\r\n\r\n", "upgrade", 101),
+                ("HTTP/1.1\r\n\r\n", "answers", 0), (upgrade + accept + "\r\n", "does not match the key", 101), ("HTTP/1.1 101 X\r\n\r\n", "upgrade", 101),
                 ("HTTP/1.1 101 X\r\n" + "x: y\r\n" * 4000, "head of more", 0)):
             async def send(writer, answer=answer):
                 writer.write(answer.encode())
@@ -190,6 +191,34 @@ def reply(number, correlation=4, flags=2, spaces=()):
     return server_frame(2, message(24, 2, number, correlation, flags, dataspaces=list(spaces)))
 
 
+class Silence(Peer):
+    """A server that shakes hands and opens a session, and then says nothing, not even to pings."""
+
+    def lost_after(self, ask_timeout):
+        async def serve(reader, writer):
+            await outside_server.shake_hands(reader, writer)
+            await outside_server.read_client_message(reader, writer)
+            writer.write(server_frame(2, open_session()))
+            while await reader.read(1000):
+                pass
+
+        with unittest.mock.patch.multiple("colmjurr.session", PING_AFTER=0.3, GIVE_UP_AFTER=1.0):
+            store = self.connect(self.listen(serve), ask_timeout=ask_timeout, patience=0.0)
+            session, begun = store._held._session, time.monotonic()
+            while session.lost is None:
+                self.assertLess(time.monotonic() - begun, 20 * max(1, PATIENCE))
+                time.sleep(0.02)
+            return time.monotonic() - begun, session.lost
+
+    def test_it_is_given_up(self):
+        seconds, lost = self.lost_after(0.5)
+        self.assertGreater(seconds, 0.8)
+        self.assertIn("nothing arrived from the server for", str(lost))
+
+    def test_a_longer_time_limit_of_requests_counts(self):
+        self.assertGreater(self.lost_after(2.5)[0], 2.2)
+
+
 class Messages(Peer):
     def ask(self, frames, call=None, **how):
         store = self.connect(self.session([frames]), **how)
@@ -202,10 +231,10 @@ class Messages(Peer):
         notice = server_frame(2, message(21, 13, 3, 0, changeTime=0, channels=[dict(channelId=0, newEndIndex=dict(item=(1, 0)))]))
         replaced = server_frame(2, message(24, 5, 3, 0, success={}))
         for frames, text in (
-                ([reply(1)], "doesn't rise"), ([reply(0)], "doesn't rise"), ([reply(-5)], "doesn't rise"), ([reply(3, correlation=6)], "answers nothing"),
+                ([reply(1)], "does not rise"), ([reply(0)], "does not rise"), ([reply(-5)], "does not rise"), ([reply(3, correlation=6)], "answers no request"),
                 ([reply(3, flags=0, spaces=[space]), pong.replace(b"\x04\x06", b"\x06\x0a")[:0] + server_frame(2, message(0, 9, 5, 6, currentDateTime=0))],
                  "between the parts"),
-                ([chunk], "none awaits"), ([notice], "nobody subscribed"), ([replaced], "nobody asked for"),
+                ([chunk], "not announced"), ([notice], "not subscribed"), ([replaced], "not requested"),
                 ([server_frame(2, message(0, 5, 3, 0, reason="bye"))], "closed the session: bye"),
                 ([server_frame(2, message(0, 1000, 3, 0, error=(1, dict(message="invalid message", code=19)), errors={}))], "19 invalid message"),
                 ([reply(3, flags=0), server_frame(2, message(0, 9, 5, 4, currentDateTime=0))], "a reply")):
@@ -214,7 +243,7 @@ class Messages(Peer):
 
     def test_replies_of_another_kind(self):
         wrong = server_frame(2, message(0, 9, 3, 4, currentDateTime=0))
-        self.fails(colmjurr.LinkLost, lambda: self.ask([wrong]), "a Pong in place of a GetDataspacesResponse")
+        self.fails(colmjurr.LinkLost, lambda: self.ask([wrong]), "a Pong instead of a GetDataspacesResponse")
         other = server_frame(2, message(4, 9, 3, 4, success={"1": {name: [] for name in row_samples.LISTS}}))
         self.fails(colmjurr.LinkLost, lambda: self.ask([other], lambda store: store.put(support.well_uri(1), b"")), "without an item")
         empty = server_frame(2, message(4, 9, 3, 4, success={}))
@@ -293,8 +322,8 @@ class Messages(Peer):
         get = lambda store: store.get(support.well_uri(1)).data
         self.assertEqual(self.ask([objects(3, 0), chunk(5, 0, False), chunk(7, 2, True)], get), b"xx")
         for frames, text in (
-                ([objects(3, 2)], "before its chunks"), ([objects(3, 0), chunk(5, 2, False)], "before its chunks"),
-                ([objects(3, 0), chunk(5, 0, True), chunk(7, 2, True)], "none awaits"), ([objects(3, 0), objects(5, 2)], "twice")):
+                ([objects(3, 2)], "before its last chunk"), ([objects(3, 0), chunk(5, 2, False)], "before its last chunk"),
+                ([objects(3, 0), chunk(5, 0, True), chunk(7, 2, True)], "not announced"), ([objects(3, 0), objects(5, 2)], "in two parts")):
             with self.subTest(text=text):
                 self.fails(colmjurr.LinkLost, lambda: self.ask(frames, get), text)
 

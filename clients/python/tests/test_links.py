@@ -14,14 +14,14 @@ POINTS = 10_000
 
 
 class Proxy:
-    """Passes the bytes of connections on, and cuts both ends at every k-th message: behind it, or in its middle."""
+    """Passes the bytes of connections on, and cuts both ends of all of them at every k-th message: after it, or in its middle."""
 
-    def __init__(self, port, every=None, in_the_middle=False):
+    def __init__(self, port, every=None, in_the_middle=False, listen=0):
         self.target, self.every, self.in_the_middle = port, every, in_the_middle
         self.messages = self.cuts = self.connections = 0
         self.is_open = True
         self.ends = set()
-        self.thread = outside_server.LoopThread(self.serve)
+        self.thread = outside_server.LoopThread(self.serve, listen)
         self.url = self.thread.url
 
     async def serve(self, reader, writer):
@@ -33,7 +33,7 @@ class Proxy:
         self.ends.add(ends)
         try:
             await asyncio.gather(self.head(reader, there_writer), self.head(there_reader, writer))
-            await asyncio.gather(self.frames(reader, there_writer, ends), self.frames(there_reader, writer, ends))
+            await asyncio.gather(self.frames(reader, there_writer), self.frames(there_reader, writer))
         finally:
             self.ends.discard(ends)
             for each in ends:
@@ -43,7 +43,7 @@ class Proxy:
     async def head(reader, writer):
         writer.write(await reader.readuntil(b"\r\n\r\n"))
 
-    async def frames(self, reader, writer, ends):
+    async def frames(self, reader, writer):
         while True:
             frame = await reader.readexactly(2)
             size = frame[1] & 0x7F
@@ -58,17 +58,17 @@ class Proxy:
             if is_cut:
                 self.cuts += 1
                 await asyncio.sleep(0.001)
-                self.cut(ends)
+                self.cut()
                 return
 
-    def cut(self, ends):
-        for each in ends:
-            each.transport.abort()
+    def cut(self):
+        for ends in list(self.ends):
+            for each in ends:
+                each.transport.abort()
 
     def cut_all(self):
         async def cut():
-            for ends in list(self.ends):
-                self.cut(ends)
+            self.cut()
 
         asyncio.run_coroutine_threadsafe(cut(), self.thread.loop).result(5)
 
@@ -103,12 +103,15 @@ class Cuts(ServerCase):
         rig, office = colmjurr.connect(self.server.url, **how), colmjurr.connect(self.server.url, **how)
         self.addCleanup(rig.close)
         self.addCleanup(office.close)
-        # the stores were opened without the proxy: from now on each connection goes through it
+        # the stores were opened without the proxy; every further connection goes through it
         for store in (rig, office):
             store._held._dial = lambda: colmjurr.store.websocket.connect(proxy.url, headers={}, timeout=20 * PATIENCE)
             store._runner.run(self.drop(store))
         points = [(1000 + 3 * place, place) for place in range(POINTS)]
-        follower = Follower(office.channel(channel_uri(number)).watch(resume=resume), points[-1][0])
+        watch = office.channel(channel_uri(number)).watch(resume=resume)
+        # the watch has begun before the first point is loaded, so the cuts meet it too
+        watch.__enter__()
+        follower = Follower(watch, points[-1][0])
         channel = rig.channel(channel_uri(number))
         with channel.loader(every=None, most=40) as load:
             for index, value in points:
@@ -142,8 +145,8 @@ class Cuts(ServerCase):
         self.assertTrue(any(isinstance(each, Gap) for each in follower.changes))
 
 
-class Resuming(ServerCase):
-    settings = {"lag": 20}
+class ProxyCase(ServerCase):
+    """A case whose stores talk to the server through proxies."""
 
     def through(self, proxy, **how):
         store = colmjurr.connect(proxy.url, **{"patience": 20 * PATIENCE, "ask_timeout": 20 * PATIENCE, **how})
@@ -154,6 +157,108 @@ class Resuming(ServerCase):
         proxy = Proxy(self.server.port, **how)
         self.addCleanup(proxy.close)
         return proxy
+
+
+class Away(ProxyCase):
+    def test_a_server_that_is_away_for_a_while(self):
+        """Connections are refused for a while, as when a server or a proxy is restarted: all goes on when they are accepted again."""
+        proxy = self.proxy()
+        rig, office, third = (self.through(proxy, patience=60 * PATIENCE) for _ in range(3))
+        channel = rig.channel(channel_uri(0))
+        with office.channel(channel_uri(0)).watch(start="now", resume="tail") as watch, channel.loader(every=0.01) as load:
+            load(1, 1.0)
+            load.settle()
+            self.assertEqual(list(watch.next(20 * PATIENCE).points), [(1, 1.0)])
+            proxy.cut_all()
+            proxy.close()
+            load(2, 2.0)
+            spaces = []
+            asking = threading.Thread(target=lambda: spaces.extend(third.spaces()), daemon=True)
+            asking.start()
+            time.sleep(1)
+            again = Proxy(self.server.port, listen=proxy.thread.port)
+            self.addCleanup(again.close)
+            load.settle()
+            self.assertIsInstance(watch.next(60 * PATIENCE), Gap)
+            self.assertEqual(list(watch.next(20 * PATIENCE).points), [(2, 2.0)])
+            asking.join(60 * PATIENCE)
+            self.assertEqual([each.path for each in spaces], [""])
+
+    def test_a_loader_that_is_idle_outlives_many_breaks(self):
+        """The patience counts from each break, not from the first one."""
+        proxy = self.proxy()
+        channel = self.through(proxy, patience=1.5 * PATIENCE).channel(channel_uri(1))
+        last = channel.last or 0
+        with channel.loader(every=0.01) as load:
+            begun, breaks = time.monotonic(), 0
+            while time.monotonic() - begun < 2.5 * PATIENCE:
+                before = proxy.connections
+                proxy.cut_all()
+                breaks += 1
+                while proxy.connections == before:
+                    self.assertLess(time.monotonic() - begun, 60 * PATIENCE)
+                    time.sleep(0.01)
+                time.sleep(0.3)
+            load(last + 1, 1)
+            load.settle()
+        self.assertEqual(load.taken, 1)
+        self.assertGreater(breaks, 2)
+
+    def test_access_that_is_denied_is_not_asked_for_again(self):
+        async def serve(reader, writer):
+            await reader.readuntil(b"\r\n\r\n")
+            writer.write(b"HTTP/1.1 403 Forbidden\r\n\r\n")
+
+        proxy = self.proxy()
+        store = self.through(proxy)
+        proxy.cut_all()
+        proxy.close()
+        door = outside_server.LoopThread(serve, proxy.thread.port)
+        self.addCleanup(door.close)
+        begun = time.monotonic()
+        with self.assertRaises(colmjurr.HandshakeError) as caught:
+            store.spaces()
+        self.assertEqual(caught.exception.status, 403)
+        self.assertLess(time.monotonic() - begun, 10)
+
+    def test_a_watch_that_is_asked_in_short_steps_begins_again(self):
+        """A caller who looks in every 50 ms, and gives up waiting each time, does not keep the watch from dialing."""
+        proxy = self.proxy()
+        plain = self.connect().channel(channel_uri(4))
+        plain.load([1, 2], [1, 2])
+        with self.through(proxy, patience=60 * PATIENCE).channel(channel_uri(4)).watch() as watch:
+            self.assertEqual(len(watch.next(20 * PATIENCE).points), 2)
+            proxy.is_open = False
+            proxy.cut_all()
+            for _ in range(40):
+                with self.assertRaises(colmjurr.TimeLimit):
+                    watch.next(0.05)
+            proxy.is_open = True
+            end = time.monotonic() + 60 * PATIENCE
+            change = None
+            while change is None:
+                self.assertLess(time.monotonic(), end)
+                try:
+                    change = watch.next(0.05)
+                except colmjurr.TimeLimit:
+                    pass
+            self.assertEqual((type(change), list(change.points)), (Restarted, [(1, 1), (2, 2)]))
+
+    def test_a_watch_that_is_refused_says_so_each_time(self):
+        store = self.connect()
+        with store.channel(channel_uri(3)).watch():
+            second = store.channel(channel_uri(3)).watch()
+            for _ in range(2):
+                with self.assertRaises(Refused):
+                    second.next(20 * PATIENCE)
+        plain = self.connect()
+        channel = plain.channel(channel_uri(3))
+        channel.load([(channel.last or 0) + 1], [True])
+        self.assertTrue(len(second.next(20 * PATIENCE).points))
+
+
+class Resuming(ProxyCase):
+    settings = {"lag": 20}
 
     def test_what_can_be_repeated_is(self):
         proxy = self.proxy()
@@ -250,7 +355,7 @@ class Resuming(ServerCase):
                     self.assertEqual(watch.restarts, 1)
 
     def stop(self, watch, reason):
-        """Ends the subscriptions as a server does that was left too far behind."""
+        """Ends the subscriptions as a server does whose client has fallen too far behind."""
         session = watch._held._session
 
         async def end():
@@ -268,6 +373,16 @@ class Resuming(ServerCase):
         with channel.watch() as again:
             channel.load([1], ["a"])
             self.assertEqual(list(again.next(20 * PATIENCE).points), [(1, "a")])
+
+    def test_a_watch_that_is_left_can_be_begun_again(self):
+        """As a cell of a notebook is run again: the watch that its loop has left does not keep the channel."""
+        channel = self.connect().channel(channel_uri(2))
+        last = (channel.last or 0) + 1
+        channel.load([last], ["a"])
+        for _ in range(3):
+            for change in channel.watch(start=last):
+                self.assertEqual(list(change.points), [(last, "a")])
+                break
 
     def test_where_a_watch_begins(self):
         store = self.connect()

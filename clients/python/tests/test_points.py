@@ -1,13 +1,16 @@
 """Columns of points: moments, tables, CSV, nulls, and what they are without numpy."""
+import csv
 import datetime
 import io
 import os
+import pathlib
 import subprocess
 import sys
+import tempfile
 import unittest
 
 from support import HERE
-from colmjurr import ValueRefused, index_of, object_uri, space_uri
+from colmjurr import Bar, ValueRefused, index_of, object_uri, space_uri, time_of
 from colmjurr.points import Points, columns_of, moment_text
 from colmjurr.uris import read_object, read_space
 
@@ -35,11 +38,37 @@ class Moments(unittest.TestCase):
             self.skipTest(f"{error.name} is not there")
         for moment in (numpy.int64(NOON), numpy.datetime64("2026-12-01T12:00"), pandas.Timestamp("2026-12-01T12:00"), pandas.Timestamp("2026-12-01T13:00+01:00")):
             self.assertEqual(index_of(moment), NOON)
+        for moment in (numpy.datetime64("NaT"), pandas.NaT):
+            with self.assertRaises(ValueRefused):
+                index_of(moment)
 
     def test_texts(self):
         self.assertEqual(moment_text(NOON), "2026-12-01T12:00:00Z")
         self.assertEqual(moment_text(NOON + 1), "2026-12-01T12:00:00.000001Z")
         self.assertEqual(moment_text(1 << 62), str(1 << 62))
+        self.assertEqual(time_of(NOON), datetime.datetime(2026, 12, 1, 12, tzinfo=datetime.timezone.utc))
+        self.assertEqual(index_of(time_of(-1)), -1)
+        with self.assertRaises(ValueRefused):
+            time_of(1 << 62)
+
+
+class Bars(unittest.TestCase):
+    def test_a_bar(self):
+        out = io.StringIO()
+        with Bar("range", "bytes", stream=out, is_shown=True) as bar:
+            bar(500)
+            bar(1000, 4000)
+            bar.clear()
+        lines = out.getvalue().split("\r")
+        self.assertTrue(lines[1].startswith("range: 500 bytes, "), lines)
+        self.assertEqual(lines[2], "\x1b[K")
+        self.assertTrue(lines[3].startswith("range: [#######.......................]  25 %, "), lines)
+        self.assertTrue(lines[3].endswith("\n"))
+        hidden = io.StringIO()
+        with Bar("range", stream=hidden) as bar:
+            bar(1)
+            bar.clear()
+        self.assertEqual(hidden.getvalue(), "")
 
 
 class Uris(unittest.TestCase):
@@ -67,6 +96,15 @@ class Tables(unittest.TestCase):
         file = io.StringIO()
         points("string", (1, 'a,"b"'), (2, "c\nd")).to_csv(file, time=False)
         self.assertEqual(file.getvalue(), 'index_us,c\n1,"a,""b"""\n2,"c\nd"\n')
+        file = io.StringIO()
+        texts = ["a\rb", "c\r", "\r\n", "", '"', ",", "é"]
+        points("string", *enumerate(texts)).to_csv(file, time=False)
+        self.assertEqual([row[1] for row in csv.reader(io.StringIO(file.getvalue(), newline=""))][1:], texts)
+        with tempfile.TemporaryDirectory() as folder:
+            path = pathlib.Path(folder, "points.csv")
+            self.assertEqual(points("bytes", (1, b"\0\xff")).to_csv(path, time=False), 1)
+            self.assertEqual(path.read_bytes(), b"index_us,c\n1,00ff\n")
+            self.assertEqual(points("long", (1, 5)).to_csv(str(path)), 1)
 
     def test_pandas(self):
         try:

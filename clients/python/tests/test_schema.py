@@ -1,4 +1,4 @@
-"""The schema of the package beside the reader from outside, and beside the schema files of docs/schemas where they are there."""
+"""The schema of the package compared with that of the reader from outside, and with the schema files of docs/schemas."""
 import json
 import unittest
 

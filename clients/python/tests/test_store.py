@@ -1,4 +1,5 @@
 """Every call of a store against a running server, and each code with which it may be refused."""
+import asyncio
 import unittest
 import unittest.mock
 import uuid
@@ -37,6 +38,7 @@ class Spaces(Case):
         self.assertEqual((made.uri, made.path, made.custom), (uri, "it's", custom))
         self.assertGreater(made.written, 1_600_000_000_000_000)
         self.assertEqual([each.path for each in store.spaces(newer_than=made.written - 1)], ["it's"])
+        self.assertEqual([each.path for each in store.spaces(newer_than="2000-01-01")], [each.path for each in store.spaces(newer_than=1)])
         self.assertEqual(store.spaces(newer_than=made.written), [])
         store.drop_space("it's")
         self.assertEqual([each.path for each in store.spaces()], [""])
@@ -86,6 +88,8 @@ class Objects(Case):
         self.refused(17, store.put, well_uri(1), b"", name="x" * 16_384)
         self.refused(21, store.put, well_uri(1), b"", format="csv")
         self.refused(21, store.get, well_uri(1), "csv")
+        with unittest.mock.patch("colmjurr.store.MOST_DATA", 10), self.assertRaises(ValueRefused):
+            store.put(well_uri(1), bytes(11))
         only_json = self.connect(formats=["json"])
         self.refused(21, only_json.get, well_uri(1))
         with self.assertRaises(Refused) as caught:
@@ -192,6 +196,7 @@ class Transactions(Case):
             tx.put(well_uri(2), b"2")
             tx.delete(well_uri(2))
             self.assertEqual(tx.get(well_uri(1)).data, b"1")
+            self.assertEqual(set(tx.get_many([well_uri(1), well_uri(2)])), {well_uri(1)})
             self.refused(11, tx.get, well_uri(2))
             self.refused(11, other.get, well_uri(1))
         self.assertEqual(other.get(well_uri(1)).data, b"1")
@@ -323,6 +328,14 @@ class Channels(Case):
             with self.assertRaises(ValueRefused):
                 channel.load(indexes, values)
         self.assertEqual(len(channel.range(last, None)), 1)
+        with self.assertRaises(ValueRefused) as caught:
+            channel.load(list(range(last + 1, last + 100)), [1] * 60 + ["x"] + [1] * 38)
+        self.assertIn("at place 60", str(caught.exception))
+        with self.assertRaises(ValueRefused) as caught:
+            channel.load([last + 1, last + 3, last + 2], [1, 1, 1])
+        self.assertIn(f"at place 2, {last + 2}, does not rise above {last + 3}", str(caught.exception))
+        # nothing of what was refused here was sent
+        self.assertEqual(len(channel.range(last, None)), 1)
 
     def test_several_stores(self):
         one, other = self.connect(), support.start_server()
@@ -332,7 +345,19 @@ class Channels(Case):
             one.channel(channel_uri(4)).load([begin + 1, begin + 3], [1, 3])
             two.channel(channel_uri(4)).load([begin + 2, begin + 3], [20, 30])
             both = colmjurr.several([one, two]).channel(channel_uri(4))
-            self.assertEqual(list(both.range(begin, None)), [(begin + 1, 1), (begin + 2, 20), (begin + 3, 30)])
+            heard = []
+            self.assertEqual(
+                list(both.range(begin, None, progress=lambda done, of: heard.append(done))), [(begin + 1, 1), (begin + 2, 20), (begin + 3, 30)])
+            self.assertGreater(len(heard), 1)
+            self.assertEqual((both.first, both.last, both.unit), (begin + 1, begin + 3, ""))
+            self.assertEqual(list(both.range(begin, begin + 1)), [(begin + 1, 1)])
+            self.assertEqual(len(both.range(0, 1)), 0)
+            for number, first, second, wanted in (
+                    (2, ["a", None], ["b", "c"], ["a", "b", "c"]), (0, [1.0, None], [None, 2.0], [1.0, None, 2.0]), (3, [True, None], [None, True], [True, None, True])):
+                one.channel(channel_uri(number)).load([begin, begin + 1], first)
+                two.channel(channel_uri(number)).load([begin + 1, begin + 2], second)
+                both = colmjurr.several([one, two]).channel(channel_uri(number))
+                self.assertEqual(list(both.range(begin, None)), list(zip(range(begin, begin + 3), wanted)))
             with self.assertRaises(NotFound):
                 colmjurr.several([one, two]).channel(channel_uri(99))
 
@@ -391,6 +416,69 @@ class Loading(Case):
         whole = channel.range().to_pandas()
         self.assertTrue((whole.index == times.tz_convert("UTC")).all())
         numpy.testing.assert_array_equal(whole["c5"].values, frame["c5"].values)
+        channel.truncate(0)
+        with channel.loader(every=None) as load:
+            load.load_many(times, frame["c5"].values)
+        self.assertTrue((channel.range().to_pandas().index == times.tz_convert("UTC")).all())
+        channel.truncate(0)
+        self.assertEqual(channel.load(pandas.Series(frame["c5"].values, index=times.tz_localize(None))), 1000)
+        self.assertEqual(channel.range().to_pandas().index[0].isoformat(), "2026-12-01T00:00:00+00:00")
+        for wrong, text in (
+                (frame.set_index(times.where(times != times[7])), "place 7: NaT"), (frame.assign(other=1), "2 columns"),
+                (frame["c5"].set_axis(numpy.linspace(0, 1, 1000)), "not a moment")):
+            with self.assertRaises(ValueRefused) as caught:
+                channel.load(wrong)
+            self.assertIn(text, str(caught.exception))
+
+
+class Asyncio(Case):
+    """The same calls for asyncio."""
+
+    def test_each_call(self):
+        asyncio.run(self.calls())
+
+    async def calls(self):
+        how = {"ask_timeout": 30 * support.PATIENCE, "timeout": 20 * support.PATIENCE}
+        async with colmjurr.aio.connect(self.server.url, **how) as store:
+            self.assertEqual(store.info.name, "wd")
+            self.assertGreater(await store.ping(), 0)
+            uri = await store.put_space("async")
+            self.assertIn(uri, [each.uri for each in await store.spaces()])
+            well = well_uri(1, "async")
+            async with store.transaction(["async"]) as tx:
+                await tx.put(well, b"<Well/>", name="w")
+                if numpy is not None:
+                    await tx.array(well, "a").write(numpy.arange(12.0).reshape(3, 4))
+            self.assertEqual((await store.get(well)).name, "w")
+            if numpy is not None:
+                array = store.array(well, "a")
+                numpy.testing.assert_array_equal(await array.read(numpy.s_[1:, ::2]), [[4, 6], [8, 10]])
+                await array.patch([0, 0], numpy.zeros((1, 4)))
+                self.assertEqual((await array.info()).shape, (3, 4))
+            channel = await store.channel(channel_uri(0))
+            async with channel.watch() as watch:
+                async with channel.loader(every=None) as load:
+                    await load(1, 1.5)
+                    await load(2, 2.5)
+                self.assertEqual(await channel.load([3, 4], [3.5, 4.5]), 2)
+                seen = colmjurr.Copy()
+                async for change in watch:
+                    seen.apply(change)
+                    if seen.indexes[-1] == 4:
+                        break
+            self.assertEqual(seen.values, [1.5, 2.5, 3.5, 4.5])
+            self.assertEqual(list(await channel.range(2, 3)), [(2, 2.5), (3, 3.5)])
+            await channel.replace(2, 3)
+            await channel.truncate(1)
+            await channel.refresh()
+            self.assertEqual((channel.first, channel.last), (1, 1))
+            await store.delete(well)
+            await store.drop_space("async")
+        with self.assertRaises(colmjurr.LinkLost):
+            await store.ping()
+        plain = await colmjurr.aio.connect(self.server.url, **how)
+        self.assertEqual([each.uri for each in await plain.channels([channel_uri(1)])], [channel_uri(1)])
+        await plain.close()
 
 
 if __name__ == "__main__":

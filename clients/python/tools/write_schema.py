@@ -2,7 +2,7 @@
 """Writes src/colmjurr/schema.py from messages.txt.
 
     python3 write_schema.py            writes the file
-    python3 write_schema.py --check    compares, and exits with 1 where the file is another
+    python3 write_schema.py --check    compares, and exits with 1 if the file differs
 """
 import sys
 from pathlib import Path
@@ -77,7 +77,7 @@ def schema_text(table):
         written("MESSAGES", f"dict[tuple[int, int], tuple[str, str, {fields}]]", table["message"]),
         "\n# By number: the messages that every protocol has.",
         written("COMMON", f"dict[int, tuple[str, str, {fields}]]", table["common"]),
-        "\n# The field whose items go on from part to part, where a message comes in parts.",
+        "\n# The field whose items are continued in each part, if a message is sent in parts.",
         written("GROWING", "dict[str, str]", growing),
     ]
     return "\n".join(parts) + "\n"

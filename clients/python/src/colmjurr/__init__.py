@@ -6,15 +6,16 @@
         channel = store.channel("eml:///witsml21.Channel(00000000-0000-0000-0000-000000000001)")
         channel.range("2026-12-01", None).to_pandas()
 
-`connect` is for plain programs and notebooks; `colmjurr.aio.connect` has the same names for asyncio. The profile that is spoken is
-not the published ETP 1.2. Moments and indexes are microseconds since 1970-01-01 UTC.
+`connect` is for scripts and notebooks; `colmjurr.aio.connect` has the same names for asyncio. This profile of the Energistics
+Transfer Protocol is not the published ETP 1.2. Moments and indexes are microseconds since 1970-01-01 UTC.
 """
 from . import aio
 from .errors import (
     CommitFailed, ConfigError, Conflict, DialError, EtpError, HandshakeError, LimitExceeded, LinkError, LinkLost, NotFound, PeerError,
     Refused, SomeRefused, Stopped, TimeLimit, ValueRefused, WireError,
 )
-from .points import Points, index_of
+from .points import Points, index_of, time_of
+from .progress import Bar
 from .several import several
 from .store import DataObject, ServerInfo, Space
 from .sync import connect
@@ -23,8 +24,8 @@ from .version import VERSION as __version__
 from .watching import Append, Change, Copy, Gap, Replace, Restarted, Truncate
 
 __all__ = [
-    "Append", "Change", "CommitFailed", "ConfigError", "Conflict", "Copy", "DataObject", "DialError", "EtpError", "Gap", "HandshakeError",
+    "Append", "Bar", "Change", "CommitFailed", "ConfigError", "Conflict", "Copy", "DataObject", "DialError", "EtpError", "Gap", "HandshakeError",
     "LimitExceeded", "LinkError", "LinkLost", "NotFound", "PeerError", "Points", "Refused", "Replace", "Restarted", "ServerInfo",
     "SomeRefused", "Space", "Stopped", "TimeLimit", "Truncate", "ValueRefused", "WireError", "__version__", "aio", "connect",
-    "index_of", "object_uri", "several", "space_uri",
+    "index_of", "object_uri", "several", "space_uri", "time_of",
 ]

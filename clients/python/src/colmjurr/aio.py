@@ -1,4 +1,4 @@
-"""The package over asyncio: `async with colmjurr.aio.connect(url) as store`, and the names of the sync form with `await`."""
+"""The package for asyncio: `async with colmjurr.aio.connect(url) as store`, and then the same names as without it, with `await`."""
 from .arrays import Array, ArrayInfo
 from .channels import Channel
 from .loading import Loader

@@ -1,8 +1,8 @@
-"""Arrays within objects, from and to numpy. Without numpy they come as nested lists."""
+"""Arrays within objects, from and to numpy. Without numpy they are nested lists."""
 from __future__ import annotations
 
 import itertools
-from typing import TYPE_CHECKING, Any, Iterator, NamedTuple, Optional, Union
+from typing import TYPE_CHECKING, Any, Iterator, Mapping, NamedTuple, Optional, Union
 
 from . import codec
 from .arrays_of_numbers import numpy
@@ -13,27 +13,28 @@ from .session import Reply, Session
 if TYPE_CHECKING:
     from .store import Store
 
-# Arrays of more elements go in pieces, so that each message stays well below what a server takes.
+# Arrays of more elements are sent in pieces, so that each message stays well below a server's limit.
 PIECE = 1_000_000
-# By type of numpy: the branch that carries the elements, and the logical type that remembers what they are.
+# For each numpy type the branch that carries the elements, and the logical type that says what they are.
 TYPES = {
     "bool": (0, 0), "int8": (6, 1), "uint8": (6, 2), "int16": (1, 3), "int32": (1, 4), "int64": (2, 5), "uint16": (1, 6), "uint32": (2, 7),
     "uint64": (2, 8), "float32": (3, 9), "float64": (4, 10), "object": (5, 19),
 }
-# The logical type of an array that is put whole, by its branch.
+# The logical type that a server gives an array that is put whole, by its branch.
 PLAIN_LOGICAL = (0, 4, 5, 9, 10, 19, 2)
 BY_LOGICAL = {logical: name for name, (_, logical) in TYPES.items()}
 BY_LOGICAL.update({11: "int16", 12: "int32", 13: "int64", 14: "uint16", 15: "uint32", 16: "uint64", 17: "float32", 18: "float64"})
 
-# The type of numpy that a branch carries.
+# The numpy type that each branch carries.
 CARRIED = ("bool", "int32", "int64", "float32", "float64", "object", "uint8")
 
 Slices = Union[int, slice, tuple, Any]
 
 
 class ArrayInfo(NamedTuple):
-    """What is known of an array. `shape` is its dimensions, `dtype` the name of numpy's type (`object` for texts). Moments are in
-    microseconds since 1970-01-01 UTC."""
+    """What is known of an array. `shape`: its dimensions; `preferred`: the shape in which it is best read, if one was given; `dtype`: the
+    name of its numpy type (`object` for texts); `branch`, `logical`: the numbers of its types in the profile; `written`, `created`: moments
+    in microseconds since 1970-01-01 UTC; `custom`: the custom data by name."""
 
     shape: tuple[int, ...]
     preferred: tuple[int, ...]
@@ -46,7 +47,7 @@ class ArrayInfo(NamedTuple):
 
 
 class Array:
-    """An array at a path within an object, which has to be there before its arrays."""
+    """An array at a path within an object, which has to exist before its arrays."""
 
     def __init__(self, store: "Store", uri: str, path: str, session: Optional[Session] = None):
         self.store, self.uri, self.path, self.used = store, uri, path, session
@@ -60,7 +61,7 @@ class Array:
         return reply.item(next(name for name, _ in codec.BODIES[codec.NUMBERS[reply.response]].fields))
 
     async def info(self) -> ArrayInfo:
-        """Shape, type, moments and custom data. Raises `NotFound` where there is no such array."""
+        """Shape, type, moments and custom data, as they are now. Raises `NotFound` if there is no such array."""
         found = await self._ask("GetDataArrayMetadata", "dataArrays", self._uid, True)
         branch, logical = found["transportArrayType"], found["logicalArrayType"]
         name = BY_LOGICAL.get(logical, "")
@@ -72,8 +73,9 @@ class Array:
     # -- reading
 
     async def read(self, where: Slices = ()) -> Any:
-        """The elements of a region, as an ndarray of the region's shape. `where` is what stands between an array's brackets: ints and
-        slices, whose steps are above 0. A large region is read piece by piece, each as it stands when it is read."""
+        """The elements of a region as an ndarray of the region's shape. `where` is what would be between an array's brackets: ints, slices
+        with steps above 0, and `...`. Raises `NotFound` if there is no such array, and `IndexError` if an int is out of bounds. A region
+        of more than a million elements is read in pieces, each as it is at that moment."""
         info = await self.info()
         starts, counts, last = _region(where, info.shape)
         made = [await self._piece(info, *piece) for piece in _pieces(starts, counts, PIECE)]
@@ -97,10 +99,12 @@ class Array:
 
     # -- writing
 
-    async def write(self, values: Any, *, custom: Optional[dict[str, Any]] = None, preferred: Optional[tuple[int, ...]] = None) -> None:
-        """Puts the whole array, new or in place of the one that stands there; at most 4,194,304 elements and 33,554,432 bytes. One of more
-        than a million elements, or of a type that the wire carries within a wider one, is made first and then patched: put it within a
-        transaction where others shall not see it half."""
+    async def write(self, values: Any, *, custom: Optional[Mapping[str, Any]] = None, preferred: Optional[tuple[int, ...]] = None) -> None:
+        """Puts the whole array, new or in place of the one at this path: at most 4,194,304 elements and 33,554,432 bytes. `preferred` is a
+        hint for readers: the shape in which the array is best read.
+
+        An array of more than a million elements, or of a type that is carried by a wider one (int8, int16 and unsigned ints, except
+        uint8), is created first and then filled: do that in a transaction if others must not see it half full."""
         held, name = _held(values)
         branch, logical = TYPES[name]
         shape = list(held.shape)
@@ -115,13 +119,13 @@ class Array:
             await self._patch(starts, counts, piece, branch)
 
     async def make(
-        self, shape: tuple[int, ...], dtype: str = "float64", *, custom: Optional[dict[str, Any]] = None,
+        self, shape: tuple[int, ...], dtype: str = "float64", *, custom: Optional[Mapping[str, Any]] = None,
         preferred: Optional[tuple[int, ...]] = None,
     ) -> None:
-        """Puts an array of this shape whose elements are false, 0, empty texts or the byte 0."""
+        """Puts an array of this shape whose elements are 0, false or empty texts."""
         name = str(numpy.dtype(dtype)) if numpy is not None and dtype != "object" else dtype
         if name not in TYPES:
-            raise ValueRefused(f"arrays of {name} have no form on the wire")
+            raise ValueRefused(f"the profile has no arrays of {name}")
         branch, logical = TYPES[name]
         metadata = codec.filled(
             "DataArrayMetadata", dimensions=list(shape), preferredSubarrayDimensions=list(preferred or ()), transportArrayType=branch,
@@ -129,8 +133,8 @@ class Array:
         await self._ask("PutUninitializedDataArrays", "dataArrays", {"uid": self._uid, "metadata": metadata})
 
     async def patch(self, starts: Any, values: Any) -> None:
-        """Sets the region that begins at these places, one a dimension, and has the shape of `values`. The values are taken as the
-        array's type where all of them fit it. Raises `Refused` with 5 where the region doesn't lie in the array."""
+        """Sets the region that begins at `starts`, one number for each dimension, and has the shape of `values`. Raises `Refused` with 5 if
+        the region is not inside the array, and `ValueRefused` if a value does not fit the array's type."""
         info = await self.info()
         held, _ = _held(values)
         if held.ndim != len(info.shape):
@@ -156,7 +160,7 @@ def _product(counts: Any) -> int:
 
 
 def _region(where: Slices, shape: tuple[int, ...]) -> tuple[list[int], list[int], Any]:
-    """Starts and counts of the smallest region with what is asked for, and what makes that of the region's elements."""
+    """Starts and counts of the smallest region that has the elements asked for, and a function that picks these from it."""
     parts = list(where) if isinstance(where, tuple) else [where]
     if Ellipsis in [each for each in parts if each is Ellipsis]:
         place = next(at for at, each in enumerate(parts) if each is Ellipsis)
@@ -170,7 +174,7 @@ def _region(where: Slices, shape: tuple[int, ...]) -> tuple[list[int], list[int]
         if isinstance(part, slice):
             begin, end, step = part.indices(size)
             if step < 1:
-                raise ValueRefused("a step below 1")
+                raise ValueRefused(f"the step of a slice has to be above 0, not {step}")
             starts.append(begin if end > begin else 0)
             counts.append(max(0, end - begin))
             rest.append(slice(None, None, step))
@@ -185,16 +189,16 @@ def _region(where: Slices, shape: tuple[int, ...]) -> tuple[list[int], list[int]
 
 
 def region_of(where: Slices, shape: tuple[int, ...]) -> tuple[list[int], list[int]]:
-    """Starts and counts of a region without steps."""
+    """Starts and counts of a region that is set. Raises `ValueRefused` if it has steps."""
     starts, counts, _ = _region(where, shape)
     for part in where if isinstance(where, tuple) else (where,):
         if isinstance(part, slice) and part.step not in (None, 1):
-            raise ValueRefused("a region that is set has no steps")
+            raise ValueRefused("a region with steps can be read, but not set")
     return starts, counts
 
 
 def spread(values: Any, counts: list[int]) -> Any:
-    """The values over a region of these counts, as numpy spreads them."""
+    """The values broadcast over a region of these counts, as numpy does it."""
     if numpy is None:
         return values
     held = numpy.asarray(values)
@@ -214,7 +218,7 @@ def _picked(made: Any, rest: list) -> Any:
 
 
 def _pieces(starts: list[int], counts: list[int], most: int) -> Iterator[tuple[list[int], list[int]]]:
-    """Cuts a region into regions of at most so many elements, row by row in its order."""
+    """Cuts a region into regions of at most `most` elements, in the order of its rows."""
     if _product(counts) <= most or not counts:
         yield list(starts), list(counts)
         return
@@ -264,7 +268,7 @@ def _nested(flat: list, counts: list[int]) -> Any:
 
 
 class _Lists:
-    """Nested lists with the few things of an ndarray that are needed here."""
+    """Nested lists with the few properties of an ndarray that are needed here."""
 
     def __init__(self, values: Any, shape: list[int]):
         self.values, self.shape = values, tuple(shape)
@@ -290,23 +294,23 @@ def _held(values: Any) -> tuple[Any, str]:
             depth, inner = depth + 1, inner[0] if inner else 0.0
         name = {bool: "bool", int: "int64", float: "float64", str: "object"}.get(type(inner), "")
         if not name or not depth:
-            raise ValueRefused(f"arrays of {type(inner).__name__} have no form on the wire")
+            raise ValueRefused(f"the profile has no arrays of {type(inner).__name__}")
         return _Lists(values, _shape_of(values, depth)), name
     held = numpy.asarray(values)
     if held.dtype.kind == "U":
         held = held.astype(object)
     if held.dtype.kind == "O" and not all(isinstance(each, str) for each in held.flat):
-        raise ValueRefused("an array of objects that are not all texts")
+        raise ValueRefused("an array of objects may hold texts only")
     if held.ndim == 0:
         raise ValueRefused("an array has at least one dimension")
     name = "object" if held.dtype.kind == "O" else held.dtype.newbyteorder("=").name
     if name not in TYPES:
-        raise ValueRefused(f"arrays of {name} have no form on the wire")
+        raise ValueRefused(f"the profile has no arrays of {name}")
     return held, name
 
 
 def _fitting(held: Any, name: str) -> Any:
-    """The values as a type of the array's, where none changes by it."""
+    """The values as the array's type. Raises `ValueRefused` if that would change one."""
     if numpy is None:
         return held
     if (held.dtype.kind == "O") != (name == "object") or (held.dtype.kind == "b") != (name == "bool"):
@@ -314,7 +318,7 @@ def _fitting(held: Any, name: str) -> Any:
     cast = held.astype(name)
     if name != "object" and held.dtype != cast.dtype and not name.startswith("float"):
         if not numpy.array_equal(cast, held):
-            raise ValueRefused(f"a value that {name} doesn't have")
+            raise ValueRefused(f"a value that does not fit {name}")
     return cast
 
 
@@ -345,5 +349,5 @@ def _of_wire(info: ArrayInfo, values: Any, counts: list[int]) -> Any:
     if info.dtype == "uint64":
         return carried.view(numpy.uint64).reshape(counts)
     cast = carried.astype(info.dtype, copy=False)
-    # elements that the logical type doesn't have come as they are carried
+    # elements that do not fit the logical type are returned as they are carried
     return (cast if cast is carried or (cast == carried).all() else carried).reshape(counts)

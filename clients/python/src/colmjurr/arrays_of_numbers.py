@@ -1,4 +1,4 @@
-"""Runs of varints as numpy arrays: what makes long arrays and long lists of points fast. Nothing here is used without numpy."""
+"""Runs of varints as numpy arrays, which make long arrays and long lists of points fast. Nothing here is used without numpy."""
 from __future__ import annotations
 
 from typing import Any, Optional
@@ -8,12 +8,12 @@ try:
 except ImportError:
     numpy = None  # type: ignore[assignment]
 
-# Varints of more bytes are left to the reader that takes one number after the other.
+# Longer varints are left to the reader that takes one number at a time.
 LONGEST = 9
 
 
 def zigzag(values: Any) -> Any:
-    """The unsigned numbers that stand for signed ones (int64 to uint64)."""
+    """The unsigned numbers by which signed ones are encoded (int64 to uint64)."""
     signed = numpy.ascontiguousarray(values, dtype=numpy.int64)
     return ((signed << 1) ^ (signed >> 63)).view(numpy.uint64)
 
@@ -23,7 +23,7 @@ def unzigzag(raw: Any) -> Any:
 
 
 def varint_sizes(raw: Any) -> Any:
-    """How many bytes the shortest varint of each unsigned number has, 1 to 10."""
+    """The size of the shortest varint of each unsigned number, 1 to 10 bytes."""
     sizes = numpy.ones(len(raw), dtype=numpy.int64)
     for place in range(1, 10):
         sizes += raw >= numpy.uint64(1 << 7 * place)
@@ -31,7 +31,7 @@ def varint_sizes(raw: Any) -> Any:
 
 
 def put_varints(out: Any, starts: Any, raw: Any, sizes: Any) -> None:
-    """Writes the varints of unsigned numbers into an array of bytes, each from its start on."""
+    """Writes the varint of each unsigned number into an array of bytes, at its start."""
     for place in range(int(sizes.max(initial=0))):
         chosen = sizes > place
         more = numpy.where(sizes[chosen] > place + 1, numpy.uint64(0x80), numpy.uint64(0))
@@ -64,8 +64,8 @@ def varints_at(data: Any, starts: Any, sizes: Any) -> Any:
 
 
 def varint_ends(data: Any, count: int) -> Optional[tuple[Any, Any]]:
-    """Where the first `count` varints of an array of bytes begin, and their sizes; fewer where the bytes end. None where one of
-    them is longer than LONGEST."""
+    """Where the first `count` varints of an array of bytes begin, and their sizes; fewer if the bytes end before. None if one of them is
+    longer than LONGEST."""
     ends = numpy.flatnonzero(data[:count * LONGEST] < 0x80)[:count]
     starts = numpy.empty(len(ends), dtype=numpy.int64)
     if len(ends):

@@ -1,14 +1,14 @@
-"""Writes every change of channels into streams of Redis, from which any number of offices can read.
+"""Writes every change of channels into Redis streams, from which any number of offices can read.
 
-Each channel has a stream `PREFIX:URI`. An entry is one change: its field `change` is `append`, `replace` or `truncate`; `start` and
-`end` are indexes in microseconds (of a replacement both, of a truncation `end`), and `points` a JSON list of pairs of an index and a
-value (null for null, hexadecimal text for bytes, `"NaN"`, `"Infinity"` and `"-Infinity"` for what JSON has no number for). Its id is
-`N-0`, N counting from 1. Whoever does an entry after the other has the channel's points; `fold` does that.
+Each channel has a stream `PREFIX:URI`. An entry is one change. Its field `change` is `append`, `replace` or `truncate`; `start` and `end`
+are indexes in microseconds (a replacement has both, a truncation `end`); and `points` is a JSON list of pairs of an index and a value
+(null for null, a hexadecimal text for bytes, and `"NaN"`, `"Infinity"` and `"-Infinity"`, for which JSON has no numbers). Its id is `N-0`,
+and N counts from 1. Applying the entries in order gives the channel's points, which is what `fold` does.
 
-After a break of any of the three (server, bridge, Redis) the bridge reads the stream back, takes the channel's points anew, and writes
-what differs. So no change is in the stream twice, and the stream's points come to be the channel's again; changes that came and were
-overtaken while a link was down are told as one. An entry is written only behind the entry that the bridge knows as the last one, so
-two bridges of one channel can't mix their entries. A stream must not be trimmed while a bridge of it runs or is to run again.
+When the server, the bridge or Redis was restarted, the bridge reads the stream back, reads the channel's points again, and writes the
+difference. So no change is in the stream twice, and the stream's points become the channel's again; changes that were made and
+superseded meanwhile are written as one. An entry is added only after the entry that the bridge knows as the last, so two bridges of one
+channel can't mix their entries. A stream must not be trimmed if its bridge is to run again.
 """
 from __future__ import annotations
 
@@ -24,10 +24,10 @@ from .errors import EtpError, NotFound
 from .points import GREATEST, LEAST
 from .watching import Append, Change, Copy, Replace, Truncate
 
-# The most points of an entry, the most entries that are read at once, and seconds between tries after a break.
-BATCH, PAGE, PAUSE = 10_000, 200, 0.5
+# The most points of an entry, the most entries that are read at once, and the least and most seconds between attempts after a failure.
+BATCH, PAGE, PAUSE, LONGEST_PAUSE = 10_000, 200, 0.5, 10.0
 
-# Adds an entry (ARGV[2]) behind the one that is known as the last (ARGV[1]); answers the last one's id where that is another.
+# Adds an entry (ARGV[2]) if the last one is still ARGV[1], and else returns the id of the last one.
 _ADD = """
 local last = redis.call('XREVRANGE', KEYS[1], '+', '-', 'COUNT', 1)
 local at = last[1] and last[1][1] or '0-0'
@@ -37,7 +37,7 @@ return at
 
 
 class Entry(NamedTuple):
-    """A change of a channel's points, as it stands in a stream."""
+    """A change of a channel's points, as it is in a stream."""
 
     change: str
     start: int
@@ -45,10 +45,12 @@ class Entry(NamedTuple):
     points: list[tuple[int, Any]]
 
     def fields(self) -> dict[str, Any]:
-        return {"change": self.change, "start": self.start, "end": self.end, "points": json.dumps([[at, _plain(value)] for at, value in self.points])}
+        """The fields of the entry in Redis."""
+        return {"change": self.change, "start": self.start, "end": self.end, "points": json.dumps([[at, plain_value(value)] for at, value in self.points])}
 
 
-def _plain(value: Any) -> Any:
+def plain_value(value: Any) -> Any:
+    """A value as JSON has it: bytes in hexadecimal, and what JSON has no number for as a text."""
     if isinstance(value, bytes):
         return value.hex()
     if isinstance(value, float) and not math.isfinite(value):
@@ -64,20 +66,21 @@ def _value(kind: str, value: Any) -> Any:
     return float(value) if kind in ("float", "double") else value
 
 
-class Stopped(EtpError):
-    """Somebody else wrote into a stream."""
+class OtherWriter(EtpError):
+    """Another program has added an entry to the stream."""
 
 
 # --- points and entries ------------------------------------------------------------------------------------------------
 
 
 def fold(entries: Iterable[Entry], into: Optional[Copy] = None) -> Copy:
-    """The points that entries leave, done one after the other. Raises `ValueError` for an append that doesn't rise: a point twice."""
+    """The points that entries leave when they are applied in order. Raises `ValueError` if an append does not rise, as a doubled point does
+    not."""
     copy = into or Copy()
     for entry in entries:
         if entry.change == "append":
             if copy.indexes and entry.points and entry.points[0][0] <= copy.indexes[-1]:
-                raise ValueError(f"an append at {entry.points[0][0]} behind {copy.indexes[-1]}")
+                raise ValueError(f"an append at {entry.points[0][0]} after {copy.indexes[-1]}")
             copy.cut(len(copy.indexes), len(copy.indexes), entry.points)
         elif entry.change == "replace":
             copy.replace(entry.start, entry.end, entry.points)
@@ -102,7 +105,7 @@ def _appends(points: list[tuple[int, Any]]) -> Iterator[Entry]:
 
 
 def differences(known: list[tuple[int, Any]], wanted: list[tuple[int, Any]]) -> Iterator[Entry]:
-    """The entries that make the known points the wanted ones; none where they are the same."""
+    """The entries that turn the known points into the wanted ones; none if they are the same."""
     front = _alike(known, wanted)
     back = _alike(list(reversed(known[front:])), list(reversed(wanted[front:])))
     old, new = known[front:len(known) - back], wanted[front:len(wanted) - back]
@@ -119,7 +122,7 @@ def differences(known: list[tuple[int, Any]], wanted: list[tuple[int, Any]]) -> 
 
 
 def _alike(one: list[tuple[int, Any]], other: list[tuple[int, Any]]) -> int:
-    """How many points two lists have in common from their beginning on."""
+    """How many points two lists have in common at their beginning."""
     same = lambda a, b: a[0] == b[0] and (a[1] == b[1] and type(a[1]) is type(b[1]) or a[1] != a[1] and b[1] != b[1])
     count = 0
     for a, b in zip(one, other):
@@ -133,7 +136,7 @@ def _alike(one: list[tuple[int, Any]], other: list[tuple[int, Any]]) -> int:
 
 
 class Stream:
-    """The stream of a channel: what it holds, and which entry is its last one."""
+    """The stream of a channel: the points that it holds, and the number of its last entry."""
 
     def __init__(self, redis: Any, prefix: str, channel: Channel):
         self.redis, self.key, self.kind = redis, f"{prefix}:{channel.uri}", channel.kind
@@ -151,12 +154,12 @@ class Stream:
             last = f"({page[-1][0].decode()}"
 
     async def add(self, entry: Entry) -> None:
-        """Writes an entry behind the last one. Raises `Stopped` where that is another's, and Redis' own errors."""
+        """Adds an entry after the last one. Raises `OtherWriter` if another program has added one, and the errors of Redis."""
         before, number = f"{self.count}-0", f"{self.count + 1}-0"
         words = [word for pair in entry.fields().items() for word in pair]
         at = await self.redis.eval(_ADD, 1, self.key, before if self.count else "0-0", number, *words)
         if at.decode() != number:
-            raise Stopped(f"{self.key} ends with {at.decode()}, not with {before}")
+            raise OtherWriter(f"the stream {self.key} ends with {at.decode()}, not with {before}: another program writes it")
         self.count += 1
         fold([entry], self.copy)
 
@@ -174,26 +177,35 @@ def read_entry(fields: dict[bytes, bytes], kind: str) -> Entry:
 
 
 class Bridge:
-    """Follows channels of one server into Redis, until it is cancelled. `how` goes to `colmjurr.aio.connect`."""
+    """Writes the changes of a server's channels into Redis until it is cancelled. `told` is called with each line of its report, and by
+    default writes it to standard error. `how` goes to `colmjurr.aio.connect`."""
 
     def __init__(self, url: str, uris: Iterable[str], redis_url: str, prefix: str = "etp", told: Optional[Callable[[str], None]] = None, **how: Any):
         self.url, self.uris, self.redis_url, self.prefix, self.how = url, list(uris), redis_url, prefix, how
         self.told = told or (lambda line: sys.stderr.write(line + "\n"))
-        self.written = self.restarts = 0
+        self.written = self.restarts = self.caught_up = 0
 
     async def run(self) -> None:
-        """Follows, and begins anew after each break."""
+        """Follows the channels, and begins again after each failure. Raises `NotFound` if the server has no such channel."""
         from redis.exceptions import RedisError
 
+        pause, said = PAUSE, ""
         while True:
+            before = self.caught_up
             try:
                 await self._follow()
+            except NotFound:
+                raise
             except (EtpError, RedisError, ConnectionError, OSError, asyncio.TimeoutError) as error:
-                if isinstance(error, NotFound):
-                    raise
                 self.restarts += 1
-                self.told(f"{self.url}: {error}; again in {PAUSE:g} s")
-            await asyncio.sleep(PAUSE)
+                if self.caught_up > before:
+                    pause, said = PAUSE, ""
+                # while the cause is the same it is said once
+                if said != str(error):
+                    said = str(error)
+                    self.told(f"{self.url}: {said or type(error).__name__}; trying again")
+            await asyncio.sleep(pause)
+            pause = min(2 * pause, LONGEST_PAUSE)
 
     async def _follow(self) -> None:
         import redis.asyncio
@@ -212,12 +224,13 @@ class Bridge:
         for stream in streams.values():
             await stream.read()
         async with store.watch(channels, resume=None) as watch:
-            await self._catch_up(store, watch, channels, streams)
+            await self._catch_up(watch, channels, streams)
+            self.caught_up += 1
             async for change in watch:
                 await self._write(streams[change.channel.uri], entries_of(change))
 
-    async def _catch_up(self, store: aio.Store, watch: aio.Watch, channels: list[Channel], streams: dict[str, Stream]) -> None:
-        """Writes what differs between the streams and the points with which the watch begins."""
+    async def _catch_up(self, watch: aio.Watch, channels: list[Channel], streams: dict[str, Stream]) -> None:
+        """Writes the difference between the streams and the points with which the watch begins."""
         copies = {channel.uri: Copy() for channel in channels}
         for change in watch.take_queued():
             copies[change.channel.uri].apply(change)

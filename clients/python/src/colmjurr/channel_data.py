@@ -1,8 +1,8 @@
-"""Lists of points on the wire, read into columns and written from them: the fast way for ChannelData and LoadChannelData.
+"""Lists of points in messages, read into columns and written from columns: the fast reader and writer of ChannelData and LoadChannelData.
 
-Points stand in a message as records of a channel's number, its indexes, a value and attributes. Where numpy is there, runs of
-points of one form are read at once; what has any other form is read one by one, and what is out of form is refused exactly as
-the general reader refuses it, as it is then asked.
+In a message a point is a record with the channel's number, the indexes, a value and attributes. With numpy, runs of points of the same
+shape are read at once. All others are read one by one, and malformed ones by the general reader, so they are refused as it refuses
+them.
 """
 from __future__ import annotations
 
@@ -15,9 +15,9 @@ from .codec import NODE_LIMIT, Cursor
 from .errors import ValueRefused, WireError
 from .points import KINDS, NULL, Columns, columns_of
 
-# The values of a point of which one index and the value are numbers (the point's record and all in it).
+# How many values the record of a point with one index counts: itself and all in it.
 NODES = 10
-# The fewest bytes of a point, and how few points a fast run may have before the message is read one by one.
+# The fewest bytes of a point; the fewest points of a fast run; and how many shorter runs there may be before points are read one by one.
 LEAST_SIZE, SHORT_RUN, SHORT_RUNS = 7, 16, 4
 _ITEMS = "[DataItem]"
 _FLOATS = {8: (4, "<f4", 4), 10: (8, "<f8", 5)}
@@ -26,18 +26,19 @@ _DOUBLE = struct.Struct("<d")
 
 
 class _Odd(Exception):
-    """Points of a form that the fast way leaves to the general one."""
+    """Points that the fast reader leaves to the general one."""
 
 
 class Run(NamedTuple):
-    """Points of one channel, and where the next one begins."""
+    """Points of one channel, and the offset at which the next point begins."""
 
     columns: Columns
     end: int
 
 
 def read_items(data: bytes, at: int) -> tuple[list[Columns], int]:
-    """The columns of a list of points, channel by channel as they follow one another, and where the list ends."""
+    """The columns of a list of points, one for each run of points of one channel, and the offset at which the list ends. Raises
+    `WireError` if the list is malformed."""
     try:
         return _read_fast(data, at)
     except (_Odd, IndexError):
@@ -47,12 +48,12 @@ def read_items(data: bytes, at: int) -> tuple[list[Columns], int]:
 
 
 def columns_of_items(items: list[dict]) -> list[Columns]:
-    """Columns of points that were read one by one. Raises `WireError` where a point has no index that is a long: a server of the
-    profile sends none."""
+    """Columns of points that were read one by one. Raises `WireError` if a point does not have one index, a long: no server of the profile
+    sends such a point."""
     found: list[tuple[int, list]] = []
     for item in items:
         if len(item["indexes"]) != 1 or item["indexes"][0]["item"][0] != 1:
-            raise WireError("index", 0, "point without a long as its index")
+            raise WireError("index", 0, "point whose index is not one long")
         row = (item["indexes"][0]["item"][1], *item["value"]["item"])
         if not found or found[-1][0] != item["channelId"]:
             found.append((item["channelId"], []))
@@ -61,7 +62,7 @@ def columns_of_items(items: list[dict]) -> list[Columns]:
 
 
 def _small_number(data: bytes, at: int) -> tuple[int, int]:
-    """A number of at most 63 bits, and where the next item begins."""
+    """A number of at most 63 bits, and the offset of the next item."""
     value = shift = 0
     while True:
         byte = data[at]
@@ -88,7 +89,7 @@ def _read_fast(data: bytes, at: int) -> tuple[list[Columns], int]:
 
 
 def _read_block(data: bytes, at: int, count: int, runs: list[Columns]) -> int:
-    """Reads the points of a block, of which each run of one form is a step."""
+    """Reads the points of a block, run by run."""
     short = SHORT_RUNS if numpy is not None else 0
     while count:
         run = _fast_run(data, at, count) if short else None
@@ -102,7 +103,7 @@ def _read_block(data: bytes, at: int, count: int, runs: list[Columns]) -> int:
 
 
 def _head(data: bytes, at: int) -> tuple[int, int, int, int]:
-    """The channel and the index of a point, its value's branch as it is spelled, and where its value begins."""
+    """The channel and the index of a point, the byte of its value's branch, and the offset of the value."""
     channel, at = _small_number(data, at)
     if data[at] != 2 or data[at + 1] != 2:
         raise _Odd
@@ -116,7 +117,7 @@ def _head(data: bytes, at: int) -> tuple[int, int, int, int]:
 
 
 def _plain_run(data: bytes, at: int, count: int) -> Run:
-    """The points from a place on that are of the first one's channel, at most so many."""
+    """At most `count` points from an offset on, as long as they are of the same channel."""
     rows: list[tuple[int, int, Any]] = []
     first = None
     while len(rows) < count:
@@ -167,7 +168,7 @@ def _fast_run(data: bytes, at: int, count: int) -> Optional[Run]:
 
 
 def _float_run(data: bytes, at: int, value_at: int, count: int, spelled: int) -> Optional[Run]:
-    """Points whose values have four or eight bytes, as long as each has as many bytes as the first one."""
+    """Points whose values have four or eight bytes, as long as each has as many bytes as the first."""
     size, dtype, branch = _FLOATS[spelled]
     step = value_at - at + size + 1
     count = min(count, (len(data) - at) // step)
@@ -191,7 +192,7 @@ def _varint_size(data: bytes, at: int) -> int:
 
 
 def _alike(rows: Any, head: bytes, channel_size: int, index_at: int, index_size: int) -> Any:
-    """Which rows have the first one's channel, one index of its size, and its value's branch."""
+    """Which rows have the channel of the first, an index of the same size, and a value of the same branch."""
     mask = bytearray(b"\xff" * len(head))
     want = bytearray(head)
     for place in range(index_at, index_at + index_size):
@@ -211,7 +212,7 @@ def _column_numbers(rows: Any, at: int, size: int) -> Any:
 
 
 def _varint_run(data: bytes, at: int, count: int, spelled: int) -> Optional[Run]:
-    """Points whose values are numbers or booleans: each is eight varints, as a boolean and a branch are one too."""
+    """Points whose values are numbers or booleans. Each is eight varints, since a boolean and a branch can be read as one."""
     count = min(count, 1 << 17)
     octets = numpy.frombuffer(data, dtype=numpy.uint8, offset=at)
     found = varint_ends(octets, 8 * count)
@@ -248,8 +249,8 @@ def _fits(values: Any, firsts: Any, sizes: Any, spelled: int) -> Any:
 
 
 def write_items(channel: int, kind: str, indexes: Any, values: Any) -> bytes:
-    """The list of points of a channel, each with its index: what stands in a LoadChannelData. None (or, in a list of floats,
-    nothing else) stands for null. Raises `ValueRefused` for a value that is not of the channel's kind."""
+    """The list of points of a channel, as it is in a LoadChannelData. In a list of values None is null; an array of numpy has no nulls.
+    Raises `ValueRefused` if a value is not of the channel's kind."""
     if len(indexes) != len(values):
         raise ValueRefused(f"{len(indexes)} indexes and {len(values)} values")
     if len(indexes) == 0:
@@ -262,25 +263,55 @@ def write_items(channel: int, kind: str, indexes: Any, values: Any) -> bytes:
     return bytes(head) + _written_fast(channel, KINDS[kind], numpy.asarray(indexes), typed) + b"\0"
 
 
+_PLAIN_TYPES = {"boolean": bool, "int": int, "long": int, "float": float, "double": float, "string": str, "bytes": bytes}
+_RANGES = {"int": (-(1 << 31), (1 << 31) - 1), "long": (-(1 << 63), (1 << 63) - 1)}
+_GREATEST_FLOAT = 3.4028234663852886e38
+
+
+def check_values(kind: str, values: Any) -> None:
+    """Raises `ValueRefused`, with the place of the value counted from 0, if one is not of a channel's kind."""
+    if numpy is not None and _typed(kind, values) is not None:
+        return
+    plain_type: Any = _PLAIN_TYPES[kind]
+    write_value = codec.coder(kind)[1]
+    least, greatest = _RANGES.get(kind, (-_GREATEST_FLOAT, _GREATEST_FLOAT))
+    for place, value in enumerate(values):
+        if value is None:
+            continue
+        if type(value) is plain_type:
+            if plain_type in (bool, bytes) or kind == "double" or (plain_type in (int, float) and least <= value <= greatest):
+                continue
+            if plain_type is str and value.isascii():
+                continue
+        try:
+            write_value(bytearray(), _plain(kind, value))
+        except ValueRefused as error:
+            raise ValueRefused(f"the value at place {place}: {error}") from None
+
+
 def _typed(kind: str, values: Any) -> Any:
-    """The values as an array of the kind's type, or None where they go one by one."""
+    """The values as an array of the kind's type, or None if they have to be written one by one."""
     if not isinstance(values, numpy.ndarray):
         return None
     wanted = {"boolean": "b", "int": "iu", "long": "iu", "float": "f", "double": "fiu"}.get(kind, "")
     if values.dtype.kind not in wanted:
         return None
-    if kind in ("int", "long"):
-        least, greatest = (-(1 << 31), (1 << 31) - 1) if kind == "int" else (-(1 << 63), (1 << 63) - 1)
-        if len(values) and (int(values.min()) < least or int(values.max()) > greatest):
-            raise ValueRefused(f"a value is out of range of {kind}")
-    if kind == "float" and values.dtype.itemsize > 4 and (numpy.isfinite(values) & (numpy.abs(values) > numpy.finfo("f4").max)).any():
-        raise ValueRefused("a value is out of range of float")
+    outside: Any = None
+    if kind in _RANGES and len(values):
+        least, greatest = _RANGES[kind]
+        if int(values.min()) < least or int(values.max()) > greatest:
+            outside = (values < least) | (values > greatest)
+    elif kind == "float" and values.dtype.itemsize > 4:
+        outside = numpy.isfinite(values) & (numpy.abs(values) > numpy.finfo("f4").max)
+    if outside is not None and outside.any():
+        place = int(numpy.argmax(outside))
+        raise ValueRefused(f"the value at place {place}: {values[place]} is out of range of {kind}")
     return values.astype({"boolean": "u1", "int": "i8", "long": "i8", "float": "<f4", "double": "<f8"}[kind], copy=False)
 
 
 def _written_fast(channel: int, branch: int, indexes: Any, values: Any) -> bytes:
     if indexes.dtype.kind not in "iu":
-        raise ValueRefused("indexes are no whole numbers")
+        raise ValueRefused("the indexes are not whole numbers")
     front = bytearray()
     codec.put_number(front, channel)
     front += b"\x02\x02"
@@ -296,7 +327,7 @@ def _written_fast(channel: int, branch: int, indexes: Any, values: Any) -> bytes
 
 
 class _Parts(NamedTuple):
-    """What a run of points is written from: the bytes before and behind each index, the numbers, and their sizes."""
+    """The parts of a run of points: the bytes before and after each index, the numbers, and their sizes."""
 
     front: bytearray
     indexes: Any
@@ -316,7 +347,7 @@ def _octets(values: Any, width: int) -> Any:
 
 
 def _alike_rows(parts: _Parts) -> bytes:
-    """Points that all have as many bytes: rows of a table."""
+    """Points that all have the same size, as rows of a table."""
     index_at, index_size = len(parts.front), int(parts.index_sizes[0])
     value_at, value_size = index_at + index_size + len(parts.back), int(parts.value_sizes[0])
     rows = numpy.empty((len(parts.indexes), value_at + value_size + 1), dtype=numpy.uint8)
@@ -332,14 +363,14 @@ def _alike_rows(parts: _Parts) -> bytes:
 
 
 def _put_column(rows: Any, at: int, raw: Any, size: int) -> None:
-    """Writes varints that all have as many bytes."""
+    """Writes varints that all have the same size."""
     for place in range(size):
         group = (raw >> numpy.uint64(7 * place)).astype(numpy.uint8)
         rows[:, at + place] = group & 0x7F | (0x80 if place < size - 1 else 0)
 
 
 def _rows_in_turn(parts: _Parts) -> bytes:
-    """Points of several sizes: each begins where the one before it ends."""
+    """Points of different sizes, each of which begins where the one before it ends."""
     sizes = len(parts.front) + parts.index_sizes + len(parts.back) + parts.value_sizes + 1
     ends = numpy.cumsum(sizes)
     starts = ends - sizes
@@ -383,10 +414,10 @@ def _written_plainly(channel: int, kind: str, indexes: Any, values: Any) -> byte
 
 
 def _plain(kind: str, value: Any) -> Any:
-    """A value of numpy's as one of Python's."""
+    """A value as one of Python's own types."""
     if kind in ("boolean", "int", "long", "float", "double") and hasattr(value, "item"):
         value = value.item()
     if kind in ("float", "double"):
         if isinstance(value, bool) or not isinstance(value, (int, float)):
-            raise ValueRefused(f"{value!r} is no {kind}")
+            raise ValueRefused(f"{value!r} is not of kind {kind}")
     return value

@@ -1,4 +1,4 @@
-"""Channels over asyncio: ranges, corrections, and what is known of a channel. Loading and watching stand in modules of their own."""
+"""Channels for asyncio: ranges, corrections, and what is known of a channel. Loading and watching have modules of their own."""
 from __future__ import annotations
 
 from typing import TYPE_CHECKING, Any, Callable, Optional
@@ -20,12 +20,13 @@ Progress = Callable[[int, Optional[int]], None]
 
 
 class Channel:
-    """A channel of a store. `uom` (also `unit`) is the unit of its values, `kind` their type: boolean, int, long, float, double,
-    string or bytes. `first` and `last` are the indexes of its first and last point when it was last asked for, in microseconds since
-    1970-01-01 UTC, None where it had no point."""
+    """A channel of a store. `uom` (also `unit`) is the unit of its values, `kind` their type: boolean, int, long, float, double, string or
+    bytes. `first` and `last` are the indexes of its first and last point, in microseconds since 1970-01-01 UTC, as the server gave them
+    when it was last asked, and None if there was no point. `id` is the number by which the server's messages name the channel."""
 
     def __init__(self, store: "Store", record: dict):
         self.store = store
+        self.uri: str = record["uri"]
         self.take_record(record)
 
     def __repr__(self) -> str:
@@ -34,37 +35,41 @@ class Channel:
     def take_record(self, record: dict) -> None:
         symbol = schema.ENUMS["ChannelDataKind"][record["dataKind"]]
         if not symbol.startswith("type"):
-            raise PeerError(f"a channel of kind {symbol}, which has no form here")
-        self.uri, self.id, self.name = record["uri"], record["id"], record["channelName"]
-        self.uom, self.kind = record["uom"], symbol[4:].lower()
-        self.first = self.last = None
+            raise PeerError(f"a channel of kind {symbol}, which the profile does not have")
+        self.id: int = record["id"]
+        self.name: str = record["channelName"]
+        self.uom: str = record["uom"]
+        self.kind: str = symbol[4:].lower()
+        self.first: Optional[int] = None
+        self.last: Optional[int] = None
         if record["indexes"]:
             interval = record["indexes"][0]["interval"]
             self.first, self.last = (interval[end]["item"][1] for end in ("startIndex", "endIndex"))
 
     @property
     def unit(self) -> str:
+        """The unit of the values."""
         return self.uom
 
     async def refresh(self) -> None:
-        """Asks for the channel again: `first` and `last` are then those of that moment."""
+        """Asks the server again for `first` and `last`."""
         reply = await self.store.ask("GetChannelMetadata", again=True, uris={"0": self.uri})
         self.take_record(reply.item("metadata"))
 
     def points(self, pieces: list[Columns]) -> Points:
-        """Points of this channel as columns. Raises `PeerError` where they are of another kind."""
+        """Points of this channel. Raises `PeerError` if they are of another kind."""
         if any(piece.branch not in (NULL, KINDS[self.kind], JOINED) for piece in pieces):
-            raise PeerError(f"points of another kind than {self.kind}")
+            raise PeerError(f"points that are not of kind {self.kind}")
         return Points(pieces, self.name, self.uom, self.kind)
 
     # -- reading
 
     async def range(self, start: Optional[Moment] = None, end: Optional[Moment] = None, progress: Optional[Progress] = None) -> Points:
-        """The points from `start` to `end`, both included; None is the channel's beginning or end. See `points.index_of` for what a
-        moment may be. `progress` is told of the bytes that came.
+        """The points from `start` to `end`, both included; None is the channel's beginning or end. `index_of` says what a moment may be.
+        `progress` is called with the bytes that have arrived.
 
-        What a server gives at once is read by one request and so as it stood at one moment. A longer range is halved, and each half is as
-        it stood when it was read."""
+        A range that the server can give at once is read by one request, and so is as it was at one moment. A longer one is halved as often
+        as needed, and each half is as it was when it was read."""
         begin = LEAST if start is None else index_of(start)
         stop = GREATEST if end is None else index_of(end)
         if begin > stop:
@@ -95,7 +100,7 @@ class Channel:
         return await self.store.ask("GetRanges", again=True, seen=seen, requestUuid=bytes(16), channelRanges=[info])
 
     async def _clipped(self, low: int, high: int) -> list[tuple[int, int]]:
-        """The intervals, last first, that are worth halving: where the channel's points are, and what may come behind them."""
+        """The intervals that are worth halving, last first: where the channel's points are, and what may be appended after them."""
         await self.refresh()
         if self.first is None or self.last is None:
             return [(low, high)]
@@ -126,8 +131,9 @@ class Channel:
         return session
 
     async def replace(self, start: Moment, end: Moment, indexes: Any = (), values: Any = ()) -> int:
-        """Puts points in place of those from `start` to `end`, both included; without points these are removed. Their indexes rise and
-        lie in the interval (5, 31 otherwise). Returns the server's moment of the change, in microseconds."""
+        """Puts points in place of those from `start` to `end`, both included; without points, those are removed. `indexes` (moments) and
+        `values` have the shape (n,). Returns the server's moment of the change in microseconds. Raises `Refused` with 5 if an index is
+        outside the interval, and with 31 if the indexes do not rise."""
         session = await self._writing()
         moments = [index_of(each) for each in indexes]
         out = bytearray(codec.encoded("IndexInterval", _interval(index_of(start), index_of(end))))
@@ -137,29 +143,37 @@ class Channel:
         return reply.body()["channelChangeTime"]
 
     async def truncate(self, end: Moment) -> int:
-        """Removes the points after `end`. Returns the server's moment of the change, in microseconds."""
+        """Removes the points after `end`. Returns the server's moment of the change in microseconds."""
         session = await self._writing()
         cut = codec.filled("TruncateInfo", channelId=self.id, newEndIndex={"item": (1, index_of(end))})
         reply = await session.ask("TruncateChannels", {"channels": {"0": cut}})
         return reply.item("channelsTruncatedTime")
 
-    def loader(self, every: Optional[float] = 0.2, most: int = 1000, **more: Any) -> Loader:
-        """Loads points as they come, to be entered by `async with`: they are sent `every` so many seconds (None: only by count), or where
-        `most` have gathered. See `Loader`."""
-        return Loader(self, every, most, **more)
+    def loader(
+        self, every: Optional[float] = 0.2, most: int = 1000, *, skip_known: bool = False, progress: Optional[Progress] = None,
+    ) -> Loader:
+        """Loads points as they come, entered by `async with`: they are sent `every` so many seconds (None: only by count), or as soon as
+        there are `most` of them. See `Loader`."""
+        return Loader(self, every, most, skip_known=skip_known, progress=progress)
 
     async def load(self, indexes: Any, values: Any = None, progress: Optional[Progress] = None) -> int:
-        """Loads many points at once: indexes and values of shape (n,), a Series, or a DataFrame of one column over times. They rise
-        and lie behind the channel's last one. Returns how many were loaded; raises `Refused` where some were not."""
+        """Loads many points at once: indexes and values of shape (n,), or alone a Series, a DataFrame of one column, or `Points`. The
+        indexes rise, and are above the channel's last one. `progress` is called with the points that the server has taken.
+
+        Returns how many points were loaded. Raises `ValueRefused` before anything is sent if an index does not rise or a value is not of
+        the channel's kind, and `Refused` with `first_index` if the server refuses points: 31 if an index is not above the last one, 5 if
+        it is out of range, 17 if a text has more than 32,768 bytes, 12 if the journal is full."""
         if values is None:
             indexes, values = columns_of_frame(indexes)
         async with self.loader(None, progress=progress) as loader:
             await loader.load_many(indexes, values)
         return len(indexes)
 
-    def watch(self, **how: Any) -> Watch:
-        """Watches the channel, to be iterated by `async for`. See `Watch`."""
-        return Watch([self], **how)
+    def watch(
+        self, *, start: Optional[Moment] = None, latest: Optional[int] = None, changes: bool = True, resume: Optional[str] = "full",
+    ) -> Watch:
+        """Watches the channel: `async for change in channel.watch()`. See `Watch`."""
+        return Watch([self], start=start, latest=latest, changes=changes, resume=resume)
 
 
 def _interval(low: int, high: int) -> dict:
@@ -167,7 +181,7 @@ def _interval(low: int, high: int) -> dict:
 
 
 class _Sum:
-    """Tells of the bytes of several replies, one after the other."""
+    """Adds up the bytes of several replies."""
 
     def __init__(self, progress: Progress):
         self.progress, self.before, self.last = progress, 0, 0
@@ -181,24 +195,18 @@ class _Sum:
 
 
 def columns_of_frame(table: Any) -> tuple[Any, Any]:
-    """Indexes in microseconds and values of a Series, a DataFrame of one column, or `Points`."""
+    """The indexes and values of a Series, a DataFrame of one column, or `Points`."""
     if isinstance(table, Points):
         return table.indexes, table.values if table.nulls is None else table.plain_values()
     if hasattr(table, "columns"):
         if len(table.columns) != 1:
-            raise ValueRefused(f"a table of {len(table.columns)} columns; one is loaded at a time")
+            raise ValueRefused(f"a table of {len(table.columns)} columns: a channel is loaded from one")
         table = table.iloc[:, 0]
-    index = table.index
-    if hasattr(index, "tz"):
-        zoned = index.tz_convert("UTC").tz_localize(None) if index.tz is not None else index
-        moments = zoned.values.astype("datetime64[us]").astype("int64")
-    else:
-        moments = index.values
     values = table.values
     if values.dtype.kind == "O" or not hasattr(values, "tobytes"):
         import pandas
 
         values = [None if pandas.isna(each) else each for each in table.tolist()]
-    return moments, values
+    return table.index, values
 
 

@@ -1,7 +1,8 @@
-"""The command line: `python3 -m colmjurr COMMAND ..`. See the README for each command, and `--help`.
+"""The command line: `python3 -m colmjurr COMMAND ..`. The README says what each command does, and `--help` how it is called.
 
-Statuses: 0; 1 usage; 2 a configuration is refused; 4 a file can't be read or written; 9 the server refused; 10 no connection; 11 the
-server broke off or broke the rules; 12 an input line is out of form; 16 the subscriptions were stopped; 17 answers differ.
+Statuses: 0 done; 1 usage, or a package that is not installed; 2 a configuration is refused; 4 a file can't be read or written; 9 the server
+refused; 10 no connection; 11 the connection was lost, or the server broke the protocol; 12 malformed input; 16 the server stopped the
+subscriptions; 17 answers or copies differ.
 """
 from __future__ import annotations
 
@@ -9,36 +10,47 @@ import argparse
 import asyncio
 import csv
 import json
+import math
 import os
 import re
+import select
+import shlex
+import socket
 import subprocess
 import sys
+import time
 from pathlib import Path
-from typing import Any, Callable, Iterable, Iterator, NoReturn, Optional, TextIO
+from typing import Any, BinaryIO, Callable, Iterator, NoReturn, Optional, TextIO
 
 from . import aio, conformance
-from .configuration import catalog, read_configuration
+from .bridge import Bridge, plain_value
+from .configuration import catalog, read_configuration, read_configuration_file
 from .copying import Difference, copy, read_objects
 from .errors import (
     ConfigError, DialError, EtpError, HandshakeError, LinkError, Refused, SomeRefused, Stopped, TimeLimit, ValueRefused, WireError,
 )
 from .exporter import Exporter
-from .points import GREATEST, LEAST, index_of, moment_text
+from .points import GREATEST, LEAST, Points, index_of, moment_text
 from .progress import Bar
 from .sync import Channel, Store, connect
 from .version import VERSION
-from .watching import Append, Change, Gap, Replace, Truncate
+from .watching import Append, Change, Gap, Replace, Restarted, Truncate
+from .websocket import Address
 
 USAGE, CONFIG, FILE, REFUSED, LINK, PEER, INPUT, STOPPED, DIFFERS = 1, 2, 4, 9, 10, 11, 12, 16, 17
-# How many lines of a file are loaded at once, and how many lines of an input are few enough to wait for more.
-LINES, FEW = 10_000, 100
+# How many bytes of an input are read at once, and how many of its points are few enough to wait for more before they are sent.
+READ, FEW = 1 << 18, 100
+# The longest text or bytes of a point, in bytes.
+LONGEST_VALUE = 32_768
 
 
 class InputError(Exception):
-    """A line of the input is out of form."""
+    """A malformed line of the input."""
 
 
 class Parser(argparse.ArgumentParser):
+    """Ends with status 1 when it is called wrongly."""
+
     def error(self, message: str) -> NoReturn:
         self.print_usage(sys.stderr)
         sys.stderr.write(f"{self.prog}: {message}\n")
@@ -49,15 +61,14 @@ class Parser(argparse.ArgumentParser):
 
 
 def how_to_connect(words: argparse.Namespace) -> dict[str, Any]:
-    """What the options say of the connection. A password comes from COLMJURR_PASSWORD or from a file, never from the command line."""
+    """The connection as the options say. A password is taken from COLMJURR_PASSWORD or a file, never from the command line, where others
+    could see it."""
     password = os.environ.get("COLMJURR_PASSWORD")
     if words.password_file:
-        password = Path(words.password_file).read_text().rstrip("\n")
+        password = Path(words.password_file).read_text().rstrip("\r\n")
     cert = (words.cert, words.key) if words.cert and words.key else words.cert
-    headers = dict(each.split(":", 1) for each in words.header)
     return {
-        "user": words.user, "password": password, "ca": words.ca, "cert": cert, "timeout": words.timeout,
-        "headers": {name.strip(): value.strip() for name, value in headers.items()},
+        "user": words.user, "password": password, "ca": words.ca, "cert": cert, "timeout": words.timeout, "headers": dict(words.header),
     }
 
 
@@ -106,44 +117,72 @@ def delete(words: argparse.Namespace) -> None:
 
 
 def moment(text: Optional[str]) -> Optional[int]:
-    """A moment of the command line: microseconds, or ISO 8601."""
-    return None if text is None or text == "-" else index_of(int(text) if re.fullmatch(r"-?\d+", text) else text)
+    """A moment on the command line: microseconds, or ISO 8601. None and `-` are the channel's beginning or end."""
+    return None if text is None or text == "-" else index_of(int(text) if re.fullmatch(r"-?[0-9]{1,20}", text) else text)
+
+
+def channels(words: argparse.Namespace) -> None:
+    uris = [*uris_of(words.catalog), *words.uri]
+    if not uris:
+        raise ValueRefused("name channels by their URIs or by --catalog: no request lists them")
+    with opened(words) as store:
+        for each in store.channels(uris):
+            ends = ["-" if end is None else moment_text(end) for end in (each.first, each.last)]
+            print("\t".join([each.name, each.kind, each.unit or "-", *ends, each.uri]))
 
 
 def range_(words: argparse.Namespace) -> None:
     with opened(words) as store, Bar("range", "bytes") as bar:
         points = store.channel(words.uri).range(moment(words.start), moment(words.end), progress=bar)
-    file = output(words)
     if words.csv:
+        file = output(words)
         points.to_csv(file, time=not words.microseconds)
     else:
-        for index, value in points:
-            if value is not None:
-                file.write(f"{index} {shown(value)}\n")
+        lines, left_out = point_lines(points)
+        file = output(words)
+        file.writelines(lines)
+        if left_out:
+            say(f"colmjurr: {left_out} points without a value are left out; --csv writes them")
     file.flush()
+
+
+def point_lines(points: Points) -> tuple[list[str], int]:
+    """The lines INDEX VALUE of points, and how many points have no line, since their value is null. Raises `ValueRefused` for a text that
+    would not be read back from its line."""
+    lines = []
+    for index, value in points:
+        if isinstance(value, str) and ("\n" in value or "\r" in value):
+            raise ValueRefused(f"the text at index {index} has a line break: use --csv")
+        if value is not None:
+            lines.append(f"{index} {shown(value)}\n")
+    return lines, len(points) - len(lines)
 
 
 def shown(value: Any) -> str:
     if isinstance(value, bool):
         return "true" if value else "false"
+    if isinstance(value, str):
+        return value.replace("\r", "\\r").replace("\n", "\\n")
     return "" if value is None else value.hex() if isinstance(value, bytes) else str(value)
 
 
 def follow(words: argparse.Namespace) -> None:
-    start = {"now": "now", "first": None}.get(words.start, words.start)
+    start = words.start if words.start == "now" else None if words.start == "first" else moment(words.start)
     with opened(words) as store:
-        channels = store.channels(words.uri)
-        named = "{} " if len(channels) > 1 else ""
-        how = {"latest": words.latest} if words.latest else {"start": start if start in (None, "now") else moment(start)}
-        with store.watch(channels, resume=None if words.resume == "none" else words.resume, **how) as watch:
+        followed = store.channels(words.uri)
+        named = "{} " if len(followed) > 1 else ""
+        with store.watch(followed, resume=None if words.resume == "none" else words.resume,
+                         start=None if words.latest else start, latest=words.latest) as watch:
             for change in watch:
-                for line in change_lines(change):
-                    sys.stdout.write(named.format(change.channel.name) + line + "\n")
+                if words.json:
+                    sys.stdout.write(json.dumps(change_record(change), ensure_ascii=False) + "\n")
+                else:
+                    sys.stdout.writelines(named.format(change.channel.name) + line + "\n" for line in change_lines(change))
                 sys.stdout.flush()
 
 
 def change_lines(change: Change) -> Iterator[str]:
-    """The lines of a change: of an append a line for each point; of another change its own, and then its points after `with`."""
+    """The lines of a change. An append has a line for each point; any other change has its own line, and then its points after `with`."""
     if isinstance(change, Append):
         yield from (f"append {index} {shown(value)}" for index, value in change.points)
     elif isinstance(change, Truncate):
@@ -155,88 +194,166 @@ def change_lines(change: Change) -> Iterator[str]:
         yield from (f"with {index} {shown(value)}" for index, value in change.points)
 
 
+def change_record(change: Change) -> dict[str, Any]:
+    """A change as an object of JSON. Values are as in the streams of the bridge: bytes in hexadecimal, and `"NaN"`, `"Infinity"` and
+    `"-Infinity"` as texts."""
+    made: dict[str, Any] = {"channel": change.channel.uri, "change": type(change).__name__.lower()}
+    if isinstance(change, Replace):
+        made["start"] = change.start
+    if isinstance(change, (Replace, Truncate)):
+        made["end"] = change.end
+    if isinstance(change, Gap):
+        made["reason"] = change.reason
+    if isinstance(change, (Append, Replace, Restarted)):
+        made["points"] = [[index, plain_value(value)] for index, value in change.points]
+    return made
+
+
 def load(words: argparse.Namespace) -> None:
-    stream = sys.stdin if words.file in (None, "-") else open(words.file, encoding="utf-8", newline="")
-    is_live = words.file in (None, "-") and words.every is not None
     with opened(words) as store:
         channel = store.channel(words.uri)
-        points = csv_points(stream, channel.kind) if words.csv else line_points(stream, channel.kind)
-        with Bar("load", "points") as bar, channel.loader(
-                every=words.every, most=words.most, skip_known=words.skip_known, progress=bar) as loader:
-            for lot in live_lots(channel.kind) if is_live and not words.csv else lots(points):
-                if len(lot) > FEW:
-                    loader.load_many([index for index, _ in lot], [value for _, value in lot])
-                else:
-                    for index, value in lot:
-                        loader(index, value)
+        with open_input(words.file) as stream, Bar("load", "points") as bar:
+            loader = channel.loader(every=words.every, most=words.most, skip_known=words.skip_known, progress=bar)
+            try:
+                with loader:
+                    for lot in Input(stream, channel.kind, words.csv).lots():
+                        if len(lot) > FEW:
+                            loader.load_many([index for index, _ in lot], [value for _, value in lot])
+                        else:
+                            for index, value in lot:
+                                loader(index, value)
+            except (EtpError, InputError):
+                say(f"colmjurr: {loader.taken} points were loaded before this error:")
+                raise
     print(f"loaded {loader.taken}" + (f" skipped {loader.skipped}" if words.skip_known else ""))
 
 
-def live_lots(kind: str) -> Iterator[list[tuple[int, Any]]]:
-    """The points of the input's lines, as many at once as have come."""
-    rest, number = b"", 0
-    while data := os.read(sys.stdin.fileno(), 1 << 16):
-        *lines, rest = (rest + data).split(b"\n")
-        yield [line_point(number + place, kind, line) for place, line in enumerate(lines, 1)]
-        number += len(lines)
-    if rest:
-        yield [line_point(number + 1, kind, rest)]
+def open_input(path: Optional[str]) -> BinaryIO:
+    """A file, or the standard input, without a buffer: what has arrived can be read without waiting for more."""
+    if path in (None, "-"):
+        if sys.stdin is None:
+            raise InputError("there is no standard input")
+        return open(sys.stdin.fileno(), "rb", buffering=0, closefd=False)  # type: ignore[return-value]
+    return open(str(path), "rb", buffering=0)  # type: ignore[return-value]
 
 
-def line_point(number: int, kind: str, line: bytes) -> tuple[int, Any]:
-    try:
-        index, space, text = line.decode().rstrip("\r").partition(" ")
-    except UnicodeDecodeError:
-        raise InputError(f"input line {number}: no UTF-8") from None
-    return point(number, kind, index, text if space else None)
+class Input:
+    """Points in lines `INDEX VALUE`, or in the first two columns of a CSV file after a line of heads, in which an empty value is null."""
 
+    def __init__(self, stream: BinaryIO, kind: str, is_csv: bool):
+        self.stream, self.kind, self.is_csv = stream, kind, is_csv
+        self.number = 0
+        self.last: Optional[int] = None
 
-def lots(points: Iterable[tuple[int, Any]]) -> Iterator[list[tuple[int, Any]]]:
-    lot = []
-    for each in points:
-        lot.append(each)
-        if len(lot) == LINES:
-            yield lot
-            lot = []
-    if lot:
-        yield lot
+    def lots(self) -> Iterator[list[tuple[int, Any]]]:
+        """The points, each time as many as have arrived. Raises `InputError` with the number of the first malformed line, counted from 1,
+        after the points before it were given."""
+        rest = b""
+        while (data := self.stream.read(READ)) != b"":
+            if data is None:
+                # an input that does not block has nothing just now
+                select.select([self.stream], [], [])
+                continue
+            rest += data
+            end = rest.rfind(b"\n") + 1
+            # a row of CSV may have line breaks within quotation marks
+            if end and not (self.is_csv and rest[:end].count(b'"') % 2):
+                yield from self.lot(rest[:end])
+                rest = rest[end:]
+        if rest:
+            yield from self.lot(rest)
+
+    def lot(self, data: bytes) -> Iterator[list[tuple[int, Any]]]:
+        """The points of whole lines, also those before a malformed one."""
+        found: list[tuple[int, Any]] = []
+        try:
+            for each in self.points(data):
+                found.append(each)
+        except InputError:
+            yield found
+            raise
+        yield found
+
+    def points(self, data: bytes) -> Iterator[tuple[int, Any]]:
+        try:
+            text, problem = data.decode(), None
+        except UnicodeDecodeError as error:
+            good = data[:data.rfind(b"\n", 0, error.start) + 1]
+            text, problem = good.decode(), InputError(f"input line {self.number + 1 + good.count(10)}: not UTF-8")
+        if text:
+            yield from self.rows(text) if self.is_csv else self.lines(text)
+        if problem is not None:
+            raise problem
+
+    def lines(self, text: str) -> Iterator[tuple[int, Any]]:
+        for line in text.removesuffix("\n").split("\n"):
+            self.number += 1
+            index, space, value = line.removesuffix("\r").partition(" ")
+            yield self.point(self.number, index, value if space else None)
+
+    def rows(self, text: str) -> Iterator[tuple[int, Any]]:
+        rows = csv.reader(line + "\n" for line in text.removesuffix("\n").split("\n"))
+        before = self.number
+        try:
+            for row in rows:
+                begin, self.number = self.number + 1, before + rows.line_num
+                if begin > 1 and row:
+                    yield self.point(begin, row[0], row[1] if len(row) > 1 else None)
+        except csv.Error as error:
+            raise InputError(f"input line {self.number + 1}: {error}") from None
+
+    def point(self, number: int, index: str, text: Optional[str]) -> tuple[int, Any]:
+        """The point of a line's index and value."""
+        try:
+            at = moment(index)
+            if at is None:
+                raise ValueError("no index")
+            if not LEAST <= at <= GREATEST:
+                raise ValueError(f"the index {at} is out of range")
+            if self.last is not None and at <= self.last:
+                raise ValueError(f"the index {at} does not rise above {self.last}")
+            if text is None:
+                raise ValueError("no value")
+            self.last = at
+            return at, None if self.is_csv and text == "" and self.kind != "string" else value_of(self.kind, text)
+        except ValueError as error:
+            raise InputError(f"input line {number}: {error}") from None
 
 
 def value_of(kind: str, text: str) -> Any:
+    """The value that a text has for a kind of channel. Raises `ValueError` if it has none."""
     if kind == "boolean":
-        return {"true": True, "false": False, "1": True, "0": False}[text.strip().lower()]
+        found = {"true": True, "false": False, "1": True, "0": False}.get(text.strip().lower())
+        if found is None:
+            raise ValueError(f"{text!r:.60} is not a boolean")
+        return found
     if kind in ("int", "long"):
-        return int(text)
+        bits = 31 if kind == "int" else 63
+        if not re.fullmatch(r"\s*[+-]?[0-9]{1,20}\s*", text, re.ASCII):
+            raise ValueError(f"{text!r:.60} is not a whole number")
+        number = int(text)
+        if not -(1 << bits) <= number < 1 << bits:
+            raise ValueError(f"{number} is out of range of {kind}")
+        return number
     if kind in ("float", "double"):
-        return float(text)
-    return bytes.fromhex(text) if kind == "bytes" else text
-
-
-def line_points(stream: TextIO, kind: str) -> Iterator[tuple[int, Any]]:
-    """Points of lines `INDEX VALUE`: microseconds or ISO 8601, and the rest of the line as the value."""
-    for number, line in enumerate(stream, 1):
-        index, space, text = line.rstrip("\r\n").partition(" ")
-        yield point(number, kind, index, text if space else None)
-
-
-def csv_points(stream: TextIO, kind: str) -> Iterator[tuple[int, Any]]:
-    """Points of a CSV file's first two columns behind a line of heads; an empty value is null."""
-    rows = csv.reader(stream)
-    next(rows, None)
-    for number, row in enumerate(rows, 2):
-        yield point(number, kind, row[0] if row else "", row[1] if len(row) > 1 else None, is_csv=True)
-
-
-def point(number: int, kind: str, index: str, text: Optional[str], is_csv: bool = False) -> tuple[int, Any]:
-    try:
-        if text is None:
-            raise ValueError("no value")
-        at = moment(index)
-        if at is None:
-            raise ValueError("no index")
-        return at, None if is_csv and text == "" and kind != "string" else value_of(kind, text)
-    except (ValueError, KeyError) as error:
-        raise InputError(f"input line {number}: {error}") from None
+        try:
+            value = float(text)
+        except ValueError:
+            raise ValueError(f"{text!r:.60} is not a number") from None
+        if kind == "float" and math.isfinite(value) and abs(value) > 3.4028234663852886e38:
+            raise ValueError(f"{text} is out of range of float")
+        return value
+    if kind == "bytes":
+        try:
+            raw = bytes.fromhex(text)
+        except ValueError:
+            raise ValueError(f"{text!r:.60} is not hexadecimal") from None
+        size = len(raw)
+    else:
+        raw, size = b"", len(text.encode())
+    if size > LONGEST_VALUE:
+        raise ValueError(f"a value of {size:,} bytes, more than {LONGEST_VALUE:,}")
+    return raw if kind == "bytes" else text
 
 
 def plot(words: argparse.Namespace) -> None:
@@ -246,28 +363,25 @@ def plot(words: argparse.Namespace) -> None:
         tracks = [read_track(each, words, bar) for each in store.channels(words.uri)]
         depth = read_track(store.channel(words.depth), words, bar) if words.depth else None
         title = store.info.name
-    plot_log(tracks, depth=depth, title=title).savefig(words.output, dpi=words.dpi)
+    figure = plot_log(tracks, depth=depth, title=title)
+    try:
+        figure.savefig(words.output, dpi=words.dpi)
+    except ValueError as error:
+        raise ValueRefused(f"{words.output}: {error}") from None
     print(f"plotted {', '.join(str(len(each)) for each in tracks)} points in {words.output}")
 
 
-def read_track(channel: Channel, words: argparse.Namespace, bar: Bar) -> Any:
+def read_track(channel: Channel, words: argparse.Namespace, bar: Bar) -> Points:
     return channel.range(moment(words.start), moment(words.end), progress=bar)
 
 
 def check_config(words: argparse.Namespace) -> None:
-    try:
-        found = read_configuration(Path(words.file).read_bytes())
-    except ConfigError as error:
-        place = f":{error.line}" if error.line else ""
-        told = f" (key {error.number} of channel {error.channel})" if error.number else ""
-        key = f"{error.key}: " if error.key else ""
-        sys.stderr.write(f"{words.file}{place}: {key}{error.cause}{told}\n")
-        sys.exit(CONFIG)
+    found = read_configuration_file(words.file)
     print(f"{words.file}: {found.name}, {len(found.channels)} channels")
 
 
 def catalog_(words: argparse.Namespace) -> None:
-    made = catalog(read_configuration(Path(words.file).read_bytes()))
+    made = catalog(read_configuration_file(words.file))
     file = output(words)
     json.dump(made, file, ensure_ascii=False, indent=1)
     file.write("\n")
@@ -279,29 +393,31 @@ def uris_of(path: Optional[str]) -> list[str]:
     if path is None:
         return []
     data = Path(path).read_bytes()
-    if data.lstrip()[:1] == b"{":
-        try:
-            return [str(each["uri"]) for each in json.loads(data)["channels"]]
-        except (ValueError, KeyError, TypeError) as error:
-            raise ConfigError(f"{path} is no catalog: {error}") from None
-    return [each.uri for each in read_configuration(data).channels]
+    try:
+        if data.lstrip()[:1] != b"{":
+            return [each.uri for each in read_configuration(data).channels]
+        return [str(each["uri"]) for each in json.loads(data)["channels"]]
+    except (ValueError, KeyError, TypeError) as error:
+        raise ValueRefused(f"{path} is not a catalog: {error}") from None
+    except ConfigError as error:
+        error.path = path
+        raise
 
 
 def say(line: str) -> None:
-    """Tells a line on standard error."""
+    """Writes a line to standard error."""
     sys.stderr.write(line + "\n")
     sys.stderr.flush()
 
 
 def exporter(words: argparse.Namespace) -> None:
-    host, _, port = words.listen.rpartition(":")
-    how = how_to_connect(words)
-    exporter = Exporter(words.url, [*uris_of(words.catalog), *words.channel], words.every, **how)
-    asyncio.run(exporter.serve(host.strip("[]") or "127.0.0.1", int(port), lambda port: say(f"listening at port {port}")))
+    host, port = words.listen
+    made = Exporter(words.url, [*uris_of(words.catalog), *words.channel], words.every, **how_to_connect(words))
+    asyncio.run(made.serve(host, port, lambda port: say(f"listening at port {port}")))
 
 
 def bridge(words: argparse.Namespace) -> None:
-    from .bridge import Bridge
+    import redis  # noqa: F401
 
     bridges = []
     for each in words.store:
@@ -317,47 +433,102 @@ def bridge(words: argparse.Namespace) -> None:
 
 
 def copy_(words: argparse.Namespace) -> None:
-    objects = read_objects(Path(words.objects).read_text(encoding="utf-8")) if words.objects else []
-    channels = [*uris_of(words.catalog), *words.channel]
+    try:
+        objects = read_objects(Path(words.objects).read_text(encoding="utf-8")) if words.objects else []
+    except ValueRefused as error:
+        raise ValueRefused(f"{words.objects}: {error}") from None
+    copied = [*uris_of(words.catalog), *words.channel]
 
-    async def run() -> None:
+    def told(line: str) -> None:
+        bar.clear()
+        print(line, flush=True)
+
+    async def run(bar: Bar) -> None:
         how = {**how_to_connect(words), "ask_timeout": words.ask_timeout}
         async with aio.connect(words.source, **how) as source, aio.connect(words.target, **how) as target:
-            await copy(source, target, channels, objects, lambda line: print(line, flush=True))
+            await copy(source, target, copied, objects, told, bar)
 
-    asyncio.run(run())
+    with Bar("copy", "points") as bar:
+        asyncio.run(run(bar))
+
+
+# --- conformance -------------------------------------------------------------------------------------------------------
 
 
 def conformance_(words: argparse.Namespace) -> None:
     words.url = next((each for each in words.places if each.startswith(("ws://", "wss://"))), None)
-    folder = next((Path(each) for each in words.places if each != words.url), Path())
     if not (words.url or words.etpd):
-        raise ValueRefused("conformance needs an address, or --etpd with a program")
-    samples = conformance.samples_in(folder) if folder.is_dir() else [
-        (folder, folder.with_name(folder.name[:-4] + ".answers.cap"), None)]
+        raise ValueRefused("conformance needs the address of a server, or --etpd with a program")
+    samples = samples_of([Path(each) for each in words.places if each != words.url])
+    if len(samples) > 1 and not words.etpd and not words.restart and not sys.stdin.isatty():
+        raise ValueRefused(f"{len(samples)} samples, and each needs a server without a history: name one of them, or give --restart COMMAND")
     worst = 0
     for path, answers, settings in samples:
-        with server_for(words, settings) as url:
-            found = conformance.play_file(url, path, answers, timeout=words.timeout)
-        print(f"{path.stem}: {'as recorded' if not found else f'{len(found)} answers differ'}")
+        with server_for(words, settings, len(samples) > 1) as url:
+            how = how_to_connect(words)
+            found = conformance.play_file(url, path, answers, **{name: how[name] for name in ("headers", "ca", "cert", "timeout")})
+        print(f"{path.stem}: {'as recorded' if not found else f'{len(found)} answers differ'}", flush=True)
         for each in found[:words.most]:
-            print(f"  tag {each.tag}, {each.place}\n    recorded {each.wanted}\n    came     {each.came}")
+            print(f"  tag {each.tag}, {each.place}\n    recorded {each.wanted}\n    received {each.came}")
         worst = max(worst, len(found))
     if worst:
         sys.exit(DIFFERS)
 
 
-class server_for:
-    """The server that a sample is played against: the one of the address, or with `--etpd` a fresh one of its configuration."""
+def samples_of(places: list[Path]) -> list[tuple[Path, Path, Optional[Path]]]:
+    """The captures with their answers and configurations, as they are named: files, folders, or those that are shipped."""
+    if not places:
+        shipped = conformance.shipped_samples()
+        if shipped is None:
+            raise ValueRefused("name a capture NAME.cap or a folder of captures, such as docs/samples of the repository")
+        places = [shipped]
+    found: list[tuple[Path, Path, Optional[Path]]] = []
+    for place in places:
+        folder = place if place.is_dir() else place.parent
+        several = [each for each in conformance.samples_in(folder) if place.is_dir() or each[0] == place]
+        if not several:
+            raise ValueRefused(f"{place}: no capture NAME.cap beside its NAME.answers.cap")
+        found += several
+    return found
 
-    def __init__(self, words: argparse.Namespace, settings: Optional[Path]):
-        self.words = words
-        self.process: Any = None
+
+class server_for:
+    """The server that a sample is played against: a fresh one of `--etpd`, or the one at the address, which `--restart` or the user starts
+    again before each sample."""
+
+    def __init__(self, words: argparse.Namespace, settings: Optional[Path], is_one_of_several: bool):
+        self.words, self.is_one_of_several = words, is_one_of_several
         self.settings = settings or words.settings
+        self.process: Any = None
 
     def __enter__(self) -> str:
-        if not self.words.etpd:
-            return self.words.url
+        if self.words.etpd:
+            return self.started()
+        if self.words.restart:
+            command = [*shlex.split(self.words.restart), str(self.settings or "")]
+            done = subprocess.run(command, stdin=subprocess.DEVNULL, stdout=sys.stderr.fileno())
+            if done.returncode:
+                raise DialError(f"{shlex.join(command)} ended with status {done.returncode}")
+            self.wait_until_there()
+        elif self.is_one_of_several:
+            say(f"Start a server without a history at {self.words.url}, configured by {self.settings}, and press Enter.")
+            sys.stdin.readline()
+        return str(self.words.url)
+
+    def wait_until_there(self) -> None:
+        """Returns as soon as the server takes connections. A WebSocket would be a part of its history, so none is opened."""
+        address = Address(self.words.url)
+        end = time.monotonic() + self.words.timeout
+        while True:
+            try:
+                with socket.create_connection((address.host, address.port), self.words.timeout):
+                    return
+            except OSError as error:
+                if time.monotonic() > end:
+                    raise DialError(f"no connection to {address.host}:{address.port}: {error}") from None
+                time.sleep(0.05)
+
+    def started(self) -> str:
         if self.settings is None:
             raise ValueRefused("a sample without a configuration of its own needs --settings")
         self.process = subprocess.Popen(
@@ -366,7 +537,7 @@ class server_for:
         line = said.readline().decode("utf-8", "replace")
         found = re.search(r"(\d+)\s*$", line)
         if not found:
-            raise DialError(f"the server doesn't start: {line.strip()}")
+            raise DialError(f"the server does not start: {line.strip()}")
         return f"ws://127.0.0.1:{found[1]}/"
 
     def __exit__(self, *error: Any) -> None:
@@ -386,7 +557,7 @@ def parser() -> argparse.ArgumentParser:
     link = connection_options()
 
     def command(name: str, run: Callable[[argparse.Namespace], None], text: str, *, has_url: bool = True) -> argparse.ArgumentParser:
-        made = commands.add_parser(name, help=text, description=text, parents=[link] if has_url else [])
+        made: argparse.ArgumentParser = commands.add_parser(name, help=text, description=text[:1].upper() + text[1:] + ".", parents=[link] if has_url else [])
         made.set_defaults(run=run)
         if has_url and name not in ("conformance", "copy", "bridge"):
             made.add_argument("url", help="ws://HOST:PORT/PATH or wss://HOST:PORT/PATH")
@@ -398,17 +569,49 @@ def parser() -> argparse.ArgumentParser:
     return top
 
 
+def seconds(text: str) -> float:
+    """The type of an option that is a number of seconds."""
+    value = float(text)
+    if not 0 < value < math.inf:
+        raise ValueError
+    return value
+
+
+def count(text: str) -> int:
+    """The type of an option that is a number of things, at least 1."""
+    value = int(text)
+    if value < 1:
+        raise ValueError
+    return value
+
+
+def header(text: str) -> tuple[str, str]:
+    """The type of the option NAME:VALUE."""
+    name, colon, value = text.partition(":")
+    if not (name.strip() and colon):
+        raise argparse.ArgumentTypeError(f"{text!r} is not of the form NAME:VALUE")
+    return name.strip(), value.strip()
+
+
+def listening(text: str) -> tuple[str, int]:
+    """The type of the option [HOST:]PORT."""
+    host, _, port = text.rpartition(":")
+    if not re.fullmatch("[0-9]{1,5}", port) or int(port) > 65_535:
+        raise argparse.ArgumentTypeError(f"{text!r} is not of the form HOST:PORT")
+    return host.strip("[]") or "127.0.0.1", int(port)
+
+
 def connection_options() -> argparse.ArgumentParser:
     link = argparse.ArgumentParser(add_help=False)
     group = link.add_argument_group("connection")
-    group.add_argument("--user", help="a name for the front of the server; the password comes from COLMJURR_PASSWORD or a file")
-    group.add_argument("--password-file")
-    group.add_argument("--ca", help="a file of the authorities that are trusted")
-    group.add_argument("--cert", help="a client's certificate")
-    group.add_argument("--key", help="its key, where the certificate's file doesn't have it")
-    group.add_argument("--header", action="append", default=[], metavar="NAME:VALUE")
-    group.add_argument("--timeout", type=float, default=10.0, help="seconds for dialing and opening (10)")
-    group.add_argument("--ask-timeout", type=float, default=30.0, help="seconds for each request (30)")
+    group.add_argument("--user", help="a user name for a proxy in front of the server; the password is taken from COLMJURR_PASSWORD or a file")
+    group.add_argument("--password-file", metavar="FILE")
+    group.add_argument("--ca", metavar="FILE", help="certificate authorities to trust instead of the system's")
+    group.add_argument("--cert", metavar="FILE", help="a client certificate")
+    group.add_argument("--key", metavar="FILE", help="its key, if it is not in the same file")
+    group.add_argument("--header", action="append", default=[], type=header, metavar="NAME:VALUE", help="a header of the handshake")
+    group.add_argument("--timeout", type=seconds, default=10.0, metavar="S", help="seconds for dialing and opening the session (10)")
+    group.add_argument("--ask-timeout", type=seconds, default=30.0, metavar="S", help="seconds for each request (30)")
     return link
 
 
@@ -417,84 +620,103 @@ def add_store_commands(command: Callable[..., argparse.ArgumentParser]) -> None:
     command("spaces", spaces, "lists the dataspaces: URI, when written, when created")
     made = command("get", get, "writes the data of an object")
     made.add_argument("uri")
-    made.add_argument("-o", "--output")
-    made.add_argument("--format", default="")
-    made = command("put", put, "puts the object of a URI with the bytes of a file")
+    made.add_argument("-o", "--output", metavar="FILE", help="write to a file instead of the standard output")
+    made.add_argument("--format", default="", help="xml (the default) or json")
+    made = command("put", put, "puts an object whose data are the bytes of a file")
     made.add_argument("uri")
     made.add_argument("file")
-    made.add_argument("--name", default="")
-    made.add_argument("--format", default="")
-    made = command("delete", delete, "removes an object")
+    made.add_argument("--name", default="", help="the name of the object")
+    made.add_argument("--format", default="", help="xml (the default) or json")
+    made = command("delete", delete, "removes an object with its arrays")
     made.add_argument("uri")
 
 
 def add_channel_commands(command: Callable[..., argparse.ArgumentParser]) -> None:
+    made = command("channels", channels, "describes channels: name, kind, unit, first and last point, URI")
+    made.add_argument("uri", nargs="*")
+    made.add_argument("--catalog", metavar="FILE", help="a catalog, or a server's configuration: all its channels")
     made = command("range", range_, "writes the points of a channel: lines INDEX VALUE, which `load` reads back, or CSV")
     made.add_argument("uri")
     made.add_argument("start", nargs="?", help="microseconds or ISO 8601; - for the beginning")
-    made.add_argument("end", nargs="?")
-    made.add_argument("--csv", action="store_true", help="lines time,NAME; nulls, which the other form leaves out, are empty")
-    made.add_argument("--microseconds", action="store_true", help="numbers for times in CSV")
-    made.add_argument("-o", "--output")
+    made.add_argument("end", nargs="?", help="the same; it is included")
+    made.add_argument("--csv", action="store_true", help="lines time,NAME; a point without a value, which the other form leaves out, is empty")
+    made.add_argument("--microseconds", action="store_true", help="in CSV, numbers instead of times")
+    made.add_argument("-o", "--output", metavar="FILE", help="write to a file instead of the standard output")
     made = command("follow", follow, "writes each change of channels as it comes")
     made.add_argument("uri", nargs="+")
-    made.add_argument("--from", dest="start", default="now", help="now, first, microseconds or ISO 8601")
-    made.add_argument("--latest", type=int, help="begin with the last so many points")
-    made.add_argument("--resume", choices=["full", "tail", "none"], default="tail", help="what happens after a broken link (tail)")
+    made.add_argument("--from", dest="start", default="now", metavar="START", help="now (the default), first, microseconds or ISO 8601")
+    made.add_argument("--latest", type=count, metavar="N", help="begin with the last N points")
+    made.add_argument("--resume", choices=["full", "tail", "none"], default="tail", help=(
+        "after the connection was lost: begin again with all points, go on after the last one (the default), or end"))
+    made.add_argument("--json", action="store_true", help="a JSON object in each line, for programs")
     made = command("load", load, "loads points into a channel from lines INDEX VALUE, or CSV")
     made.add_argument("uri")
-    made.add_argument("file", nargs="?", help="a file; without one the input, as it comes")
-    made.add_argument("--every", type=float, default=0.2, help="seconds after which points of the input are sent (0.2)")
-    made.add_argument("--most", type=int, default=1000, help="points after which they are sent (1000)")
-    made.add_argument("--csv", action="store_true")
-    made.add_argument("--skip-known", action="store_true", help="pass over points up to the channel's last one")
+    made.add_argument("file", nargs="?", help="a file; without one the standard input, as it comes")
+    made.add_argument("--every", type=seconds, default=0.2, metavar="S", help="seconds after which points of the input are sent (0.2)")
+    made.add_argument("--most", type=count, default=1000, metavar="N", help="how many points are sent at the latest (1000)")
+    made.add_argument("--csv", action="store_true", help="a line of heads, and then time and value in the first two columns")
+    made.add_argument("--skip-known", action="store_true", help="leave out points up to the channel's last one")
     made = command("plot", plot, "draws channels as a log, time or depth down the page")
     made.add_argument("uri", nargs="+")
-    made.add_argument("-o", "--output", required=True, help="a file whose ending says the form: .png, .svg, .pdf")
-    made.add_argument("--from", dest="start")
-    made.add_argument("--to", dest="end")
-    made.add_argument("--depth", help="the URI of a channel of depths, down the page in place of time")
-    made.add_argument("--dpi", type=int, default=120)
+    made.add_argument("-o", "--output", required=True, metavar="FILE", help="a file whose ending says its form: .png, .svg, .pdf")
+    made.add_argument("--from", dest="start", metavar="START", help="microseconds or ISO 8601")
+    made.add_argument("--to", dest="end", metavar="END")
+    made.add_argument("--depth", metavar="URI", help="a channel of depths, down the page instead of time")
+    made.add_argument("--dpi", type=count, default=120)
 
 
 def add_other_commands(command: Callable[..., argparse.ArgumentParser]) -> None:
-    made = command("check-config", check_config, "says what a server refuses of a configuration, with line and key", has_url=False)
+    made = command("check-config", check_config, "says what a server refuses in a configuration, with line and key", has_url=False)
     made.add_argument("file")
     made = command("catalog", catalog_, "writes the channels of a configuration as JSON", has_url=False)
     made.add_argument("file")
-    made.add_argument("-o", "--output")
-    made = command("exporter", exporter, "serves /metrics and /health of a server; it takes one of its sessions")
-    made.add_argument("--catalog", help="a catalog, or a server's configuration: its channels are followed, at most 256")
+    made.add_argument("-o", "--output", metavar="FILE", help="write to a file instead of the standard output")
+    made = command("exporter", exporter, "serves /metrics and /health of a server, of which it takes one session")
+    made.add_argument("--catalog", metavar="FILE", help="a catalog, or a server's configuration: its channels are followed, at most 256")
     made.add_argument("--channel", action="append", default=[], metavar="URI")
-    made.add_argument("--listen", default="127.0.0.1:9777")
-    made.add_argument("--every", type=float, default=5.0, help="seconds between pings (5)")
-    made = command("bridge", bridge, "writes every change of channels into streams of Redis")
+    made.add_argument("--listen", type=listening, default=("127.0.0.1", 9777), metavar="HOST:PORT", help="where it answers (127.0.0.1:9777)")
+    made.add_argument("--every", type=seconds, default=5.0, metavar="S", help="seconds between pings (5)")
+    made = command("bridge", bridge, "writes every change of channels into Redis streams")
     made.add_argument("--store", action="append", required=True, metavar="URL=CATALOG", help="a server, and its catalog or configuration")
-    made.add_argument("--redis", default="redis://127.0.0.1:6379/0")
-    made.add_argument("--prefix", default="etp", help="in front of the streams' names (etp)")
+    made.add_argument("--redis", default="redis://127.0.0.1:6379/0", metavar="URL")
+    made.add_argument("--prefix", default="etp", help="what the names of the streams begin with (etp)")
     made = command("copy", copy_, "copies dataspaces, objects, arrays and channels into another store, and reads them back")
     made.add_argument("source", metavar="FROM")
     made.add_argument("target", metavar="TO")
-    made.add_argument("--catalog", help="a catalog, or a server's configuration: its channels are copied")
+    made.add_argument("--catalog", metavar="FILE", help="a catalog, or a server's configuration: its channels are copied")
     made.add_argument("--channel", action="append", default=[], metavar="URI")
-    made.add_argument("--objects", help="a file with a URI on each line and, behind tabs, the paths of its arrays")
+    made.add_argument("--objects", metavar="FILE", help="lines with an object's URI and then, each after a tab, the paths of its arrays")
     made = command("conformance", conformance_, "plays recorded sessions and lists the answers that differ")
-    made.add_argument("places", nargs="+", metavar="URL|SAMPLES", help=(
-        "the address of a server without any history, and a capture NAME.cap beside NAME.answers.cap or a folder of them"))
-    made.add_argument("--etpd", help="the program of a server: each sample gets a fresh one")
-    made.add_argument("--settings", help="its configuration for samples that have none of their own")
-    made.add_argument("--most", type=int, default=5, help="how many differences of a sample are shown (5)")
+    made.add_argument("places", nargs="*", metavar="URL|SAMPLES", help=(
+        "the address of a server without a history, and captures NAME.cap beside NAME.answers.cap or folders of them; "
+        "in the repository docs/samples is the default"))
+    made.add_argument("--restart", metavar="COMMAND", help=(
+        "run before each sample, with the path of its configuration as the last word: it ends the server at the address, starts it again "
+        "without a history, and returns"))
+    made.add_argument("--etpd", metavar="PROGRAM", help="the program of a server, called as PROGRAM CONFIG ADDRESS: each sample gets a fresh one")
+    made.add_argument("--settings", metavar="FILE", help="a configuration for samples that have none of their own")
+    made.add_argument("--most", type=count, default=5, metavar="N", help="how many differences of a sample are shown (5)")
 
 
 def status_of(error: Exception) -> int:
     kinds = (
-        ((Difference,), DIFFERS), ((Stopped,), STOPPED), ((Refused, SomeRefused), REFUSED), ((ConfigError,), CONFIG), ((DialError, HandshakeError, TimeLimit), LINK),
-        ((WireError, LinkError), PEER), ((InputError, ValueRefused), INPUT), ((OSError,), FILE),
+        ((Difference,), DIFFERS), ((Stopped,), STOPPED), ((Refused, SomeRefused), REFUSED), ((ConfigError,), CONFIG),
+        ((DialError, HandshakeError, TimeLimit), LINK), ((WireError, LinkError), PEER), ((InputError, ValueRefused), INPUT),
+        ((ImportError,), USAGE), ((OSError,), FILE),
     )
     return next((status for classes, status in kinds if isinstance(error, classes)), PEER)
 
 
+def cause_of(error: Exception) -> str:
+    if isinstance(error, ConfigError):
+        return error.shown()
+    if isinstance(error, ImportError):
+        return f"this command needs the package {error.name or error}, which is not installed"
+    return f"colmjurr: {error}"
+
+
 def main(words: Optional[list[str]] = None) -> None:
+    """Runs the command of these words, by default those of the command line, and exits with its status."""
     found = parser().parse_args(words)
     try:
         found.run(found)
@@ -504,8 +726,6 @@ def main(words: Optional[list[str]] = None) -> None:
     except BrokenPipeError:
         os.dup2(os.open(os.devnull, os.O_WRONLY), sys.stdout.fileno())
         sys.exit(FILE)
-    except (EtpError, InputError, OSError) as error:
-        sys.stderr.write(f"colmjurr: {error}\n")
+    except (EtpError, InputError, OSError, ImportError) as error:
+        say(cause_of(error))
         sys.exit(status_of(error))
-
-

@@ -1,11 +1,11 @@
 """Messages as bytes: Avro's binary encoding by the schema of the profile.
 
-A record and a map are a dict, an array a list, a fixed and bytes a bytes, an enumeration the number of its symbol, and a float or
-double a float. `T?` is None or its value. Any other union is a pair of the branch's number and its value.
+In Python a record or map is a dict, an array a list, a fixed or bytes a bytes, an enumeration's value the number of its symbol, and a
+float or double a float. A `T?` is None or its value. Any other union is a pair of the branch's number and the value.
 
-Reading takes every spelling that the profile allows (longer numbers, sized blocks, names in any order) and refuses everything
-else by a `WireError` with the cause and the offset of the first item that is out of form. Memory is taken only for bytes that
-are there. Writing spells each value in the one shortest way.
+The reader takes every spelling that the profile allows (longer numbers, sized blocks, names in any order) and refuses anything else by
+a `WireError` with the cause and the offset of the first malformed item. It takes memory only for bytes that are there. The writer
+writes the one shortest spelling of each value.
 """
 from __future__ import annotations
 
@@ -17,7 +17,7 @@ from . import schema
 from .arrays_of_numbers import numpy, varint_ends, varints_at, write_varints
 from .errors import ValueRefused, WireError
 
-# The most values of a header and of a body.
+# The most values that a header or a body may have.
 NODE_LIMIT = 8_388_608
 FINAL, COMPRESSED, ACKNOWLEDGE, EXTENSION = 0x02, 0x08, 0x10, 0x20
 
@@ -25,7 +25,7 @@ _FLOAT, _DOUBLE, _BITS = struct.Struct("<f"), struct.Struct("<d"), struct.Struct
 
 
 class NaN32(float):
-    """A NaN of 32 bits that keeps them: widening one to 64 bits could change what it says."""
+    """A NaN of 32 bits that keeps its bits, which widening to 64 bits could change."""
 
     bits: int
 
@@ -80,7 +80,7 @@ class Cursor:
         return number
 
     def take(self, size: int, start: int) -> bytes:
-        """So many bytes of the item that begins at `start`."""
+        """The next bytes, of the item that begins at `start`."""
         if size > len(self.data) - self.at:
             raise WireError("short", start)
         self.at += size
@@ -101,7 +101,7 @@ class Cursor:
             raise WireError("utf8", start) from None
 
     def blocks(self, item: Callable[[], None]) -> None:
-        """Reads the items of an array's or a map's blocks. A sized block has to be filled exactly."""
+        """Reads the items in the blocks of an array or map. The items of a sized block have to fill it exactly."""
         while (count := self.number()) != 0:
             size_at = self.at
             size = self.number() if count < 0 else -1
@@ -122,7 +122,7 @@ Write = Callable[[bytearray, Any], None]
 
 
 def put_number(out: bytearray, value: int) -> None:
-    """Appends the shortest spelling of a number of at most 64 bits."""
+    """Appends the shortest varint of a number of at most 64 bits."""
     rest = value << 1 if value >= 0 else (-value << 1) - 1
     while rest > 0x7F:
         out.append(rest & 0x7F | 0x80)
@@ -135,7 +135,7 @@ def _int_writer(bits: int, name: str) -> Write:
 
     def write(out: bytearray, value: Any) -> None:
         if isinstance(value, bool) or not hasattr(value, "__index__"):
-            raise ValueRefused(f"{value!r} is no {name}")
+            raise ValueRefused(f"{value!r} is not of type {name}")
         number = value.__index__()
         if not least <= number <= greatest:
             raise ValueRefused(f"{number} is out of range of {name}")
@@ -199,7 +199,7 @@ def _write_null(out: bytearray, value: Any) -> None:
 
 def _write_boolean(out: bytearray, value: Any) -> None:
     if not isinstance(value, bool) and type(value).__name__ != "bool_":
-        raise ValueRefused(f"{value!r} is no boolean")
+        raise ValueRefused(f"{value!r} is not a boolean")
     out.append(bool(value))
 
 
@@ -210,30 +210,30 @@ def _write_float(out: bytearray, value: Any) -> None:
     try:
         out += _FLOAT.pack(value)
     except (struct.error, OverflowError, TypeError):
-        raise ValueRefused(f"{value!r} is no float of 32 bits") from None
+        raise ValueRefused(f"{value!r} is not a float of 32 bits") from None
 
 
 def _write_double(out: bytearray, value: Any) -> None:
     try:
         out += _DOUBLE.pack(value)
     except (struct.error, TypeError):
-        raise ValueRefused(f"{value!r} is no double") from None
+        raise ValueRefused(f"{value!r} is not a double") from None
 
 
 def _write_bytes(out: bytearray, value: Any) -> None:
     if not isinstance(value, (bytes, bytearray, memoryview)):
-        raise ValueRefused(f"{value!r:.60} are no bytes")
+        raise ValueRefused(f"{value!r:.60} is not bytes")
     put_number(out, len(value))
     out += value
 
 
 def _write_string(out: bytearray, value: Any) -> None:
     if not isinstance(value, str):
-        raise ValueRefused(f"{value!r:.60} is no text")
+        raise ValueRefused(f"{value!r:.60} is not a text")
     try:
         raw = value.encode()
     except UnicodeEncodeError as error:
-        raise ValueRefused(f"a text that is not Unicode at {error.start}") from None
+        raise ValueRefused(f"a text with a lone surrogate at {error.start}") from None
     put_number(out, len(raw))
     out += raw
 
@@ -248,14 +248,14 @@ _LEAVES: dict[str, tuple[Read, Write]] = {
 
 # --- long lists of numbers ---------------------------------------------------------------------------------------------
 
-# By the type of an item: how numpy holds it, and how many bytes it has, 0 for varints.
+# For each type of item its numpy type, and its size in bytes: 0 for varints.
 _BULK = {"boolean": ("u1", 1), "int": ("i8", 0), "long": ("i8", 0), "float": ("<f4", 4), "double": ("<f8", 8)}
 _LEAST_BULK = 64
 
 
 def bulk(name: str) -> tuple[Callable[[Cursor], Optional[list]], Callable[[bytearray, Any], bool]]:
-    """What reads and writes a long array of a type of numbers at once. It leaves (None, False) to the general way what it has no
-    fast form for: several blocks, long varints, numbers out of range, NaNs of 32 bits."""
+    """Functions that read and write a long array of numbers of a type at once. By None and False they leave to the general reader and
+    writer what they don't handle: several blocks, long varints, numbers out of range, NaNs of 32 bits."""
     if name not in _BULK or numpy is None:
         return (lambda cursor: None), (lambda out, value: False)
     dtype, width = _BULK[name]
@@ -283,7 +283,7 @@ def bulk(name: str) -> tuple[Callable[[Cursor], Optional[list]], Callable[[bytea
 
 
 def _bulk_numbers(cursor: Cursor, count: int, width: int, dtype: str, name: str) -> Optional[list]:
-    """The items of an array of one block, of which the count was read; the cursor then stands behind the array."""
+    """The items of an array of one block whose count was read. The cursor is moved to the end of the array."""
     octets = numpy.frombuffer(cursor.data, dtype=numpy.uint8, offset=cursor.at)
     if width:
         end = count * width
@@ -318,7 +318,7 @@ def _fixed(size: int) -> tuple[Read, Write]:
 
     def write(out: bytearray, value: bytes) -> None:
         if len(value) != size:
-            raise ValueRefused(f"{len(value)} bytes in place of {size}")
+            raise ValueRefused(f"{len(value)} bytes instead of {size}")
         out += value
 
     return read, write
@@ -331,7 +331,7 @@ def _enum(count: int) -> tuple[Read, Write]:
 
     def write(out: bytearray, value: int) -> None:
         if not 0 <= value < count:
-            raise ValueRefused(f"no symbol {value}")
+            raise ValueRefused(f"there is no symbol {value}")
         put_number(out, value)
 
     return read, write
@@ -413,7 +413,7 @@ def _union(parts: list[tuple[Read, Write]]) -> tuple[Read, Write]:
     def write(out: bytearray, value: tuple[int, Any]) -> None:
         branch, inner = value
         if not 0 <= branch < len(parts):
-            raise ValueRefused(f"no branch {branch}")
+            raise ValueRefused(f"there is no branch {branch}")
         put_number(out, branch)
         parts[branch][1](out, inner)
 
@@ -472,7 +472,7 @@ def encoded(text: str, value: Any) -> bytes:
 
 
 class Body(NamedTuple):
-    """A kind of message: its name, who sends it, its fields, and what reads and writes it."""
+    """A kind of message: its name, who sends it, its fields, and the functions that read and write its body."""
 
     name: str
     sender: str
@@ -505,14 +505,14 @@ def write_header(header: Header) -> bytes:
 
 
 def write_message(header: Header, value: dict) -> bytes:
-    """The bytes of a message, or `ValueRefused` where its values can't be spelled."""
+    """The bytes of a message. Raises `ValueRefused` if a value can't be written."""
     out = bytearray(write_header(header))
     BODIES[header.protocol, header.kind].write(out, value)
     return bytes(out)
 
 
 def read_header(data: bytes, sender: str = "S") -> tuple[Header, Body, int]:
-    """The header of a message that the server (or with "C" the client) sent, the kind of its body, and where the body begins."""
+    """The header of a message that the server sent (with "C": the client), its kind, and where its body begins."""
     cursor = Cursor(data)
     try:
         header = Header(*_READ_HEADER(cursor).values())
@@ -531,7 +531,7 @@ def read_header(data: bytes, sender: str = "S") -> tuple[Header, Body, int]:
 
 
 def read_body(data: bytes, body: Body, at: int) -> dict:
-    """The body that begins at this place and ends with the message."""
+    """The body, which begins at this offset and ends with the message."""
     cursor = Cursor(data, at)
     value = body.read(cursor)
     if cursor.at < len(data):
@@ -540,7 +540,7 @@ def read_body(data: bytes, body: Body, at: int) -> dict:
 
 
 def read_message(data: bytes, sender: str = "S") -> tuple[Header, Body, dict]:
-    """A whole message, or `WireError` with the cause and the offset."""
+    """A whole message. Raises `WireError` with the cause and the offset if it is malformed."""
     header, body, at = read_header(data, sender)
     return header, body, read_body(data, body, at)
 
@@ -551,7 +551,7 @@ _EMPTY: dict[str, Any] = {
 
 
 def empty(text: str) -> Any:
-    """The value of a type in which everything is null, 0, false or empty."""
+    """The value of a type that is null, 0, false or empty, as all of its parts are."""
     if text.startswith("["):
         return []
     if text.startswith("{"):
@@ -570,7 +570,7 @@ def empty(text: str) -> Any:
 
 
 def filled(text: str, **fields: Any) -> dict:
-    """A record in which these fields have a value, and all others are empty."""
+    """A record with these fields, and all others empty."""
     made = empty(text)
     for name in fields:
         if name not in made:

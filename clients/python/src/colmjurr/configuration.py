@@ -1,14 +1,17 @@
-"""A server's configuration: what is refused of it, with the line and the name of the key, and the catalog of its channels.
+"""A server's configuration: the first thing that the server refuses in it, with the line and the name of the key, and the catalog of its
+channels.
 
-The server reads TOML 1.1 and this reads TOML 1.0 by Python's `tomllib`: what only 1.1 has (line breaks in inline tables, `\\e` and
-`\\x` in texts, times without seconds) is refused here as no TOML.
+The server reads TOML 1.1, and this module TOML 1.0 by Python's `tomllib`: what only 1.1 has (line breaks in inline tables, `\\e` and
+`\\x` in texts, times without seconds) is refused here as malformed TOML.
 """
 from __future__ import annotations
 
+import os
 import re
 import tomllib
 import uuid
-from typing import Any, NamedTuple, Optional
+from pathlib import Path
+from typing import Any, NamedTuple, Optional, Union
 
 from .errors import ConfigError
 from .points import KINDS
@@ -34,7 +37,7 @@ class ChannelEntry(NamedTuple):
 
 
 class Configuration(NamedTuple):
-    """What a server is configured with."""
+    """A server's configuration."""
 
     instance: uuid.UUID
     name: str
@@ -44,26 +47,35 @@ class Configuration(NamedTuple):
     channels: list[ChannelEntry]
 
 
+def read_configuration_file(path: Union[str, "os.PathLike[str]"]) -> Configuration:
+    """The configuration in a file. Raises `ConfigError` with its path, and `OSError` if it can't be read."""
+    try:
+        return read_configuration(Path(path).read_bytes())
+    except ConfigError as error:
+        error.path = str(path)
+        raise
+
+
 def read_configuration(data: bytes) -> Configuration:
-    """The configuration in the bytes of a document, or `ConfigError` with the first refusal in the server's order: its cause, the line on
-    which the key (or else its table) stands, the key's name, and the server's numbers of key and channel."""
+    """The configuration in the bytes of a document. Raises `ConfigError` with the first refusal in the server's order: its cause, the line of
+    the key (or else of its table), the key's name, and the numbers by which the server names key and channel."""
     if len(data) > LONGEST:
         raise ConfigError(f"the document has {len(data):,} bytes, more than {LONGEST:,}")
     try:
         text = data.decode()
     except UnicodeDecodeError as error:
         line = data.count(b"\n", 0, error.start) + 1
-        raise ConfigError("no UTF-8, and so no TOML", line) from None
+        raise ConfigError("not UTF-8, and so not TOML", line) from None
     try:
         table = tomllib.loads(text)
     except (tomllib.TOMLDecodeError, RecursionError) as error:
         place = re.search(r"line (\d+), column (\d+)", str(error))
-        raise ConfigError(f"no TOML: {error}", int(place[1]) if place else text.count("\n") + 1) from None
+        raise ConfigError(f"not TOML: {error}", int(place[1]) if place else text.count("\n") + 1) from None
     return _Checked(table, Lines(text)).configuration()
 
 
 class Lines:
-    """Where keys stand in a document: by table and by how many tables of its name came before."""
+    """The lines of a document's keys and tables."""
 
     _HEADER = re.compile(r"\s*(\[\[?)\s*([^\]]+?)\s*\]\]?\s*(?:#.*)?$")
     _KEY = re.compile(r"\s*(?:\"([^\"]*)\"|'([^']*)'|([A-Za-z0-9_-]+))\s*=")
@@ -72,7 +84,7 @@ class Lines:
         self.places: dict[tuple[int, str], int] = {}
         self.tables: dict[int, int] = {}
         channel, inside = 0, ""
-        for number, line in enumerate(text.splitlines(), 1):
+        for number, line in enumerate(text.split("\n"), 1):
             if header := self._HEADER.match(line):
                 inside = header[2].strip("\"' ")
                 if header[1] == "[[" and inside == "channel":
@@ -104,7 +116,7 @@ class _Checked:
     def configuration(self) -> Configuration:
         instance = self.table.get("instance")
         if not isinstance(instance, str) or not _ID.fullmatch(instance):
-            raise self.refuse("is missing" if instance is None else "is no identifier, such as a UUID", "instance")
+            raise self.refuse("is missing" if instance is None else "is not a UUID", "instance")
         name = self.text(self.table, "name", 0, 1, 256)
         lag = self.number("lag", 1, 65_536, 65_536)
         journal = self.number("journal", 2, 4_194_304, 4_194_304)
@@ -120,13 +132,13 @@ class _Checked:
         if value is None:
             raise self.refuse("is missing", key, channel)
         if not isinstance(value, str) or not least <= len(value.encode()) <= most:
-            raise self.refuse(f"is no text of {least} to {most} bytes", key, channel)
+            raise self.refuse(f"is not a text of {least} to {most} bytes", key, channel)
         return value
 
     def number(self, key: str, least: int, most: int, default: int) -> int:
         value = self.table.get(key, default)
         if isinstance(value, bool) or not isinstance(value, int) or not least <= value <= most:
-            raise self.refuse(f"is no whole number from {least} to {most:,}", key)
+            raise self.refuse(f"is not a whole number from {least} to {most:,}", key)
         return value
 
     def types(self) -> Optional[list[str]]:
@@ -134,13 +146,13 @@ class _Checked:
         if value is None:
             return None
         if not isinstance(value, list) or not all(isinstance(each, str) and _TYPE.fullmatch(each) for each in value):
-            raise self.refuse("is no list of types such as witsml21.Well and witsml21.*", "types")
+            raise self.refuse("is not a list of types such as witsml21.Well and witsml21.*", "types")
         return value
 
     def channel_tables(self) -> list[dict[str, Any]]:
         value = self.table.get("channel", [])
         if not isinstance(value, list) or not all(isinstance(each, dict) for each in value):
-            raise self.refuse("is no list of tables [[channel]]", "channel")
+            raise self.refuse("is not a list of tables [[channel]]", "channel")
         if len(value) > MOST_CHANNELS:
             raise ConfigError(f"{len(value)} channels, more than {MOST_CHANNELS}", self.lines.of(MOST_CHANNELS + 1, "uri"), "channel")
         return value
@@ -148,18 +160,18 @@ class _Checked:
     def channel(self, place: int, table: dict[str, Any]) -> ChannelEntry:
         uri = table.get("uri")
         if not isinstance(uri, str):
-            raise self.refuse("is missing" if uri is None else "is no text", "uri", place)
+            raise self.refuse("is missing" if uri is None else "is not a text", "uri", place)
         name = self.text(table, "name", place, 1, 256)
         kind = table.get("kind")
         if not isinstance(kind, str):
-            raise self.refuse("is missing" if kind is None else "is no text", "kind", place)
+            raise self.refuse("is missing" if kind is None else "is not a text", "kind", place)
         uom = self.text(table, "uom", place, 0, 64)
         found = read_object(uri)
         if found is None:
-            cause = "is the URI of a dataspace" if read_space(uri) is not None else "is no URI of an object"
+            cause = "is the URI of a dataspace" if read_space(uri) is not None else "is not the URI of an object"
             raise self.refuse(cause, "uri", place)
         if kind not in KINDS:
-            raise self.refuse(f"is none of {', '.join(KINDS)}", "kind", place)
+            raise self.refuse(f"is not one of {', '.join(KINDS)}", "kind", place)
         if found in self.seen:
             raise self.refuse("is the URI of an earlier channel", "uri", place)
         self.seen.add(found)
@@ -167,5 +179,5 @@ class _Checked:
 
 
 def catalog(configuration: Configuration) -> dict[str, Any]:
-    """The channels of a configuration as a catalog for pages and programs, which the wire doesn't list."""
+    """The channels of a configuration as a catalog for the log page and programs, since no request lists channels."""
     return {"name": configuration.name, "channels": [each._asdict() for each in configuration.channels]}

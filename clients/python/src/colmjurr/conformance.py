@@ -1,10 +1,10 @@
-"""Plays recorded sessions against a running server and compares what it answers with the recorded answers.
+"""Plays recorded sessions against a running server, and compares its answers with the recorded ones.
 
-A sample is a capture NAME.cap of what clients send, beside NAME.answers.cap with what a server has to answer. Its server's configuration
-is NAME.toml, or else the one that a table of a document in the folder or above it gives it, in a row `| [NAME.cap](..) | FILE.toml |`, or
-else server.toml. A capture begins with `ETPCAP01`; each frame has its kind, the tag of its session, a moment,
-a length and a message. Each tag is a connection of its own. Answers may differ in message ids, in sessions' and transactions'
-identifiers, and in moments; notices may come earlier or later among the replies, as a live server tells them when it can.
+A sample is a capture NAME.cap of what clients send, beside NAME.answers.cap with the answers that a server has to give. The configuration
+of its server is NAME.toml; or else the file in the sample's row `| [NAME.cap](..) | FILE.toml |` of a document in the folder or the one
+above; or else server.toml. A capture begins with `ETPCAP01`. Each frame has its kind, the tag of its session, a moment, a length and a
+message, and each tag is a connection of its own. Answers may differ in message ids, in the identifiers of sessions and transactions, and
+in moments. Notices may arrive earlier or later among the replies, since a live server sends them when it can.
 """
 from __future__ import annotations
 
@@ -21,7 +21,7 @@ MAGIC = b"ETPCAP01"
 MESSAGE, POLL, END, ANSWER, ENDED = 1, 2, 3, 17, 19
 _HEAD = struct.Struct(">BIqI")
 _LONGEST = 33_554_432
-# What differs from run to run.
+# The fields that differ from run to run.
 LOOSE = {
     "currentDateTime", "sessionId", "transactionUuid", "storeLastWrite", "storeCreated", "changeTime", "channelChangeTime",
     "channelsTruncatedTime",
@@ -38,9 +38,9 @@ class Frame(NamedTuple):
 
 
 def read_capture(data: bytes) -> Iterator[Frame]:
-    """The frames of a capture. Raises `ValueRefused` with the offset of the frame that can't be read."""
+    """The frames of a capture. Raises `ValueRefused` with the offset of the first malformed frame."""
     if data[:8] != MAGIC:
-        raise ValueRefused("no capture: it doesn't begin with ETPCAP01")
+        raise ValueRefused("not a capture: it does not begin with ETPCAP01")
     at = 8
     while at < len(data):
         if at + _HEAD.size > len(data):
@@ -48,13 +48,13 @@ def read_capture(data: bytes) -> Iterator[Frame]:
         kind, tag, moment, size = _HEAD.unpack_from(data, at)
         start = at + _HEAD.size
         if kind not in (MESSAGE, POLL, END, ANSWER, ENDED) or size > _LONGEST or start + size > len(data):
-            raise ValueRefused(f"no frame at {at}")
+            raise ValueRefused(f"a malformed frame at {at}")
         yield Frame(kind, tag, moment, data[start:start + size])
         at = start + size
 
 
 class Difference(NamedTuple):
-    """Where an answer is another: the tag, the place among its replies or notices, what was recorded, and what came."""
+    """An answer that differs: the tag, the place among its replies or notices, what was recorded, and what arrived."""
 
     tag: int
     place: str
@@ -63,7 +63,7 @@ class Difference(NamedTuple):
 
 
 class _Tag:
-    """A session of the sample: its connection, and what came."""
+    """A session of the sample: its connection, and what has arrived."""
 
     def __init__(self, link: websocket.WebSocket):
         self.link = link
@@ -80,7 +80,7 @@ class _Tag:
             self.more.set()
 
     async def wait_for(self, count: int, patience: float) -> None:
-        """Returns when so many messages came, or the server said goodbye, or patience is at its end."""
+        """Returns when so many messages have arrived, the server has said goodbye, or `patience` seconds have passed."""
         try:
             async with asyncio.timeout(patience):
                 while len(self.came) < count and not self.task.done():
@@ -91,15 +91,17 @@ class _Tag:
 
 
 async def play(url: str, sample: bytes, answers: bytes, patience: float = 3.0, **how: Any) -> list[Difference]:
-    """Plays a sample against a fresh server and returns where its answers differ. `how` goes to the connection."""
+    """Plays a sample against a server without a history, and returns the answers that differ. For each answer that does not arrive it waits
+    `patience` seconds. `how` may have `headers`, `ca`, `cert` and `timeout` for the connections."""
     recorded = [frame for frame in read_capture(answers)]
+    settings: dict[str, Any] = {"headers": {}, **how}
     tags: dict[int, _Tag] = {}
     wanted: dict[int, list[bytes]] = {}
     place = 0
     try:
         for frame in read_capture(sample):
             if frame.tag not in tags:
-                tags[frame.tag] = _Tag(await websocket.connect(url, headers=how.get("headers", {}), timeout=how.get("timeout", 10.0)))
+                tags[frame.tag] = _Tag(await websocket.connect(url, **settings))
                 wanted[frame.tag] = []
             tag = tags[frame.tag]
             await _give(tag, frame)
@@ -117,7 +119,7 @@ async def play(url: str, sample: bytes, answers: bytes, patience: float = 3.0, *
 
 
 async def _give(tag: _Tag, frame: Frame) -> None:
-    """What a frame of the sample does to its connection; a live server polls by itself."""
+    """Does to the connection what the frame of the sample says. Polls are left out, since a live server polls by itself."""
     try:
         if frame.kind == MESSAGE:
             tag.link.post(frame.data)
@@ -129,7 +131,7 @@ async def _give(tag: _Tag, frame: Frame) -> None:
 
 
 def compare(tag: int, wanted: list[bytes], came: list[bytes]) -> list[Difference]:
-    """Where the messages of a tag differ, replies and notices each in their order."""
+    """The messages of a tag that differ, replies and notices each in their order."""
     found = []
     for name, is_notice in (("reply", False), ("notice", True)):
         left = [shown(each) for each in wanted if _is_notice(each) == is_notice]
@@ -151,7 +153,7 @@ def _is_notice(data: bytes) -> bool:
 
 
 def shown(data: bytes) -> str:
-    """A message as a text without what differs from run to run."""
+    """A message as a text, without what differs from run to run."""
     try:
         header, body, value = codec.read_message(data)
     except WireError as error:
@@ -171,8 +173,14 @@ def _bare(value: Any, name: str = "") -> Any:
     return value.hex() if isinstance(value, bytes) else value
 
 
+def shipped_samples() -> Optional[Path]:
+    """The folder of the samples that are shipped with the server, if the package is used from the repository."""
+    folder = Path(__file__).resolve().parents[4] / "docs" / "samples"
+    return folder if folder.is_dir() else None
+
+
 def samples_in(folder: Path) -> list[tuple[Path, Path, Optional[Path]]]:
-    """The samples of a folder: capture, answers, and configuration where there is one."""
+    """The samples of a folder: the capture, the answers, and the configuration if there is one."""
     found = []
     told = settings_told(folder)
     for path in sorted(folder.glob("*.cap")):
@@ -185,14 +193,14 @@ def samples_in(folder: Path) -> list[tuple[Path, Path, Optional[Path]]]:
 
 
 def settings_told(folder: Path) -> dict[str, str]:
-    """The configurations of samples, as tables of documents in the folder and above it name them."""
+    """The configurations of samples, as the tables of documents in the folder and the one above name them."""
     row = re.compile(r"\[(\w+\.cap)\]\([^)]*\) *\| *(\w+\.toml)")
     texts = [path.read_text(encoding="utf-8") for place in (folder, folder.parent) for path in sorted(place.glob("*.md"))]
     return {match[1]: match[2] for text in texts for match in row.finditer(text)}
 
 
 def play_file(url: str, path: Path, answers: Path, **how: Any) -> list[Difference]:
-    """Plays one sample from its files."""
+    """Plays one sample from its files. Raises `ValueRefused` if one can't be read."""
     try:
         return asyncio.run(play(url, path.read_bytes(), answers.read_bytes(), **how))
     except OSError as error:

@@ -1,7 +1,7 @@
-"""Data values, as they stand in custom data, as values of Python."""
+"""Data values, which custom data are made of, as Python values."""
 from __future__ import annotations
 
-from typing import Any
+from typing import Any, Mapping
 
 from .errors import ValueRefused
 
@@ -9,8 +9,8 @@ _LISTS = {bool: 7, int: 11, float: 14, str: 15, bytes: 16}
 
 
 def to_wire(value: Any) -> dict:
-    """The data value of None, a bool, an int (a long), a float (a double), a str, bytes, or a list of values of one of these types
-    (None may stand among bools and ints). Raises `ValueRefused` for anything else."""
+    """The data value for None, a bool, an int (as a long), a float (as a double), a str, bytes, or a list of values of one of these types,
+    in which None may be among bools and ints. Raises `ValueRefused` for anything else."""
     if value is None:
         return {"item": (0, None)}
     for kind, branch in ((bool, 1), (int, 3), (float, 5), (str, 6), (bytes, 17)):
@@ -24,11 +24,11 @@ def to_wire(value: Any) -> dict:
             return {"item": (_LISTS[kind] + nullable, {"values": list(value)})}
         if not kinds and not nullable:
             return {"item": (15, {"values": []})}
-    raise ValueRefused(f"{value!r:.80} has no form of a data value")
+    raise ValueRefused(f"{value!r:.80} can't be a data value")
 
 
 def from_wire(value: dict) -> Any:
-    """The value of Python. A sparse array becomes a list of pairs of a start and a list."""
+    """The Python value of a data value. A sparse array becomes a list of pairs of a start and a list."""
     branch, inner = value["item"]
     if branch == 18:
         return [(each["start"], _elements(each["slice"])) for each in inner["slices"]]
@@ -40,7 +40,7 @@ def _elements(array: dict) -> list:
     return list(inner) if branch == 6 else inner["values"]
 
 
-def custom_to_wire(custom: dict[str, Any]) -> dict[str, dict]:
+def custom_to_wire(custom: Mapping[str, Any]) -> dict[str, dict]:
     return {name: to_wire(value) for name, value in custom.items()}
 
 

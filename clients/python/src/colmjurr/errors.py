@@ -1,4 +1,4 @@
-"""What can go wrong, each as a class of its own. All of them are `EtpError`s."""
+"""The errors of this package, one class for each kind of failure. All of them are `EtpError`s."""
 from __future__ import annotations
 
 from typing import Optional
@@ -11,13 +11,13 @@ CODES = {
     20: "invalid index kind", 21: "no supported formats", 31: "invalid append",
 }
 
-# What a word of a `WireError` says of the item at its offset.
+# What the cause of a `WireError` says of the item at its offset.
 CAUSES = {
-    "short": "the message ends in it", "number": "a number of more than ten bytes or 64 bits", "range": "an int of more than 32 bits",
-    "boolean": "a boolean that is neither 0 nor 1", "branch": "no branch or symbol of that number", "utf8": "a text that is not UTF-8",
-    "length": "a negative length", "blocksize": "a block that its items don't fill", "doublekey": "a name that its map has already",
+    "short": "the message ends inside it", "number": "a number of more than ten bytes or 64 bits", "range": "an int of more than 32 bits",
+    "boolean": "a boolean that is neither 0 nor 1", "branch": "no branch or symbol has this number", "utf8": "a text that is not UTF-8",
+    "length": "a negative length", "blocksize": "a block whose items do not fill it", "doublekey": "a name that its map already has",
     "limit": "one value too many", "rest": "bytes after the body", "extension": "a header extension", "compressed": "a compressed body",
-    "protocol": "no such protocol", "message type": "no message that a server sends",
+    "protocol": "no such protocol", "message type": "not a message that a server sends",
 }
 
 
@@ -26,7 +26,8 @@ class EtpError(Exception):
 
 
 class WireError(EtpError):
-    """Bytes from the server that spell no message. `cause` is a word of the profile, `offset` where the refused item begins."""
+    """Malformed bytes from the server. `cause` is one of the profile's words for it, `offset` is where the refused item begins in the
+    message, and `part` is the part of the message that it belongs to."""
 
     def __init__(self, cause: str, offset: int, part: str = "body"):
         super().__init__(f"{part} {cause} {offset}: {CAUSES.get(cause, cause)}")
@@ -34,27 +35,38 @@ class WireError(EtpError):
 
 
 class ValueRefused(EtpError, ValueError):
-    """A value that the profile can't spell, found before anything was sent: a number out of range, or a value of another type."""
+    """A value that can't be sent, found before anything was sent: a number out of range, a value of another type, an index that does not
+    rise, a malformed address."""
 
 
 class LinkError(EtpError, ConnectionError):
-    """The connection to the server can't be made, or is gone."""
+    """The connection to the server can't be made, or is lost. `may_pass` says whether another attempt may succeed: if it may, a store whose
+    connection was lost dials again until its `patience` is used up."""
+
+    may_pass = True
 
 
 class DialError(LinkError):
-    """No connection: the host is unknown, nobody listens, or the certificate is refused."""
+    """There is no connection: the host is unknown, nothing listens at the port, or the certificate is not trusted."""
+
+    def __init__(self, cause: str, may_pass: bool = True):
+        super().__init__(cause)
+        self.may_pass = may_pass
 
 
 class HandshakeError(LinkError):
-    """The peer answered the WebSocket handshake otherwise. `status` is its HTTP status, or 0 where it sent none."""
+    """The peer did not complete the WebSocket handshake. `status` is its HTTP status, or 0 if it sent none."""
 
     def __init__(self, cause: str, status: int = 0):
         super().__init__(cause)
         self.status = status
+        # without an answer, or with one of a proxy whose server is away or busy
+        self.may_pass = status in (0, 429, 502, 503, 504)
 
 
 class LinkLost(LinkError):
-    """The connection broke off or was closed. Whether a request that was under way was done is not known."""
+    """The connection was lost or closed. It is not known whether a request that was under way was done. `code` is the status of the
+    WebSocket's Close frame, or 1006 if there was none."""
 
     def __init__(self, cause: str, code: int = 1006):
         super().__init__(cause)
@@ -62,36 +74,38 @@ class LinkLost(LinkError):
 
 
 class TimeLimit(LinkLost, TimeoutError):
-    """What was waited for did not come within its time limit."""
+    """Nothing arrived within the time limit."""
 
 
 class PeerError(LinkLost):
-    """The server broke the rules of the session: an id that doesn't rise, a part out of order, a text message."""
+    """The server broke the protocol: an id that does not rise, a part out of order, a text message."""
+
+    may_pass = False
 
 
 class Refused(EtpError):
     """The server refused a request or one of its keys, with a code and its text.
 
-    `key` names the refused item, where the request had several. `first_index` is the index of the first point of a load that was
-    refused, in microseconds; none of that load's points are in the channel then."""
+    `key` names the refused item if the request had several. `first_index`, in microseconds, is the index of the first point of a
+    message of points that was refused; none of that message's points are in the channel."""
 
     def __init__(self, code: int, text: str = "", key: Optional[str] = None, first_index: Optional[int] = None):
         text = text or CODES.get(code, "unknown code")
-        place = f" of {key!r}" if key is not None else "" if first_index is None else f" from index {first_index} on"
+        place = f" of {key!r}" if key is not None else "" if first_index is None else f", the points from index {first_index} on"
         super().__init__(f"refused {code}{place}: {text}")
         self.code, self.text, self.key, self.first_index = code, text, key, first_index
 
 
 class NotFound(Refused):
-    """Refused with 11: there is no such dataspace, object, array or channel."""
+    """Refused with 11: the dataspace, object, array or channel does not exist."""
 
 
 class LimitExceeded(Refused):
-    """Refused with 12: a limit of the server's is reached; of a write, mostly that its journal is full."""
+    """Refused with 12: a limit of the server is reached. For a write this usually means that the server's journal is full."""
 
 
 class SomeRefused(EtpError):
-    """Some items of a request were refused, and the others were done. `refused` has the error of each by its key."""
+    """Items of a request were refused. `refused` has the error of each by its key, `granted` those that were done."""
 
     def __init__(self, refused: dict[str, Refused], granted: dict):
         super().__init__(f"{len(refused)} of {len(refused) + len(granted)} items refused: {next(iter(refused.values()))}")
@@ -99,7 +113,7 @@ class SomeRefused(EtpError):
 
 
 class CommitFailed(EtpError):
-    """A transaction was not committed, and nothing of it is in the store. `reason` is the server's."""
+    """A transaction was not committed, and nothing of it is in the store. `reason` is the server's text."""
 
     def __init__(self, reason: str):
         super().__init__(f"not committed: {reason}")
@@ -107,7 +121,7 @@ class CommitFailed(EtpError):
 
 
 class Conflict(CommitFailed):
-    """Another session changed a key that the transaction had touched before. `place` is the first such entry of the journal."""
+    """Another session changed something that the transaction had used. `place` is the number of the journal's first such entry."""
 
     def __init__(self, reason: str, place: int):
         super().__init__(reason)
@@ -123,12 +137,20 @@ class Stopped(EtpError):
 
 
 class ConfigError(EtpError):
-    """A server's configuration is refused. `key` is the name of the key, `number` and `channel` the server's numbers for it."""
+    """A server's configuration is refused. `line` counts from 1 (0: no line), `key` is the name of the key, and `number` and `channel` are
+    the numbers by which the server names it. `path` is the file, if the configuration was read from one."""
 
     def __init__(self, cause: str, line: int = 0, key: str = "", number: int = 0, channel: int = 0):
         place = f"line {line}: " if line else ""
         super().__init__(f"{place}{key + ': ' if key else ''}{cause}")
         self.cause, self.line, self.key, self.number, self.channel = cause, line, key, number, channel
+        self.path = ""
+
+    def shown(self) -> str:
+        """The error with the file's path, if it is known, in the form `PATH:LINE: KEY: CAUSE`."""
+        place = ":".join(each for each in (self.path, str(self.line) if self.line else "") if each)
+        numbers = f" (key {self.number} of channel {self.channel})" if self.number else ""
+        return f"{place + ': ' if place else ''}{self.key + ': ' if self.key else ''}{self.cause}{numbers}"
 
 
 def refusal(code: int, text: str = "", key: Optional[str] = None, first_index: Optional[int] = None) -> Refused:

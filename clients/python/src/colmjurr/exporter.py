@@ -1,7 +1,7 @@
-"""Metrics and health of a server from outside: `/metrics` in Prometheus' text and `/health` with 200 or 503.
+"""Metrics and health of a server, seen from outside: `/metrics` in Prometheus' text format, and `/health` with 200 or 503.
 
-It takes one of the server's sessions, pings it every few seconds, and follows the channels of a catalog, at most 256. What only the
-server knows (the journal's length, its memory, its sessions) is not here.
+The exporter takes one of the server's sessions, pings the server every few seconds, and follows at most 256 channels. What only the
+server knows (the length of its journal, its memory, its sessions) is not exported.
 """
 from __future__ import annotations
 
@@ -11,22 +11,23 @@ import time
 from typing import Any, Iterable, Optional
 
 from . import aio
-from .errors import EtpError, LinkLost, Refused, Stopped
-from .watching import Append, Gap, Replace, Watch
+from .errors import EtpError, LinkLost, Stopped, ValueRefused
+from .watching import Append, Change, Replace, Watch
 
 MOST_CHANNELS = 256
-# Seconds between pings, and how long a failed connection is left alone.
+# Seconds between pings, and before a failed connection is tried again.
 EVERY, PAUSE = 5.0, 2.0
 _REQUEST_LIMIT, _REQUEST_SECONDS = 16_384, 10.0
 
 
 class Exporter:
-    """Follows a server and answers HTTP. `how` goes to `colmjurr.aio.connect`."""
+    """Follows a server and answers HTTP. `channels` are the URIs of the channels to follow; raises `ValueRefused` if there are more than
+    256. `every` is the number of seconds between pings. `how` goes to `colmjurr.aio.connect`."""
 
     def __init__(self, url: str, channels: Iterable[str] = (), every: float = EVERY, **how: Any):
         self.url, self.uris, self.every, self.how = url, list(channels), every, how
         if len(self.uris) > MOST_CHANNELS:
-            raise Refused(12, f"{len(self.uris)} channels, more than {MOST_CHANNELS}")
+            raise ValueRefused(f"{len(self.uris)} channels are more than the {MOST_CHANNELS} that an exporter follows")
         self.is_up = False
         self.ping = 0.0
         self.opened_at: Optional[float] = None
@@ -41,7 +42,7 @@ class Exporter:
     # -- following
 
     async def follow(self) -> None:
-        """Connects, and again after each failure, until it is cancelled."""
+        """Connects, and connects again after each failure, until it is cancelled."""
         while True:
             try:
                 await self._session()
@@ -86,7 +87,7 @@ class Exporter:
     async def _take_all(self, watch: Watch) -> None:
         try:
             async for change in watch:
-                self._take(change)
+                await self._take(change)
         except Stopped as error:
             self.stops[error.reason.split(" ")[0]] += 1
             raise
@@ -94,15 +95,19 @@ class Exporter:
             self.stops["link"] += 1
             raise
 
-    def _take(self, change: Any) -> None:
+    async def _take(self, change: Change) -> None:
         uri = change.channel.uri
-        if isinstance(change, Append) and len(change.points):
+        if isinstance(change, Append):
             self.points[uri] += len(change.points)
             self.last[uri] = int(change.points.indexes[-1])
-        elif isinstance(change, Replace):
-            self.replacements[uri] += 1
-        elif not isinstance(change, Gap) and hasattr(change, "end"):
-            self.last[uri] = min(self.last.get(uri, change.end), change.end)
+            return
+        self.replacements[uri] += isinstance(change, Replace)
+        # the newest point may have been removed
+        await change.channel.refresh()
+        if change.channel.last is None:
+            self.last.pop(uri, None)
+        else:
+            self.last[uri] = change.channel.last
 
     # -- answering
 
@@ -119,10 +124,10 @@ class Exporter:
             [(label(uri), index / 1e6) for uri, index in sorted(self.last.items())])
         known = sorted(self.names)
         self._add(
-            lines, "etp_channel_points_total", "counter", "Points that came since the exporter began.",
+            lines, "etp_channel_points_total", "counter", "Points that were appended since the exporter started.",
             [(label(uri), self.points[uri]) for uri in known])
         self._add(
-            lines, "etp_channel_replacements_total", "counter", "Replacements that came since the exporter began.",
+            lines, "etp_channel_replacements_total", "counter", "Ranges that were replaced since the exporter started.",
             [(label(uri), self.replacements[uri]) for uri in known])
         self._add(
             lines, "etp_subscription_stops_total", "counter", "Subscriptions that ended, by the reason.",
@@ -139,7 +144,7 @@ class Exporter:
             lines.append(f"{name}{'{' + inner + '}' if inner else ''} {value}")
 
     async def answer(self, reader: asyncio.StreamReader, writer: asyncio.StreamWriter) -> None:
-        """Answers one request of HTTP, and closes."""
+        """Answers one HTTP request, and closes the connection."""
         try:
             head = await asyncio.wait_for(reader.readuntil(b"\r\n\r\n"), _REQUEST_SECONDS)
             words = head.split(b"\r\n", 1)[0].decode("latin-1").split(" ")
@@ -165,7 +170,7 @@ class Exporter:
         return "404 Not Found", "text/plain", "/metrics and /health\n"
 
     async def serve(self, host: str = "127.0.0.1", port: int = 9777, ready: Optional[Any] = None) -> None:
-        """Follows the server and answers HTTP until it is cancelled. `ready` is called with the port."""
+        """Follows the server and answers HTTP until it is cancelled. `ready` is called with the port as soon as it listens."""
         server = await asyncio.start_server(self.answer, host, port, limit=_REQUEST_LIMIT)
         if ready:
             ready(server.sockets[0].getsockname()[1])

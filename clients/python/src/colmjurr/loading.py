@@ -1,4 +1,4 @@
-"""Loading a channel: points are sent in batches, kept until the server has taken them, and sent again after a broken link."""
+"""Loading a channel: points are sent in batches, kept until the server has taken them, and sent again after the connection was lost."""
 from __future__ import annotations
 
 import asyncio
@@ -7,22 +7,22 @@ import functools
 from typing import TYPE_CHECKING, Any, Callable, Optional
 
 from .arrays_of_numbers import numpy
-from .channel_data import write_items
-from .errors import EtpError, LinkLost, Refused, TimeLimit, ValueRefused, refusal
+from .channel_data import check_values, write_items
+from .errors import EtpError, LinkError, Refused, TimeLimit, ValueRefused, refusal
 from .points import Moment, index_of
 from .session import Session
 
 if TYPE_CHECKING:
     from .channels import Channel
 
-# The most points of a message where many are given at once, the most bytes of one, and how many batches may be on their way.
+# The most points of a message if many are given at once, its most bytes, and how many batches may be under way.
 BULK, BATCH_BYTES, WINDOW = 50_000, 4_194_304, 8
 
 Progress = Callable[[int, Optional[int]], None]
 
 
 class Batch:
-    """Points that go in one message, and where they stand."""
+    """Points that are sent in one message, and whether they were."""
 
     __slots__ = ("indexes", "values", "size", "first", "last", "number", "was_sent")
 
@@ -34,16 +34,20 @@ class Batch:
 
 
 class Loader:
-    """Loads points into a channel, to be entered by `async with` and called with an index and a value.
+    """Loads points into a channel. Enter it by `async with`, and call it with an index and a value for each point.
 
-    Points have to rise, which is tested at once. Each message of points is followed by a Ping, and its points are kept until the
-    Pong. After a broken link the channel is opened again: what stands up to its last index is there already, the rest is sent
-    again, so nothing is lost and nothing doubled, as long as nobody else loads the channel meanwhile.
+    Indexes have to rise and values to be of the channel's kind, which each call checks. Every message of points is followed by a Ping,
+    and its points are kept until the Pong. When the connection is lost, the channel is opened again: the points up to its last index are
+    there already, and the rest are sent again. So nothing is lost or doubled, as long as nobody else loads the channel meanwhile.
 
-    A refusal of the server's is raised as `Refused` with `first_index` by the next call, or at the end; the points of that message
-    are not in the channel, those of later messages may be. `skip_known` passes over points up to the channel's last one when the
-    loader begins: so a program that was stopped in the middle can give all its points again. `taken` counts the points that the
-    server has taken, `skipped` those that were passed over.
+    If the server refuses points, the next call or the end of the block raises `Refused` with `first_index`: the points of that message
+    are not in the channel, those of later messages may be. If the connection can't be restored within the store's `patience`, `LinkLost`
+    is raised.
+
+    `every`: seconds after which gathered points are sent (None: only by count). `most`: how many points are sent at the latest.
+    `skip_known` leaves out the points up to the channel's last one at the beginning, so a program that was stopped can give all its points
+    again. `progress` is called with the number of points that the server has taken. `taken` counts these points, `skipped` those that were
+    left out.
     """
 
     def __init__(
@@ -51,7 +55,7 @@ class Loader:
         progress: Optional[Progress] = None,
     ):
         if most < 1 or (every is not None and every <= 0):
-            raise ValueRefused("`most` is at least 1 and `every` above 0")
+            raise ValueRefused(f"`most` has to be at least 1 and `every` above 0, not {most} and {every}")
         self.channel, self.every, self.most, self.skip_known, self.progress = channel, every, most, skip_known, progress
         self.taken = self.skipped = self.given = 0
         self._indexes: list[int] = []
@@ -89,10 +93,12 @@ class Loader:
             await self._stop()
 
     async def __call__(self, index: Moment, value: Any) -> None:
-        """Gives one point. Raises `ValueRefused` where its index doesn't rise or its value is not of the channel's kind."""
+        """Gives one point. Raises `ValueRefused` if its index does not rise or its value is not of the channel's kind, and `Refused` if the
+        server has refused earlier points."""
         await self.load(index, value)
 
     async def load(self, index: Moment, value: Any) -> None:
+        """The same as a call of the loader."""
         moment = index_of(index)
         self._check(moment, moment)
         if self._known is not None and moment <= self._known:
@@ -110,7 +116,8 @@ class Loader:
             self._timer = asyncio.get_running_loop().call_later(self.every, self._cut)
 
     async def load_many(self, indexes: Any, values: Any) -> None:
-        """Gives many points: columns of shape (n,), whose indexes are moments; see `points.index_of`."""
+        """Gives many points: indexes (moments, see `index_of`) and values of shape (n,). Raises `ValueRefused` with the place, counted from
+        0, of an index that does not rise or a value that is not of the channel's kind; none of these points is sent then."""
         moments = _moments(indexes)
         if len(moments) != len(values):
             raise ValueRefused(f"{len(moments)} indexes and {len(values)} values")
@@ -118,7 +125,8 @@ class Loader:
             return
         begin = _first_fall(moments)
         if begin is not None:
-            raise ValueRefused(f"the index at place {begin} doesn't rise")
+            raise ValueRefused(f"the index at place {begin}, {int(moments[begin])}, does not rise above {int(moments[begin - 1])}")
+        check_values(self.channel.kind, values)
         self._check(int(moments[0]), int(moments[-1]))
         self._cut()
         known = 0
@@ -137,7 +145,7 @@ class Loader:
         await self._until_room()
 
     async def settle(self) -> None:
-        """Sends what has gathered, and returns when the server has taken all of it. Raises what went wrong."""
+        """Sends what has gathered. Returns when the server has taken all that was given, or raises the reason why not."""
         self._cut()
         while (self._waiting or self._sent) and not self._is_over:
             self._room.clear()
@@ -149,7 +157,7 @@ class Loader:
     def _check(self, first: int, last: int) -> None:
         self._raise()
         if self._last is not None and first <= self._last:
-            raise ValueRefused(f"the index {first} doesn't rise above {self._last}")
+            raise ValueRefused(f"the index {first} does not rise above {self._last}")
 
     def _raise(self) -> None:
         if self._errors:
@@ -176,7 +184,7 @@ class Loader:
     # -- sending
 
     async def _work(self) -> None:
-        """Sends what waits, and begins anew after a broken link, until it is stopped or there is no way on."""
+        """Sends what is waiting, also over new connections, until it is stopped or can't go on."""
         try:
             while True:
                 await self._wake.wait()
@@ -188,25 +196,24 @@ class Loader:
             self._room.set()
 
     async def _step(self) -> None:
+        """Sends what is waiting, if need be over a new connection. Raises the last error if the patience is used up."""
         while True:
             try:
                 session = self._session
                 if session is None or session.lost is not None:
-                    if session is not None and session.lost is not None:
-                        await self._patience.wait(session.lost)
-                    await self._begin(await self.channel.store.session())
+                    session = await self.channel.store.session()
+                    await self._begin(session)
                 elif self._is_stale:
                     await self._begin(session)
                 await self._send_some()
                 return
-            except LinkLost as error:
-                if isinstance(error, TimeLimit) and self._session is not None:
-                    self._session.give_up(error)
-                if self._session is None or self._session.lost is None:
-                    await self._patience.wait(error)
+            except LinkError as error:
+                if isinstance(error, TimeLimit) and session is not None:
+                    session.give_up(error)
+                await self._patience.wait(error)
 
     async def _begin(self, session: Session) -> None:
-        """Opens the channel in a session, and sorts out which of the batches that were sent are there."""
+        """Opens the channel in a session, and finds out which of the batches that were sent have arrived."""
         record = await self.channel.opened(session)
         if session is not self._session:
             self._session = session
@@ -219,11 +226,13 @@ class Loader:
             if last is not None and batch.last <= last:
                 self._took(batch)
             elif last is not None and batch.first <= last:
-                self._errors.append(refusal(31, "somebody else loads the channel", None, batch.first))
+                self._errors.append(refusal(31, "another client is loading the channel", None, batch.first))
             else:
                 batch.was_sent = True
         left = [batch for batch in again if batch.was_sent and (last is None or batch.first > last)]
         self._waiting.extendleft(reversed(left))
+        if not self._waiting:
+            self._patience.reset()
 
     async def _send_some(self) -> None:
         session = self._session
@@ -244,7 +253,7 @@ class Loader:
             await session.link.drain()
 
     def _answered(self, batch: Batch, session: Session, done: asyncio.Future) -> None:
-        """The Pong behind a batch came, or the link broke before it."""
+        """The Pong that follows a batch arrived, or the connection was lost before."""
         if done.cancelled() or done.exception() is not None or session is not self._session:
             return
         session.load_refused.pop(batch.number, None)
@@ -262,7 +271,7 @@ class Loader:
 
     def _refused(self, batch: Batch, error: Refused) -> None:
         if error.code == 31 and batch.was_sent:
-            # what the broken link had under way came after all: open the channel again and see
+            # what was under way when the connection was lost has arrived after all: open the channel again and see
             self._is_stale = True
             self._wake.set()
             return
@@ -281,18 +290,26 @@ class Loader:
 
 
 def _moments(indexes: Any) -> Any:
-    """Indexes in microseconds, as an array where numpy is there."""
-    if hasattr(indexes, "dtype"):
-        if indexes.dtype.kind == "M":
-            return indexes.astype("datetime64[us]").astype("int64")
-        if indexes.dtype.kind in "iu":
-            return indexes.astype("int64", copy=False)
-    plain = [index_of(each) for each in indexes]
-    return numpy.array(plain, dtype="int64") if numpy is not None else plain
+    """Indexes in microseconds, with numpy as an array."""
+    if numpy is not None and hasattr(indexes, "dtype"):
+        if getattr(indexes.dtype, "tz", None) is not None:
+            indexes = (indexes.dt if hasattr(indexes, "dt") else indexes).tz_convert(None)
+        plain = numpy.asarray(indexes)
+        if plain.dtype.kind == "M":
+            if numpy.isnat(plain).any():
+                raise ValueRefused(f"the index at place {int(numpy.argmax(numpy.isnat(plain)))}: NaT is not a moment")
+            return plain.astype("datetime64[us]").astype("int64")
+        if plain.dtype.kind == "i" or (plain.dtype.kind == "u" and plain.dtype.itemsize < 8):
+            return plain.astype("int64", copy=False)
+    moments = [index_of(each) for each in indexes]
+    try:
+        return numpy.array(moments, dtype="int64") if numpy is not None else moments
+    except OverflowError:
+        raise ValueRefused("an index has more than 64 bits") from None
 
 
 def _first_fall(moments: Any) -> Optional[int]:
-    """The place of the first index that doesn't rise above the one before it."""
+    """The place of the first index that does not rise above the one before it."""
     if numpy is not None:
         falls = numpy.flatnonzero(moments[1:] <= moments[:-1])
         return int(falls[0]) + 1 if len(falls) else None
@@ -300,7 +317,7 @@ def _first_fall(moments: Any) -> Optional[int]:
 
 
 def _count_up_to(moments: Any, known: int) -> int:
-    """How many of rising indexes are at most this one."""
+    """How many of these rising indexes are at most `known`."""
     if numpy is not None:
         return int(numpy.searchsorted(moments, known, side="right"))
     return sum(1 for each in moments if each <= known)

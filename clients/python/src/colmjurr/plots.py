@@ -1,4 +1,4 @@
-"""Logs as drillers read them: tracks side by side, time or depth down the page. Needs matplotlib."""
+"""Logs as drillers read them: tracks side by side, time or depth down the page. This needs matplotlib."""
 from __future__ import annotations
 
 from typing import Any, Optional, Sequence
@@ -7,18 +7,20 @@ from .arrays_of_numbers import numpy
 from .errors import ValueRefused
 from .points import Points
 
-# A line breaks where points stand apart by more than so many times their usual step.
+# A curve is broken where points are more than so many times their usual step apart.
 BREAK = 10
 
 
 def plot_log(tracks: Sequence[Points], *, depth: Optional[Points] = None, title: str = "") -> Any:
-    """A figure of matplotlib with a track for each list of points, of kinds that are numbers, and time down the page, the newest at
-    the bottom. `depth` puts a depth channel on the axis in place of time: each value stands at the last depth before it."""
+    """A matplotlib `Figure` with a track for each of `tracks`, and time down the page, the newest at the bottom. `depth` puts the points of
+    a depth channel on the axis instead of time: each value is drawn at the last depth at or before its time.
+
+    Raises `ValueRefused` if the values of a channel are not numbers, and `ImportError` if matplotlib is not installed."""
     from matplotlib.figure import Figure
 
-    for points in tracks:
+    for points in [*tracks, *([depth] if depth is not None else [])]:
         if points.kind in ("string", "bytes"):
-            raise ValueRefused(f"{points.name} has no numbers to plot")
+            raise ValueRefused(f"the values of {points.name} are not numbers: {points.kind}")
     figure = Figure(figsize=(2.4 * max(1, len(tracks)) + 1.2, 9), layout="constrained")
     axes = figure.subplots(1, max(1, len(tracks)), sharey=True, squeeze=False)[0]
     for track, axis in zip(tracks, axes):
@@ -36,7 +38,7 @@ def plot_log(tracks: Sequence[Points], *, depth: Optional[Points] = None, title:
 
 
 def _line(track: Points, depth: Optional[Points]) -> tuple[Any, Any]:
-    """What goes down the page and what across, with a break where points are missing."""
+    """What is drawn down the page and what across, with a break where points are missing."""
     values = numpy.asarray(track.plain_values(), dtype=float)
     indexes = numpy.asarray(track.indexes)
     down: Any = indexes.view("datetime64[us]")

@@ -1,8 +1,10 @@
-"""Points of one channel as columns, and what can be made of them: a table of pandas, a CSV file, arrays of numpy."""
+"""The points of a channel as columns, and what can be made of them: a pandas table, a CSV file, numpy arrays."""
 from __future__ import annotations
 
 import csv
 import datetime
+import io
+import os
 from typing import Any, Iterator, NamedTuple, Optional, TextIO, Union
 
 from .errors import ValueRefused
@@ -15,9 +17,9 @@ except ImportError:
 EPOCH = datetime.datetime(1970, 1, 1, tzinfo=datetime.timezone.utc)
 # The least and the greatest index that a channel can have, in microseconds since 1970-01-01 UTC.
 LEAST, GREATEST = -(1 << 62), 1 << 62
-# The kinds of channels, by the branch of a data value that they have.
+# The branch of a data value for each kind of channel.
 KINDS = {"boolean": 1, "int": 2, "long": 3, "float": 4, "double": 5, "string": 6, "bytes": 17}
-# The branch of columns whose values are all null, of columns that were joined, and of such with values of several kinds.
+# The branch of columns whose values are all null, of columns that were joined, and of columns with values of several kinds.
 NULL, JOINED, MIXED = 0, -1, -2
 DTYPES = {1: "bool", 2: "int32", 3: "int64", 4: "float32", 5: "float64"}
 
@@ -25,25 +27,35 @@ Moment = Union[int, str, datetime.datetime, Any]
 
 
 def index_of(moment: Moment) -> int:
-    """An index in microseconds since 1970-01-01 UTC, of an int (as it is), a `datetime` (without a zone: UTC), a text of ISO 8601
-    (without a zone: UTC), or a `datetime64` or `Timestamp`. Raises `ValueRefused` for anything else."""
+    """A moment as an index in microseconds since 1970-01-01 UTC. It is an int (taken as it is), a `datetime`, a text in ISO 8601, a
+    `datetime64` or a `Timestamp`; without a time zone it is in UTC. Raises `ValueRefused` for anything else, and for `NaT`."""
     if isinstance(moment, str):
         try:
             moment = datetime.datetime.fromisoformat(moment.replace("Z", "+00:00") if moment.endswith("Z") else moment)
         except ValueError:
-            raise ValueRefused(f"{moment!r} is no moment of ISO 8601") from None
+            raise ValueRefused(f"{moment!r} is not a moment in ISO 8601") from None
+    if (numpy is not None and isinstance(moment, numpy.datetime64) or isinstance(moment, datetime.datetime)) and moment != moment:
+        raise ValueRefused("NaT is not a moment")
     if isinstance(moment, datetime.datetime):
         zoned = moment if moment.tzinfo else moment.replace(tzinfo=datetime.timezone.utc)
         return (zoned - EPOCH) // datetime.timedelta(microseconds=1)
     if numpy is not None and isinstance(moment, numpy.datetime64):
         return int(moment.astype("datetime64[us]").astype(numpy.int64))
     if isinstance(moment, bool) or not hasattr(moment, "__index__"):
-        raise ValueRefused(f"{moment!r} is no moment")
+        raise ValueRefused(f"{moment!r} is not a moment: give microseconds, a datetime or a text in ISO 8601")
     return moment.__index__()
 
 
+def time_of(index: int) -> datetime.datetime:
+    """An index in microseconds since 1970-01-01 UTC as a `datetime` in UTC. Raises `ValueRefused` outside the years 1 to 9999."""
+    try:
+        return EPOCH + datetime.timedelta(microseconds=int(index))
+    except OverflowError:
+        raise ValueRefused(f"{index} is outside the years 1 to 9999") from None
+
+
 def moment_text(index: int) -> str:
-    """An index as ISO 8601 in UTC, or as a number where no calendar date stands for it."""
+    """An index in ISO 8601 in UTC, or as a number if it is outside the years 1 to 9999."""
     try:
         return (EPOCH + datetime.timedelta(microseconds=index)).isoformat().replace("+00:00", "Z")
     except OverflowError:
@@ -51,9 +63,9 @@ def moment_text(index: int) -> str:
 
 
 class Columns(NamedTuple):
-    """Points of one channel as they come: its number, the indexes, the values' branch, the values, and which of them are null.
+    """Points of one channel as they arrive: its number, the indexes, the branch of the values, the values, and which of them are null.
 
-    With numpy the columns are arrays where the branch has a type of numpy, and else lists. `nulls` is None where no value is."""
+    With numpy the columns are arrays if the branch has a numpy type, and lists otherwise. `nulls` is None if no value is null."""
 
     channel: int
     indexes: Any
@@ -63,7 +75,7 @@ class Columns(NamedTuple):
 
 
 def columns_of(channel: int, rows: list[tuple[int, int, Any]]) -> Columns:
-    """Columns of rows of an index, a branch and a value."""
+    """Columns made of rows of an index, a branch and a value."""
     branches = {branch for _, branch, _ in rows if branch != NULL}
     branch = branches.pop() if len(branches) == 1 else (NULL if not branches else MIXED)
     indexes = [index for index, _, _ in rows]
@@ -90,11 +102,12 @@ def _joined(columns: list[Any]) -> Any:
 class Points:
     """Points of a channel in the order of their indexes.
 
-    `indexes`: shape (n,), microseconds since 1970-01-01 UTC, rising strictly; int64 with numpy, else a list.
-    `values`: shape (n,), in the channel's unit `uom`. With numpy bool, int32, int64, float32 or float64 by the channel's kind; a
-    list for texts and bytes. Where a value is null it is NaN in a float or double, False or 0 in a boolean, int or long, and None
-    in a list; `nulls` is None, or says where.
-    Iterating gives pairs of an index and a Python value, None where it is null.
+    `indexes`: shape (n,), microseconds since 1970-01-01 UTC, strictly rising; int64 with numpy, else a list.
+    `values`: shape (n,), in the channel's unit `uom`. With numpy they are bool, int32, int64, float32 or float64, by the channel's kind;
+    texts and bytes are a list. A value that is null is NaN in a float or double, False or 0 in a boolean, int or long, and None in a list.
+    `nulls`: shape (n,), which of the values are null, or None if none is.
+    `name`, `uom`, `kind`: those of the channel.
+    Iterating gives pairs of an index and a Python value, which is None if it is null.
     """
 
     def __init__(self, pieces: list[Columns], name: str = "value", uom: str = "", kind: str = "double"):
@@ -127,16 +140,17 @@ class Points:
         return [None if null else value for value, null in zip(plain, self.nulls)]
 
     def times(self) -> Any:
-        """The indexes as `datetime64[us]` of shape (n,), or without numpy as a list of `datetime` in UTC."""
+        """The indexes as `datetime64[us]` of shape (n,) in UTC, or without numpy as a list of `datetime` in UTC."""
         if numpy is not None:
             return self.indexes.view("datetime64[us]")
         return [EPOCH + datetime.timedelta(microseconds=index) for index in self.indexes]
 
     def to_pandas(self, time: bool = True) -> Any:
-        """A DataFrame of one column, named as the channel, over a DatetimeIndex in UTC (`time`), or over microseconds.
+        """A DataFrame of shape (n, 1) whose column is named after the channel, over a DatetimeIndex in UTC, or without `time` over
+        microseconds.
 
-        Its `attrs` have `uom` and `kind`. A column of booleans, ints or longs with nulls is of pandas' nullable type. Raises
-        `ValueRefused` where an index lies outside the years 1678 to 2261, which pandas' times span; take `time=False` there."""
+        Its `attrs` have `uom` and `kind`. A column of booleans, ints or longs with nulls has pandas' nullable type. Raises `ValueRefused`
+        if an index is outside the years 1678 to 2261, all that pandas' times can hold: use `time=False` then."""
         import pandas
 
         frame = pandas.DataFrame({self.name: self._series(pandas)}, index=self._pandas_index(pandas, time), copy=False)
@@ -154,22 +168,29 @@ class Points:
             return pandas.Index(self.indexes, name="index_us", dtype="int64")
         limit = (1 << 63) // 1000
         if len(self) and not (-limit < int(self.indexes[0]) and int(self.indexes[-1]) < limit):
-            raise ValueRefused("an index lies outside of what pandas' times span: use time=False")
+            raise ValueRefused("an index is outside the years that pandas' times can hold: use time=False")
         nanoseconds = (self.indexes * 1000).view("datetime64[ns]")
         return pandas.DatetimeIndex(nanoseconds, name="time").tz_localize("UTC")
 
-    def to_csv(self, file: Union[str, TextIO], time: bool = True) -> int:
-        """Writes lines `time,NAME` to a file or the path of one, times in ISO 8601 in UTC, or microseconds; a null is empty.
-        Returns how many points were written."""
-        if isinstance(file, str):
+    def to_csv(self, file: Union[str, "os.PathLike[str]", TextIO], time: bool = True) -> int:
+        """Writes a line `time,NAME` and one for each point to an open text file or to the file of a path: times in ISO 8601 in UTC (without
+        `time`: microseconds), bytes in hexadecimal. A null is empty, as an empty text is. Returns how many points were written."""
+        if isinstance(file, (str, os.PathLike)):
             with open(file, "w", newline="", encoding="utf-8") as opened:
                 return self.to_csv(opened, time)
-        rows = csv.writer(file, lineterminator="\n")
-        rows.writerow(["time" if time else "index_us", self.name])
+        file.write(f"{'time' if time else 'index_us'},{_field(self.name)}\n")
         for index, value in self:
-            plain = "" if value is None else value.hex() if isinstance(value, bytes) else value
-            rows.writerow([moment_text(index) if time else index, plain])
+            plain = "" if value is None else value.hex() if isinstance(value, bytes) else _field(value) if isinstance(value, str) else value
+            file.write(f"{moment_text(index) if time else index},{plain}\n")
         return len(self)
+
+
+def _field(text: str) -> str:
+    """A text as a field of a CSV file, in quotation marks if it needs them."""
+    # a writer quotes the characters of its line's end, and a reader takes a lone carriage return for one
+    out = io.StringIO()
+    csv.writer(out, lineterminator="\r\n").writerow([text, ""])
+    return out.getvalue()[:-3]
 
 
 def _nulls_of(piece: Columns) -> Any:
@@ -179,12 +200,9 @@ def _nulls_of(piece: Columns) -> Any:
 
 
 def _as_kind(piece: Columns, branch: int) -> Columns:
-    """Columns whose values are all null, or of which there are none, with the type of the channel's kind."""
+    """The columns, with the type of the channel's kind if all values are null or there are none."""
     if piece.branch != NULL or numpy is None or branch not in DTYPES:
         return piece
     count = len(piece.indexes)
     return piece._replace(values=numpy.full(count, _blank(branch), dtype=DTYPES[branch]), branch=branch)
 
-
-def empty_points(like: Optional[Points] = None) -> Points:
-    return Points([], like.name, like.uom, like.kind) if like else Points([])

@@ -1,4 +1,4 @@
-"""A progress bar on standard error, where that is a terminal."""
+"""A progress bar on standard error, shown only if that is a terminal."""
 from __future__ import annotations
 
 import sys
@@ -9,7 +9,13 @@ WIDTH = 30
 
 
 class Bar:
-    """Told of how much is done, and where it is known of how much there is, it shows both at most ten times a second; `with` ends it."""
+    """Called with how much is done and, if that is known, of how much, it shows both at most ten times a second. `with` ends its line.
+
+    Give it as `progress` to a long call:
+
+        with colmjurr.Bar("range", "bytes") as bar:
+            points = channel.range(progress=bar)
+    """
 
     def __init__(self, what: str, unit: str = "", stream: Optional[TextIO] = None, is_shown: Optional[bool] = None):
         self.what, self.unit = what, unit
@@ -26,6 +32,12 @@ class Bar:
         if self.is_shown and self.shown_at:
             self._show(*self.last)
             self.stream.write("\n")
+            self.stream.flush()
+
+    def clear(self) -> None:
+        """Removes the bar from its line, so that another line can be written there. The next call shows it again."""
+        if self.is_shown and self.shown_at:
+            self.stream.write("\r\x1b[K")
             self.stream.flush()
 
     def __call__(self, done: int, of: Optional[int] = None) -> None:

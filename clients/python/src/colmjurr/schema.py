@@ -138,7 +138,7 @@ COMMON: dict[int, tuple[str, str, tuple[tuple[str, str], ...]]] = {
     1001: ("Acknowledge", "B", ()),
 }
 
-# The field whose items go on from part to part, where a message comes in parts.
+# The field whose items are continued in each part, if a message is sent in parts.
 GROWING: dict[str, str] = {
     "GetDataObjectsResponse": "dataObjects",
     "PutDataObjectsResponse": "success",

@@ -1,7 +1,8 @@
 """One session with a server: message ids, replies by their correlations, parts and chunks, notices, and time limits.
 
-A task reads all the time, so the server's pings are answered whatever the caller does. It hands replies to who asked, and notices
-and refusals of loads to who follows them. What breaks the rules ends the session by a named error, which every open request gets.
+A task reads all the time, so the server's pings are answered whatever the caller is doing. It hands replies to their requests, and
+notices and refused loads to those who registered for them. If the server breaks the protocol, the session ends with a named error, which
+every open request raises.
 """
 from __future__ import annotations
 
@@ -18,30 +19,31 @@ from .errors import EtpError, LinkLost, PeerError, Refused, TimeLimit, WireError
 from .websocket import WebSocket
 
 PROTOCOLS = (4, 9, 18, 21, 22, 24)
-# What a client sends may not be longer, nor what a server sends by our leave.
+# The longest message in either direction: OpenSession allows it to the client, and RequestSession to the server.
 MESSAGE_LIMIT = 16_777_216
-# The most bytes of a reply in all its parts, and of the data of objects that come in chunks.
+# The most bytes of a reply in all its parts, and of the chunks of one reply.
 REPLY_LIMIT, BLOBS_LIMIT = 1 << 30, 67_108_864
-# A time limit is put off by a second for each so many bytes that go or come: a slow line is waited for, one that drips is not.
+# A request has a second more for each so many bytes that are sent or arrive: a slow line is waited for, one that only drips is not.
 LEAST_RATE = 16_384
-# Seconds of silence after which a ping is sent, and after which the server is given up.
+# Seconds of silence after which a ping is sent, and after which the connection is given up. A longer time limit of requests counts instead,
+# since a server does not answer pings while it works on a request.
 PING_AFTER, GIVE_UP_AFTER = 30.0, 90.0
-# Seconds in which a closed connection may still send its goodbye.
+# Seconds for the goodbye of a closed connection.
 LINGER = 3.0
 POINTS_ALONE = ("ChannelData", "GetRangesResponse")
-# The responses that have another name than their request with `Response` behind it.
+# The responses that are not named after their request, with `Response` appended.
 RESPONSES = {
     "RequestSession": "OpenSession", "Ping": "Pong", "CloseChannels": "ChannelsClosed", "UnsubscribeChannels": "SubscriptionsStopped",
 }
 
 
 def now() -> int:
-    """The moment, in microseconds since 1970-01-01 UTC."""
+    """The present moment in microseconds since 1970-01-01 UTC."""
     return time.time_ns() // 1000
 
 
 class Reply:
-    """What answers a request: the response's body with the items of all its parts, None where there is none; and the refusals."""
+    """The reply to a request: the body of the response with the items of all its parts, or None if there is none; and the refusals."""
 
     def __init__(self, request: str) -> None:
         self.response = RESPONSES.get(request, request + "Response")
@@ -55,14 +57,14 @@ class Reply:
     def add_part(self, name: str, value: dict) -> None:
         field = schema.GROWING.get(name)
         if name != self.response:
-            raise PeerError(f"a {name} in place of a {self.response}")
+            raise PeerError(f"a {name} instead of a {self.response}")
         if self.value is None:
             self.value = value
         elif field is None:
             raise PeerError(f"a second {name} in a reply")
         elif isinstance(self.value[field], dict):
             if any(key in self.value[field] for key in value[field]):
-                raise PeerError(f"a key that comes twice in the parts of a {name}")
+                raise PeerError(f"a key that is in two parts of a {name}")
             self.value[field].update(value[field])
         else:
             self.value[field].extend(value[field])
@@ -77,14 +79,14 @@ class Reply:
         for each in objects:
             if each["blobId"] is not None:
                 if each["blobId"] in self.blobs or each["data"]:
-                    raise PeerError("an object whose data come twice")
+                    raise PeerError("an object whose data are sent twice")
                 self.blobs[each["blobId"]] = bytearray()
                 self.unfinished.add(each["blobId"])
 
     def add_chunk(self, value: dict) -> None:
         blob = value["blobId"]
         if blob not in self.unfinished:
-            raise PeerError("a chunk that none awaits")
+            raise PeerError("a chunk that was not announced")
         if sum(map(len, self.blobs.values())) + len(value["data"]) > BLOBS_LIMIT:
             raise PeerError(f"more than {BLOBS_LIMIT} bytes in the chunks of one reply", 1009)
         self.blobs[blob] += value["data"]
@@ -92,32 +94,32 @@ class Reply:
             self.unfinished.remove(blob)
 
     def item(self, field: str, key: str = "0") -> Any:
-        """What answers one key of the request, whose refusal is raised."""
+        """The answer to one key of the request. Raises its refusal."""
         if key in self.refused:
             error = self.refused[key]
             error.key = None
             raise error
         if self.value is None or key not in self.value[field]:
-            raise PeerError(f"a {self.response} without an item that was asked for")
+            raise PeerError(f"a {self.response} without an item that was requested")
         return self.value[field][key]
 
     def body(self) -> dict:
-        """The body of a response without keys."""
+        """The body of a response that has no keys."""
         if self.value is None:
-            raise PeerError(f"no {self.response} in a reply")
+            raise PeerError(f"a reply without a {self.response}")
         return self.value
 
     def fill_blobs(self) -> None:
-        """Puts the data that came in chunks into the objects."""
+        """Puts the data of chunks into their objects."""
         if self.unfinished:
-            raise PeerError("a reply that ends before its chunks")
+            raise PeerError("a reply that ends before its last chunk")
         for each in (self.value or {}).get("dataObjects", {}).values() if self.blobs else ():
             if each["blobId"] is not None:
                 each["data"], each["blobId"] = bytes(self.blobs[each["blobId"]]), None
 
 
 class Session:
-    """An open session. Its calls belong to the loop that it was made on."""
+    """An open session. It may be used only on the event loop on which it was made."""
 
     def __init__(self, link: WebSocket, timeout: float):
         self.link, self.timeout = link, timeout
@@ -132,6 +134,8 @@ class Session:
         self.put_turn = asyncio.Lock()
         self.load_refused: dict[int, Callable[[Refused], None]] = {}
         self.followers: dict[int, Callable[[str, Any], None]] = {}
+        # the watch of each channel that has a follower
+        self.watches: dict[int, Any] = {}
         self.on_lost: list[Callable[[EtpError], None]] = []
         self.task = asyncio.create_task(self._read_all())
         self.beat = asyncio.create_task(self._keep_alive())
@@ -139,7 +143,7 @@ class Session:
     # -- sending
 
     def post(self, name: str, body: bytes, flags: int = FINAL, correlation: int = 0) -> int:
-        """Hands a message to the link and returns its id. Nothing is waited for."""
+        """Hands a message to the connection and returns its id, without waiting."""
         if self.lost is not None:
             raise self.lost
         protocol, kind = NUMBERS[name]
@@ -157,8 +161,8 @@ class Session:
         return row
 
     async def ask(self, name: str, fields: dict[str, Any], seen: Optional[Callable[[int], None]] = None) -> Reply:
-        """Sends a request and waits for its whole reply. A refusal of the whole request is raised as `Refused`, the end of the link as
-        `LinkLost`, and silence as `TimeLimit`. `seen` is told of the bytes that came, as they come."""
+        """Sends a request and waits for its whole reply. Raises `Refused` if the whole request is refused, `LinkLost` if the connection
+        ends, and `TimeLimit` if the reply does not arrive in time. `seen` is called with the bytes that have arrived."""
         row = codec.body_value(name, fields)
         body = bytearray()
         codec.BODIES[NUMBERS[name]].write(body, row)
@@ -168,7 +172,7 @@ class Session:
     async def finish(
         self, numbers: list[int], name: str, seen: Optional[Callable[[int], None]] = None, timeout: Optional[float] = None,
     ) -> Reply:
-        """Waits for the reply to the message with the first of these ids, which one to any of the others stands for too."""
+        """Waits for the reply to the message with the first of these ids. A reply to one of the others counts too."""
         limit = (self.timeout if timeout is None else timeout) + self.sent_bytes / LEAST_RATE
         reply, future = self._expect(numbers[0], name)
         for number in numbers[1:]:
@@ -191,7 +195,7 @@ class Session:
             came = self.reply_bytes() - before
             left = begun + limit + came / LEAST_RATE - clock()
             if left <= 0:
-                raise TimeLimit(f"no whole reply to {name} within {clock() - begun:.1f} s, in which {came} bytes came")
+                raise TimeLimit(f"no whole reply to {name} within {clock() - begun:.1f} s, in which {came} bytes arrived")
             await asyncio.wait({future}, timeout=min(left, 0.1) if seen else left)
             if seen:
                 seen(self.reply_bytes() - before)
@@ -199,15 +203,15 @@ class Session:
                 return future.result()
 
     def reply_bytes(self) -> int:
-        """The bytes that came, but for control frames and notices: what puts off a time limit."""
+        """The bytes that have arrived, without control frames and notices: those that give a request more time."""
         return self.link.reader.total - self.link.control_bytes - self.notice_bytes
 
     async def ping(self) -> None:
-        """Returns when the server has taken all that was sent before."""
+        """Returns when the server has answered, and so has taken all that was sent before."""
         await self.ask("Ping", {"currentDateTime": now()})
 
     def post_ping(self) -> tuple[int, asyncio.Future]:
-        """Sends a Ping whose Pong ends the future, without waiting."""
+        """Sends a Ping without waiting. Returns its id, and a future that is done when the Pong arrives."""
         body = bytearray()
         codec.put_number(body, now())
         number = self.post("Ping", bytes(body))
@@ -225,10 +229,10 @@ class Session:
             self.fail(LinkLost("the session was closed", 1000))
             raise
         except Exception as error:
-            self.fail(PeerError(f"a message that can't be taken: {error!r}"))
+            self.fail(PeerError(f"a message that can't be handled: {error!r}"))
 
     def fail(self, error: EtpError) -> None:
-        """Ends the session: every open request gets the error."""
+        """Ends the session. Every open request raises the error."""
         if self.lost is not None:
             return
         self.lost = error if isinstance(error, LinkLost) else PeerError(str(error), 1002)
@@ -245,15 +249,15 @@ class Session:
             tell(self.lost)
 
     def give_up(self, error: LinkLost) -> None:
-        """Ends a session whose server doesn't answer in time."""
+        """Ends a session whose server does not answer in time."""
         self.link.abort()
         self.fail(error)
 
     def take(self, data: bytes) -> None:
-        """Takes one message of the server's."""
+        """Handles one message from the server."""
         header, body, at = codec.read_header(data)
         if header.id <= self.heard_id:
-            raise PeerError(f"a message id that doesn't rise: {header.id} after {self.heard_id}")
+            raise PeerError(f"a message id that does not rise: {header.id} after {self.heard_id}")
         self.heard_id = header.id
         value = self._body(data, body, at)
         if body.name == "Acknowledge":
@@ -275,7 +279,7 @@ class Session:
 
     @staticmethod
     def _body(data: bytes, body: codec.Body, at: int) -> dict:
-        """The body; points come as columns."""
+        """The body of a message, with points as columns."""
         if body.name in POINTS_ALONE:
             columns, end = read_items(data, at)
             if end < len(data):
@@ -301,7 +305,7 @@ class Session:
             self.load_refused.pop(number)(refusal(info["code"], info["message"]))
             return
         if number not in self.asks:
-            raise PeerError(f"a {name} that answers nothing")
+            raise PeerError(f"a {name} that answers no request")
         reply, future = self.asks[number]
         reply.size += size
         if reply.size > REPLY_LIMIT:
@@ -321,9 +325,9 @@ class Session:
     def _take_notice(self, header: Header, name: str, value: dict) -> None:
         if name == "ProtocolException":
             info = value["error"] or {"code": 0, "message": ""}
-            raise PeerError(f"the server can't read what it was sent: {info['code']} {info['message']}")
+            raise PeerError(f"the server could not read a message: {info['code']} {info['message']}")
         if name not in ("ChannelData", "RangeReplaced", "ChannelsTruncated", "SubscriptionsStopped"):
-            raise PeerError(f"a {name} that nobody asked for")
+            raise PeerError(f"a {name} that was not requested")
         self._keep_notice(name, value)
         if header.flags & FINAL:
             whole, self.notice = self.notice, {}
@@ -359,13 +363,13 @@ class Session:
 
     def _follower(self, channel: int, name: str) -> Callable[[str, Any], None]:
         if channel not in self.followers:
-            raise PeerError(f"a {name} of channel {channel}, to which nobody subscribed")
+            raise PeerError(f"a {name} for channel {channel}, which is not subscribed")
         return self.followers[channel]
 
     # -- the session's beginning and end
 
     async def open(self, application: str, version: str, formats: Iterable[str], protocols: Iterable[int] = PROTOCOLS) -> dict:
-        """Asks for the session and returns the body of OpenSession."""
+        """Requests the session and returns the body of OpenSession."""
         asked = [
             codec.filled("SupportedProtocol", protocol=number, protocolVersion=codec.filled("Version", major=1, minor=2), role="store")
             for number in protocols
@@ -379,14 +383,14 @@ class Session:
         return self.opened
 
     async def _keep_alive(self) -> None:
-        """Pings a silent server, and gives it up."""
+        """Pings a silent server, and gives up one that stays silent."""
         reader = self.link.reader
         while True:
             await asyncio.sleep(PING_AFTER / 3)
             silent = reader.clock() - reader.heard
-            if silent > GIVE_UP_AFTER:
+            if silent > max(GIVE_UP_AFTER, self.timeout):
                 self.link.abort()
-                self.fail(LinkLost(f"nothing came from the server for {silent:.0f} s"))
+                self.fail(LinkLost(f"nothing arrived from the server for {silent:.0f} s"))
             elif silent > PING_AFTER:
                 self.link.ping()
 
@@ -406,5 +410,5 @@ class Session:
 def _long(index: dict) -> int:
     branch, value = index["item"]
     if branch != 1:
-        raise PeerError("an index that is no long")
+        raise PeerError("an index that is not a long")
     return value

@@ -1,4 +1,4 @@
-"""A server's store over asyncio: dataspaces, objects, arrays, channels and transactions."""
+"""A server's store for asyncio: dataspaces, objects, arrays, channels and transactions."""
 from __future__ import annotations
 
 import asyncio
@@ -13,24 +13,25 @@ from .arrays import Array
 from .channels import Channel, Watch
 from .codec import FINAL, NUMBERS
 from .data_value import custom_from_wire, custom_to_wire
-from .errors import EtpError, LinkLost, PeerError, Refused, SomeRefused, TimeLimit
+from .errors import EtpError, LinkError, LinkLost, Refused, SomeRefused, TimeLimit, ValueRefused
+from .points import Moment, index_of
 from .session import Reply, Session
 from .transactions import Transaction
 from .uris import space_uri
 from .version import VERSION
 
-# Data of more bytes go in chunks of this size.
-CHUNK = 4_194_304
+# Data of more bytes are sent in chunks of this size, and no object has more bytes than MOST_DATA.
+CHUNK, MOST_DATA = 4_194_304, 67_108_864
 # The most keys of a request.
 MOST_KEYS = 1_024
-# Seconds between tries to dial again.
+# Seconds between attempts to dial again.
 WAITS = (0.1, 0.25, 0.5, 1.0, 2.0, 4.0, 8.0, 16.0, 30.0)
 
 Progress = Callable[[int, Optional[int]], None]
 
 
 class Space(NamedTuple):
-    """A dataspace. `written` and `created` are in microseconds since 1970-01-01 UTC."""
+    """A dataspace. `written` and `created` are in microseconds since 1970-01-01 UTC; `custom` are the custom data by name."""
 
     uri: str
     path: str
@@ -40,8 +41,8 @@ class Space(NamedTuple):
 
 
 class DataObject(NamedTuple):
-    """An object: its URI, its name, its format (`xml` or `json`), its data, and what else is kept of it. Moments are in microseconds
-    since 1970-01-01 UTC."""
+    """An object: its URI, name, format (`xml` or `json`) and data, and what else the store keeps of it. `changed` is the moment that was
+    given with it; `written` and `created` are the store's. All moments are in microseconds since 1970-01-01 UTC."""
 
     uri: str
     name: str
@@ -55,7 +56,8 @@ class DataObject(NamedTuple):
 
 
 class ServerInfo(NamedTuple):
-    """What a server says of itself as it opens a session."""
+    """What a server says of itself when it opens a session. `types` are the types of objects that it takes, `formats` those of the
+    session."""
 
     name: str
     version: str
@@ -66,30 +68,31 @@ class ServerInfo(NamedTuple):
 
 
 class Patience:
-    """How long a caller goes on dialing after broken links: for `Store.patience` seconds since the first one, or since `reset`."""
+    """How long a caller goes on dialing: for `Store.patience` seconds since the connection was first lost, or since `reset`."""
 
     def __init__(self, store: "Store"):
         self.store, self.tries = store, 0
         self.since: Optional[float] = None
 
     def reset(self) -> None:
-        """What was done in the session got on."""
+        """The session made progress."""
         self.tries, self.since = 0, None
 
     async def wait(self, lost: EtpError) -> None:
-        """Waits, each time longer, until the next try. Raises the error where patience is at its end or the store is closed, and where the
-        server broke the rules, as it would again."""
+        """Waits until the next attempt, longer each time. Raises the error if the patience is used up, if the store is closed, and if
+        another attempt would fail too: the server broke the protocol, or denies access."""
         clock = asyncio.get_running_loop().time
         pause = WAITS[min(self.tries, len(WAITS) - 1)]
         self.since = clock() if self.since is None else self.since
-        if isinstance(lost, PeerError) or self.store.is_closed or clock() - self.since + pause > self.store.patience:
+        is_lasting = isinstance(lost, LinkError) and not lost.may_pass
+        if is_lasting or self.store.is_closed or clock() - self.since + pause > self.store.patience:
             raise lost
         self.tries += 1
         await asyncio.sleep(pause)
 
 
 class Connector:
-    """How to reach a server. It can be awaited for a `Store`, or entered by `async with`, which closes the store at the end."""
+    """A connection to be made: await it for a `Store`, or enter it by `async with`, which closes the store at the end."""
 
     def __init__(self, store: "Store"):
         self.store = store
@@ -113,15 +116,7 @@ def connect(
     cert: Optional[websocket.Certificate] = None, headers: Optional[Mapping[str, str]] = None, timeout: float = 10.0,
     ask_timeout: float = 30.0, patience: float = 60.0, formats: Iterable[str] = ("xml", "json"), application: str = "colmjurr",
 ) -> Connector:
-    """Connects to the server at `ws://HOST:PORT/PATH` or `wss://HOST:PORT/PATH`.
-
-    `user` and `password` go to the front of the server as HTTP's basic authentication; `headers` are sent with the handshake. `ca`
-    is a file of the authorities that are trusted, in place of the system's; `cert` a client's certificate with its key, or the pair of
-    both files. `timeout` is the limit in seconds for dialing and the handshake together, and for the session's opening; `ask_timeout`
-    that of each request, put off by a second for each 16,384 bytes that come. After a broken link it is dialed again for at most
-    `patience` seconds, where a request can be repeated and where a channel is loaded or watched.
-
-    Raises `DialError`, `HandshakeError` or `TimeLimit` where there is no connection, and `Refused` where the session is."""
+    """Connects to the server at `ws://HOST:PORT/PATH` or `wss://HOST:PORT/PATH`; see `colmjurr.connect` for what each argument says."""
     sent = dict(headers or {})
     if user is not None:
         token = base64.b64encode(f"{user}:{password or ''}".encode()).decode()
@@ -131,7 +126,9 @@ def connect(
 
 
 class Store:
-    """A server's store, over one session at a time. After a broken link the next request opens a new one."""
+    """A server's store, over one session at a time. If the connection was lost, the next request opens a new one.
+
+    All calls may raise `LinkLost`, `TimeLimit` and, if the server breaks the protocol, `PeerError` or `WireError`."""
 
     def __init__(
         self, dial: Callable[[], Any], timeout: float, ask_timeout: float, patience: float, formats: tuple[str, ...], application: str,
@@ -146,7 +143,7 @@ class Store:
     # -- the session
 
     async def session(self) -> Session:
-        """The open session; one is opened where there is none."""
+        """The open session. If there is none, one is opened."""
         async with self._turn:
             if self.is_closed:
                 raise LinkLost("the store was closed", 1000)
@@ -184,8 +181,8 @@ class Store:
             await self._session.close()
 
     async def ask(self, name: str, *, again: bool = False, session: Optional[Session] = None, seen: Any = None, **fields: Any) -> Reply:
-        """Sends the request of this name and returns its reply. With `again` it is repeated after a broken link, where no session is
-        given."""
+        """Sends the request of this name and returns its reply. With `again`, and if no session is given, it is repeated after the
+        connection was lost."""
         if session is not None or not again:
             return await (session or await self.session()).ask(name, fields, seen)
         return await self.insist(lambda used: used.ask(name, fields, seen))
@@ -194,18 +191,23 @@ class Store:
         return Patience(self)
 
     async def insist(self, action: Callable[[Session], Awaitable[Any]]) -> Any:
-        """Does what can be done again in a session, and again in a new one after a broken link, for at most `patience` seconds."""
+        """Does something repeatable in a session, and again in a new one if the connection is lost, for at most `patience` seconds."""
         patience = Patience(self)
         while True:
             try:
-                return await action(await self.session())
+                session = await self.session()
+            except LinkError as error:
+                await patience.wait(error)
+                continue
+            try:
+                return await action(session)
             except TimeLimit:
                 raise
             except LinkLost as error:
                 await patience.wait(error)
 
     async def ping(self) -> float:
-        """Asks whether the server is there. Returns the seconds until its answer came."""
+        """Asks whether the server is there. Returns the seconds until it answered."""
         clock = asyncio.get_running_loop().time
         session, begun = await self.session(), clock()
         await session.ping()
@@ -213,36 +215,38 @@ class Store:
 
     # -- dataspaces
 
-    async def spaces(self, newer_than: Optional[int] = None) -> list[Space]:
-        """All dataspaces in the order of their paths, or those written after a moment (in microseconds)."""
-        reply = await self.ask("GetDataspaces", again=True, storeLastWriteFilter=newer_than)
+    async def spaces(self, newer_than: Optional[Moment] = None) -> list[Space]:
+        """All dataspaces in order of their paths, or those written after a moment."""
+        moment = None if newer_than is None else index_of(newer_than)
+        reply = await self.ask("GetDataspaces", again=True, storeLastWriteFilter=moment)
         return [
             Space(each["uri"], each["path"], each["storeLastWrite"], each["storeCreated"], custom_from_wire(each["customData"]))
             for each in reply.body()["dataspaces"]
         ]
 
-    async def put_space(self, path: str, custom: Optional[dict[str, Any]] = None) -> str:
-        """Makes a dataspace, or sets the custom data of one. Returns its URI."""
+    async def put_space(self, path: str, custom: Optional[Mapping[str, Any]] = None) -> str:
+        """Makes a dataspace, or replaces the custom data of one. Returns its URI. Raises `Refused` with 17 if the custom data have more
+        than 16,384 encoded bytes."""
         uri = space_uri(path)
         space = codec.filled("Dataspace", uri=uri, path=path, customData=custom_to_wire(custom or {}))
         (await self.ask("PutDataspaces", dataspaces={"0": space})).item("success")
         return uri
 
     async def drop_space(self, path: str) -> None:
-        """Removes a dataspace with all objects and arrays in it. Raises `NotFound` where there is none."""
+        """Removes a dataspace with all objects and arrays in it. Raises `NotFound` if there is none."""
         (await self.ask("DeleteDataspaces", uris={"0": space_uri(path)})).item("success")
 
     # -- objects
 
     async def get(self, uri: str, format: str = "", progress: Optional[Progress] = None, session: Optional[Session] = None) -> DataObject:
-        """The object of a URI. Raises `NotFound` where there is none, and `Refused` with 21 where it has another format (none stands
-        for `xml`)."""
+        """The object of a URI. Raises `NotFound` if there is none, and `Refused` with 21 if it has another format; without a format, `xml`
+        is asked for. `progress` is called with the bytes that have arrived."""
         reply = await self.ask(
             "GetDataObjects", again=True, session=session, seen=progress and functools.partial(_told, progress), uris={"0": uri}, format=format)
         return _data_object(reply.item("dataObjects"))
 
     async def get_many(self, uris: Iterable[str], format: str = "", session: Optional[Session] = None) -> dict[str, DataObject]:
-        """The objects of these URIs, by URI; those that are refused are left out, and named by `SomeRefused` only where all are."""
+        """The objects of these URIs, by URI. Those that are refused are left out; if all are, `SomeRefused` names them."""
         found: dict[str, DataObject] = {}
         refused: dict[str, Refused] = {}
         for some in _in_lots(list(dict.fromkeys(uris))):
@@ -256,13 +260,22 @@ class Store:
 
     async def put(
         self, uri: str, data: Union[bytes, str], *, name: str = "", format: str = "", alternate_uris: Iterable[str] = (),
-        custom: Optional[dict[str, Any]] = None, changed: int = 0, session: Optional[Session] = None, progress: Optional[Progress] = None,
+        custom: Optional[Mapping[str, Any]] = None, changed: Moment = 0, session: Optional[Session] = None,
+        progress: Optional[Progress] = None,
     ) -> None:
-        """Puts an object, new or in place of the one that stands there; `data` has at most 67,108,864 bytes. Where the link breaks
-        meanwhile, `LinkLost` says that it is not known whether the object was put."""
+        """Puts an object, new or in place of the one of this URI. `data` has at most 67,108,864 bytes; a text is sent as UTF-8. `format` is
+        `xml` (if empty) or `json`. `changed` is the moment that the object itself was last changed. `progress` is called with the bytes
+        that were sent and with all of them.
+
+        Raises `ValueRefused` if there are too many data, `NotFound` if the dataspace does not exist, and `Refused` with 9 (not the URI of
+        an object), 12 (the journal is full), 16 (the type is not configured), 17 (names and custom data are too long) or 21 (not a format
+        of the session). After `LinkLost` it is not known whether the object was put."""
         raw = data.encode() if isinstance(data, str) else bytes(data)
+        if len(raw) > MOST_DATA:
+            raise ValueRefused(f"an object has at most {MOST_DATA:,} bytes, not {len(raw):,}")
         resource = codec.filled(
-            "Resource", uri=uri, name=name, alternateUris=list(alternate_uris), lastChanged=changed, customData=custom_to_wire(custom or {}))
+            "Resource", uri=uri, name=name, alternateUris=list(alternate_uris), lastChanged=index_of(changed),
+            customData=custom_to_wire(custom or {}))
         is_long = len(raw) > CHUNK
         blob = os.urandom(16) if is_long else None
         given = codec.filled("DataObject", resource=resource, format=format, blobId=blob, data=b"" if is_long else raw)
@@ -276,22 +289,22 @@ class Store:
             (await used.finish(numbers, "PutDataObjects")).item("success")
 
     async def delete(self, uri: str, session: Optional[Session] = None) -> None:
-        """Removes an object with its arrays. Raises `NotFound` where there is none."""
+        """Removes an object with its arrays. Raises `NotFound` if there is none."""
         reply = await self.ask("DeleteDataObjects", session=session, uris={"0": uri}, pruneContainedObjects=False)
         reply.item("deletedUris")
 
     # -- arrays, channels, transactions
 
     def array(self, uri: str, path: str) -> Array:
-        """The array at a path within an object. Nothing is asked before it is used."""
+        """The array at a path within an object. The server is not asked before the array is used."""
         return Array(self, uri, path)
 
     async def channel(self, uri: str) -> Channel:
-        """The channel of a URI. Raises `NotFound` where there is none."""
+        """The channel of a URI. Raises `NotFound` if there is none."""
         return (await self.channels([uri]))[0]
 
     async def channels(self, uris: Iterable[str]) -> list[Channel]:
-        """The channels of these URIs, in their order. Raises `NotFound` with the URI as its key where one is none."""
+        """The channels of these URIs, in their order. Raises `NotFound`, with the URI as its `key`, if one does not exist."""
         found = []
         for some in _in_lots(list(uris)):
             keys = {str(place): uri for place, uri in enumerate(some)}
@@ -302,14 +315,17 @@ class Store:
             found += [Channel(self, reply.item("metadata", str(place))) for place in range(len(some))]
         return found
 
-    def watch(self, channels: Iterable[Channel], **how: Any) -> Watch:
-        """Watches channels together; see `Channel.watch`."""
-        return Watch(list(channels), **how)
+    def watch(
+        self, channels: Iterable[Channel], *, start: Optional[Moment] = None, latest: Optional[int] = None, changes: bool = True,
+        resume: Optional[str] = "full",
+    ) -> Watch:
+        """Watches several channels together; see `Watch`."""
+        return Watch(list(channels), start=start, latest=latest, changes=changes, resume=resume)
 
     def transaction(self, spaces: Iterable[str] = (), *, read_only: bool = False, message: str = "") -> Transaction:
-        """A transaction over dataspaces, named by URI or path (none stands for the default one), to be entered by `async with`: it is
-        committed at the end, and rolled back where an exception leaves it. Raises `Conflict` where another session changed what it
-        looked at, and `Refused` with 15 where one is open."""
+        """A transaction over dataspaces, each named by its URI or path (none: the default one). Enter it by `async with`: it is committed at
+        the end of the block, and rolled back if an exception leaves it. Entering raises `Refused` with 15 if one is open in this store; the
+        end raises `Conflict` if another session changed what the transaction used, or else `CommitFailed`."""
         uris = [each if each.startswith("eml:") else space_uri(each) for each in spaces]
         return Transaction(self, uris, read_only, message)
 

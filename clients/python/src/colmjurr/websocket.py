@@ -1,4 +1,4 @@
-"""A client's side of WebSocket (RFC 6455) over asyncio's streams, with TLS where the address begins with `wss`."""
+"""The client side of WebSocket (RFC 6455) over asyncio's streams, with TLS if the address begins with `wss`."""
 from __future__ import annotations
 
 import asyncio
@@ -16,17 +16,17 @@ SUBPROTOCOL = "etp12.energistics.org"
 # RFC 6455, section 1.3
 GUID = b"258EAFA5-E914-47DA-95CA-C5AB0DC85B11"
 CONTINUATION, TEXT, BINARY, CLOSE, PING, PONG = 0, 1, 2, 8, 9, 10
-# The longest message that is taken, the longest head of an answer to the handshake, and how much may wait to be sent before pings
-# are left without an answer.
+# The longest message that is accepted, the longest head of an answer to the handshake, and how many bytes may wait to be sent before
+# pings are not answered any more.
 MESSAGE_LIMIT, HEAD_LIMIT, WAITING_LIMIT = 33_554_432, 16_384, 1 << 20
-# A write that gets nowhere for so many seconds is given up.
+# Seconds after which a write that makes no progress is given up.
 WRITE_LIMIT = 30.0
 
 Certificate = Union[str, tuple[str, str]]
 
 
 class HeardReader(asyncio.StreamReader):
-    """A stream that knows how many bytes came, and when the last one did."""
+    """A stream that knows how many bytes have arrived, and when the last one did."""
 
     def __init__(self, loop: asyncio.AbstractEventLoop):
         super().__init__(limit=1 << 20, loop=loop)
@@ -55,7 +55,7 @@ def masked(data: bytes, mask: bytes) -> bytes:
 
 
 def frame(opcode: int, data: bytes) -> tuple[bytes, bytes]:
-    """The head and the masked bytes of a client's whole frame."""
+    """The head of a client's frame and its masked bytes."""
     mask = os.urandom(4)
     size = len(data)
     head = bytes([0x80 | opcode])
@@ -69,7 +69,7 @@ def frame(opcode: int, data: bytes) -> tuple[bytes, bytes]:
 
 
 class WebSocket:
-    """An open connection. `recv` is to be called by one task alone; `post` may be called by any on the same loop."""
+    """An open connection. Only one task may call `recv`; any task on the same event loop may call `post`."""
 
     def __init__(self, reader: HeardReader, writer: asyncio.StreamWriter):
         self.reader, self.writer = reader, writer
@@ -77,13 +77,13 @@ class WebSocket:
         self.control_bytes = 0
 
     def post(self, data: bytes) -> None:
-        """Hands one binary message to the connection; it may wait there until the peer has read what came before."""
+        """Hands one binary message to the connection, where it may wait until the peer has read what was sent before."""
         if self.is_closing:
             raise LinkLost("the connection is closed")
         self.writer.writelines(frame(BINARY, data))
 
     async def drain(self) -> None:
-        """Waits until little is left to send. Raises `LinkLost` where the peer reads nothing for WRITE_LIMIT seconds."""
+        """Waits until little is left to send. Raises `LinkLost` if the peer reads nothing for WRITE_LIMIT seconds."""
         try:
             await asyncio.wait_for(self.writer.drain(), WRITE_LIMIT)
         except asyncio.TimeoutError:
@@ -100,8 +100,8 @@ class WebSocket:
             self.writer.writelines(frame(opcode, data))
 
     async def recv(self) -> bytes:
-        """The next binary message. Pings are answered on the way. Raises `LinkLost` at the end of the connection, and `PeerError`
-        for what a server may not send: a text, a masked frame, frames out of order, a message above MESSAGE_LIMIT."""
+        """The next binary message; pings that arrive before it are answered. Raises `LinkLost` at the end of the connection, and
+        `PeerError` for what a server may not send: a text, a masked frame, frames out of order, more than MESSAGE_LIMIT bytes."""
         parts: list[bytes] = []
         size = 0
         while True:
@@ -152,7 +152,7 @@ class WebSocket:
             raise LinkLost(f"the server closed the connection with {code}{': ' + reason if reason else ''}", code)
 
     def start_close(self, code: int = 1000) -> None:
-        """Says goodbye; what still comes may be read until the peer says it too."""
+        """Says goodbye. What still arrives may be read until the peer says goodbye too."""
         if not self.is_closing:
             self._control(CLOSE, code.to_bytes(2, "big"))
             self.is_closing = True
@@ -163,8 +163,8 @@ class WebSocket:
 
 
 def tls_context(ca: Optional[str], cert: Optional[Certificate]) -> ssl.SSLContext:
-    """TLS as a client: the server's certificate and name are always checked, by the authorities in `ca` where it is given.
-    `cert` is a file with certificate and key, or the two files, for servers that ask for one."""
+    """TLS for a client. The server's certificate and name are always checked, by the authorities in the file `ca` if it is given. `cert` is
+    the client's certificate, for servers that require one: a file with certificate and key, or the pair of both files."""
     try:
         context = ssl.create_default_context(cafile=ca)
         if cert is not None:
@@ -175,18 +175,20 @@ def tls_context(ca: Optional[str], cert: Optional[Certificate]) -> ssl.SSLContex
 
 
 class Address:
-    """The parts of a server's address, or `ValueRefused` where it is none."""
+    """The parts of a server's address. Raises `ValueRefused` if it is malformed."""
 
     def __init__(self, url: str):
         parts = urllib.parse.urlsplit(url)
         try:
             port = parts.port
         except ValueError:
-            raise ValueRefused(f"{url!r} has a port that is none") from None
-        if parts.scheme not in ("ws", "wss") or not parts.hostname or parts.username or parts.fragment:
-            raise ValueRefused(f"{url!r} is no address of the form ws://HOST:PORT/PATH or wss://HOST:PORT/PATH")
+            raise ValueRefused(f"{url!r}: the port is not a number from 0 to 65535") from None
+        if parts.username is not None:
+            raise ValueRefused(f"the address of {parts.hostname!r} has a user name: give it by `user` and `password`")
+        if parts.scheme not in ("ws", "wss") or not parts.hostname or parts.fragment:
+            raise ValueRefused(f"{url!r} is not an address of the form ws://HOST:PORT/PATH or wss://HOST:PORT/PATH")
         if any(not "!" <= each <= "~" for each in url):
-            raise ValueRefused(f"{url!r} has a character that an address can't have")
+            raise ValueRefused(f"{url!r} has a character that is not allowed in an address")
         self.is_secure = parts.scheme == "wss"
         self.host, self.port = parts.hostname, port or (443 if self.is_secure else 80)
         self.target = (parts.path or "/") + ("?" + parts.query if parts.query else "")
@@ -200,7 +202,7 @@ def _request(address: Address, key: bytes, headers: Mapping[str, str]) -> bytes:
     ]
     for name, value in headers.items():
         if any(each in name + value for each in "\r\n"):
-            raise ValueRefused(f"the header {name!r} has a line break")
+            raise ValueRefused(f"the header {name!r} contains a line break")
         lines.append(f"{name}: {value}")
     return "\r\n".join([*lines, "", ""]).encode("latin-1", "replace")
 
@@ -214,12 +216,12 @@ async def _head(reader: asyncio.StreamReader) -> list[str]:
         except asyncio.IncompleteReadError:
             raise HandshakeError("the peer closed the connection without an answer") from None
         except (ValueError, asyncio.LimitOverrunError):
-            raise HandshakeError("the peer's answer has a line that doesn't end") from None
+            raise HandshakeError("the peer's answer has a line without an end") from None
         head += line
         if len(head) > HEAD_LIMIT:
             raise HandshakeError(f"the peer's answer has a head of more than {HEAD_LIMIT} bytes")
         if head == b"\r\n" or not head.startswith(b"HTTP/"):
-            raise HandshakeError("the peer answers something that is not HTTP")
+            raise HandshakeError("the peer's answer is not HTTP")
     return head.decode("latin-1").split("\r\n")
 
 
@@ -227,24 +229,25 @@ def _check_answer(lines: list[str], key: bytes) -> None:
     status = lines[0].split()[1:2]
     number = int(status[0]) if status and status[0].isdecimal() else 0
     if number != 101:
-        hints = {401: ": name and password are needed", 403: ": access is denied", 503: ": there are too many clients"}
+        hints = {401: ": a user name and a password are required", 403: ": access is denied", 503: ": the server is busy or has too many clients"}
         raise HandshakeError(f"the peer answers {lines[0][:100]!r}{hints.get(number, '')}", number)
     fields = {name.strip().lower(): value.strip() for name, _, value in (line.partition(":") for line in lines[1:] if line)}
     tokens = [each.strip().lower() for each in fields.get("connection", "").split(",")]
     if fields.get("upgrade", "").lower() != "websocket" or "upgrade" not in tokens:
-        raise HandshakeError("the peer doesn't upgrade to a WebSocket", number)
+        raise HandshakeError("the peer does not upgrade to a WebSocket", number)
     if fields.get("sec-websocket-accept") != base64.b64encode(hashlib.sha1(key + GUID).digest()).decode():
-        raise HandshakeError("the peer accepts another key", number)
+        raise HandshakeError("the peer's Sec-WebSocket-Accept does not match the key", number)
     if fields.get("sec-websocket-protocol") != SUBPROTOCOL:
-        raise HandshakeError(f"the peer doesn't speak {SUBPROTOCOL}", number)
+        raise HandshakeError(f"the peer does not speak {SUBPROTOCOL}", number)
     if "sec-websocket-extensions" in fields:
-        raise HandshakeError("the peer has an extension that nobody asked for", number)
+        raise HandshakeError("the peer uses an extension that was not requested", number)
 
 
 async def connect(
     url: str, *, headers: Mapping[str, str], ca: Optional[str] = None, cert: Optional[Certificate] = None, timeout: float = 10.0,
 ) -> WebSocket:
-    """Dials and shakes hands, within `timeout` seconds together. Raises `DialError`, `HandshakeError` or `TimeLimit`."""
+    """Dials and does the handshake, within `timeout` seconds together. Raises `DialError`, `HandshakeError` or `TimeLimit`, and
+    `ValueRefused` if the address or a certificate can't be read."""
     address = Address(url)
     tls = tls_context(ca, cert) if address.is_secure else None
     try:
@@ -260,7 +263,8 @@ async def _connected(address: Address, tls: Optional[ssl.SSLContext], headers: M
     try:
         transport, _ = await loop.create_connection(lambda: protocol, address.host, address.port, ssl=tls)
     except (OSError, ssl.SSLError, UnicodeError) as error:
-        raise DialError(f"no connection to {address.host}:{address.port}: {error}") from None
+        is_distrusted = isinstance(error, ssl.SSLCertVerificationError)
+        raise DialError(f"no connection to {address.host}:{address.port}: {error}", not is_distrusted) from None
     writer = asyncio.StreamWriter(transport, protocol, reader, loop)
     try:
         key = base64.b64encode(os.urandom(16))
