@@ -33,8 +33,16 @@ from stub import Stub, interval, item, long_index, message  # noqa: E402
 SECOND = 1_000_000
 ETPD = os.environ.get("ETPD")
 MILLION = 1_000_000
+# How long a frame with a million points may take, in milliseconds.
+FRAME = 50
 HOSTILE = '<img src=x onerror="window.harmed=1">\u202e<script>window.harmed=1</script>'
 COPY = "(() => { const c = app.link.channels[%d].column; return Array.from({length: c.count}, (_, i) => [c.times[i], String(c.valueAt(i))]); })()"
+
+# Keeps every line of what happened in `told`, while the page itself shows the last 50.
+ALL_TOLD = """
+  const list = document.getElementById('events'), told = Array.from(list.children, it => it.textContent).reverse();
+  new MutationObserver(seen => told.push(...seen.flatMap(it => Array.from(it.addedNodes, node => node.textContent)))).observe(list, {childList: true});
+"""
 
 
 def is_blue(color):
@@ -189,21 +197,23 @@ class Followed:
         held = time.monotonic() - begun
         for words in ("app.view.all = true", "app.view.all = false; app.view.span = 3600e6"):
             await page.evaluate(words)
+            # The whole of a frame, with the pixels that it ends in: reading one of them waits for the drawing. A machine that is busy
+            # delays some frames, so the middle one counts.
             times = await page.evaluate("""(async () => {
               const times = [];
               for (let k = 0; k < 15; k++) {
                 await new Promise(next => requestAnimationFrame(next));
                 app.link.channels[0].column.note(app.link.channels[0].column.lastTime);
+                const begun = performance.now();
                 app.draw();
-                app.axis.getContext('2d').getImageData(0, 0, 1, 1);
-                app.tracks[0].canvas.getContext('2d').getImageData(0, 0, 1, 1);
-                times.push(app.frameTime);
+                for (const canvas of [app.axis, app.tracks[0].canvas]) canvas.getContext('2d').getImageData(0, 0, 1, 1);
+                times.push(performance.now() - begun);
               }
               return times.sort((a, b) => a - b);
             })()""")
             print(f"  {type(self).__name__}: a million points held after {held:.1f} s, {words!r}: median {times[7]:.1f} ms, most {times[-1]:.1f} ms",
                   file=sys.stderr)
-            self.assertEqual(len(times), 15)
+            self.assertLess(times[7], FRAME, words)
 
 
 class WithStub(Followed, Case):
@@ -348,16 +358,16 @@ class Hostile(Case):
             for _ in range(chance.randrange(1, 4)):
                 data[chance.randrange(len(data))] = chance.randrange(256)
             data = bytes(data[:chance.randrange(len(data) + 1)] if chance.random() < 0.3 else data)
-            if told := fault_of(data):
+            if has_table(data) and (told := fault_of(data)):
                 broken.append((data, told))
-        left = iter(broken)
+        left = (data for data, _ in broken)
         store = await self.helper(Stub(specs("double")))
-        store.after_open = lambda session: session.write(next(left, (message(0, 9, 0, 3, dict(currentDateTime=0)), 0))[0])
+        store.after_open = lambda session: None if (data := next(left, None)) is None else session.write(data)
         page = await self.open(store.url, [uri(0)])
-        await page.evaluate("app.link.delays = [1]")
-        await page.until("app.events.filter(it => it.includes('message refused')).length >= 200", 300)
+        await page.evaluate(ALL_TOLD + "app.link.delays = [1]")
+        await page.until("told.filter(it => it.includes('message refused')).length >= 200", 300)
         await self.followed(page, 1)
-        events = [each.split(" ", 1)[1] for each in await page.evaluate("app.events") if "message refused: " in each]
+        events = [each.split(" ", 1)[1] for each in await page.evaluate("told") if "message refused: " in each]
         self.assertEqual([each.removeprefix("message refused: ").rsplit(";", 1)[0] for each in events], [told for _, told in broken])
 
     async def test_refuses_what_may_not_come(self):
