@@ -146,9 +146,9 @@ class Scale {
   fit([least, greatest]) {
     if (!(least <= greatest)) [least, greatest] = [0, 1];
     const [low, high] = this.isLog ? decades(least, greatest) : rounded(least, greatest);
-    this.left = this.given[0] ?? low;
-    this.right = this.given[1] ?? high;
-    if (this.left === this.right) this.right = this.left + 1;
+    // A logarithmic scale has no edge at 0 or below.
+    [this.left, this.right] = [low, high].map((edge, side) => this.isLog && this.given[side] <= 0 ? edge : this.given[side] ?? edge);
+    if (this.left === this.right) this.right = this.isLog ? 10 * this.left : this.left + 1;
   }
 
   /** Where a value stands, from 0 at the left edge to 1 at the right. */
@@ -160,8 +160,8 @@ class Scale {
   /** Where the lines of the grid stand, and whether each is a strong one: the middle, or a power of ten. */
   lines() {
     if (!this.isLog) return [1, 2, 3, 4, 5, 6, 7, 8, 9].map(it => [it / 10, it === 5]);
-    const lines = [];
-    for (let power = 10 ** Math.floor(Math.log10(this.left)); power < this.right && lines.length < 200; power *= 10) {
+    const lines = [], [low, high] = [this.left, this.right].sort((a, b) => a - b);
+    for (let power = 10 ** Math.floor(Math.log10(low)); power < high && lines.length < 200; power *= 10) {
       for (let digit = 1; digit < 10; digit++) lines.push([this.partOf(digit * power), digit === 1]);
     }
     return lines.filter(([part]) => part > 0 && part < 1);

@@ -8,6 +8,8 @@ const LEAST_INDEX = -(2n ** 62n);
 /** What is asked for of a channel whose points are too many for one answer, code 12. */
 const LATEST_COUNT = 500000;
 const LIMIT_EXCEEDED = 12;
+/** The code with which a server that is stopped ends its links (RFC 6455, 7.4.1). */
+const GOING_AWAY = 1001;
 /** Places of ChannelDataKind. */
 const TYPE_BOOLEAN = 5, TYPE_STRING = 10, TYPE_BYTES = 11;
 /** The longest message that the server may send in one part, in bytes: short enough that reading one never holds up the page. */
@@ -77,7 +79,7 @@ class Link {
     socket.binaryType = 'arraybuffer';
     socket.onopen = () => this.socket === socket && this.openSession();
     socket.onmessage = event => this.socket === socket && this.hear(event.data);
-    socket.onclose = event => this.socket === socket && this.lose(event.reason || `the link broke (${event.code})`);
+    socket.onclose = event => this.socket === socket && this.lose(event.reason || `${event.code === GOING_AWAY ? 'the server goes away' : 'the link broke'} (${event.code})`);
     this.heard = Date.now();
     this.watch = setInterval(() => this.keep(), 1000);
   }

@@ -23,11 +23,11 @@ function ageText(seconds) {
 
 /** One channel's track: its head with name, unit, last value and scale, and the canvas below. */
 class Track {
-  constructor(channel, place, scale) {
+  constructor(channel, place, scale, faults) {
     this.channel = channel;
     this.color = COLORS[place % COLORS.length];
     this.scale = new Scale();
-    this.readScale(scale || '');
+    this.readScale(scale || '', `scale ${place + 1}`, faults);
     this.node = element('section', 'track');
     this.canvas = element('canvas', 'plot');
     this.canvas.setAttribute('role', 'img');
@@ -36,10 +36,17 @@ class Track {
   }
 
   /** Takes a scale as the address has it: `LEFT:RIGHT`, or `LEFT:RIGHT:log`; an edge that is empty goes by what is shown. */
-  readScale(text) {
-    const [left, right, kind] = text.split(':');
-    this.scale.given = [left, right].map(edge => edge && Number.isFinite(Number(edge)) ? Number(edge) : null);
+  readScale(text, word, faults) {
+    const [left, right, kind, ...rest] = text.split(':');
+    this.scale.given = [left, right].map(edge => numberOf(edge, word, faults));
     this.scale.isLog = kind === 'log';
+    if (kind && !this.scale.isLog || rest.length) faults.push(`${word}: ${text} is not LEFT:RIGHT or LEFT:RIGHT:log`);
+  }
+
+  /** The scale as the address has it. */
+  scaleText() {
+    const {given, isLog} = this.scale;
+    return `${given.map(it => it ?? '').join(':')}${isLog ? ':log' : ''}`;
   }
 
   makeHead() {
@@ -52,7 +59,7 @@ class Track {
     this.edges = ['left', 'right'].map((side, place) => this.makeEdge(side, place));
     line.title = 'Linear or logarithmic';
     line.style.color = this.color;
-    line.onclick = () => { this.scale.isLog = !this.scale.isLog; app.schedule(); };
+    line.onclick = () => { this.scale.isLog = !this.scale.isLog; app.keep(); };
     this.line = line;
     row.append(this.edges[0], line, this.edges[1]);
     const reading = element('div', 'reading');
@@ -69,7 +76,7 @@ class Track {
       const number = edge.value.trim() === '' ? NaN : Number(edge.value);
       this.scale.given[place] = Number.isFinite(number) ? number : null;
       edge.blur();
-      app.schedule();
+      app.keep();
     };
     return edge;
   }
@@ -127,13 +134,19 @@ class Track {
 /** Everything on the page. */
 class App {
   constructor(address) {
-    const words = new URLSearchParams(address);
-    this.uris = words.getAll('channel').slice(0, MOST_CHANNELS);
+    const words = new URLSearchParams(address), uris = words.getAll('channel');
+    // What the address says that can't be followed.
+    this.faults = uris.length > MOST_CHANNELS ? [`only the first ${MOST_CHANNELS} of ${uris.length} channels are drawn`] : [];
+    this.uris = uris.slice(0, MOST_CHANNELS);
     this.depthUri = words.get('depth');
     this.url = words.get('url') || (location.protocol.startsWith('http') ? `${location.origin.replace('http', 'ws')}/etp` : '');
-    this.from = momentOf(words.get('from'));
-    this.view = new View(Number(words.get('span')) * (this.depthUri ? 1 : SECOND) || (this.depthUri ? 0 : 30 * MINUTE), this.depthUri !== null);
+    this.from = momentOf(words.get('from'), this.faults);
+    this.unit = this.depthUri ? 1 : SECOND;
+    const span = numberOf(words.get('span'), 'span', this.faults) ?? (this.depthUri ? 0 : 1800);
+    if (span < 0) this.faults.push(`span: ${span} is negative`);
+    this.view = new View(Math.max(span, 0) * this.unit, this.depthUri !== null);
     this.scales = words.getAll('scale');
+    if (this.scales.length > this.uris.length) this.faults.push(`scale ${this.uris.length + 1}: there is no channel for it`);
     this.events = [];
     this.cursor = null;
     this.isScheduled = false;
@@ -145,7 +158,8 @@ class App {
     this.link = new Link(this.url, uris, this.from, (state, text) => this.tellState(state, text));
     const byUri = new Map(this.link.channels.map(channel => [channel.uri, channel]));
     this.depth = this.depthUri ? byUri.get(this.depthUri) : null;
-    this.tracks = this.uris.map((uri, place) => new Track(byUri.get(uri), place, this.scales[place]));
+    this.tracks = this.uris.map((uri, place) => new Track(byUri.get(uri), place, this.scales[place], this.faults));
+    document.getElementById('faults').textContent = this.faults.join('; ');
     this.axis = document.getElementById('axis');
     document.getElementById('tracks').append(...this.tracks.map(track => track.node));
     this.makeSpans();
@@ -166,7 +180,7 @@ class App {
       const button = element('button', 'span', name);
       button.onclick = () => {
         Object.assign(this.view, {all: span === 0, follows: true, span: span || this.view.span});
-        this.schedule();
+        this.keep();
       };
       row.append(button);
       return [button, span];
@@ -184,6 +198,16 @@ class App {
     this.schedule();
   }
 
+  /** Draws what was changed by hand, and keeps it in the address for a reload or a bookmark. */
+  keep() {
+    const words = new URLSearchParams(location.search);
+    words.delete('scale');
+    for (const track of this.tracks) words.append('scale', track.scaleText());
+    words.set('span', this.view.all ? 0 : this.view.span / this.unit);
+    history.replaceState(null, '', `?${words}`);
+    this.schedule();
+  }
+
   schedule() {
     if (this.isScheduled) return;
     this.isScheduled = true;
@@ -194,7 +218,7 @@ class App {
     const begun = performance.now();
     this.isScheduled = false;
     this.settle();
-    this.view.height = this.axis.clientHeight;
+    this.view.height = this.tracks[0].canvas.clientHeight;
     this.view.follow(this.reach());
     drawAxis(this.axis, this.view);
     for (const track of this.tracks) track.draw(this.view, this.cursor);
@@ -208,7 +232,7 @@ class App {
     for (const channel of this.link.channels) channel.column.changedFrom = Infinity;
   }
 
-  /** The least and the greatest place of all that is drawn. */
+  /** The least and the greatest place of all that is drawn; without any point the last half an hour. */
   reach() {
     let least = Infinity, greatest = -Infinity;
     for (const {channel: {column: {blocks, places, times, count}}} of this.tracks) {
@@ -217,7 +241,7 @@ class App {
       for (const first of isSorted ? [times[0]] : blocks.first) if (first < least) least = first;
       for (const last of isSorted ? [times[count - 1]] : blocks.last) if (last > greatest) greatest = last;
     }
-    return [least, greatest];
+    return least <= greatest || this.view.isDepth ? [least, greatest] : [this.link.now() - 30 * MINUTE, this.link.now()];
   }
 
   tellFoot() {
@@ -245,6 +269,8 @@ class App {
   listen() {
     const log = document.getElementById('log'), rowOf = event => event.clientY - this.axis.getBoundingClientRect().top;
     log.addEventListener('wheel', event => {
+      // Sideways the tracks scroll, where they are wider than the window.
+      if (event.shiftKey || Math.abs(event.deltaX) > Math.abs(event.deltaY)) return;
       event.preventDefault();
       const turned = event.deltaY * (event.deltaMode === 1 ? 16 : 1);
       this.act(() => event.ctrlKey ? this.view.zoom(1.002 ** turned, rowOf(event)) : this.view.move(turned / this.view.height * this.view.span));
@@ -289,12 +315,23 @@ class App {
   }
 }
 
-/** A moment as the address has it: a negative number of seconds before now, or a date; null for the channel's beginning. */
-function momentOf(text) {
+/** The number that a text spells, or null; a text that spells none is told by its place in the address. */
+function numberOf(text, place, faults) {
   if (!text) return null;
-  const number = Number(text), date = Date.parse(text);
+  const number = Number(text);
+  if (Number.isFinite(number)) return number;
+  faults.push(`${place}: ${text} is not a number`);
+  return null;
+}
+
+/** A moment as the address has it: a negative number of seconds before now, or a date; null for the channel's beginning. */
+function momentOf(text, faults) {
+  if (!text) return null;
+  const number = Number(text), date = number >= 0 ? NaN : Date.parse(text);
   if (number < 0) return number;
-  return Number.isNaN(date) ? null : date;
+  if (!Number.isNaN(date)) return date;
+  faults.push(`from: ${text} is neither a date nor a number of seconds before now, as -3600`);
+  return null;
 }
 
 /** Offers what stands in catalog.json beside the page, as nothing on the wire lists channels. */

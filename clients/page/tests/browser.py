@@ -14,7 +14,8 @@ from pathlib import Path
 import web_socket
 
 NAMES = ["chromium", "chromium-headless-shell", "chromium-browser", "google-chrome"]
-PATIENCE = 90
+# How long anything is waited for, in seconds; a server with run-time checks, or a busy machine, is waited for longer.
+PATIENCE = 90 * int(os.environ.get("COLMJURR_PATIENCE", "1"))
 
 
 def found():
@@ -122,6 +123,10 @@ class Page:
                 return
             await asyncio.sleep(0.05)
         raise AssertionError(f"{expression} doesn't hold after {patience} s; {await self.evaluate('document.body.innerText')}")
+
+    async def wheel(self, x, y, across, down):
+        """Turns the wheel of the mouse at a place in the window."""
+        await self.browser.ask("Input.dispatchMouseEvent", self.session, type="mouseWheel", x=x, y=y, deltaX=across, deltaY=down)
 
     async def screenshot(self):
         """The bytes of a PNG of the window."""
