@@ -3,6 +3,9 @@
 const COLORS = ['#0b5cad', '#c0392b', '#1e7f3c', '#7a3fa0', '#b8650a', '#0f7f86', '#a8326e', '#454f5b'];
 const MOST_CHANNELS = 64;
 const TIME_SPANS = [['5 min', 5 * MINUTE], ['30 min', 30 * MINUTE], ['2 h', 2 * HOUR], ['12 h', 12 * HOUR], ['1 d', DAY], ['All', 0]];
+const isServed = location.protocol.startsWith('http');
+/** The address of something beside the page, without the password that location.href may have in it. */
+const besidePage = name => new URL(name, location.origin + location.pathname).href;
 const DEPTH_SPANS = [['10', 10], ['50', 50], ['250', 250], ['1000', 1000], ['All', 0]];
 
 /** An element with a class and a text. What a server says comes into the page by `textContent` alone. */
@@ -139,7 +142,7 @@ class App {
     this.faults = uris.length > MOST_CHANNELS ? [`only the first ${MOST_CHANNELS} of ${uris.length} channels are drawn`] : [];
     this.uris = uris.slice(0, MOST_CHANNELS);
     this.depthUri = words.get('depth');
-    this.url = words.get('url') || (location.protocol.startsWith('http') ? `${location.origin.replace('http', 'ws')}/etp` : '');
+    this.url = words.get('url') || (isServed ? besidePage('etp').replace('http', 'ws') : '');
     this.from = momentOf(words.get('from'), this.faults);
     this.unit = this.depthUri ? 1 : SECOND;
     const span = numberOf(words.get('span'), 'span', this.faults) ?? (this.depthUri ? 0 : 1800);
@@ -346,10 +349,9 @@ class Setup {
   }
 
   async offer() {
-    if (!location.protocol.startsWith('http')) return;
+    if (!isServed) return;
     try {
-      // Not beside location.href, which may have a password in it.
-      const answer = await fetch(new URL('catalog.json', location.origin + location.pathname));
+      const answer = await fetch(besidePage('catalog.json'));
       if (answer.ok) this.list((await answer.json()).channels);
     } catch {
       // Without a catalog the URIs are typed.
