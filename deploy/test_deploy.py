@@ -11,6 +11,8 @@ import base64
 import collections
 import contextlib
 import email.utils
+import fcntl
+import math
 import os
 import re
 import shutil
@@ -21,6 +23,7 @@ import struct
 import subprocess
 import sys
 import tempfile
+import termios
 import time
 import unittest
 import urllib.error
@@ -39,8 +42,8 @@ PROGRAMS = Path(os.environ.get("PROGRAMS", "/nowhere")).resolve()
 SILENCE = int(os.environ.get("SILENCE", "100"))
 # How many times as long anything is waited for: more than once for programs with run-time checks, or on a busy machine.
 PATIENCE = int(os.environ.get("COLMJURR_PATIENCE", "1"))
-# How long a stop may take, in seconds.
-STOP = 35
+# How long a stop may take, in seconds; etpd-run kills what has not ended after 40.
+STOP = 35 if PATIENCE == 1 else 41
 SUBPROTOCOL = "etp12.energistics.org"
 URI = "eml:///witsml21.Channel(00000000-0000-0000-0000-000000000101)"
 TEXTS = "eml:///witsml21.Channel(00000000-0000-0000-0000-000000000103)"
@@ -130,6 +133,45 @@ class Package(unittest.TestCase):
             for line in usage.stdout.splitlines()[1:]:
                 word = line.split()[1]
                 self.assertIn(word, page, f"{name} {word}")
+
+    def test_what_operating_names_is_in_the_package(self):
+        text = (self.root / "usr/share/doc/colmjurr/OPERATING.md").read_text()
+        # What its commands make, and what other packages have.
+        others = {"/etc/colmjurr", "/etc/colmjurr/passwords", "/etc/colmjurr/12in.toml", "/etc/colmjurr/rigs.pem", "/etc/colmjurr/ca.pem", "/etc/default/etpd-12in"}
+        named = set(re.findall(r"/(?:usr|etc)/[\w./-]*(?:colmjurr|etpd)[\w./-]*\w", text))
+        self.assertGreater(len(named - others), 4)
+        for path in named - others:
+            self.assertTrue((self.root / path[1:]).exists(), path)
+        for path in re.findall(r"\]\((\w+\.md)", text):
+            self.assertTrue((self.root / "usr/share/doc/colmjurr" / path).exists(), path)
+        for page in re.findall(r"\b([a-z.]+)\((\d)\)", text):
+            self.assertTrue((self.root / f"usr/share/man/man{page[1]}/{page[0]}.{page[1]}.gz").exists(), page)
+
+    def test_operating_has_each_line_of_etpd(self):
+        text = (ROOT / "docs/OPERATING.md").read_text()
+        words = []
+        for name, function in (("log.rt", "end_words"), ("door.rt", "cause_words")):
+            source = (ROOT / "crates/server_forms/src" / name).read_text()
+            body = source[source.index(f"fn {function}"):]
+            words += re.findall(r'=> "([^"]+)"', body[:body.index("\n}\n")])
+        self.assertGreater(len(words), 10)
+        for each in [*words, "listening at port", "refused PEER", "accepted nobody", "no session for PEER", "left out N lines"]:
+            self.assertIn(each, text)
+
+    def test_operating_tells_when_a_journal_is_full(self):
+        # What counts, and the limits, are those of docs/PROFILE.md.
+        table = [line.strip(" |").split(" | ") for line in (ROOT / "docs/OPERATING.md").read_text().splitlines() if re.match(r" *\| \d+ \| [\d.]+ (days|hours)", line)]
+        self.assertEqual([row[0] for row in table], ["5", "10", "20", "50", "100"])
+        entry, point, entries, counted = 64, 16 + 8, 4_194_304, 536_870_912
+        for channels, *told in table:
+            count = int(channels)
+            # Of each column: seconds between its messages, messages at once, and points in each.
+            for cell, (every, messages, points) in zip(told, [(1, 1, count), (1, count, 1), (10, 1, 10 * count)], strict=True):
+                seconds = every * min(entries / messages, counted / messages / (entry + points * point))
+                number, unit = cell.split()
+                wanted = seconds / {"days": 86_400, "hours": 3_600}[unit]
+                digits = len(number.partition(".")[2])
+                self.assertEqual(number, f"{math.floor(wanted * 10 ** digits) / 10 ** digits:.{digits}f}", f"{channels} channels: {cell}")
 
     def unit(self, name, folder):
         """The unit with the paths of the unpacked package."""
@@ -572,6 +614,8 @@ class Run(unittest.IsolatedAsyncioTestCase):
             DEPLOY / "etpd-run", PROGRAMS / "etpd", config, "127.0.0.1:0", stdin=subprocess.DEVNULL, stdout=subprocess.PIPE, stderr=subprocess.PIPE,
             start_new_session=True)
         self.addCleanup(self.kill)
+        # They stay connected until they are closed.
+        self.clients = []
         self.port = int(re.search(rb"^listening at port (\d+)\n$", await self.process.stderr.readline())[1])
 
     def kill(self):
@@ -581,6 +625,7 @@ class Run(unittest.IsolatedAsyncioTestCase):
     async def client(self):
         status, session = await Session.dial(self.port, tls=False)
         self.assertEqual(status, 101)
+        self.clients.append(session)
         return await session.open()
 
     def peer(self, writer):
@@ -651,22 +696,34 @@ class Stop(Run):
         self.assertIn(writes, (answered, answered + 1))
 
     async def test_with_a_client_that_reads_nothing(self):
-        # 15 MB of texts wait for it: more than both ends' sockets hold.
+        # 15 MB of texts wait for it: more than both ends' sockets hold. So the server waits in a write, for 30 s at most.
         rig = await self.client()
         await rig.ask(22, 1, dict(uris={"c": URI, "t": TEXTS}))
-        for index in range(1, 257):
-            value = dict(channelId=1, indexes=[dict(item=(1, index))], value=dict(item=(6, "x" * 60_000)), valueAttributes=[])
+        for index in range(1, 513):
+            value = dict(channelId=1, indexes=[dict(item=(1, index))], value=dict(item=(6, "x" * 30_000)), valueAttributes=[])
             await rig.send(22, 4, dict(data=[value]))
         self.assertEqual((await rig.ask(0, 8, dict(currentDateTime=0)))[0], "Pong")
         lazy = await self.client()
         lazy.socket.transport.pause_reading()
         info = dict(channelId=1, startIndex=dict(item=(1, 0)), dataChanges=True, requestLatestIndexCount=(0, None))
         await lazy.send(21, 3, dict(channels={"t": info}))
-        await asyncio.sleep(2)
+        await self.filled(lazy)
         heard = asyncio.create_task(self.goodbye(rig))
         lines, _ = await self.stop()
         self.assertEqual(await heard, 1001)
-        self.assertEqual(max(int(line.split()[-1]) for line in lines[1:]), 256)
+        self.assertEqual(max(int(line.split()[-1]) for line in lines[1:]), 512)
+
+    async def filled(self, session):
+        """Waits until nothing more comes to a client that reads nothing."""
+        link = session.socket.transport.get_extra_info("socket")
+        waiting, same = 0, 0
+        for _ in range(600 * PATIENCE):
+            now = int.from_bytes(fcntl.ioctl(link.fileno(), termios.FIONREAD, bytes(4)), sys.byteorder)
+            waiting, same = now, same + 1 if now == waiting and now else 0
+            if same == 10:
+                return
+            await asyncio.sleep(0.1)
+        self.fail(f"{waiting} bytes came to the client")
 
     async def test_with_clients_that_are_not_done(self):
         # Connections without a byte, with half a handshake, with half a message, and with questions whose answers nobody reads.
@@ -717,17 +774,22 @@ class Lines(Run):
         return said
 
     async def test_the_end_of_a_session_has_a_line(self):
-        closes, leaves, resets = [await self.client() for _ in range(3)]
+        # etpd writes it when the next client comes, or at the stop.
+        closes, leaves, resets, _ = [await self.client() for _ in range(4)]
         peer = self.peer(closes.socket.writer)
         await closes.send(0, 5, dict(reason=""))
         await self.goodbye(closes)
+        await self.client()
         self.assertRegex(await self.line(), rf"^session \d+ of {peer} ended: the client closed it$")
         peer = self.peer(leaves.socket.writer)
         leaves.close()
+        await leaves.socket.writer.wait_closed()
+        await self.client()
         self.assertRegex(await self.line(), rf"^session \d+ of {peer} ended: the link ended$")
         peer = self.peer(resets.socket.writer)
         resets.socket.transport.get_extra_info("socket").setsockopt(socket.SOL_SOCKET, socket.SO_LINGER, struct.pack("ii", 1, 0))
         resets.socket.transport.abort()
+        await self.client()
         self.assertRegex(await self.line(), rf"^session \d+ of {peer} ended: the link failed$")
 
     async def test_a_refused_connection_has_a_line(self):

@@ -1,4 +1,4 @@
-// The page: tracks side by side, the controls over them, and the foot that tells how it stands.
+// The page: tracks side by side, the controls above them, and the foot with the state of the link.
 
 const COLORS = ['#0b5cad', '#c0392b', '#1e7f3c', '#7a3fa0', '#b8650a', '#0f7f86', '#a8326e', '#454f5b'];
 const MOST_CHANNELS = 64;
@@ -8,7 +8,7 @@ const isServed = location.protocol.startsWith('http');
 const besidePage = name => new URL(name, location.origin + location.pathname).href;
 const DEPTH_SPANS = [['10', 10], ['50', 50], ['250', 250], ['1000', 1000], ['All', 0]];
 
-/** An element with a class and a text. What a server says comes into the page by `textContent` alone. */
+/** An element with a class and a text. Text from a server enters the page only through `textContent`. */
 function element(name, className, text = '') {
   const made = document.createElement(name);
   made.className = className;
@@ -16,7 +16,7 @@ function element(name, className, text = '') {
   return made;
 }
 
-/** A length of time in one unit, as in `3 s` and `2.5 h`. */
+/** A length of time in one unit, such as `3 s` or `2.5 h`. */
 function ageText(seconds) {
   if (seconds < 100) return `${Math.max(0, Math.round(seconds))} s`;
   const [unit, size] = [['min', 60], ['h', 3600], ['d', 86400], ['y', 31557600]].findLast(([, it]) => seconds >= 1.5 * it) || ['min', 60];
@@ -38,7 +38,7 @@ class Track {
     this.node.append(this.makeHead(), this.canvas, this.note);
   }
 
-  /** Takes a scale as the address has it: `LEFT:RIGHT`, or `LEFT:RIGHT:log`; an edge that is empty goes by what is shown. */
+  /** Takes a scale as the address has it: `LEFT:RIGHT`, or `LEFT:RIGHT:log`; an empty edge fits what is shown. */
   readScale(text, word, faults) {
     const [left, right, kind, ...rest] = text.split(':');
     this.scale.given = [left, right].map(edge => numberOf(edge, word, faults));
@@ -58,7 +58,7 @@ class Track {
     this.value = element('span', 'value');
     this.uom = element('span', 'uom');
     this.age = element('span', 'age');
-    this.age.title = 'How old the last point is, or its time where the cursor stands';
+    this.age.title = 'How old the last point is, or the time of the point at the cursor';
     this.edges = ['left', 'right'].map((side, place) => this.makeEdge(side, place));
     line.title = 'Linear or logarithmic';
     line.style.color = this.color;
@@ -73,7 +73,7 @@ class Track {
 
   makeEdge(side, place) {
     const edge = element('input', `edge ${side}`);
-    edge.title = `Value at the ${side} edge; empty: by what is shown`;
+    edge.title = `Value at the ${side} edge; empty: fits what is shown`;
     edge.setAttribute('aria-label', edge.title);
     edge.onchange = () => {
       const number = edge.value.trim() === '' ? NaN : Number(edge.value);
@@ -101,7 +101,7 @@ class Track {
     this.tell(view, cursor);
   }
 
-  /** Writes the head: the value at the cursor, and else the last one. */
+  /** Writes the head: the value at the cursor, or else the last one. */
   tell(view, cursor) {
     const {channel} = this, {column} = channel;
     const place = cursor === null ? column.count - 1 : column.nearest(view.placeOf(cursor));
@@ -138,7 +138,7 @@ class Track {
 class App {
   constructor(address) {
     const words = new URLSearchParams(address), uris = words.getAll('channel');
-    // What the address says that can't be followed.
+    // What is wrong with the address.
     this.faults = uris.length > MOST_CHANNELS ? [`only the first ${MOST_CHANNELS} of ${uris.length} channels are drawn`] : [];
     this.uris = uris.slice(0, MOST_CHANNELS);
     this.depthUri = words.get('depth');
@@ -201,7 +201,7 @@ class App {
     this.schedule();
   }
 
-  /** Draws what was changed by hand, and keeps it in the address for a reload or a bookmark. */
+  /** Draws after a change by hand, and stores the change in the address, for reloads and bookmarks. */
   keep() {
     const words = new URLSearchParams(location.search);
     words.delete('scale');
@@ -235,7 +235,7 @@ class App {
     for (const channel of this.link.channels) channel.column.changedFrom = Infinity;
   }
 
-  /** The least and the greatest place of all that is drawn; without any point the last half an hour. */
+  /** The least and the greatest place of everything that is drawn; the last half hour if there are no points. */
   reach() {
     let least = Infinity, greatest = -Infinity;
     for (const {channel: {column: {blocks, places, times, count}}} of this.tracks) {
@@ -268,11 +268,11 @@ class App {
     return this.view.isDepth ? numberText(Number(place.toPrecision(7))) : `${dateText(place)} ${timeText(place, SECOND)}`;
   }
 
-  /** Wheel and drag move along the axis, the wheel with Ctrl zooms, and so do the keys. */
+  /** Wheel, drag and keys move along the axis; the wheel with Ctrl zooms, and so do + and -. */
   listen() {
     const log = document.getElementById('log'), rowOf = event => event.clientY - this.axis.getBoundingClientRect().top;
     log.addEventListener('wheel', event => {
-      // Sideways the tracks scroll, where they are wider than the window.
+      // If the tracks are wider than the window, turning it sideways scrolls them.
       if (event.shiftKey || Math.abs(event.deltaX) > Math.abs(event.deltaY)) return;
       event.preventDefault();
       const turned = event.deltaY * (event.deltaMode === 1 ? 16 : 1);
@@ -318,7 +318,7 @@ class App {
   }
 }
 
-/** The number that a text spells, or null; a text that spells none is told by its place in the address. */
+/** The number in a text, or null if it is empty. A text that is not a number is a fault, told with its place in the address. */
 function numberOf(text, place, faults) {
   if (!text) return null;
   const number = Number(text);
@@ -337,7 +337,7 @@ function momentOf(text, faults) {
   return null;
 }
 
-/** Offers what stands in catalog.json beside the page, as nothing on the wire lists channels. */
+/** The form that offers the channels in catalog.json beside the page, since a server can't be asked which channels it has. */
 class Setup {
   constructor(app) {
     this.form = document.getElementById('setup');
@@ -354,7 +354,7 @@ class Setup {
       const answer = await fetch(besidePage('catalog.json'));
       if (answer.ok) this.list((await answer.json()).channels);
     } catch {
-      // Without a catalog the URIs are typed.
+      // Without a catalog the URIs have to be typed.
     }
   }
 
