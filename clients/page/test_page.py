@@ -426,10 +426,11 @@ class Drawn(Case):
 
     async def test_a_long_name_is_shown_whole(self):
         name = "Average rotary speed"
-        store = await self.helper(Stub([(uri(number), name, "double", "rpm") for number in range(8)]))
+        store = await self.helper(Stub([(uri(number), name if number else "ROP", "double", "rpm") for number in range(8)]))
         page = await self.open(store.url, [uri(number) for number in range(8)], 1280, 720)
         await self.followed(page, 8)
-        await page.until(f"app.tracks[0].name.textContent === {json.dumps(name)}")
+        await page.until(f"app.tracks[7].name.textContent === {json.dumps(name)}")
+        self.assertEqual(await page.evaluate("new Set(app.tracks.map(it => it.value.getBoundingClientRect().bottom)).size"), 1)
         self.assertTrue(await page.evaluate("app.tracks.every(({name: it}) => it.scrollHeight <= it.clientHeight + 1 && it.scrollWidth <= it.clientWidth)"))
 
 
