@@ -1,10 +1,10 @@
 #!/usr/bin/env python3
-"""The tests of the deployment: the package, the units, the man pages, and nginx and stunnel before a real etpd.
+"""The tests of the deployment: the package, the units, the man pages, and nginx and stunnel in front of a real etpd.
 
     PROGRAMS=FOLDER python3 test_deploy.py [-v] [TEST ...]
 
-FOLDER has the built etpd, and etpctl and etptool. A case whose program or package is missing is skipped, and says so. All servers listen at the
-loopback, at ports that were free; nothing of the machine's own configuration is read or changed.
+FOLDER has the built etpd, and etpctl and etptool. A case whose program or package is missing is skipped, and says so. All servers listen on the
+loopback, at free ports; nothing of the machine's own configuration is read or changed.
 """
 import asyncio
 import base64
@@ -83,7 +83,7 @@ def wait_for_port(port):
 
 
 class Package(unittest.TestCase):
-    """The package and what is in it. Where a program is missing, a small one stands in its place."""
+    """The package and what is in it. A program that is missing is replaced by a small one."""
 
     @classmethod
     def setUpClass(cls):
@@ -229,6 +229,9 @@ class Package(unittest.TestCase):
         for program, begun, offered in (("etpctl", "w", "watch"), ("etpctl", "''", "put get load watch"), ("etptool", "c", "check capture")):
             told = run("bash", "-c", script.format(program, begun))
             self.assertEqual(told.stdout.strip(), offered)
+        commands = re.findall(r"^    ([a-z][a-z-]*)\b", self.colmjurr("--help").stdout, re.MULTILINE)
+        self.assertGreater(len(commands), 10)
+        self.assertEqual(run("bash", "-c", script.format("colmjurr", "''")).stdout.split(), commands)
 
 
 class Server:
@@ -321,7 +324,7 @@ def certificate(folder, name, **more):
 
 @wants("etpd", "nginx", "openssl")
 class Front(unittest.IsolatedAsyncioTestCase):
-    """nginx, as it is shipped but for ports and paths, before etpd."""
+    """nginx in front of etpd, as it is shipped except for ports and paths."""
 
     async def asyncSetUp(self):
         asyncio.get_running_loop().set_debug(False)
@@ -512,7 +515,7 @@ class Front(unittest.IsolatedAsyncioTestCase):
 
 @wants("etpd", "stunnel", "openssl")
 class Tunnel(unittest.IsolatedAsyncioTestCase):
-    """stunnel at both ends, as it is shipped but for ports, names and paths."""
+    """stunnel at both ends, as it is shipped except for ports, names and paths."""
 
     async def asyncSetUp(self):
         asyncio.get_running_loop().set_debug(False)

@@ -4,7 +4,7 @@
     python3 test_page.py [-v] [TEST ...]
 
 The page is opened from its file. It follows a small server of these tests' own, and where the environment's ETPD names a built server,
-that one too. What has to stand in the page comes from the server's store, from outside/wire.py, or from arithmetic in the test. With
+that one too. What the page has to show comes from the server's store, from outside/wire.py, or from arithmetic in the test. With
 PICTURE in the environment the picture of the page is written to that path.
 """
 import asyncio
@@ -62,7 +62,7 @@ def specs(*kinds):
 
 
 def javascript(value):
-    """The text of a value in JavaScript's `String`, where it has one short form here."""
+    """The text that JavaScript's `String` makes of a value."""
     if isinstance(value, bool):
         return str(int(value))
     if isinstance(value, bytes):
@@ -245,7 +245,7 @@ class WithEtpd(Followed, Case):
 
 
 class Drawn(Case):
-    """What stands in the pixels, and what the page says."""
+    """What is drawn, and what the page says."""
 
     async def ramp(self, points, **words):
         store = await self.helper(Stub(specs("double")))
@@ -503,7 +503,7 @@ class Hostile(Case):
                         session.say(21, kind, 0, value)
                 await page.until(f"app.events.some(it => it.includes({json.dumps('message refused: ' + told + ';')}))")
 
-    async def test_follows_anew_after_lagging(self):
+    async def test_subscribes_again_after_lagging(self):
         store = await self.helper(Stub(specs("double", "double")))
         store.specs = specs("double", "double")
         await store.load(0, [(at, at / 2) for at in range(1, 100)])
