@@ -124,7 +124,7 @@ async def draw(machine):
     is_in("loaded 1", machine.run(block("Install", 1)))
     await page.until("app.link.channels[0].column.count === 1 && app.tracks[0].value.textContent === '22.5'")
     is_in("loaded 60", machine.run(block("Install", 2)))
-    await page.until("app.link.channels[1].column.count === 60 && app.tracks[1].value.textContent === '24.5'")
+    await page.until("app.link.channels[1].column.count === 60 && app.tracks[1].value.textContent === '21.5'")
     assert not page.errors, page.errors
     said("a log in the browser: " + json.dumps(await page.evaluate("app.tracks.map(it => it.canvas.getAttribute('aria-label'))")))
     if os.environ.get("PICTURE"):
