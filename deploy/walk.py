@@ -132,7 +132,11 @@ async def draw(machine):
     machine.done(block("One server for each section of a well"), [
         ("editor /etc/colmjurr/12in.toml", "sed -i 's/rig 12/section/' /etc/colmjurr/12in.toml"),
         ("editor /etc/nginx/sites-available/colmjurr", "sed -i 's|# /12in 127|/12in 127|' /etc/nginx/sites-available/colmjurr")])
-    section = await one.open(f"{ADDRESS}/12in/")
+    # A worker of nginx that was there before the reload may answer once more.
+    end = time.monotonic() + PATIENCE
+    while not await (section := await one.open(f"{ADDRESS}/12in/")).evaluate("!!document.getElementById('setup')"):
+        assert time.monotonic() < end, "the section has no page"
+        await asyncio.sleep(0.5)
     await section.until("document.querySelectorAll('#offered .tick').length === 2")
     await section.evaluate("document.querySelector('#offered .tick').click(); document.querySelector('#setup > button').click()")
     await section.until("typeof app === 'object' && app.link && app.link.server === 'section'")
@@ -158,7 +162,7 @@ def stop_and_mend(machine):
     said("a fault of the configuration is told once, by line and key; mended, the service starts")
     since = machine.run("date +%s").strip()
     machine.run("sleep 2; kill -KILL $(pidof etpd | tr ' ' '\\n' | while read it; do grep -qz 127.0.0.1:9002 /proc/$it/cmdline && echo $it; done)")
-    until(lambda: "restart counter is at 1" in (it := machine.told(since)) and it.count("listening at port 9002"))
+    until(lambda: "listening at port 9002" in machine.told(since).partition("restart counter is at 1")[2])
     said("killed, it starts again")
 
 
