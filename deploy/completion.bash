@@ -1,4 +1,4 @@
-# Completion for etpd, etpctl and etptool.
+# Completion for etpd, etpctl, etptool and colmjurr.
 
 _etpd() {
     if [ "$COMP_CWORD" -eq 1 ]; then
@@ -25,8 +25,18 @@ _etptool() {
     fi
 }
 
+_colmjurr() {
+    if [ "$COMP_CWORD" -eq 1 ]; then
+        COMPREPLY=($(compgen -W 'ping spaces get put delete range follow load plot check-config catalog exporter bridge copy conformance' -- "$2"))
+    else
+        compopt -o filenames 2> /dev/null
+        COMPREPLY=($(compgen -f -- "$2"))
+    fi
+}
+
 complete -F _etpd etpd
 # A URL has colons, which part words by default.
 COMP_WORDBREAKS=${COMP_WORDBREAKS//:/}
 complete -F _etpctl etpctl
 complete -F _etptool etptool
+complete -F _colmjurr colmjurr

@@ -2,7 +2,7 @@
 # Makes the Debian package from built programs: make_deb.sh PROGRAMS FOLDER
 #
 # PROGRAMS is a folder with etpd, etpctl and etptool. FOLDER gets colmjurr_VERSION_ARCH.deb, whose path is printed. The same programs and
-# the same commit make the same bytes; where there is no commit, SOURCE_DATE_EPOCH says the moment. It wants dpkg-deb, gzip and strip
+# the same commit make the same bytes; without a commit, SOURCE_DATE_EPOCH is the moment of the package. It needs dpkg-deb, gzip and strip
 # (Debian: dpkg-dev, gzip, binutils).
 set -euo pipefail
 umask 022
@@ -42,17 +42,17 @@ install -d -m 755 "$tree/etc/nginx/sites-available" "$tree/etc/default"
 install -m 644 "$deploy/nginx.conf" "$tree/etc/nginx/sites-available/colmjurr"
 install -m 644 "$deploy/default" "$tree/etc/default/etpd"
 put 644 usr/share/colmjurr/page "$root/clients/page/log.html"
-put 644 usr/share/doc/colmjurr "$root/docs/OPERATING.md" "$deploy/copyright"
+put 644 usr/share/doc/colmjurr "$root/docs/OPERATING.md" "$root/docs/PROFILE.md" "$deploy/copyright"
 put 644 usr/share/doc/colmjurr/examples "$deploy/stunnel-rig.conf" "$deploy/stunnel-office.conf" "$deploy/Containerfile"
 for page in "$deploy"/man/*; do
   packed "usr/share/man/man${page##*.}" "$page"
 done
 gzip -9n < "$deploy/changelog" > "$tree/usr/share/doc/colmjurr/changelog.gz"
-for program in etpd etpctl etptool; do
+for program in etpd etpctl etptool colmjurr; do
   install -D -m 644 "$deploy/completion.bash" "$tree/usr/share/bash-completion/completions/$program"
 done
 
-# The Python package, without what its tests leave behind.
+# The Python package, without compiled files.
 python=usr/lib/python3/dist-packages
 install -d -m 755 "$tree/$python"
 cp -r --no-preserve=mode "$root/clients/python/src/colmjurr" "$tree/$python/"

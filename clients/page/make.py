@@ -39,7 +39,7 @@ def script():
 
 def page():
     made = source("log.html.in")
-    style = "\n" + bare(source("log.css"), "//")
+    style = "\n" + re.sub(r" *([{};]) *|(?<=:) ", r"\1", bare(source("log.css"), "//"))
     parts = {"@SCRIPT_HASH@": hash_of(script()), "@STYLE_HASH@": hash_of(style), "@STYLE@": style, "@SCRIPT@": script()}
     for mark, text in parts.items():
         made = made.replace(mark, text)

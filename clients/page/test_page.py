@@ -4,7 +4,7 @@
     python3 test_page.py [-v] [TEST ...]
 
 The page is opened from its file. It follows a small server of these tests' own, and where the environment's ETPD names a built server,
-that one too. What has to stand in the page comes from the server's store, from outside/wire.py, or from arithmetic in the test. With
+that one too. What the page has to show comes from the server's store, from outside/wire.py, or from arithmetic in the test. With
 PICTURE in the environment the picture of the page is written to that path.
 """
 import asyncio
@@ -12,6 +12,7 @@ import json
 import math
 import os
 import random
+import socket
 import struct
 import sys
 import time
@@ -25,6 +26,7 @@ sys.path[:0] = [str(FOLDER / "tests"), str((FOLDER.parent.parent / "outside/wire
 
 import browser  # noqa: E402
 import stub  # noqa: E402
+import web_socket  # noqa: E402
 import wire  # noqa: E402
 from picture import Picture  # noqa: E402
 from rig import Etpd, Proxy  # noqa: E402
@@ -33,8 +35,16 @@ from stub import Stub, interval, item, long_index, message  # noqa: E402
 SECOND = 1_000_000
 ETPD = os.environ.get("ETPD")
 MILLION = 1_000_000
+# How long a frame with a million points may take, in milliseconds.
+FRAME = 50
 HOSTILE = '<img src=x onerror="window.harmed=1">\u202e<script>window.harmed=1</script>'
 COPY = "(() => { const c = app.link.channels[%d].column; return Array.from({length: c.count}, (_, i) => [c.times[i], String(c.valueAt(i))]); })()"
+
+# Keeps every line of what happened in `told`, while the page itself shows the last 50.
+ALL_TOLD = """
+  const list = document.getElementById('events'), told = Array.from(list.children, it => it.textContent).reverse();
+  new MutationObserver(seen => told.push(...seen.flatMap(it => Array.from(it.addedNodes, node => node.textContent)))).observe(list, {childList: true});
+"""
 
 
 def is_blue(color):
@@ -52,7 +62,7 @@ def specs(*kinds):
 
 
 def javascript(value):
-    """The text of a value in JavaScript's `String`, where it has one short form here."""
+    """The text that JavaScript's `String` makes of a value."""
     if isinstance(value, bool):
         return str(int(value))
     if isinstance(value, bytes):
@@ -100,9 +110,8 @@ class Case(unittest.IsolatedAsyncioTestCase):
         """Waits until the page's copies are the server's points."""
         for number in numbers:
             wanted = [(at, javascript(value)) for at, value in await store.points(number)]
-            for _ in range(200):
-                if (held := await self.copies(page, number)) == wanted:
-                    break
+            end = time.monotonic() + browser.PATIENCE
+            while (held := await self.copies(page, number)) != wanted and time.monotonic() < end:
                 await asyncio.sleep(0.05)
             self.assertEqual(held, wanted, f"channel {number}")
 
@@ -185,25 +194,27 @@ class Followed:
         await store.load(0, [(at * SECOND, 50 + 40 * math.sin(at / 5000) + at % 7) for at in range(1, MILLION + 1)])
         page = await self.open(store.url, [store.specs[0][0]], span=0)
         begun = time.monotonic()
-        await page.until(f"app.link.channels[0].column.count === {MILLION}", 120)
+        await page.until(f"app.link.channels[0].column.count === {MILLION}")
         held = time.monotonic() - begun
         for words in ("app.view.all = true", "app.view.all = false; app.view.span = 3600e6"):
             await page.evaluate(words)
+            # The whole of a frame, with the pixels that it ends in: reading one of them waits for the drawing. A machine that is busy
+            # delays some frames, so the middle one counts.
             times = await page.evaluate("""(async () => {
               const times = [];
               for (let k = 0; k < 15; k++) {
                 await new Promise(next => requestAnimationFrame(next));
                 app.link.channels[0].column.note(app.link.channels[0].column.lastTime);
+                const begun = performance.now();
                 app.draw();
-                app.axis.getContext('2d').getImageData(0, 0, 1, 1);
-                app.tracks[0].canvas.getContext('2d').getImageData(0, 0, 1, 1);
-                times.push(app.frameTime);
+                for (const canvas of [app.axis, app.tracks[0].canvas]) canvas.getContext('2d').getImageData(0, 0, 1, 1);
+                times.push(performance.now() - begun);
               }
               return times.sort((a, b) => a - b);
             })()""")
             print(f"  {type(self).__name__}: a million points held after {held:.1f} s, {words!r}: median {times[7]:.1f} ms, most {times[-1]:.1f} ms",
                   file=sys.stderr)
-            self.assertEqual(len(times), 15)
+            self.assertLess(times[7], FRAME, words)
 
 
 class WithStub(Followed, Case):
@@ -234,12 +245,12 @@ class WithEtpd(Followed, Case):
 
 
 class Drawn(Case):
-    """What stands in the pixels, and what the page says."""
+    """What is drawn, and what the page says."""
 
     async def ramp(self, points, **words):
         store = await self.helper(Stub(specs("double")))
         await store.load(0, points)
-        page = await self.open(store.url, [uri(0)], scale="0:100", **words)
+        page = await self.open(store.url, [uri(0)], **{"scale": "0:100", **words})
         await page.until(f"app.link.channels[0].column.count === {len(points)}")
         await asyncio.sleep(0.3)
         box = await page.evaluate("(() => { const b = app.tracks[0].canvas.getBoundingClientRect(); return [b.left, b.top, b.width, b.height]; })()")
@@ -258,6 +269,32 @@ class Drawn(Case):
             y = (second - 1000 + 0.98 * 1000) / 1000 * height
             found, wanted = self.xs(picture, box, y), second / 1000 * width
             self.assertTrue(found, f"nothing is drawn at {second} s")
+            self.assertLessEqual(max(abs(x - wanted) for x in found), 3, f"{second} s")
+
+    async def test_scales_are_logarithmic_and_turned_round(self):
+        # A value that goes from 0.1 to 1,000 in 1,000 s, and is ten times as much each 250 s.
+        points = [(at * SECOND, 10 ** (at / 250 - 1)) for at in range(1001)]
+        for scale, part in (("0.1:1000:log", lambda at: at / 1000), ("1000:0.1:log", lambda at: 1 - at / 1000),
+                            ("100:0", lambda at: 1 - 10 ** (at / 250 - 1) / 100)):
+            with self.subTest(scale):
+                _, _, picture, box = await self.ramp(points, scale=scale, span=1000)
+                _, _, width, height = box
+                for second in range(60, 500, 47):
+                    found, wanted = self.xs(picture, box, (second - 20) / 1000 * height), part(second) * width
+                    self.assertTrue(found, f"nothing is drawn at {second} s")
+                    self.assertLessEqual(min(abs(x - wanted) for x in found), 3, f"{second} s")
+                    self.assertLessEqual(max(found) - min(found), 8, f"{second} s")
+
+    async def test_a_logarithmic_scale_leaves_an_edge_at_zero_alone(self):
+        # The edge 0 can't be drawn to by a logarithm: the decade of the least value that is shown is taken in its place.
+        points = [(at * SECOND, 2.0 + 60 * at / 1000) for at in range(1001)]
+        _, page, _, box = await self.ramp(points, scale="0:100", span=1000)
+        await page.evaluate("app.tracks[0].line.click()")
+        await asyncio.sleep(0.3)
+        self.assertEqual(await page.evaluate("[app.tracks[0].scale.left, app.tracks[0].scale.right]"), [1, 100])
+        picture, (_, _, width, height) = Picture(await page.screenshot()), box
+        for second in range(60, 1000, 47):
+            found, wanted = self.xs(picture, box, (second - 20) / 1000 * height), math.log10(2 + 60 * second / 1000) / 2 * width
             self.assertLessEqual(max(abs(x - wanted) for x in found), 3, f"{second} s")
 
     async def test_a_spike_among_a_thousand_points_in_a_row_is_drawn(self):
@@ -329,6 +366,73 @@ class Drawn(Case):
         await page.evaluate("document.getElementById('newest').click()")
         await page.until(f"{end} === 5020")
 
+    async def test_the_address_keeps_what_was_changed_by_hand(self):
+        store = await self.helper(Stub(specs("double", "double")))
+        page = await self.open(store.url, [uri(0), uri(1)], scale="0:60", span="900")
+        await self.followed(page, 2)
+        await page.evaluate("""{
+          const [left] = app.tracks[1].edges;
+          Object.assign(left, {value: '0.2'}).onchange();
+          app.tracks[1].line.click();
+          document.querySelectorAll('#spans button')[2].click();
+        }""")
+        kept = urllib.parse.parse_qs((await page.evaluate("location.search"))[1:], keep_blank_values=True)
+        self.assertEqual((kept["scale"], kept["span"], kept["channel"]), (["0:60", "0.2::log"], ["7200"], [uri(0), uri(1)]))
+        await page.evaluate("location.reload()")
+        await page.until("typeof app === 'object' && app.link && app.link.channels.every(it => it.isFollowed)")
+        scales = await page.evaluate("[app.tracks.map(it => it.scaleText()), app.view.span]")
+        self.assertEqual(scales, [["0:60", "0.2::log"], 7200e6])
+
+    async def test_all_is_shown_where_the_span_is_zero(self):
+        points = [(at * SECOND, 50.0) for at in range(0, 40_001, 10)]
+        _, page, _, _ = await self.ramp(points, span=0)
+        self.assertEqual(await page.evaluate("app.view.begin <= 0 && app.view.end >= 40000e6"), True)
+
+    async def test_ends_at_this_moment_where_there_is_no_point(self):
+        store = await self.helper(Stub(specs("double")))
+        page = await self.open(store.url, [uri(0)])
+        await self.followed(page, 1)
+        end = await page.evaluate("app.draw(), app.view.end / 1e6")
+        self.assertLess(abs(end - 0.02 * 1800 - time.time()), 5)
+
+    async def test_tells_what_is_wrong_with_the_address(self):
+        store = await self.helper(Stub(specs("double")))
+        cases = [
+            (dict(span="long"), "span: long is not a number"), (dict(span="-5"), "span: -5 is negative"),
+            (dict(scale="0:x"), "scale 1: x is not a number"), (dict(scale="0:1:lin"), "scale 1: 0:1:lin is not LEFT:RIGHT or LEFT:RIGHT:log"),
+            ({"from": "3600"}, "from: 3600 is neither a date nor a number of seconds before now, as -3600"),
+            ({"from": "yesterday"}, "from: yesterday is neither a date nor a number of seconds before now, as -3600"),
+            (dict(span="600", scale="0:60", **{"from": "2026-12-01T06:00Z"}), ""),
+        ]
+        for words, told in cases:
+            with self.subTest(words):
+                page = await self.open(store.url, [uri(0)], **words)
+                await self.followed(page, 1)
+                self.assertEqual(await page.evaluate("document.getElementById('faults').innerText"), told)
+        page = await self.open(store.url, [uri(0)] * 65)
+        self.assertEqual(await page.evaluate("document.getElementById('faults').innerText"), "only the first 64 of 65 channels are drawn")
+        self.assertEqual(await page.evaluate("app.tracks.length"), 64)
+
+    async def test_the_axis_stays_beside_more_tracks_than_fit(self):
+        kinds = ["double"] * 20
+        store = await self.helper(Stub(specs(*kinds)))
+        page = await self.open(store.url, [uri(number) for number in range(20)])
+        await self.followed(page, 20)
+        await page.wheel(500, 400, 1500, 0)
+        await page.until("document.getElementById('tracks').scrollLeft > 1000")
+        lefts = await page.evaluate("[app.axis.getBoundingClientRect().left, app.tracks[0].canvas.getBoundingClientRect().left < -900]")
+        self.assertEqual(lefts, [0, True])
+        self.assertTrue(await page.evaluate("app.view.follows"), "what goes sideways doesn't move in time")
+
+    async def test_a_long_name_is_shown_whole(self):
+        name = "Average rotary speed"
+        store = await self.helper(Stub([(uri(number), name if number else "ROP", "double", "rpm") for number in range(8)]))
+        page = await self.open(store.url, [uri(number) for number in range(8)], 1280, 720)
+        await self.followed(page, 8)
+        await page.until(f"app.tracks[7].name.textContent === {json.dumps(name)}")
+        self.assertEqual(await page.evaluate("new Set(app.tracks.map(it => it.value.getBoundingClientRect().bottom)).size"), 1)
+        self.assertTrue(await page.evaluate("app.tracks.every(({name: it}) => it.scrollHeight <= it.clientHeight + 1 && it.scrollWidth <= it.clientWidth)"))
+
 
 class Hostile(Case):
     """A server that says what it should not."""
@@ -348,16 +452,16 @@ class Hostile(Case):
             for _ in range(chance.randrange(1, 4)):
                 data[chance.randrange(len(data))] = chance.randrange(256)
             data = bytes(data[:chance.randrange(len(data) + 1)] if chance.random() < 0.3 else data)
-            if told := fault_of(data):
+            if has_table(data) and (told := fault_of(data)):
                 broken.append((data, told))
-        left = iter(broken)
+        left = (data for data, _ in broken)
         store = await self.helper(Stub(specs("double")))
-        store.after_open = lambda session: session.write(next(left, (message(0, 9, 0, 3, dict(currentDateTime=0)), 0))[0])
+        store.after_open = lambda session: None if (data := next(left, None)) is None else session.write(data)
         page = await self.open(store.url, [uri(0)])
-        await page.evaluate("app.link.delays = [1]")
-        await page.until("app.events.filter(it => it.includes('message refused')).length >= 200", 300)
+        await page.evaluate(ALL_TOLD + "app.link.delays = [1]")
+        await page.until("told.filter(it => it.includes('message refused')).length >= 200")
         await self.followed(page, 1)
-        events = [each.split(" ", 1)[1] for each in await page.evaluate("app.events") if "message refused: " in each]
+        events = [each.split(" ", 1)[1] for each in await page.evaluate("told") if "message refused: " in each]
         self.assertEqual([each.removeprefix("message refused: ").rsplit(";", 1)[0] for each in events], [told for _, told in broken])
 
     async def test_refuses_what_may_not_come(self):
@@ -399,7 +503,7 @@ class Hostile(Case):
                         session.say(21, kind, 0, value)
                 await page.until(f"app.events.some(it => it.includes({json.dumps('message refused: ' + told + ';')}))")
 
-    async def test_follows_anew_after_lagging(self):
+    async def test_subscribes_again_after_lagging(self):
         store = await self.helper(Stub(specs("double", "double")))
         store.specs = specs("double", "double")
         await store.load(0, [(at, at / 2) for at in range(1, 100)])
@@ -424,6 +528,24 @@ class Hostile(Case):
         finally:
             stub.PART_ITEMS = kept
         await self.is_copy(page, store, [0])
+
+    async def test_waits_longer_after_each_failure(self):
+        with socket.socket() as one:
+            one.bind(("127.0.0.1", 0))
+            port = one.getsockname()[1]
+        page = await self.open(f"ws://127.0.0.1:{port}/", [uri(0)])
+        await page.until("app.events.some(it => it.includes('next try in 8 s'))")
+        waits = await page.evaluate("app.events.map(it => it.match(/; next try in (\\d+) s$/)).filter(it => it).map(it => Number(it[1]))")
+        self.assertEqual(waits, [1, 2, 4, 8])
+        self.assertEqual(await page.evaluate("app.link.delays"), [1000, 2000, 4000, 8000, 16000, 30000])
+
+    async def test_says_that_a_server_goes_away(self):
+        store = await self.helper(Stub(specs("double")))
+        page = await self.open(store.url, [uri(0)])
+        await self.followed(page, 1)
+        for session in store.sessions:
+            session.write((1001).to_bytes(2, "big"), web_socket.CLOSE)
+        await page.until("app.events.some(it => it.includes('the server goes away (1001); next try in 1 s'))")
 
     async def test_gives_up_a_server_that_says_nothing(self):
         silent = await asyncio.start_server(lambda reader, writer: asyncio.sleep(60), "127.0.0.1", 0)
@@ -537,7 +659,7 @@ class Shown(Case):
         for number, points in enumerate(drilled(now)):
             await store.load(number, points)
         page = await self.open(store.url, [uri(number) for number in range(len(DRILLED))], 1280, 720, **{"span": 2400})
-        await page.evaluate("""app.tracks.forEach((track, place) => track.readScale(%s[place]))""" % json.dumps([each[3] for each in SCALES]))
+        await page.evaluate("app.tracks.forEach((track, place) => track.readScale(%s[place], '', []))" % json.dumps([each[3] for each in SCALES]))
         await page.until("app.link.channels.every(it => it.column.count > 5)")
         await asyncio.sleep(1.2)
         data = await page.screenshot()

@@ -28,7 +28,7 @@ class View {
     return this.begin + row / this.height * this.span;
   }
 
-  /** Brings the view to the newest where it follows. The reach is the least and the greatest place of all that is drawn. */
+  /** If the view follows the newest point, moves it there. The reach is the least and the greatest place of everything drawn. */
   follow([least, greatest]) {
     if (!(least <= greatest)) return;
     if (this.all) this.span = Math.max((greatest - least) * 1.03, this.isDepth ? 1 : SECOND);
@@ -40,7 +40,7 @@ class View {
     this.all = this.follows = false;
   }
 
-  /** Shows `factor` times as much, with what stands in a row kept there, or the newest where it follows. */
+  /** Shows `factor` times as much. What is in this row stays there, unless the view follows the newest. */
   zoom(factor, row) {
     const kept = this.placeOf(row), part = row / this.height;
     this.span = Math.min(Math.max(this.span * factor, this.isDepth ? 0.01 : 1000), this.isDepth ? 1e6 : 36400 * DAY);
@@ -49,7 +49,7 @@ class View {
   }
 }
 
-/** A canvas's context with as many pixels as it covers on the screen, cleared; one unit is a CSS pixel. */
+/** The context of a canvas, cleared, with as many pixels as it covers on the screen; one unit is a CSS pixel. */
 function cleared(canvas) {
   const scale = window.devicePixelRatio || 1, width = canvas.clientWidth, height = canvas.clientHeight;
   if (canvas.width !== Math.round(width * scale) || canvas.height !== Math.round(height * scale)) {
@@ -69,7 +69,7 @@ function valueText(value) {
   return numberText(Number(value.toPrecision(Math.abs(value) < 1000 ? 4 : 6)));
 }
 
-/** The least step of 1, 2 or 5 times a power of ten that is not below `wanted`. */
+/** The smallest step of at least `wanted` that is 1, 2 or 5 times a power of ten. */
 function niceStep(wanted) {
   const power = 10 ** Math.floor(Math.log10(wanted));
   return [1, 2, 5, 10].map(it => it * power).find(it => it >= wanted * 0.999999) || wanted;
@@ -91,7 +91,7 @@ function dateText(time) {
   return Number.isNaN(date.getTime()) ? '' : `${date.getUTCDate()} ${MONTHS[date.getUTCMonth()]} ${date.getUTCFullYear()}`;
 }
 
-/** The time of day in UTC, as exactly as this step between two times asks for. */
+/** The time of day in UTC, as exact as this step between two labels needs. */
 function timeText(time, step) {
   const date = new Date(time / 1000);
   if (Number.isNaN(date.getTime())) return `${time} µs`;
@@ -146,22 +146,22 @@ class Scale {
   fit([least, greatest]) {
     if (!(least <= greatest)) [least, greatest] = [0, 1];
     const [low, high] = this.isLog ? decades(least, greatest) : rounded(least, greatest);
-    this.left = this.given[0] ?? low;
-    this.right = this.given[1] ?? high;
-    if (this.left === this.right) this.right = this.left + 1;
+    // A logarithmic scale has no edge at 0 or below.
+    [this.left, this.right] = [low, high].map((edge, side) => this.isLog && this.given[side] <= 0 ? edge : this.given[side] ?? edge);
+    if (this.left === this.right) this.right = this.isLog ? 10 * this.left : this.left + 1;
   }
 
-  /** Where a value stands, from 0 at the left edge to 1 at the right. */
+  /** The position of a value, from 0 at the left edge to 1 at the right. */
   partOf(value) {
     if (!this.isLog) return (value - this.left) / (this.right - this.left);
     return value > 0 ? Math.log(value / this.left) / Math.log(this.right / this.left) : -1;
   }
 
-  /** Where the lines of the grid stand, and whether each is a strong one: the middle, or a power of ten. */
+  /** The positions of the grid's lines, and whether each is a strong one: the middle, or a power of ten. */
   lines() {
     if (!this.isLog) return [1, 2, 3, 4, 5, 6, 7, 8, 9].map(it => [it / 10, it === 5]);
-    const lines = [];
-    for (let power = 10 ** Math.floor(Math.log10(this.left)); power < this.right && lines.length < 200; power *= 10) {
+    const lines = [], [low, high] = [this.left, this.right].sort((a, b) => a - b);
+    for (let power = 10 ** Math.floor(Math.log10(low)); power < high && lines.length < 200; power *= 10) {
       for (let digit = 1; digit < 10; digit++) lines.push([this.partOf(digit * power), digit === 1]);
     }
     return lines.filter(([part]) => part > 0 && part < 1);
@@ -187,7 +187,7 @@ class Pen {
     Object.assign(this, {context, xOf, isDown: false, row: null, group: null});
   }
 
-  /** Goes on to a point, or to some in one row: what they begin with, reach and end with. */
+  /** Goes on to a point, or to several in one row: their first, least, greatest and last values. */
   go(y, first, least, greatest, last) {
     if (Number.isNaN(y) || Number.isNaN(first)) return this.lift();
     const group = this.group;
@@ -223,13 +223,13 @@ class Pen {
   }
 }
 
-/** -1 where a block lies above what is shown, 1 where below, else 0. */
+/** -1 if a block is above what is shown, 1 if it is below, otherwise 0. */
 function sideOf({first, last}, block, view) {
   if (!(last[block] >= view.begin)) return -1;
   return first[block] > view.end ? 1 : 0;
 }
 
-/** Draws a column's curve, block by block: one that lies in one row is one stroke, one outside of the view is passed over. */
+/** Draws the curve of a column, block by block: a block in one row is one stroke, and a block outside of the view is skipped. */
 function drawCurve(context, column, view, xOf) {
   const {blocks, times} = column, pen = new Pen(context, xOf), breakStep = column.breakStep();
   let outside = 0;
@@ -258,7 +258,7 @@ function goTo(pen, column, view, place) {
   pen.go(view.rowOf(column.places[place]), value, value, value, value);
 }
 
-/** Over a block whose points all lie in one row. */
+/** Goes over a block whose points are all in one row. */
 function goOver(pen, {blocks, values, places}, view, block, end) {
   const least = blocks.least[block], greatest = blocks.greatest[block];
   if (!(least <= greatest)) return pen.lift();
@@ -274,7 +274,7 @@ function goAlong(pen, column, view, begin, end, breakStep) {
   }
 }
 
-/** Draws texts beside their times, the newer one where two would overlap. */
+/** Draws texts beside their times. Of two that would overlap, the newer one is drawn. */
 function drawTexts(context, column, view, color) {
   let above = Infinity;
   for (let place = column.count - 1; place >= 0; place--) {

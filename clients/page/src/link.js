@@ -1,23 +1,25 @@
-// The link to a server: its session, what it is asked, and what it tells.
+// The link to a server: its session, the requests, and what the server sends.
 
 const SUBPROTOCOL = 'etp12.energistics.org';
 const VERSION = {major: 1, minor: 2, revision: 0, patch: 0};
 const LONG = 1;
 /** The least index that a channel may have. */
 const LEAST_INDEX = -(2n ** 62n);
-/** What is asked for of a channel whose points are too many for one answer, code 12. */
+/** How many of its latest points are asked for if a channel has too many for one answer, code 12. */
 const LATEST_COUNT = 500000;
 const LIMIT_EXCEEDED = 12;
+/** The code with which a server that is stopped ends its links (RFC 6455, 7.4.1). */
+const GOING_AWAY = 1001;
 /** Places of ChannelDataKind. */
 const TYPE_BOOLEAN = 5, TYPE_STRING = 10, TYPE_BYTES = 11;
-/** The longest message that the server may send in one part, in bytes: short enough that reading one never holds up the page. */
+/** The longest message that the server may send in one part, in bytes: so short that reading one never holds up the page. */
 const PART_LIMIT = 1 << 20;
 /** How long a new link may take until its session is open, how often a Ping is sent, and after what silence the link is given up, in ms. */
 const OPEN_PATIENCE = 10000, PING_EVERY = 15000, SILENCE = 45000;
-/** A link that stood so long was a good one: the next wait is the first again, in ms. */
+/** A link that lasted this long was a good one: the next wait is the shortest again, in ms. */
 const STOOD = 30000;
 
-/** A channel of the server's that the page follows. */
+/** A channel of the server that the page follows. */
 class Channel {
   constructor(uri) {
     this.uri = uri;
@@ -25,7 +27,7 @@ class Channel {
     this.uom = '';
     this.id = null;
     this.column = new Column();
-    // Why it isn't followed, in words; and whether its oldest points are left out.
+    // Why it isn't followed, in words; and whether its oldest points are missing.
     this.trouble = '';
     this.isCut = false;
     this.isFollowed = false;
@@ -45,7 +47,7 @@ class Channel {
   }
 }
 
-/** Tells of one server and follows its channels; goes on after the link broke, with a new copy. */
+/** Follows the channels of one server. After a broken link it connects again and starts over with a new copy. */
 class Link {
   /** `from` is null for whole channels, a negative number of seconds before now, or a moment in ms. `tell(state, text)` is called
       with each change of the state: `connecting`, `connected` or `waiting`. */
@@ -57,7 +59,7 @@ class Link {
     this.delays = [1000, 2000, 4000, 8000, 16000, 30000];
     this.failures = 0;
     this.server = '';
-    // The server's clock before the browser's, in microseconds.
+    // How far the server's clock is ahead of the browser's, in microseconds.
     this.skew = 0;
     this.socket = null;
     /** Called after each message that was taken. */
@@ -77,12 +79,12 @@ class Link {
     socket.binaryType = 'arraybuffer';
     socket.onopen = () => this.socket === socket && this.openSession();
     socket.onmessage = event => this.socket === socket && this.hear(event.data);
-    socket.onclose = event => this.socket === socket && this.lose(event.reason || `the link broke (${event.code})`);
+    socket.onclose = event => this.socket === socket && this.lose(event.reason || `${event.code === GOING_AWAY ? 'the server goes away' : 'the link broke'} (${event.code})`);
     this.heard = Date.now();
     this.watch = setInterval(() => this.keep(), 1000);
   }
 
-  /** Ends a link that is silent, and keeps one alive that isn't. */
+  /** Gives up a link that is silent, and keeps any other alive. */
   keep() {
     const silent = Date.now() - this.heard;
     if (!this.isOpen && silent > OPEN_PATIENCE) this.lose('no session within 10 s');
@@ -142,7 +144,7 @@ class Link {
     this.asks.set(this.send(21, 1, {uris}), {reply: 'GetChannelMetadataResponse', asked});
   }
 
-  /** Subscribes to a channel from the wanted moment on, or to its latest points. Each has a request of its own, and so room of its own. */
+  /** Subscribes to a channel from the wanted moment on, or to its latest points. Each channel has its own request, and so its own limit. */
   subscribe(channel, isCut) {
     const info = {
       channelId: channel.id, startIndex: {item: [LONG, this.firstIndex()]}, dataChanges: true,
@@ -169,7 +171,7 @@ class Link {
     }
   }
 
-  /** Takes a message. What it says is used part by part; only that parts of two messages don't mix is looked after. */
+  /** Takes a message. Each part is used as it comes; parts of two messages must not mix. */
   take({header, name, body}) {
     if (!(header.messageId > this.lastId)) throw new Fault(`the id ${header.messageId} comes after ${this.lastId}`);
     this.lastId = header.messageId;
@@ -225,7 +227,7 @@ class Link {
     this.byId.set(channel.id, channel);
   }
 
-  /** A refused channel is asked for once more by its latest points where it has too many, and else told in its track. */
+  /** If a channel is refused because it has too many points, its latest ones are asked for. Any other refusal is shown in its track. */
   takeRefusal(ask, {error: [, whole], errors}) {
     if (ask.reply === 'OpenSession') throw new Fault(`no session: ${errorText(whole)}`);
     const refused = whole ? [...ask.asked].map(([key]) => [key, whole]) : [...errors];
@@ -265,7 +267,7 @@ class Link {
     for (const {channelId, newEndIndex} of channels) this.followed(channelId).drop(indexOf(newEndIndex) + 1, Infinity);
   }
 
-  /** Channels that the server ended, as the page fell behind, are followed anew. */
+  /** Takes the end of subscriptions. Those that ended because the page fell behind begin again. */
   tellStop({reason, channelIds}) {
     for (const id of channelIds.values()) {
       const channel = this.byId.get(id);
@@ -279,7 +281,7 @@ class Link {
   }
 }
 
-/** What takes each notice. */
+/** Which function takes each notice. */
 const TELLING = {
   __proto__: null, ChannelData: Link.prototype.tellPoints, RangeReplaced: Link.prototype.tellReplacement,
   ChannelsTruncated: Link.prototype.tellTruncation, SubscriptionsStopped: Link.prototype.tellStop,

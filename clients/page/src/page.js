@@ -1,11 +1,14 @@
-// The page: tracks side by side, the controls over them, and the foot that tells how it stands.
+// The page: tracks side by side, the controls above them, and the foot with the state of the link.
 
 const COLORS = ['#0b5cad', '#c0392b', '#1e7f3c', '#7a3fa0', '#b8650a', '#0f7f86', '#a8326e', '#454f5b'];
 const MOST_CHANNELS = 64;
 const TIME_SPANS = [['5 min', 5 * MINUTE], ['30 min', 30 * MINUTE], ['2 h', 2 * HOUR], ['12 h', 12 * HOUR], ['1 d', DAY], ['All', 0]];
+const isServed = location.protocol.startsWith('http');
+/** The address of something beside the page, without the password that location.href may have in it. */
+const besidePage = name => new URL(name, location.origin + location.pathname).href;
 const DEPTH_SPANS = [['10', 10], ['50', 50], ['250', 250], ['1000', 1000], ['All', 0]];
 
-/** An element with a class and a text. What a server says comes into the page by `textContent` alone. */
+/** An element with a class and a text. Text from a server enters the page only through `textContent`. */
 function element(name, className, text = '') {
   const made = document.createElement(name);
   made.className = className;
@@ -13,7 +16,7 @@ function element(name, className, text = '') {
   return made;
 }
 
-/** A length of time in one unit, as in `3 s` and `2.5 h`. */
+/** A length of time in one unit, such as `3 s` or `2.5 h`. */
 function ageText(seconds) {
   if (seconds < 100) return `${Math.max(0, Math.round(seconds))} s`;
   const [unit, size] = [['min', 60], ['h', 3600], ['d', 86400], ['y', 31557600]].findLast(([, it]) => seconds >= 1.5 * it) || ['min', 60];
@@ -23,11 +26,11 @@ function ageText(seconds) {
 
 /** One channel's track: its head with name, unit, last value and scale, and the canvas below. */
 class Track {
-  constructor(channel, place, scale) {
+  constructor(channel, place, scale, faults) {
     this.channel = channel;
     this.color = COLORS[place % COLORS.length];
     this.scale = new Scale();
-    this.readScale(scale || '');
+    this.readScale(scale || '', `scale ${place + 1}`, faults);
     this.node = element('section', 'track');
     this.canvas = element('canvas', 'plot');
     this.canvas.setAttribute('role', 'img');
@@ -35,11 +38,18 @@ class Track {
     this.node.append(this.makeHead(), this.canvas, this.note);
   }
 
-  /** Takes a scale as the address has it: `LEFT:RIGHT`, or `LEFT:RIGHT:log`; an edge that is empty goes by what is shown. */
-  readScale(text) {
-    const [left, right, kind] = text.split(':');
-    this.scale.given = [left, right].map(edge => edge && Number.isFinite(Number(edge)) ? Number(edge) : null);
+  /** Takes a scale as the address has it: `LEFT:RIGHT`, or `LEFT:RIGHT:log`; an empty edge fits what is shown. */
+  readScale(text, word, faults) {
+    const [left, right, kind, ...rest] = text.split(':');
+    this.scale.given = [left, right].map(edge => numberOf(edge, word, faults));
     this.scale.isLog = kind === 'log';
+    if (kind && !this.scale.isLog || rest.length) faults.push(`${word}: ${text} is not LEFT:RIGHT or LEFT:RIGHT:log`);
+  }
+
+  /** The scale as the address has it. */
+  scaleText() {
+    const {given, isLog} = this.scale;
+    return `${given.map(it => it ?? '').join(':')}${isLog ? ':log' : ''}`;
   }
 
   makeHead() {
@@ -48,11 +58,11 @@ class Track {
     this.value = element('span', 'value');
     this.uom = element('span', 'uom');
     this.age = element('span', 'age');
-    this.age.title = 'How old the last point is, or its time where the cursor stands';
+    this.age.title = 'How old the last point is, or the time of the point at the cursor';
     this.edges = ['left', 'right'].map((side, place) => this.makeEdge(side, place));
     line.title = 'Linear or logarithmic';
     line.style.color = this.color;
-    line.onclick = () => { this.scale.isLog = !this.scale.isLog; app.schedule(); };
+    line.onclick = () => { this.scale.isLog = !this.scale.isLog; app.keep(); };
     this.line = line;
     row.append(this.edges[0], line, this.edges[1]);
     const reading = element('div', 'reading');
@@ -63,13 +73,13 @@ class Track {
 
   makeEdge(side, place) {
     const edge = element('input', `edge ${side}`);
-    edge.title = `Value at the ${side} edge; empty: by what is shown`;
+    edge.title = `Value at the ${side} edge; empty: fits what is shown`;
     edge.setAttribute('aria-label', edge.title);
     edge.onchange = () => {
       const number = edge.value.trim() === '' ? NaN : Number(edge.value);
       this.scale.given[place] = Number.isFinite(number) ? number : null;
       edge.blur();
-      app.schedule();
+      app.keep();
     };
     return edge;
   }
@@ -91,7 +101,7 @@ class Track {
     this.tell(view, cursor);
   }
 
-  /** Writes the head: the value at the cursor, and else the last one. */
+  /** Writes the head: the value at the cursor, or else the last one. */
   tell(view, cursor) {
     const {channel} = this, {column} = channel;
     const place = cursor === null ? column.count - 1 : column.nearest(view.placeOf(cursor));
@@ -127,13 +137,19 @@ class Track {
 /** Everything on the page. */
 class App {
   constructor(address) {
-    const words = new URLSearchParams(address);
-    this.uris = words.getAll('channel').slice(0, MOST_CHANNELS);
+    const words = new URLSearchParams(address), uris = words.getAll('channel');
+    // What is wrong with the address.
+    this.faults = uris.length > MOST_CHANNELS ? [`only the first ${MOST_CHANNELS} of ${uris.length} channels are drawn`] : [];
+    this.uris = uris.slice(0, MOST_CHANNELS);
     this.depthUri = words.get('depth');
-    this.url = words.get('url') || (location.protocol.startsWith('http') ? `${location.origin.replace('http', 'ws')}/etp` : '');
-    this.from = momentOf(words.get('from'));
-    this.view = new View(Number(words.get('span')) * (this.depthUri ? 1 : SECOND) || (this.depthUri ? 0 : 30 * MINUTE), this.depthUri !== null);
+    this.url = words.get('url') || (isServed ? besidePage('etp').replace('http', 'ws') : '');
+    this.from = momentOf(words.get('from'), this.faults);
+    this.unit = this.depthUri ? 1 : SECOND;
+    const span = numberOf(words.get('span'), 'span', this.faults) ?? (this.depthUri ? 0 : 1800);
+    if (span < 0) this.faults.push(`span: ${span} is negative`);
+    this.view = new View(Math.max(span, 0) * this.unit, this.depthUri !== null);
     this.scales = words.getAll('scale');
+    if (this.scales.length > this.uris.length) this.faults.push(`scale ${this.uris.length + 1}: there is no channel for it`);
     this.events = [];
     this.cursor = null;
     this.isScheduled = false;
@@ -145,7 +161,8 @@ class App {
     this.link = new Link(this.url, uris, this.from, (state, text) => this.tellState(state, text));
     const byUri = new Map(this.link.channels.map(channel => [channel.uri, channel]));
     this.depth = this.depthUri ? byUri.get(this.depthUri) : null;
-    this.tracks = this.uris.map((uri, place) => new Track(byUri.get(uri), place, this.scales[place]));
+    this.tracks = this.uris.map((uri, place) => new Track(byUri.get(uri), place, this.scales[place], this.faults));
+    document.getElementById('faults').textContent = this.faults.join('; ');
     this.axis = document.getElementById('axis');
     document.getElementById('tracks').append(...this.tracks.map(track => track.node));
     this.makeSpans();
@@ -166,7 +183,7 @@ class App {
       const button = element('button', 'span', name);
       button.onclick = () => {
         Object.assign(this.view, {all: span === 0, follows: true, span: span || this.view.span});
-        this.schedule();
+        this.keep();
       };
       row.append(button);
       return [button, span];
@@ -184,6 +201,16 @@ class App {
     this.schedule();
   }
 
+  /** Draws after a change by hand, and stores the change in the address, for reloads and bookmarks. */
+  keep() {
+    const words = new URLSearchParams(location.search);
+    words.delete('scale');
+    for (const track of this.tracks) words.append('scale', track.scaleText());
+    words.set('span', this.view.all ? 0 : this.view.span / this.unit);
+    history.replaceState(null, '', `?${words}`);
+    this.schedule();
+  }
+
   schedule() {
     if (this.isScheduled) return;
     this.isScheduled = true;
@@ -194,7 +221,7 @@ class App {
     const begun = performance.now();
     this.isScheduled = false;
     this.settle();
-    this.view.height = this.axis.clientHeight;
+    this.view.height = this.tracks[0].canvas.clientHeight;
     this.view.follow(this.reach());
     drawAxis(this.axis, this.view);
     for (const track of this.tracks) track.draw(this.view, this.cursor);
@@ -208,7 +235,7 @@ class App {
     for (const channel of this.link.channels) channel.column.changedFrom = Infinity;
   }
 
-  /** The least and the greatest place of all that is drawn. */
+  /** The least and the greatest place of everything that is drawn; the last half hour if there are no points. */
   reach() {
     let least = Infinity, greatest = -Infinity;
     for (const {channel: {column: {blocks, places, times, count}}} of this.tracks) {
@@ -217,7 +244,7 @@ class App {
       for (const first of isSorted ? [times[0]] : blocks.first) if (first < least) least = first;
       for (const last of isSorted ? [times[count - 1]] : blocks.last) if (last > greatest) greatest = last;
     }
-    return [least, greatest];
+    return least <= greatest || this.view.isDepth ? [least, greatest] : [this.link.now() - 30 * MINUTE, this.link.now()];
   }
 
   tellFoot() {
@@ -241,10 +268,12 @@ class App {
     return this.view.isDepth ? numberText(Number(place.toPrecision(7))) : `${dateText(place)} ${timeText(place, SECOND)}`;
   }
 
-  /** Wheel and drag move along the axis, the wheel with Ctrl zooms, and so do the keys. */
+  /** Wheel, drag and keys move along the axis; the wheel with Ctrl zooms, and so do + and -. */
   listen() {
     const log = document.getElementById('log'), rowOf = event => event.clientY - this.axis.getBoundingClientRect().top;
     log.addEventListener('wheel', event => {
+      // If the tracks are wider than the window, turning it sideways scrolls them.
+      if (event.shiftKey || Math.abs(event.deltaX) > Math.abs(event.deltaY)) return;
       event.preventDefault();
       const turned = event.deltaY * (event.deltaMode === 1 ? 16 : 1);
       this.act(() => event.ctrlKey ? this.view.zoom(1.002 ** turned, rowOf(event)) : this.view.move(turned / this.view.height * this.view.span));
@@ -289,15 +318,26 @@ class App {
   }
 }
 
-/** A moment as the address has it: a negative number of seconds before now, or a date; null for the channel's beginning. */
-function momentOf(text) {
+/** The number in a text, or null if it is empty. A text that is not a number is a fault, told with its place in the address. */
+function numberOf(text, place, faults) {
   if (!text) return null;
-  const number = Number(text), date = Date.parse(text);
-  if (number < 0) return number;
-  return Number.isNaN(date) ? null : date;
+  const number = Number(text);
+  if (Number.isFinite(number)) return number;
+  faults.push(`${place}: ${text} is not a number`);
+  return null;
 }
 
-/** Offers what stands in catalog.json beside the page, as nothing on the wire lists channels. */
+/** A moment as the address has it: a negative number of seconds before now, or a date; null for the channel's beginning. */
+function momentOf(text, faults) {
+  if (!text) return null;
+  const number = Number(text), date = number >= 0 ? NaN : Date.parse(text);
+  if (number < 0) return number;
+  if (!Number.isNaN(date)) return date;
+  faults.push(`from: ${text} is neither a date nor a number of seconds before now, as -3600`);
+  return null;
+}
+
+/** The form that offers the channels in catalog.json beside the page, since a server can't be asked which channels it has. */
 class Setup {
   constructor(app) {
     this.form = document.getElementById('setup');
@@ -309,13 +349,12 @@ class Setup {
   }
 
   async offer() {
-    if (!location.protocol.startsWith('http')) return;
+    if (!isServed) return;
     try {
-      // Not beside location.href, which may have a password in it.
-      const answer = await fetch(new URL('catalog.json', location.origin + location.pathname));
+      const answer = await fetch(besidePage('catalog.json'));
       if (answer.ok) this.list((await answer.json()).channels);
     } catch {
-      // Without a catalog the URIs are typed.
+      // Without a catalog the URIs have to be typed.
     }
   }
 

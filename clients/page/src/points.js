@@ -1,9 +1,9 @@
 // The points of a channel, in the order of their times.
 
-/** A page sums up so many points, so that it draws a million without looking at each. */
+/** How many points one summary covers. With summaries a million points are drawn without looking at each. */
 const BLOCK = 256;
 
-/** Branches of a DataValue that a channel has. */
+/** Branches of DataValue for a channel's values. */
 const BOOLEAN = 1, STRING = 6, BYTES = 17;
 
 /** A Float64Array with this array's first `count` numbers and room for at least `room`. */
@@ -18,15 +18,15 @@ class Column {
     this.times = new Float64Array(1024);
     this.values = new Float64Array(1024);
     this.count = 0;
-    // What a double can't hold, by the time: texts, bytes, and longs beyond 2^53.
+    // Values that a double can't hold, by time: texts, bytes, and longs beyond 2^53.
     this.exact = new Map();
-    // The least time at which something has changed since the page was drawn: everything, in a new column.
+    // The least time at which something has changed since the page was last drawn; in a new column everything has.
     this.changedFrom = -Infinity;
     this.places = this.times;
     this.blocks = {least: [], greatest: [], first: [], last: []};
   }
 
-  /** The place of the first point at this time or after it. */
+  /** The index of the first point at or after this time. */
   find(time) {
     let low = 0, high = this.count;
     while (low < high) {
@@ -65,7 +65,7 @@ class Column {
     if (branch === BYTES) this.exact.set(time, hexOf(value));
   }
 
-  /** Drops the points whose times lie in an interval, both ends with it. */
+  /** Drops the points whose times are in an interval, including both ends. */
   drop(begin, end) {
     const from = this.find(begin), to = this.find(end + 1);
     if (from >= to) return;
@@ -76,7 +76,7 @@ class Column {
     this.note(begin);
   }
 
-  /** Puts points that rise in time where none of this column's lies between the first and the last of them. */
+  /** Inserts points in order of time. This column must have none between the first and the last of them. */
   insert(items) {
     if (!items.length) return;
     const at = this.find(items[0].time);
@@ -99,7 +99,7 @@ class Column {
     return this.count ? this.times[this.count - 1] : -Infinity;
   }
 
-  /** Brings places and blocks up to date with what has changed: a point's place is its time, or the depth that was last told at it. */
+  /** Updates places and blocks after changes. A point's place is its time, or the last depth at that time. */
   settle(depth) {
     const changed = depth ? Math.min(this.changedFrom, depth.changedFrom) : this.changedFrom;
     if (changed === Infinity) return;
@@ -129,7 +129,7 @@ class Column {
     }
   }
 
-  /** The least and the greatest of some numbers, without those that are none. */
+  /** The least and the greatest of some numbers, ignoring NaN. */
   reach(numbers, begin, end) {
     let least = Infinity, greatest = -Infinity;
     for (let place = begin; place < end; place++) {
@@ -162,7 +162,7 @@ class Column {
     return [least, greatest];
   }
 
-  /** The time beyond which two neighbours have a break between them: ten times the usual step, the median of 500 steps. */
+  /** The step between two neighbours above which the curve is broken: ten times the usual one, the median of 500 steps. */
   breakStep() {
     const steps = [];
     for (let place = 1; place < this.count; place += Math.max(1, Math.floor(this.count / 500))) {
@@ -172,7 +172,7 @@ class Column {
     return steps.length ? 10 * steps[steps.length >> 1] : Infinity;
   }
 
-  /** The place of the point that is nearest to a place on the axis; of several the newest. -1 where there is none. */
+  /** The index of the point nearest to a place on the axis, the newest of several, or -1 if there is none. */
   nearest(wanted) {
     if (this.places === this.times) {
       const at = this.find(wanted);

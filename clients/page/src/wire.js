@@ -1,17 +1,17 @@
-// The wire: the schema's table, and messages to and from bytes in Avro's binary encoding.
+// The wire: the table of the schema, and messages to and from bytes in Avro's binary encoding.
 //
-// A long is a Number up to 2^53 and a BigInt beyond, an enumeration's value its place, a union a pair of the branch's place and
-// its value, a map a Map, and a record an object. A DataItem alone is an object of its own kind, {channel, time, branch, value},
-// since a page reads millions of them.
+// A long is a Number up to 2^53 and a BigInt beyond, an enumeration is the number of its symbol, a union is a pair of the number of
+// its branch and the value, a map is a Map, and a record is an object. Only a DataItem has a form of its own, {channel, time, branch,
+// value}, since a page reads millions of them.
 
-/** Bytes that spell no value: the word for why, and the offset of the first byte of the item that is refused. */
+/** Bytes that can't be read: a word for the cause, and the offset of the first byte of the item that is refused. */
 class Refusal extends Error {
   constructor(why, at) {
     super(`${why} ${at}`);
   }
 }
 
-/** Why a message ends the link: it can't be read, or it is none that may come. */
+/** Why a message ends the link: it can't be read, or it may not come now. */
 class Fault extends Error {}
 
 const NODE_LIMIT = 8388608;
@@ -80,7 +80,7 @@ class Reader {
     }
   }
 
-  /** The number whose last byte stands so many places after its first, where it may be one beyond 2^53. */
+  /** The number whose last byte is this many places after its first: it may be beyond 2^53. */
   bigNumber(start, last) {
     let raw = 0n;
     for (let place = last; place >= 0; place--) raw = raw << 7n | BigInt(this.bytes[start + place] & 127);
@@ -95,7 +95,7 @@ class Reader {
     return number;
   }
 
-  /** So many bytes of the item that begins at `start`. */
+  /** The next `size` bytes, of the item that begins at `start`. */
   take(size, start) {
     if (size > this.bytes.length - this.at) throw new Refusal('short', start);
     this.at += Number(size);
@@ -191,7 +191,7 @@ class Reader {
     return record;
   }
 
-  /** A DataItem. Its time is null where it doesn't have exactly one index, a long. */
+  /** A DataItem. Its time is null unless it has exactly one index, which is a long. */
   item() {
     const start = this.at, left = this.left;
     const item = left > 10 ? this.usualItem() : null;
@@ -203,8 +203,8 @@ class Reader {
     return {channel: channelId, time, branch: value.item[0], value: value.item[1]};
   }
 
-  /** An item in the usual spelling, in which the bytes 2 2 begin one block of one index, a long, and 0 is the empty list of
-      attributes; null where it is spelled otherwise. Six nodes stand before its value. */
+  /** An item in the usual form, in which the bytes 2 2 begin one block of one index, a long, and 0 is the empty list of attributes;
+      null if it has another form. Six nodes come before its value. */
   usualItem() {
     const channel = this.number();
     if (this.bytes[this.at] !== 2 || this.bytes[this.at + 1] !== 2) return null;
@@ -277,7 +277,7 @@ function writeMessage(header, body, value) {
   return new Uint8Array(writer.bytes);
 }
 
-/** Runs `read`; a refusal becomes the fault of this part of a message. */
+/** Runs `read`; a refusal becomes a fault of this part of a message. */
 function within(part, read) {
   try {
     return read();

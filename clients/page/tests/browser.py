@@ -14,7 +14,8 @@ from pathlib import Path
 import web_socket
 
 NAMES = ["chromium", "chromium-headless-shell", "chromium-browser", "google-chrome"]
-PATIENCE = 90
+# How long anything is waited for, in seconds; a server with run-time checks, or a busy machine, is waited for longer.
+PATIENCE = 90 * int(os.environ.get("COLMJURR_PATIENCE", "1"))
 
 
 def found():
@@ -48,6 +49,10 @@ def told_address(path):
     raise AssertionError("the browser doesn't say where its DevTools are")
 
 
+class Navigated(Exception):
+    """The page that was asked has given way to the next one."""
+
+
 class Browser:
     address = None
 
@@ -71,6 +76,8 @@ class Browser:
         asked = {"id": number, "method": method, "params": words}
         await self.socket.send(json.dumps(asked | ({"sessionId": session} if session else {})))
         told = await asyncio.wait_for(self.answers[number], PATIENCE)
+        if "navigated" in told.get("error", {}).get("message", ""):
+            raise Navigated
         assert "error" not in told, (method, told["error"])
         return told["result"]
 
@@ -118,10 +125,15 @@ class Page:
     async def until(self, expression, patience=PATIENCE):
         """Waits until this holds in the page."""
         for _ in range(int(patience * 20)):
-            if await self.evaluate(expression):
-                return
+            with contextlib.suppress(Navigated):
+                if await self.evaluate(expression):
+                    return
             await asyncio.sleep(0.05)
         raise AssertionError(f"{expression} doesn't hold after {patience} s; {await self.evaluate('document.body.innerText')}")
+
+    async def wheel(self, x, y, across, down):
+        """Turns the wheel of the mouse at a place in the window."""
+        await self.browser.ask("Input.dispatchMouseEvent", self.session, type="mouseWheel", x=x, y=y, deltaX=across, deltaY=down)
 
     async def screenshot(self):
         """The bytes of a PNG of the window."""

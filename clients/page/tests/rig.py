@@ -1,5 +1,6 @@
 """A built etpd with a rig that loads it, and asks it for the points that it holds."""
 import asyncio
+import os
 import re
 import struct
 import subprocess
@@ -12,7 +13,7 @@ import wire
 from stub import VERSION, double_items, interval, item, long_index, number_bytes
 
 SUBPROTOCOL = "etp12.energistics.org"
-PATIENCE = 60
+PATIENCE = 60 * int(os.environ.get("COLMJURR_PATIENCE", "1"))
 BATCH = 1_000
 
 

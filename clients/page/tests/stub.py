@@ -170,7 +170,7 @@ class Session:
                 self.say_parts(4, channel.items(start))
 
     def lag(self):
-        """Ends all subscriptions, as where the client fell behind."""
+        """Ends all subscriptions, as if the client had fallen behind."""
         ids, self.starts = {str(number): number for number in self.starts}, {}
         self.say(21, 8, 0, dict(reason="lagged 9", channelIds=ids))
 
