@@ -37,8 +37,8 @@ pub enum Synced {
 
 /// A file on a disk, which a crash may cut short in its writes. It can cross threads.
 ///
-/// Between two syncs each range that a write was asked for, done or failed, and the part past the old end may hold any bytes
-/// after a crash; the other bytes stay.
+/// A crash may leave any bytes where a write since the last sync was to put some, whether that write is done or has failed, and past the end
+/// that the file had then. All other bytes are as the last sync left them.
 pub trait Disk: Drop + Send {
     /// The bytes that a read gives, where the disk tells them.
     ghost seen: { Self → Option (List ℕ) };

@@ -72,10 +72,6 @@ module _ {D : Type 0} (seen : D → Option (List ℕ)) (may_leave : D → List �
           );
         }
 
--- nothing is appended
-pub none_appends : {D : Type 0} (seen : D → Option (List ℕ)) (may_leave : D → List ℕ → Type 0) (j : JournalFile D) → Appends seen may_leave j [] j
-none_appends seen may_leave j id ss rest = subst (λ (l : List (List ℕ)). AtRest seen may_leave id l j) (sym (append-nil ss)) rest
-
 module _ {D : Type 0} (seen : D → Option (List ℕ)) (may_leave : D → List ℕ → Type 0) (j : JournalFile D) (more : List (List ℕ)) where
   opens : (id : List ℕ) (ss : List (List ℕ)) (rest : AtRest seen may_leave id ss j) (c : List ℕ) → c ≡ rest.file → IsBeforeOrAfter id ss more c
   opens id ss rest c is = inl (opens_shut id ss [] rest.form.short tt rest.form.gate rest.form.junk c rest.form.shut (is ∙ rest.form.bytes))

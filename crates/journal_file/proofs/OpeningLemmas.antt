@@ -54,18 +54,6 @@ record_stands f at n s next told size body =
     let all : drop at f ≡ (to_be_bytes w64 n ++ s) ++ next ∷ more = whole ∙ ap (λ (l : List ℕ). front ++ l) tail ∙ sym (append_assoc front s (next ∷ more)) in
     (more, subst (λ (k : ℕ). drop at f ≡ (to_be_bytes w64 k ++ s) ++ next ∷ more) (sym size) all)
 
--- no record where the file ends before
-pub bad_short : (rest : List ℕ) → length rest ≤ 8 + length_in rest → record_at rest ≡ Bad
-bad_short rest short = grind (arith, nat_tests)
-
-pub bad_end : (f : List ℕ) (at : ℕ) → length f ≤ at + 8 → record_at (drop at f) ≡ Bad
-bad_end f at short = bad_short (drop at f) (omega (arith, short, length-drop at f))
-
-pub bad_told : (f : List ℕ) (at : ℕ) (told : List ℕ) → StandsAt f at told → length told ≡ 8 → length f - at - 8 ≤ from_be_bytes w64 told → record_at (drop at f) ≡ Bad
-bad_told f at told stands eight over =
-    let is : from_be_bytes w64 (take 8 (drop at f)) ≡ from_be_bytes w64 told = ap (from_be_bytes w64) (ap (λ (k : ℕ). take k (drop at f)) (sym eight) ∙ sym stands) in
-    bad_short (drop at f) (omega (arith, over, is, length-drop at f))
-
 -- what stands behind a gate that was read
 pub behind_gate : (f : List ℕ) (ss : List (List ℕ)) (gate byte : ℕ) → (read : IsRead f ss gate byte) → drop (gate + 1) f ≡ read.0
 behind_gate f ss gate byte read =
