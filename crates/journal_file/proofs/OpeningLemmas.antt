@@ -1,16 +1,15 @@
 -- What is read of a file, part by part.
-use Rattle.std.proofs.Common.{◌≡◌, ◌≢◌, inr, ◌+◌, ◌-◌, ◌<◌, ◌≤◌, ◌^◌, ℕ, List, [], ◌∷◌, ◌++◌, length, get_or, take, drop, refl, sym, ◌∙◌, ap, subst, arith, append_assoc, length-append, length-drop, take-append-drop, None, Some, Bool, true, false, true≢false}
+use Rattle.std.proofs.Common.{◌≡◌, ◌≢◌, inr, ◌+◌, ◌<◌, ◌≤◌, ◌^◌, ℕ, List, [], ◌∷◌, ◌++◌, length, get_or, take, drop, refl, sym, ◌∙◌, ap, subst, arith, append_assoc, length-append, take-append-drop, None, Some, Bool, true, false, true≢false}
 use Rattle.std.proofs.lemmas.List.{take_at, drop_at, drop_more, drop_all, drop-drop, drop-take, take-take, append-nil}
-use Rattle.std.proofs.lemmas.Bool.Decides.{nat_tests}
 use mathlib.Core.Bool.{not}
 use lib.Dec.{eqb}
 use lib.Pointwise.{pointwise, bytes_decides}
-use Rattle.std.specs.Int.{w64, to_be_bytes, from_be_bytes}
+use Rattle.std.specs.Int.{w64, to_be_bytes}
 use Rattle.std.specs.Prelude.{codes, Result, Ok, Err, IfOk, IfErr, IfSome}
 use Rattle.std.specs.declared.option.Option.{Option}
 use Rattle.journal_disk.specs.Disks.{Elapses}
 use Rattle.journal_disk.proofs.DiskLemmas.{started, goes_on, joined}
-use Rattle.journal_file.specs.Layout.{head, block, blocks, Bad, record_at, length_in, IsFile}
+use Rattle.journal_file.specs.Layout.{head, block, blocks, Bad, record_at, IsFile}
 use Rattle.journal_file.specs.Opening.{Rested, StandsAt, IsRecord, IsRead, IsBadGate, IsRefusal, IsHeadRefusal, IsStep, IsBegun}
 use Rattle.journal_file.specs.declared.error.JournalError.{JournalError}
 use Rattle.journal_file.specs.declared.error.JournalError.TheVariants as Why
