@@ -27,7 +27,7 @@ _etptool() {
 
 _colmjurr() {
     if [ "$COMP_CWORD" -eq 1 ]; then
-        COMPREPLY=($(compgen -W 'ping spaces get put delete range follow load plot check-config catalog exporter bridge copy conformance' -- "$2"))
+        COMPREPLY=($(compgen -W 'ping spaces get put delete channels range follow load plot check-config catalog exporter bridge copy conformance' -- "$2"))
     else
         compopt -o filenames 2> /dev/null
         COMPREPLY=($(compgen -f -- "$2"))

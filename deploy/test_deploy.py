@@ -578,7 +578,9 @@ class Runner(unittest.TestCase):
         program = Path(folder, "program")
         program.write_text(f"#!/bin/sh\n{script}\n")
         program.chmod(0o755)
-        process = subprocess.Popen([DEPLOY / "etpd-run", program, "CONFIG", "127.0.0.1:0"], stdout=subprocess.PIPE, text=True)
+        # A shell in the background has SIGINT ignored, and what it starts can't trap it.
+        process = subprocess.Popen([DEPLOY / "etpd-run", program, "CONFIG", "127.0.0.1:0"], stdout=subprocess.PIPE, text=True,
+                                   preexec_fn=lambda: signal.signal(signal.SIGINT, signal.SIG_DFL))
         self.addCleanup(process.kill)
         return process
 
