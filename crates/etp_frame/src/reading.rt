@@ -88,10 +88,10 @@ fn read_loaded(
         Ok(read) => read,
         Err(refusal) => return Err(body_error(header, front, refusal)),
     };
-    let Ok(message) = load_message(alloc, load) else {
-        return Err(FrameError::NoMemory);
-    };
-    ended(header, message, front, length, rest.len())
+    match load_message(alloc, load) {
+        Ok(message) => ended(header, message, front, length, rest.len()),
+        Err(_) => Err(FrameError::NoMemory),
+    }
 }
 
 /// The load as a message.
