@@ -1,1 +1,2 @@
 mod LastKindLemmas
+mod LoadTreeLemmas

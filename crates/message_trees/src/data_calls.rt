@@ -25,10 +25,10 @@ pub fn load_by_tree(alloc: Global, bytes: &[u8]) -> Result<(LoadChannelData, usi
         Ok(read) => read,
         Err(refusal) => return Err(refusal),
     };
-    let Ok(load) = LoadChannelData::from_tree(alloc, tree) else {
-        return Err(Refusal::NoMemory);
-    };
-    Ok((load, length))
+    match LoadChannelData::from_tree(alloc, tree) {
+        Ok(load) => Ok((load, length)),
+        Err(_) => Err(Refusal::NoMemory),
+    }
 }
 
 /// Appends the written spelling of the message, by [`to_tree`](InTree::to_tree) and [`encode`]. After `NoMemory` the bytes are unchanged.
