@@ -12,6 +12,7 @@ import collections
 import contextlib
 import email.utils
 import fcntl
+import json
 import math
 import os
 import re
@@ -95,15 +96,31 @@ class Package(unittest.TestCase):
         for name in ("etpd", "etpctl", "etptool"):
             built = PROGRAMS / name
             shutil.copy(built if built.exists() else "/bin/true", programs / name)
-        made = [run(DEPLOY / "make_deb.sh", programs, top / number) for number in ("first", "second")]
-        assert all(each.returncode == 0 for each in made), made[0].stdout
-        cls.debs = [Path(each.stdout.strip().splitlines()[-1]) for each in made]
+        cls.programs = programs
+        made = run(DEPLOY / "make_deb.sh", programs, top / "first")
+        assert made.returncode == 0, made.stdout
+        cls.deb = Path(made.stdout.strip().splitlines()[-1])
         cls.root = top / "root"
-        assert run("dpkg-deb", "--extract", cls.debs[0], cls.root).returncode == 0
+        assert run("dpkg-deb", "--extract", cls.deb, cls.root).returncode == 0
 
     def test_two_builds_are_the_same_bytes(self):
-        first, second = (deb.read_bytes() for deb in self.debs)
-        self.assertEqual(first, second)
+        # The second one from a copy of the sources somewhere else, in another file system where there is one, by another user's habits.
+        epoch = run("git", "-C", ROOT, "log", "-1", "--format=%ct").stdout.strip()
+        with tempfile.TemporaryDirectory() as folder, tempfile.TemporaryDirectory(dir="/dev/shm" if Path("/dev/shm").is_dir() else None) as memory:
+            for name in ("deploy", "docs", "clients", "VERSION"):
+                run("cp", "-r", "--no-preserve=all", ROOT / name, folder)
+            script = f"umask 077; exec bash {folder}/deploy/make_deb.sh {self.programs} {folder}/second"
+            made = run("bash", "-c", script, env=dict(SOURCE_DATE_EPOCH=epoch, TMPDIR=memory, TZ="Asia/Tokyo", LC_ALL="C", HOME=folder))
+            self.assertEqual(made.returncode, 0, made.stdout)
+            second = Path(made.stdout.strip().splitlines()[-1])
+            self.assertEqual(second.name, self.deb.name)
+            self.assertEqual(second.read_bytes(), self.deb.read_bytes())
+
+    def test_has_one_version(self):
+        version = (ROOT / "VERSION").read_text().strip()
+        told = run("dpkg-deb", "--field", self.deb, "Version").stdout.strip()
+        entry = re.match(r"colmjurr \((\S+)\)", (DEPLOY / "changelog").read_text())[1]
+        self.assertEqual((told, entry, self.colmjurr("--version").stdout.split()[-1]), (version, version, version))
 
     def test_has_what_a_service_needs(self):
         for path in ("usr/sbin/etpd", "usr/bin/etpctl", "usr/bin/etptool", "usr/bin/colmjurr", "usr/lib/colmjurr/etpd-run", "etc/colmjurr/etpd.toml",
@@ -113,7 +130,7 @@ class Package(unittest.TestCase):
 
     @wants("lintian")
     def test_lintian_finds_no_error(self):
-        told = run("lintian", "--no-cfg", "--allow-root", "--fail-on", "error", self.debs[0])
+        told = run("lintian", "--no-cfg", "--allow-root", "--fail-on", "error", self.deb)
         self.assertEqual(told.returncode, 0, told.stdout)
 
     @wants("man", "groff")
@@ -201,28 +218,64 @@ class Package(unittest.TestCase):
     def colmjurr(self, *words):
         return run("/usr/bin/python3", "-m", "colmjurr", *words, env={"PYTHONPATH": str(self.root / "usr/lib/python3/dist-packages")})
 
-    def has_command_line(self):
-        if not (self.root / "usr/lib/python3/dist-packages/colmjurr/__main__.py").exists():
-            self.skipTest("the Python package has no command line")
+    def before_start(self, config, folder):
+        """Runs what the unit runs before etpd, with this configuration, and gives what it writes, the status, and the catalog's path."""
+        path = Path(folder, "catalog.json")
+        unit = (self.root / "lib/systemd/system/etpd.service").read_text()
+        commands = re.findall(r"^ExecStartPre=(.+)$", unit, re.MULTILINE)
+        self.assertEqual(len(commands), 2)
+        for command in commands:
+            words = command.replace("/etc/colmjurr/etpd.toml", str(config)).replace("/run/colmjurr/catalog.json", str(path)).split()
+            told = run(f"{self.root}{words[0]}", *words[1:], env={
+                "PYTHONPATH": str(self.root / "usr/lib/python3/dist-packages"), "PATH": f"{self.root}/usr/bin:{PATH}"})
+            if told.returncode:
+                break
+        return told.stdout, told.returncode, path
 
-    def test_a_wrong_configuration_is_told_by_line_and_key(self):
-        self.has_command_line()
+    def test_a_wrong_configuration_is_told_by_line_and_key_before_the_start(self):
+        shipped = (self.root / "etc/colmjurr/etpd.toml").read_text().splitlines()
+        place = {line: number for number, line in enumerate(shipped, 1)}
+        name, kind, unit = place['name = "rig 7"'], place['kind = "double"'], place['uom = "m"']
+        last = len(shipped)
+        # The line that is replaced, by what, and the line and the key that are told.
+        cases = [
+            (name - 1, 'instance = "rig 7"', name - 1, "instance"), (name, 'name = ""', name, "name"), (name, "name = 7", name, "name"),
+            (name, 'name = "rig 7"\nlag = 0', name + 1, "lag"), (name, 'name = "rig 7"\njournal = 1', name + 1, "journal"),
+            (name, 'name = "rig 7"\ntypes = ["Well"]', name + 1, "types"), (kind, 'kind = "decimal"', kind, "kind"),
+            (unit, f'uom = "{"m" * 65}"', unit, "uom"), (last - 3, f'uri = "{URI}"', last - 3, "uri"), (last - 3, 'uri = "eml:///witsml21.Well"', last - 3, "uri"),
+            (last - 2, "", last - 4, "name"), (name, "name = rig 7", name, None),
+        ]
         with tempfile.TemporaryDirectory() as folder:
             path = Path(folder, "wrong.toml")
-            path.write_text('instance = "00000000-0000-0000-0000-000000000001"\nname = "w"\n[[channel]]\nuri = "eml:///witsml21.Well"\n'
-                            'name = "c"\nkind = "double"\n')
-            told = self.colmjurr("check-config", path)
-            self.assertNotEqual(told.returncode, 0)
-            self.assertRegex(told.stdout, r"uri")
-            self.assertRegex(told.stdout, r"\b4\b")
-            self.assertEqual(self.colmjurr("check-config", self.root / "etc/colmjurr/etpd.toml").returncode, 0)
+            for replaced, text, line, key in cases:
+                with self.subTest(text):
+                    path.write_text("\n".join([*shipped[:replaced - 1], text, *shipped[replaced:]]) + "\n")
+                    told, status, catalog = self.before_start(path, folder)
+                    self.assertEqual(status, 2)
+                    self.assertRegex(told, rf"^{re.escape(str(path))}:{line}: {key + ': ' if key else 'not TOML'}")
+                    self.assertEqual(len(told.splitlines()), 1)
+                    self.assertFalse(catalog.exists())
+                    if (PROGRAMS / "etpd").exists():
+                        refused = run(PROGRAMS / "etpd", path, "127.0.0.1:0", stdin=subprocess.DEVNULL, timeout=60 * PATIENCE)
+                        self.assertEqual(refused.returncode, 2)
+                        self.assertRegex(refused.stdout, r"^config refused: ")
 
     def test_the_catalog_has_the_channels(self):
-        self.has_command_line()
-        import json
-        told = self.colmjurr("catalog", self.root / "etc/colmjurr/etpd.toml")
-        channels = json.loads(told.stdout)["channels"]
-        self.assertEqual([(each["uri"], each["name"], each["uom"]) for each in channels][:1], [(URI, "Rate of penetration", "m/h")])
+        with tempfile.TemporaryDirectory() as folder:
+            told, status, catalog = self.before_start(self.root / "etc/colmjurr/etpd.toml", folder)
+            self.assertEqual(status, 0, told)
+            channels = json.loads(catalog.read_text())["channels"]
+            self.assertEqual([(each["uri"], each["name"], each["uom"]) for each in channels], [
+                (URI, "Rate of penetration", "m/h"), (URI.replace("101)", "102)"), "Hole depth", "m")])
+
+    def test_etpd_toml_has_the_keys_of_the_server(self):
+        # The numbers by which the server names them, and those by which the manual does.
+        source = (ROOT / "docs/PROFILE.md").read_text()
+        section = source[source.index("\n## Configuration\n"):].split("\n## ")[1]
+        keys = re.findall(r"^\| (\d+) \| `([\w.]+)`", section, re.MULTILINE)
+        self.assertGreater(len(keys), 6)
+        page = (DEPLOY / "man/etpd.toml.5").read_text()
+        self.assertEqual(re.findall(r"^(\d+) \\fB(\w+)\\fR", page, re.MULTILINE), keys)
 
     def test_completion_offers_the_commands(self):
         script = f'source {DEPLOY}/completion.bash; COMP_WORDS=({{0}} {{1}}); COMP_CWORD=1; _{{0}} {{0}} {{1}}; echo "${{{{COMPREPLY[*]}}}}"'
@@ -379,6 +432,26 @@ class Front(unittest.IsolatedAsyncioTestCase):
         if password:
             fields["Authorization"] = f"Basic {password}"
         return await Session.dial(self.port, **fields)
+
+    async def test_says_by_its_status_what_is_wrong(self):
+        # As OPERATING.md has them: no WebSocket at the server's address, and no server.
+        self.assertEqual(self.get("/etp")[0], 426)
+        self.server.process.kill()
+        self.server.process.wait()
+        self.assertEqual((await self.dial())[0], 502)
+        table = re.findall(r"^\| (\d{3}) \|", (ROOT / "docs/OPERATING.md").read_text(), re.MULTILINE)
+        self.assertEqual(table, ["137", "101", "400", "401", "403", "404", "426", "502", "503", "504"])
+
+    async def test_the_page_may_not_stand_in_another_one(self):
+        request = urllib.request.Request(f"https://127.0.0.1:{self.port}/", headers={"Authorization": f"Basic {WORDS}"})
+        with urllib.request.urlopen(request, context=ssl._create_unverified_context(), timeout=60 * PATIENCE) as answer:
+            told = {name: answer.headers[name] for name in ("Content-Security-Policy", "X-Content-Type-Options", "Cache-Control", "Server")}
+        self.assertEqual(told, {"Content-Security-Policy": "frame-ancestors 'none'", "X-Content-Type-Options": "nosniff", "Cache-Control": "no-cache",
+                                "Server": "nginx"})
+
+    async def test_only_tls_is_spoken(self):
+        status, _ = await Session.dial(self.port, tls=False, Authorization=f"Basic {WORDS}")
+        self.assertEqual(status, 400)
 
     async def test_only_those_with_a_password_come_in(self):
         self.assertEqual((await self.dial(password=None))[0], 401)
@@ -612,9 +685,13 @@ class Run(unittest.IsolatedAsyncioTestCase):
 
     async def asyncSetUp(self):
         asyncio.get_running_loop().set_debug(False)
+        await self.begin()
+
+    async def begin(self, keys=""):
+        """Starts etpd with a configuration of two channels and these keys."""
         folder = self.enterContext(tempfile.TemporaryDirectory())
         config = Server(folder).config
-        config.write_text(config.read_text() + f'[[channel]]\nuri = "{TEXTS}"\nname = "Lithology"\nkind = "string"\n')
+        config.write_text(keys + config.read_text() + f'[[channel]]\nuri = "{TEXTS}"\nname = "Lithology"\nkind = "string"\n')
         self.process = await asyncio.create_subprocess_exec(
             DEPLOY / "etpd-run", PROGRAMS / "etpd", config, "127.0.0.1:0", stdin=subprocess.DEVNULL, stdout=subprocess.PIPE, stderr=subprocess.PIPE,
             start_new_session=True)
@@ -746,10 +823,64 @@ class Stop(Run):
         self.assertEqual(await heard, [1001, 1001])
 
     async def test_has_the_status_of_etpd(self):
-        told = run(DEPLOY / "etpd-run", PROGRAMS / "etpd", "/nowhere.toml", "127.0.0.1:0")
-        self.assertEqual(told.returncode, 4)
-        taken = run(DEPLOY / "etpd-run", PROGRAMS / "etpd", DEPLOY / "etpd.toml", f"127.0.0.1:{self.port}")
-        self.assertEqual((taken.returncode, taken.stdout.splitlines()[0]), (7, f"can't listen at 127.0.0.1:{self.port}: the address is in use"))
+        # Each status that OPERATING.md has, with its line, but 6: memory that runs out, and 137, which another test shows.
+        wrong = self.enterContext(tempfile.NamedTemporaryFile(suffix=".toml"))
+        config = DEPLOY / "etpd.toml"
+        taken = f"127.0.0.1:{self.port}"
+        for words, status, lines in (
+            ([config, "127.0.0.1:0", "0"], 1, ["usage"]), ([wrong.name, "127.0.0.1:0"], 2, ["config refused: key 1 of channel 0"]),
+            (["/nowhere.toml", "127.0.0.1:0"], 4, ["read fault"]),
+            ([config, taken], 7, [f"can't listen at {taken}: the address is in use", "listen fault"]),
+            ([config, "192.0.2.1:9002"], 7, ["can't listen at 192.0.2.1:9002: this machine has no such address", "listen fault"]),
+            ([config, "9002"], 7, ["can't listen at 9002: this is no address with a port, as 127.0.0.1:9002", "listen fault"]),
+        ):
+            told = run(DEPLOY / "etpd-run", PROGRAMS / "etpd", *words)
+            self.assertEqual((told.returncode, told.stdout.splitlines()[:len(lines)]), (status, lines), words)
+        rows = re.findall(r"^\| (\d+)[,a-z ]* ?(?:`([a-z ]+))?", (ROOT / "docs/OPERATING.md").read_text(), re.MULTILINE)
+        self.assertEqual([(status, line.strip()) for status, line in rows if line], [
+            ("1", "usage"), ("2", "config refused"), ("4", "read fault"), ("5", "write fault"), ("6", "no memory"), ("7", "listen fault")])
+
+    async def test_has_a_status_where_its_report_has_no_room(self):
+        with open("/dev/full", "wb") as full:
+            process = subprocess.Popen([DEPLOY / "etpd-run", PROGRAMS / "etpd", DEPLOY / "etpd.toml", "127.0.0.1:0"], stdout=full, stderr=subprocess.PIPE,
+                                       text=True)
+        self.assertRegex(process.stderr.readline(), "^listening")
+        process.terminate()
+        _, told = process.communicate(timeout=STOP + 20)
+        self.assertEqual((process.returncode, told), (5, "write fault\n"))
+
+    async def test_the_65th_waits_for_a_place(self):
+        held = [await self.client() for _ in range(64)]
+        late = asyncio.create_task(self.client())
+        await asyncio.sleep(1)
+        self.assertFalse(late.done())
+        begun = time.monotonic()
+        held[29].close()
+        await late
+        self.assertLess(time.monotonic() - begun, PATIENCE)
+
+    async def test_a_full_journal_refuses_changes_and_sessions(self):
+        # Three entries: one of each of the first two sessions, and one of a load.
+        self.kill()
+        await self.process.wait()
+        await self.begin("journal = 3\n")
+        rig, office = await self.client(), await self.client()
+        await rig.ask(22, 1, dict(uris={"c": URI}))
+        self.assertEqual((await rig.load(1))[0], "Pong")
+        value = dict(channelId=0, indexes=[dict(item=(1, 2))], value=dict(item=(5, 0)), valueAttributes=[])
+        name, heard = await rig.ask(22, 4, dict(data=[value]))
+        self.assertEqual((name, heard["error"][1]["code"]), ("ProtocolException", 12))
+        status, refused = await Session.dial(self.port, tls=False)
+        self.assertEqual(status, 101)
+        peer = self.peer(refused.socket.writer)
+        await refused.send(0, 1, {})
+        await self.goodbye(refused)
+        # Who is there goes on reading.
+        name, heard = await office.ask(21, 1, dict(uris={"c": URI}))
+        self.assertEqual((name, heard["metadata"]["c"]["indexes"][0]["interval"]["endIndex"]["item"]), ("GetChannelMetadataResponse", (1, 1)))
+        lines, told = await self.stop()
+        self.assertEqual(lines[0], "entries 3")
+        self.assertIn(f"no session for {peer}: the journal is full", [line[30:] for line in told])
 
 
 def left_out(lines):

@@ -12,6 +12,7 @@ import json
 import math
 import os
 import random
+import re
 import socket
 import struct
 import sys
@@ -238,10 +239,19 @@ class WithEtpd(Followed, Case):
         await page.until("app.link.channels[0].column.count > 200")
         first = await page.evaluate("app.link.channels[0].column.times[0]")
         self.assertTrue(now - 300 <= first / SECOND <= time.time() - 299, first)
+        # The newest point is of the second before `now`. The page says how old it is in whole seconds, once a second.
         await asyncio.sleep(1.5)
-        words = (await page.evaluate("document.getElementById('behind').textContent")).split()
-        behind = float(words[0]) * {"s": 1, "min": 60}[words[1]]
-        self.assertTrue(0 <= behind <= 1.1 * (time.time() - now + 1), behind)
+        told = await seconds_behind(page)
+        behind = time.time() - (now - 1)
+        self.assertTrue(behind - 2.5 <= told <= behind + 0.5, (told, behind))
+
+
+async def seconds_behind(page):
+    """How old the newest point is, as the page says below the tracks."""
+    words = await page.evaluate("document.getElementById('behind').textContent")
+    found = re.fullmatch(r"(\d+) s behind", words)
+    assert found, words
+    return int(found[1])
 
 
 class Drawn(Case):
@@ -346,6 +356,25 @@ class Drawn(Case):
         self.assertIsNone(await page.evaluate("window.harmed"))
         self.assertEqual(await page.evaluate("document.querySelectorAll('img').length"), 0)
         self.assertEqual(await page.evaluate("document.querySelectorAll('script').length"), 1)
+
+    async def test_tells_how_far_behind_it_is_by_the_clock_of_the_server(self):
+        # The server's clock is an hour ahead of the browser's.
+        store = await self.helper(Stub([(uri(0), "ROP", "double", "m/h")], ahead=3600))
+        await store.load(0, [(int((store.now() - 42) * SECOND), 22.5)])
+        page = await self.open(store.url, [uri(0)])
+        await page.until("document.getElementById('held').textContent === '1 point held'")
+        self.assertIn(await seconds_behind(page), (42, 43, 44))
+        value, unit, age = await page.evaluate("['value', 'uom', 'age'].map(it => document.querySelector('.track .' + it).textContent)")
+        self.assertEqual((value, unit), ("22.5", "m/h"))
+        self.assertIn(age, ("42 s", "43 s", "44 s"))
+        await store.load(0, [(int(store.now() * SECOND), 23.25)])
+        await page.until("app.tracks[0].value.textContent === '23.25'")
+        self.assertLess(await seconds_behind(page), 2)
+        # It goes on counting while the link is broken.
+        await store.stop()
+        await page.until("document.getElementById('state').className === 'waiting'")
+        begun = await seconds_behind(page)
+        await page.until(f"parseInt(document.getElementById('behind').textContent) >= {begun + 3}")
 
     async def test_moves_by_wheel_drag_and_keys_and_comes_back_to_the_newest(self):
         store, page, _, (left, top, width, height) = await self.ramp([(at * SECOND, 1.0) for at in range(5000)], span=1000)
@@ -546,6 +575,33 @@ class Hostile(Case):
         for session in store.sessions:
             session.write((1001).to_bytes(2, "big"), web_socket.CLOSE)
         await page.until("app.events.some(it => it.includes('the server goes away (1001); next try in 1 s'))")
+
+    async def quiet(self):
+        """A page that follows a channel, whose clock moves on by hand and whose timer is stopped."""
+        store = await self.helper(Stub(specs("double")))
+        page = await self.open(store.url, [uri(0)])
+        await self.followed(page, 1)
+        await page.evaluate("{ const real = Date.now; window.ahead = 0; Date.now = () => real() + ahead; clearInterval(app.link.watch); }")
+        return store, page
+
+    async def test_keeps_a_link_that_answers_while_the_page_is_hidden(self):
+        # A browser calls a hidden page's timers once a minute.
+        store, page = await self.quiet()
+        for minute in range(1, 5):
+            await page.evaluate("ahead += 60000; app.link.keep()")
+            await page.until(f"app.link.heard >= app.link.pinged && app.link.heard > {minute} * 60000")
+        (session,) = store.sessions
+        self.assertEqual((store.count, session.heard.count("Ping"), await page.evaluate("app.link.isOpen")), (1, 4, True))
+
+    async def test_gives_up_a_link_that_answers_no_more(self):
+        store, page = await self.quiet()
+        (session,) = store.sessions
+        session.Ping = lambda number, value: None
+        for seconds, told in ((16, False), (29, False), (2, True)):
+            await page.evaluate(f"ahead += {seconds * 1000}; app.link.keep()")
+            self.assertEqual(await page.evaluate("app.events.some(it => it.includes(' no answer for 30 s; next try in 1 s'))"), told, seconds)
+        await self.followed(page, 1)
+        self.assertEqual(store.count, 2)
 
     async def test_gives_up_a_server_that_says_nothing(self):
         silent = await asyncio.start_server(lambda reader, writer: asyncio.sleep(60), "127.0.0.1", 0)

@@ -134,7 +134,7 @@ class Session:
         accepted = [dict(protocol=21, protocolVersion=VERSION, role="store", protocolCapabilities={})]
         self.say(0, 2, number, dict(
             applicationName=self.server.name, applicationVersion="1", serverInstanceId=INSTANCE, supportedProtocols=accepted,
-            supportedDataObjects=[], supportedCompression="", supportedFormats=["xml"], currentDateTime=int(time.time() * 1e6),
+            supportedDataObjects=[], supportedCompression="", supportedFormats=["xml"], currentDateTime=int(self.server.now() * 1e6),
             earliestRetainedChangeTime=0, sessionId=INSTANCE, endpointCapabilities={}))
         self.server.after_open(self)
 
@@ -176,13 +176,16 @@ class Session:
 
 
 class Stub:
-    """The server. `after_open` is called with each session that was opened."""
+    """The server. `after_open` is called with each session that was opened. Its clock is `ahead` of this machine's, in seconds."""
 
-    def __init__(self, channels, name="stub"):
-        self.name, self.most, self.sessions, self.count = name, 1 << 20, set(), 0
+    def __init__(self, channels, name="stub", ahead=0):
+        self.name, self.ahead, self.most, self.sessions, self.count = name, ahead, 1 << 20, set(), 0
         self.channels = [Channel(number, *each) for number, each in enumerate(channels)]
         self.by_uri = {channel.uri: channel for channel in self.channels}
         self.after_open = lambda session: None
+
+    def now(self):
+        return time.time() + self.ahead
 
     async def start(self):
         self.listener = await asyncio.start_server(self.take, "127.0.0.1", 0)
