@@ -604,7 +604,8 @@ class Tunnel(unittest.IsolatedAsyncioTestCase):
 
     def stunnel(self, name, changed):
         text = (DEPLOY / name).read_text()
-        for shipped, here in changed.items():
+        # These tests need no root.
+        for shipped, here in [*changed.items(), ("setuid = stunnel4\n", ""), ("setgid = stunnel4\n", "")]:
             self.assertIn(shipped, text)
             text = text.replace(shipped, here)
         path = Path(tempfile.mkstemp(dir=self.folder, suffix=".conf")[1])

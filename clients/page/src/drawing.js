@@ -266,11 +266,12 @@ function goOver(pen, {blocks, values, places}, view, block, end) {
   pen.go(view.rowOf(blocks.first[block]), first, least, greatest, last);
 }
 
-function goAlong(pen, column, view, begin, end, breakStep) {
-  const {times} = column;
+function goAlong(pen, {times, values, places}, view, begin, end, breakStep) {
+  const top = view.begin, scale = view.height / view.span;
   for (let place = begin; place < end; place++) {
     if (place > begin && times[place] - times[place - 1] > breakStep) pen.lift();
-    goTo(pen, column, view, place);
+    const value = values[place];
+    pen.go((places[place] - top) * scale, value, value, value, value);
   }
 }
 
