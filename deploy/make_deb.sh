@@ -44,7 +44,8 @@ install -m 644 "$deploy/nginx.conf" "$tree/etc/nginx/sites-available/colmjurr"
 install -m 644 "$deploy/default" "$tree/etc/default/etpd"
 put 644 usr/share/colmjurr/page "$root/clients/page/log.html"
 put 644 usr/share/doc/colmjurr "$root/docs/OPERATING.md" "$root/docs/PROFILE.md" "$deploy/copyright"
-put 644 usr/share/doc/colmjurr/examples "$deploy/stunnel-rig.conf" "$deploy/stunnel-office.conf" "$deploy/Containerfile"
+put 644 usr/share/doc/colmjurr/examples "$deploy/stunnel-rig.conf" "$deploy/stunnel-office.conf" "$deploy/Containerfile" \
+  "$root/clients/python/examples/alerts.yml"
 for page in "$deploy"/man/*; do
   packed "usr/share/man/man${page##*.}" "$page"
 done

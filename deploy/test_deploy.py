@@ -43,8 +43,8 @@ PROGRAMS = Path(os.environ.get("PROGRAMS", "/nowhere")).resolve()
 SILENCE = int(os.environ.get("SILENCE", "100"))
 # How many times as long anything is waited for: more than once for programs with run-time checks, or on a busy machine.
 PATIENCE = int(os.environ.get("COLMJURR_PATIENCE", "1"))
-# How long a stop may take, in seconds; etpd-run kills what has not ended after 40.
-STOP = 35 if PATIENCE == 1 else 41
+# How long a stop may take, in seconds.
+STOP = 35 * PATIENCE
 SUBPROTOCOL = "etp12.energistics.org"
 URI = "eml:///witsml21.Channel(00000000-0000-0000-0000-000000000101)"
 TEXTS = "eml:///witsml21.Channel(00000000-0000-0000-0000-000000000103)"
@@ -302,6 +302,12 @@ class Server:
         self.port = int(re.search(rb"(\d+)\s*$", self.process.stderr.readline())[1])
         return self
 
+    def stop(self):
+        """Stops it well, and gives the lines of those who came and went."""
+        self.process.stdin.close()
+        self.process.wait(STOP)
+        return self.process.stderr.read().decode().splitlines()
+
     def __exit__(self, *_):
         self.process.kill()
         self.process.wait()
@@ -461,6 +467,7 @@ class Front(unittest.IsolatedAsyncioTestCase):
         await session.open()
         self.assertEqual((await session.ask(0, 8, dict(currentDateTime=0)))[0], "Pong")
         session.close()
+        self.assertEqual(len(self.server.stop()), 1, "etpd sees nobody but the one with the password")
 
     async def test_only_pages_of_this_host_come_in(self):
         for origin, status in ((f"https://127.0.0.1:{self.port}", 101), ("https://127.0.0.1", 101), ("https://evil.example", 403), ("null", 403),
@@ -468,6 +475,7 @@ class Front(unittest.IsolatedAsyncioTestCase):
             told, session = await self.dial(Origin=origin)
             self.assertEqual(told, status, origin)
             session.close()
+        self.assertEqual(len(self.server.stop()), 2, "etpd sees nobody but those of the right pages")
 
     async def test_a_section_has_its_server_page_and_channels(self):
         # As OPERATING.md says: a line for the section in the site's first map.
@@ -694,12 +702,22 @@ class Run(unittest.IsolatedAsyncioTestCase):
         config = Server(folder).config
         config.write_text(keys + config.read_text() + f'[[channel]]\nuri = "{TEXTS}"\nname = "Lithology"\nkind = "string"\n')
         self.process = await asyncio.create_subprocess_exec(
-            DEPLOY / "etpd-run", PROGRAMS / "etpd", config, "127.0.0.1:0", stdin=subprocess.DEVNULL, stdout=subprocess.PIPE, stderr=subprocess.PIPE,
+            self.patient_run(folder), PROGRAMS / "etpd", config, "127.0.0.1:0", stdin=subprocess.DEVNULL, stdout=subprocess.PIPE, stderr=subprocess.PIPE,
             start_new_session=True)
         self.addCleanup(self.kill)
         # They stay connected until they are closed.
         self.clients = []
         self.port = int(re.search(rb"^listening at port (\d+)\n$", await self.process.stderr.readline())[1])
+
+    def patient_run(self, folder):
+        """etpd-run, which kills what has not ended after 40 s: where there is more patience, a copy that waits as much longer."""
+        if PATIENCE == 1:
+            return DEPLOY / "etpd-run"
+        text, path = (DEPLOY / "etpd-run").read_text(), Path(folder, "etpd-run")
+        self.assertEqual(text.count("-eq 400"), 1)
+        path.write_text(text.replace("-eq 400", f"-eq {400 * PATIENCE}"))
+        path.chmod(0o755)
+        return path
 
     def kill(self):
         with contextlib.suppress(ProcessLookupError):
@@ -829,14 +847,14 @@ class Stop(Run):
         config = DEPLOY / "etpd.toml"
         taken = f"127.0.0.1:{self.port}"
         for words, status, lines in (
-            ([config, "127.0.0.1:0", "0"], 1, ["usage"]), ([wrong.name, "127.0.0.1:0"], 2, ["config refused: key 1 of channel 0"]),
-            (["/nowhere.toml", "127.0.0.1:0"], 4, ["read fault"]),
+            ([config, "127.0.0.1:0", "0"], 1, ["usage", "etpd CONFIG ADDRESS", "etpd CONFIG ADDRESS SESSIONS"]),
+            ([wrong.name, "127.0.0.1:0"], 2, ["config refused: key 1 of channel 0"]), (["/nowhere.toml", "127.0.0.1:0"], 4, ["read fault"]),
             ([config, taken], 7, [f"can't listen at {taken}: the address is in use", "listen fault"]),
             ([config, "192.0.2.1:9002"], 7, ["can't listen at 192.0.2.1:9002: this machine has no such address", "listen fault"]),
             ([config, "9002"], 7, ["can't listen at 9002: this is no address with a port, as 127.0.0.1:9002", "listen fault"]),
         ):
-            told = run(DEPLOY / "etpd-run", PROGRAMS / "etpd", *words)
-            self.assertEqual((told.returncode, told.stdout.splitlines()[:len(lines)]), (status, lines), words)
+            told = subprocess.run([DEPLOY / "etpd-run", PROGRAMS / "etpd", *words], stdout=subprocess.DEVNULL, stderr=subprocess.PIPE, text=True)
+            self.assertEqual((told.returncode, told.stderr.splitlines()), (status, lines), words)
         rows = re.findall(r"^\| (\d+)[,a-z ]* ?(?:`([a-z ]+))?", (ROOT / "docs/OPERATING.md").read_text(), re.MULTILINE)
         self.assertEqual([(status, line.strip()) for status, line in rows if line], [
             ("1", "usage"), ("2", "config refused"), ("4", "read fault"), ("5", "write fault"), ("6", "no memory"), ("7", "listen fault")])
@@ -861,10 +879,10 @@ class Stop(Run):
         self.assertLess(time.monotonic() - begun, PATIENCE)
 
     async def test_a_full_journal_refuses_changes_and_sessions(self):
-        # Three entries: one of each of the first two sessions, and one of a load.
+        # Four entries: the first one, one of each of two sessions, and one of a load.
         self.kill()
         await self.process.wait()
-        await self.begin("journal = 3\n")
+        await self.begin("journal = 4\n")
         rig, office = await self.client(), await self.client()
         await rig.ask(22, 1, dict(uris={"c": URI}))
         self.assertEqual((await rig.load(1))[0], "Pong")
@@ -874,13 +892,12 @@ class Stop(Run):
         status, refused = await Session.dial(self.port, tls=False)
         self.assertEqual(status, 101)
         peer = self.peer(refused.socket.writer)
-        await refused.send(0, 1, {})
         await self.goodbye(refused)
         # Who is there goes on reading.
         name, heard = await office.ask(21, 1, dict(uris={"c": URI}))
         self.assertEqual((name, heard["metadata"]["c"]["indexes"][0]["interval"]["endIndex"]["item"]), ("GetChannelMetadataResponse", (1, 1)))
         lines, told = await self.stop()
-        self.assertEqual(lines[0], "entries 3")
+        self.assertEqual(lines[0], "entries 4")
         self.assertIn(f"no session for {peer}: the journal is full", [line[30:] for line in told])
 
 

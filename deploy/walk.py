@@ -52,9 +52,20 @@ class Machine:
         self.nspawn = subprocess.Popen(
             ["systemd-nspawn", "-D", self.root, "--keep-unit", "--register=no", "--boot", "--console=pipe"], stdin=subprocess.DEVNULL,
             stdout=subprocess.DEVNULL, stderr=subprocess.DEVNULL, env={**os.environ, "UNIFIED_CGROUP_HIERARCHY": "1"})
-        self.leader = until(lambda: Path(f"/proc/{self.nspawn.pid}/task/{self.nspawn.pid}/children").read_text().split())[0]
-        until(lambda: self.run("systemctl is-system-running", fails=True).strip() in ("running", "degraded"))
+        try:
+            until(self.is_up)
+        except BaseException:
+            self.__exit__()
+            raise
         return self
+
+    def is_up(self):
+        """Whether it has booted. While it begins, the first process in it is not yet the one that stays."""
+        children = Path(f"/proc/{self.nspawn.pid}/task/{self.nspawn.pid}/children").read_text().split()
+        if len(children) != 1:
+            return False
+        self.leader = children[0]
+        return self.run("systemctl is-system-running", fails=True).strip() in ("running", "degraded")
 
     def __exit__(self, *_):
         self.nspawn.terminate()
@@ -248,6 +259,15 @@ def mend(machine):
     machine.run("sleep 2; kill -KILL $(pidof etpd | tr ' ' '\\n' | while read it; do grep -qz 127.0.0.1:9002 /proc/$it/cmdline && echo $it; done)")
     until(lambda: "listening at port 9002" in machine.told(since).partition("restart counter is at 1")[2])
     said("killed, it starts again")
+    machine.run("systemctl stop etpd")
+    since = machine.run("date +%s").strip()
+    machine.run("sed -i.good s/127.0.0.1/192.0.2.1/ /etc/default/etpd; systemctl start etpd", fails=True)
+    until(lambda: "Start request repeated too quickly" in machine.told(since))
+    told = machine.told(since)
+    assert (told.count("this machine has no such address"), told.count("status=7")) == (5, 5), told
+    machine.run("mv /etc/default/etpd.good /etc/default/etpd; systemctl reset-failed etpd; systemctl start etpd")
+    until(lambda: "listening at port 9002" in machine.told(since))
+    said("without its address it is started five times; mended, it starts")
 
 
 def remove(machine):

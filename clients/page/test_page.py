@@ -145,14 +145,14 @@ class Followed:
     """The cases that hold of every server. `store` makes one with these channels."""
 
     async def test_follows_loads_replacements_and_truncations(self):
-        kinds = ["double", "long", "string", "float", "boolean"]
+        kinds = ["double", "long", "string", "float", "boolean", "int", "bytes"]
         store = await self.store(specs(*kinds))
         values = {"double": lambda k: k / 8, "long": lambda k: (1 << 61) + k, "string": lambda k: f"sand {k}", "float": lambda k: k / 4,
-                  "boolean": lambda k: k % 2 == 0}
+                  "boolean": lambda k: k % 2 == 0, "int": lambda k: 7 - k, "bytes": lambda k: bytes([k % 256, 7])}
         chance, held = random.Random(1), {number: [] for number in range(len(kinds))}
         page = await self.open(store.url, [each[0] for each in store.specs])
         await self.followed(page, len(kinds))
-        for step in range(150):
+        for step in range(200):
             number = chance.randrange(len(kinds))
             value, last = values[kinds[number]], held[number][-1] if held[number] else 0
             what = chance.random()
