@@ -13,6 +13,7 @@ import contextlib
 import email.utils
 import fcntl
 import json
+import logging
 import math
 import os
 import re
@@ -881,7 +882,7 @@ class Stop(Run):
     async def test_a_full_journal_refuses_changes_and_sessions(self):
         # Four entries: the first one, one of each of two sessions, and one of a load.
         self.kill()
-        await self.process.wait()
+        await self.process.communicate()
         await self.begin("journal = 4\n")
         rig, office = await self.client(), await self.client()
         await rig.ask(22, 1, dict(uris={"c": URI}))
@@ -970,4 +971,6 @@ class Lines(Run):
 
 
 if __name__ == "__main__":
+    # A busy machine makes it tell of each step that took long.
+    logging.getLogger("asyncio").setLevel(logging.ERROR)
     unittest.main(warnings="ignore")

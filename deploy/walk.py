@@ -191,7 +191,7 @@ def keep_and_copy(machine):
     is_in("time,Hole depth\n", machine.run("cat depth.csv"))
     machine.run(f"printf '%s\\n' '{WELL}' > objects")
     copy = re.search(r"`(colmjurr copy FROM TO [^`]*)`", DOCUMENT)[1]
-    machine.done(copy, [("FROM", "ws://127.0.0.1:9002/etp"), ("TO", "ws://127.0.0.1:9003/etp"), ("--catalog", "--objects objects --catalog")])
+    machine.done(copy, [("FROM", "ws://127.0.0.1:9002/etp"), ("TO", "ws://127.0.0.1:9003/etp"), ("FILE", "objects")])
     same(machine, 9003)
     exporter = re.search(r"`(colmjurr exporter [^`]*)`", DOCUMENT)[1]
     get = "import urllib.request, sys; print(urllib.request.urlopen('http://127.0.0.1:9777/' + sys.argv[1]).read().decode())"
@@ -259,7 +259,8 @@ def mend(machine):
     machine.run("sleep 2; kill -KILL $(pidof etpd | tr ' ' '\\n' | while read it; do grep -qz 127.0.0.1:9002 /proc/$it/cmdline && echo $it; done)")
     until(lambda: "listening at port 9002" in machine.told(since).partition("restart counter is at 1")[2])
     said("killed, it starts again")
-    machine.run("systemctl stop etpd")
+    # Those starts count no more.
+    machine.run("systemctl stop etpd; systemctl reset-failed etpd || true")
     since = machine.run("date +%s").strip()
     machine.run("sed -i.good s/127.0.0.1/192.0.2.1/ /etc/default/etpd; systemctl start etpd", fails=True)
     until(lambda: "Start request repeated too quickly" in machine.told(since))

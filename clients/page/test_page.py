@@ -9,6 +9,7 @@ PICTURE in the environment the picture of the page is written to that path.
 """
 import asyncio
 import json
+import logging
 import math
 import os
 import random
@@ -779,6 +780,8 @@ def drilled(now):
 
 
 if __name__ == "__main__":
+    # A busy machine makes it tell of each step that took long.
+    logging.getLogger("asyncio").setLevel(logging.ERROR)
     if browser.found() is None:
         print("test_page.py: skipped, no Chromium is installed (Debian: chromium)")
         sys.exit(0)
