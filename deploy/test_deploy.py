@@ -115,7 +115,7 @@ class Package(unittest.TestCase):
             self.assertEqual(made.returncode, 0, made.stdout)
             second = Path(made.stdout.strip().splitlines()[-1])
             self.assertEqual(second.name, self.deb.name)
-            self.assertEqual(second.read_bytes(), self.deb.read_bytes())
+            self.assertTrue(second.read_bytes() == self.deb.read_bytes(), "the bytes differ")
 
     def test_has_one_version(self):
         version = (ROOT / "VERSION").read_text().strip()
