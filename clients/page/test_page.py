@@ -237,6 +237,13 @@ class WithEtpd(Followed, Case):
     async def store(self, channels):
         return await self.helper(Etpd(ETPD, channels))
 
+    async def open(self, *words, **more):
+        page = await super().open(*words, **more)
+        if browser.TIMES > 1:
+            # A server with run-time checks may take longer for a million points than the page waits for an answer.
+            await page.evaluate("Link.prototype.keep = () => {}")
+        return page
+
     async def test_begins_at_a_moment(self):
         store = await self.store(specs("double"))
         now = int(time.time())
@@ -619,9 +626,9 @@ class Hostile(Case):
         store, page = await self.quiet()
         (session,) = store.sessions
         session.Ping = lambda number, value: None
-        for seconds, told in ((16, False), (29, False), (2, True)):
+        for seconds, told in ((16, False), (59, False), (2, True)):
             await page.evaluate(f"ahead += {seconds * 1000}; app.link.keep()")
-            self.assertEqual(await page.evaluate("app.events.some(it => it.includes(' no answer for 30 s; next try in 1 s'))"), told, seconds)
+            self.assertEqual(await page.evaluate("app.events.some(it => it.includes(' no answer for 60 s; next try in 1 s'))"), told, seconds)
         await self.followed(page, 1)
         self.assertEqual(store.count, 2)
 

@@ -15,7 +15,7 @@ const TYPE_BOOLEAN = 5, TYPE_STRING = 10, TYPE_BYTES = 11;
 /** The longest message that the server may send in one part, in bytes: so short that reading one never holds up the page. */
 const PART_LIMIT = 1 << 20;
 /** How long a new link may take until its session is open, how often a Ping is sent, and how long its answer may take, in ms. */
-const OPEN_PATIENCE = 10000, PING_EVERY = 15000, ANSWER_PATIENCE = 30000;
+const OPEN_PATIENCE = 10000, PING_EVERY = 15000, ANSWER_PATIENCE = 60000;
 /** A link that lasted this long was a good one: the next wait is the shortest again, in ms. */
 const STOOD = 30000;
 
@@ -90,7 +90,7 @@ class Link {
     if (!this.isOpen) {
       if (now - this.begun > OPEN_PATIENCE) this.lose('no session within 10 s');
     } else if (this.pinged > this.heard) {
-      if (now - this.pinged > ANSWER_PATIENCE) this.lose('no answer for 30 s');
+      if (now - this.pinged > ANSWER_PATIENCE) this.lose('no answer for 60 s');
     } else if (now - this.pinged > PING_EVERY) {
       this.ping();
     }

@@ -15,7 +15,8 @@ import web_socket
 
 NAMES = ["chromium", "chromium-headless-shell", "chromium-browser", "google-chrome"]
 # How long anything is waited for, in seconds; a server with run-time checks, or a busy machine, is waited for longer.
-PATIENCE = 90 * int(os.environ.get("COLMJURR_PATIENCE", "1"))
+TIMES = int(os.environ.get("COLMJURR_PATIENCE", "1"))
+PATIENCE = 90 * TIMES
 
 
 def found():
