@@ -705,7 +705,7 @@ class Run(unittest.IsolatedAsyncioTestCase):
         self.process = await asyncio.create_subprocess_exec(
             self.patient_run(folder), PROGRAMS / "etpd", config, "127.0.0.1:0", stdin=subprocess.DEVNULL, stdout=subprocess.PIPE, stderr=subprocess.PIPE,
             start_new_session=True)
-        self.addCleanup(self.kill)
+        self.addAsyncCleanup(self.end)
         # They stay connected until they are closed.
         self.clients = []
         self.port = int(re.search(rb"^listening at port (\d+)\n$", await self.process.stderr.readline())[1])
@@ -723,6 +723,10 @@ class Run(unittest.IsolatedAsyncioTestCase):
     def kill(self):
         with contextlib.suppress(ProcessLookupError):
             os.killpg(self.process.pid, signal.SIGKILL)
+
+    async def end(self):
+        self.kill()
+        await self.process.communicate()
 
     async def client(self):
         status, session = await Session.dial(self.port, tls=False)
@@ -881,8 +885,7 @@ class Stop(Run):
 
     async def test_a_full_journal_refuses_changes_and_sessions(self):
         # Four entries: the first one, one of each of two sessions, and one of a load.
-        self.kill()
-        await self.process.communicate()
+        await self.end()
         await self.begin("journal = 4\n")
         rig, office = await self.client(), await self.client()
         await rig.ask(22, 1, dict(uris={"c": URI}))
