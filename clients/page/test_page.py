@@ -118,26 +118,27 @@ class Case(unittest.IsolatedAsyncioTestCase):
             self.assertEqual(held, wanted, f"channel {number}")
 
     async def draws_in_a_frame(self, page, words, changed, told):
-        """Draws some frames in a view, each after a change of the first track's points since a time, and looks how long they take.
+        """Draws some frames in a view, each after a change of the first track's points since a time, and looks how long the middle one takes.
 
-        It is the whole of a frame, with the pixels that it ends in: reading one of them waits for the drawing. The middle one counts; on a
-        machine that is busy, which delays most of them, the shortest one does."""
-        times = await page.evaluate("""(async () => {
-          %s;
-          const times = [], {column} = app.tracks[0].channel, canvases = [app.axis, ...app.tracks.map(it => it.canvas)];
-          for (let k = 0; k < 15; k++) {
-            await new Promise(next => requestAnimationFrame(next));
-            column.note(column.%s);
-            const begun = performance.now();
-            app.draw();
-            for (const canvas of canvases) canvas.getContext('2d').getImageData(0, 0, 1, 1);
-            times.push(performance.now() - begun);
-          }
-          return times.sort((a, b) => a - b);
-        })()""" % (words, changed))
-        print(f"  a million points, {told}, {words!r}, from {changed} on: least {times[0]:.1f} ms, median {times[7]:.1f} ms, most {times[-1]:.1f} ms",
-              file=sys.stderr)
-        self.assertLess(times[7 if browser.TIMES == 1 else 0], FRAME, words)
+        It is the whole of a frame, with the pixels that it ends in: reading one of them waits for the drawing. A machine that is busy delays
+        them, so there the processor's time counts."""
+        await page.evaluate(words)
+        draw = """(async () => {
+          await new Promise(next => requestAnimationFrame(next));
+          const {column} = app.tracks[0].channel, begun = performance.now();
+          column.note(column.%s);
+          app.draw();
+          for (const canvas of [app.axis, ...app.tracks.map(it => it.canvas)]) canvas.getContext('2d').getImageData(0, 0, 1, 1);
+          return performance.now() - begun;
+        })()""" % changed
+        whole, busy = [], []
+        for _ in range(15):
+            before = await page.busy_time()
+            whole.append(await page.evaluate(draw))
+            busy.append(await page.busy_time() - before)
+        middle, processor = sorted(whole)[7], sorted(busy)[7]
+        print(f"  a million points, {told}, {words!r}, from {changed} on: {middle:.1f} ms, of the processor {processor:.1f} ms", file=sys.stderr)
+        self.assertLess(middle if browser.TIMES == 1 else processor, FRAME, words)
 
     async def followed(self, page, count):
         await page.until(f"app.link.channels.filter(it => it.isFollowed).length === {count}")
@@ -617,11 +618,12 @@ class Hostile(Case):
     async def test_keeps_a_link_that_answers_while_the_page_is_hidden(self):
         # A browser calls a hidden page's timers once a minute.
         store, page = await self.quiet()
+        (session,) = store.sessions
+        before = session.heard.count("Ping")
         for minute in range(1, 5):
             await page.evaluate("ahead += 60000; app.link.keep()")
             await page.until(f"app.link.heard >= app.link.pinged && app.link.heard > {minute} * 60000")
-        (session,) = store.sessions
-        self.assertEqual((store.count, session.heard.count("Ping"), await page.evaluate("app.link.isOpen")), (1, 4, True))
+        self.assertEqual((store.count, session.heard.count("Ping") - before, await page.evaluate("app.link.isOpen")), (1, 4, True))
 
     async def test_gives_up_a_link_that_answers_no_more(self):
         store, page = await self.quiet()

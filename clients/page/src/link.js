@@ -214,6 +214,7 @@ class Link {
   takeSession(body) {
     if (!body.supportedProtocols.some(it => it.protocol === 21)) throw new Fault('the server has no channels to subscribe to');
     this.isOpen = true;
+    this.pinged = this.heard;
     this.server = body.applicationName;
     this.skew = Number(body.currentDateTime) - Date.now() * 1000;
     this.tell('connected', `connected to ${this.server} at ${this.url}`);
