@@ -12,9 +12,10 @@ mkdir -p "$2"
 out=$(realpath -- "$2")
 deploy=$(dirname "$(realpath -- "$0")")
 root=$(dirname "$deploy")
-version=$(cat "$deploy/VERSION")
+version=$(cat "$root/VERSION")
 arch=$(dpkg --print-architecture)
-export SOURCE_DATE_EPOCH="${SOURCE_DATE_EPOCH:-$(git -C "$root" log -1 --format=%ct)}"
+moment=${SOURCE_DATE_EPOCH:-$(git -C "$root" log -1 --format=%ct)}
+export SOURCE_DATE_EPOCH=$moment
 
 tree=$(mktemp -d)
 trap 'rm -r "$tree"' EXIT
@@ -43,7 +44,8 @@ install -m 644 "$deploy/nginx.conf" "$tree/etc/nginx/sites-available/colmjurr"
 install -m 644 "$deploy/default" "$tree/etc/default/etpd"
 put 644 usr/share/colmjurr/page "$root/clients/page/log.html"
 put 644 usr/share/doc/colmjurr "$root/docs/OPERATING.md" "$root/docs/PROFILE.md" "$deploy/copyright"
-put 644 usr/share/doc/colmjurr/examples "$deploy/stunnel-rig.conf" "$deploy/stunnel-office.conf" "$deploy/Containerfile"
+put 644 usr/share/doc/colmjurr/examples "$deploy/stunnel-rig.conf" "$deploy/stunnel-office.conf" "$deploy/Containerfile" \
+  "$root/clients/python/examples/alerts.yml"
 for page in "$deploy"/man/*; do
   packed "usr/share/man/man${page##*.}" "$page"
 done
@@ -59,7 +61,8 @@ cp -r --no-preserve=mode "$root/clients/python/src/colmjurr" "$tree/$python/"
 find "$tree/$python" -name __pycache__ -prune -exec rm -r {} +
 
 install -d -m 755 "$tree/DEBIAN"
-size=$(du -k -s --apparent-size "$tree" | cut -f1)
+# In KiB, whatever the file system: each file rounded up, and 1 for each folder.
+size=$(find "$tree" -path "$tree/DEBIAN" -prune -o -printf '%y %s\n' | awk '{ sum += $1 == "f" ? int(($2 + 1023) / 1024) : 1 } END { print sum }')
 sed -e "s/@VERSION@/$version/" -e "s/@ARCH@/$arch/" -e "s/@SIZE@/$size/" "$deploy/debian/control" > "$tree/DEBIAN/control"
 install -m 755 "$deploy/debian/postinst" "$deploy/debian/prerm" "$deploy/debian/postrm" "$tree/DEBIAN/"
 (cd "$tree" && find etc -type f -printf '/%p\n' | LC_ALL=C sort) > "$tree/DEBIAN/conffiles"

@@ -12,6 +12,8 @@ import collections
 import contextlib
 import email.utils
 import fcntl
+import json
+import logging
 import math
 import os
 import re
@@ -42,8 +44,8 @@ PROGRAMS = Path(os.environ.get("PROGRAMS", "/nowhere")).resolve()
 SILENCE = int(os.environ.get("SILENCE", "100"))
 # How many times as long anything is waited for: more than once for programs with run-time checks, or on a busy machine.
 PATIENCE = int(os.environ.get("COLMJURR_PATIENCE", "1"))
-# How long a stop may take, in seconds; etpd-run kills what has not ended after 40.
-STOP = 35 if PATIENCE == 1 else 41
+# How long a stop may take, in seconds.
+STOP = 35 * PATIENCE
 SUBPROTOCOL = "etp12.energistics.org"
 URI = "eml:///witsml21.Channel(00000000-0000-0000-0000-000000000101)"
 TEXTS = "eml:///witsml21.Channel(00000000-0000-0000-0000-000000000103)"
@@ -95,15 +97,31 @@ class Package(unittest.TestCase):
         for name in ("etpd", "etpctl", "etptool"):
             built = PROGRAMS / name
             shutil.copy(built if built.exists() else "/bin/true", programs / name)
-        made = [run(DEPLOY / "make_deb.sh", programs, top / number) for number in ("first", "second")]
-        assert all(each.returncode == 0 for each in made), made[0].stdout
-        cls.debs = [Path(each.stdout.strip().splitlines()[-1]) for each in made]
+        cls.programs = programs
+        made = run(DEPLOY / "make_deb.sh", programs, top / "first")
+        assert made.returncode == 0, made.stdout
+        cls.deb = Path(made.stdout.strip().splitlines()[-1])
         cls.root = top / "root"
-        assert run("dpkg-deb", "--extract", cls.debs[0], cls.root).returncode == 0
+        assert run("dpkg-deb", "--extract", cls.deb, cls.root).returncode == 0
 
     def test_two_builds_are_the_same_bytes(self):
-        first, second = (deb.read_bytes() for deb in self.debs)
-        self.assertEqual(first, second)
+        # The second one from a copy of the sources somewhere else, in another file system where there is one, by another user's habits.
+        epoch = run("git", "-C", ROOT, "log", "-1", "--format=%ct").stdout.strip()
+        with tempfile.TemporaryDirectory() as folder, tempfile.TemporaryDirectory(dir="/dev/shm" if Path("/dev/shm").is_dir() else None) as memory:
+            for name in ("deploy", "docs", "clients", "VERSION"):
+                run("cp", "-r", "--no-preserve=all", ROOT / name, folder)
+            script = f"umask 077; exec bash {folder}/deploy/make_deb.sh {self.programs} {folder}/second"
+            made = run("bash", "-c", script, env=dict(SOURCE_DATE_EPOCH=epoch, TMPDIR=memory, TZ="Asia/Tokyo", LC_ALL="C", HOME=folder))
+            self.assertEqual(made.returncode, 0, made.stdout)
+            second = Path(made.stdout.strip().splitlines()[-1])
+            self.assertEqual(second.name, self.deb.name)
+            self.assertTrue(second.read_bytes() == self.deb.read_bytes(), "the bytes differ")
+
+    def test_has_one_version(self):
+        version = (ROOT / "VERSION").read_text().strip()
+        told = run("dpkg-deb", "--field", self.deb, "Version").stdout.strip()
+        entry = re.match(r"colmjurr \((\S+)\)", (DEPLOY / "changelog").read_text())[1]
+        self.assertEqual((told, entry, self.colmjurr("--version").stdout.split()[-1]), (version, version, version))
 
     def test_has_what_a_service_needs(self):
         for path in ("usr/sbin/etpd", "usr/bin/etpctl", "usr/bin/etptool", "usr/bin/colmjurr", "usr/lib/colmjurr/etpd-run", "etc/colmjurr/etpd.toml",
@@ -113,7 +131,7 @@ class Package(unittest.TestCase):
 
     @wants("lintian")
     def test_lintian_finds_no_error(self):
-        told = run("lintian", "--no-cfg", "--allow-root", "--fail-on", "error", self.debs[0])
+        told = run("lintian", "--no-cfg", "--allow-root", "--fail-on", "error", self.deb)
         self.assertEqual(told.returncode, 0, told.stdout)
 
     @wants("man", "groff")
@@ -201,28 +219,64 @@ class Package(unittest.TestCase):
     def colmjurr(self, *words):
         return run("/usr/bin/python3", "-m", "colmjurr", *words, env={"PYTHONPATH": str(self.root / "usr/lib/python3/dist-packages")})
 
-    def has_command_line(self):
-        if not (self.root / "usr/lib/python3/dist-packages/colmjurr/__main__.py").exists():
-            self.skipTest("the Python package has no command line")
+    def before_start(self, config, folder):
+        """Runs what the unit runs before etpd, with this configuration, and gives what it writes, the status, and the catalog's path."""
+        path = Path(folder, "catalog.json")
+        unit = (self.root / "lib/systemd/system/etpd.service").read_text()
+        commands = re.findall(r"^ExecStartPre=(.+)$", unit, re.MULTILINE)
+        self.assertEqual(len(commands), 2)
+        for command in commands:
+            words = command.replace("/etc/colmjurr/etpd.toml", str(config)).replace("/run/colmjurr/catalog.json", str(path)).split()
+            told = run(f"{self.root}{words[0]}", *words[1:], env={
+                "PYTHONPATH": str(self.root / "usr/lib/python3/dist-packages"), "PATH": f"{self.root}/usr/bin:{PATH}"})
+            if told.returncode:
+                break
+        return told.stdout, told.returncode, path
 
-    def test_a_wrong_configuration_is_told_by_line_and_key(self):
-        self.has_command_line()
+    def test_a_wrong_configuration_is_told_by_line_and_key_before_the_start(self):
+        shipped = (self.root / "etc/colmjurr/etpd.toml").read_text().splitlines()
+        place = {line: number for number, line in enumerate(shipped, 1)}
+        name, kind, unit = place['name = "rig 7"'], place['kind = "double"'], place['uom = "m"']
+        last = len(shipped)
+        # The line that is replaced, by what, and the line and the key that are told.
+        cases = [
+            (name - 1, 'instance = "rig 7"', name - 1, "instance"), (name, 'name = ""', name, "name"), (name, "name = 7", name, "name"),
+            (name, 'name = "rig 7"\nlag = 0', name + 1, "lag"), (name, 'name = "rig 7"\njournal = 1', name + 1, "journal"),
+            (name, 'name = "rig 7"\ntypes = ["Well"]', name + 1, "types"), (kind, 'kind = "decimal"', kind, "kind"),
+            (unit, f'uom = "{"m" * 65}"', unit, "uom"), (last - 3, f'uri = "{URI}"', last - 3, "uri"), (last - 3, 'uri = "eml:///witsml21.Well"', last - 3, "uri"),
+            (last - 2, "", last - 4, "name"), (name, "name = rig 7", name, None),
+        ]
         with tempfile.TemporaryDirectory() as folder:
             path = Path(folder, "wrong.toml")
-            path.write_text('instance = "00000000-0000-0000-0000-000000000001"\nname = "w"\n[[channel]]\nuri = "eml:///witsml21.Well"\n'
-                            'name = "c"\nkind = "double"\n')
-            told = self.colmjurr("check-config", path)
-            self.assertNotEqual(told.returncode, 0)
-            self.assertRegex(told.stdout, r"uri")
-            self.assertRegex(told.stdout, r"\b4\b")
-            self.assertEqual(self.colmjurr("check-config", self.root / "etc/colmjurr/etpd.toml").returncode, 0)
+            for replaced, text, line, key in cases:
+                with self.subTest(text):
+                    path.write_text("\n".join([*shipped[:replaced - 1], text, *shipped[replaced:]]) + "\n")
+                    told, status, catalog = self.before_start(path, folder)
+                    self.assertEqual(status, 2)
+                    self.assertRegex(told, rf"^{re.escape(str(path))}:{line}: {key + ': ' if key else 'not TOML'}")
+                    self.assertEqual(len(told.splitlines()), 1)
+                    self.assertFalse(catalog.exists())
+                    if (PROGRAMS / "etpd").exists():
+                        refused = run(PROGRAMS / "etpd", path, "127.0.0.1:0", stdin=subprocess.DEVNULL, timeout=60 * PATIENCE)
+                        self.assertEqual(refused.returncode, 2)
+                        self.assertRegex(refused.stdout, r"^config refused: ")
 
     def test_the_catalog_has_the_channels(self):
-        self.has_command_line()
-        import json
-        told = self.colmjurr("catalog", self.root / "etc/colmjurr/etpd.toml")
-        channels = json.loads(told.stdout)["channels"]
-        self.assertEqual([(each["uri"], each["name"], each["uom"]) for each in channels][:1], [(URI, "Rate of penetration", "m/h")])
+        with tempfile.TemporaryDirectory() as folder:
+            told, status, catalog = self.before_start(self.root / "etc/colmjurr/etpd.toml", folder)
+            self.assertEqual(status, 0, told)
+            channels = json.loads(catalog.read_text())["channels"]
+            self.assertEqual([(each["uri"], each["name"], each["uom"]) for each in channels], [
+                (URI, "Rate of penetration", "m/h"), (URI.replace("101)", "102)"), "Hole depth", "m")])
+
+    def test_etpd_toml_has_the_keys_of_the_server(self):
+        # The numbers by which the server names them, and those by which the manual does.
+        source = (ROOT / "docs/PROFILE.md").read_text()
+        section = source[source.index("\n## Configuration\n"):].split("\n## ")[1]
+        keys = re.findall(r"^\| (\d+) \| `([\w.]+)`", section, re.MULTILINE)
+        self.assertGreater(len(keys), 6)
+        page = (DEPLOY / "man/etpd.toml.5").read_text()
+        self.assertEqual(re.findall(r"^(\d+) \\fB(\w+)\\fR", page, re.MULTILINE), keys)
 
     def test_completion_offers_the_commands(self):
         script = f'source {DEPLOY}/completion.bash; COMP_WORDS=({{0}} {{1}}); COMP_CWORD=1; _{{0}} {{0}} {{1}}; echo "${{{{COMPREPLY[*]}}}}"'
@@ -248,6 +302,12 @@ class Server:
             [PROGRAMS / "etpd", self.config, "127.0.0.1:0"], stdin=subprocess.PIPE, stdout=subprocess.DEVNULL, stderr=subprocess.PIPE)
         self.port = int(re.search(rb"(\d+)\s*$", self.process.stderr.readline())[1])
         return self
+
+    def stop(self):
+        """Stops it well, and gives the lines of those who came and went."""
+        self.process.stdin.close()
+        self.process.wait(STOP)
+        return self.process.stderr.read().decode().splitlines()
 
     def __exit__(self, *_):
         self.process.kill()
@@ -380,6 +440,26 @@ class Front(unittest.IsolatedAsyncioTestCase):
             fields["Authorization"] = f"Basic {password}"
         return await Session.dial(self.port, **fields)
 
+    async def test_says_by_its_status_what_is_wrong(self):
+        # As OPERATING.md has them: no WebSocket at the server's address, and no server.
+        self.assertEqual(self.get("/etp")[0], 426)
+        self.server.process.kill()
+        self.server.process.wait()
+        self.assertEqual((await self.dial())[0], 502)
+        table = re.findall(r"^\| (\d{3}) \|", (ROOT / "docs/OPERATING.md").read_text(), re.MULTILINE)
+        self.assertEqual(table, ["137", "101", "400", "401", "403", "404", "426", "502", "503", "504"])
+
+    async def test_the_page_may_not_stand_in_another_one(self):
+        request = urllib.request.Request(f"https://127.0.0.1:{self.port}/", headers={"Authorization": f"Basic {WORDS}"})
+        with urllib.request.urlopen(request, context=ssl._create_unverified_context(), timeout=60 * PATIENCE) as answer:
+            told = {name: answer.headers[name] for name in ("Content-Security-Policy", "X-Content-Type-Options", "Cache-Control", "Server")}
+        self.assertEqual(told, {"Content-Security-Policy": "frame-ancestors 'none'", "X-Content-Type-Options": "nosniff", "Cache-Control": "no-cache",
+                                "Server": "nginx"})
+
+    async def test_only_tls_is_spoken(self):
+        status, _ = await Session.dial(self.port, tls=False, Authorization=f"Basic {WORDS}")
+        self.assertEqual(status, 400)
+
     async def test_only_those_with_a_password_come_in(self):
         self.assertEqual((await self.dial(password=None))[0], 401)
         self.assertEqual((await self.dial(password=base64.b64encode(b"office:wrong").decode()))[0], 401)
@@ -388,6 +468,7 @@ class Front(unittest.IsolatedAsyncioTestCase):
         await session.open()
         self.assertEqual((await session.ask(0, 8, dict(currentDateTime=0)))[0], "Pong")
         session.close()
+        self.assertEqual(len(self.server.stop()), 1, "etpd sees nobody but the one with the password")
 
     async def test_only_pages_of_this_host_come_in(self):
         for origin, status in ((f"https://127.0.0.1:{self.port}", 101), ("https://127.0.0.1", 101), ("https://evil.example", 403), ("null", 403),
@@ -395,6 +476,7 @@ class Front(unittest.IsolatedAsyncioTestCase):
             told, session = await self.dial(Origin=origin)
             self.assertEqual(told, status, origin)
             session.close()
+        self.assertEqual(len(self.server.stop()), 2, "etpd sees nobody but those of the right pages")
 
     async def test_a_section_has_its_server_page_and_channels(self):
         # As OPERATING.md says: a line for the section in the site's first map.
@@ -531,7 +613,8 @@ class Tunnel(unittest.IsolatedAsyncioTestCase):
 
     def stunnel(self, name, changed):
         text = (DEPLOY / name).read_text()
-        for shipped, here in changed.items():
+        # These tests need no root.
+        for shipped, here in [*changed.items(), ("setuid = stunnel4\n", ""), ("setgid = stunnel4\n", "")]:
             self.assertIn(shipped, text)
             text = text.replace(shipped, here)
         path = Path(tempfile.mkstemp(dir=self.folder, suffix=".conf")[1])
@@ -612,20 +695,38 @@ class Run(unittest.IsolatedAsyncioTestCase):
 
     async def asyncSetUp(self):
         asyncio.get_running_loop().set_debug(False)
+        await self.begin()
+
+    async def begin(self, keys=""):
+        """Starts etpd with a configuration of two channels and these keys."""
         folder = self.enterContext(tempfile.TemporaryDirectory())
         config = Server(folder).config
-        config.write_text(config.read_text() + f'[[channel]]\nuri = "{TEXTS}"\nname = "Lithology"\nkind = "string"\n')
+        config.write_text(keys + config.read_text() + f'[[channel]]\nuri = "{TEXTS}"\nname = "Lithology"\nkind = "string"\n')
         self.process = await asyncio.create_subprocess_exec(
-            DEPLOY / "etpd-run", PROGRAMS / "etpd", config, "127.0.0.1:0", stdin=subprocess.DEVNULL, stdout=subprocess.PIPE, stderr=subprocess.PIPE,
+            self.patient_run(folder), PROGRAMS / "etpd", config, "127.0.0.1:0", stdin=subprocess.DEVNULL, stdout=subprocess.PIPE, stderr=subprocess.PIPE,
             start_new_session=True)
-        self.addCleanup(self.kill)
+        self.addAsyncCleanup(self.end)
         # They stay connected until they are closed.
         self.clients = []
         self.port = int(re.search(rb"^listening at port (\d+)\n$", await self.process.stderr.readline())[1])
 
+    def patient_run(self, folder):
+        """etpd-run, which kills what has not ended after 40 s: where there is more patience, a copy that waits as much longer."""
+        if PATIENCE == 1:
+            return DEPLOY / "etpd-run"
+        text, path = (DEPLOY / "etpd-run").read_text(), Path(folder, "etpd-run")
+        self.assertEqual(text.count("-eq 400"), 1)
+        path.write_text(text.replace("-eq 400", f"-eq {400 * PATIENCE}"))
+        path.chmod(0o755)
+        return path
+
     def kill(self):
         with contextlib.suppress(ProcessLookupError):
             os.killpg(self.process.pid, signal.SIGKILL)
+
+    async def end(self):
+        self.kill()
+        await self.process.communicate()
 
     async def client(self):
         status, session = await Session.dial(self.port, tls=False)
@@ -746,10 +847,62 @@ class Stop(Run):
         self.assertEqual(await heard, [1001, 1001])
 
     async def test_has_the_status_of_etpd(self):
-        told = run(DEPLOY / "etpd-run", PROGRAMS / "etpd", "/nowhere.toml", "127.0.0.1:0")
-        self.assertEqual(told.returncode, 4)
-        taken = run(DEPLOY / "etpd-run", PROGRAMS / "etpd", DEPLOY / "etpd.toml", f"127.0.0.1:{self.port}")
-        self.assertEqual((taken.returncode, taken.stdout.splitlines()[0]), (7, f"can't listen at 127.0.0.1:{self.port}: the address is in use"))
+        # Each status that OPERATING.md has, with its line, but 6: memory that runs out, and 137, which another test shows.
+        wrong = self.enterContext(tempfile.NamedTemporaryFile(suffix=".toml"))
+        config = DEPLOY / "etpd.toml"
+        taken = f"127.0.0.1:{self.port}"
+        for words, status, lines in (
+            ([config, "127.0.0.1:0", "0"], 1, ["usage", "etpd CONFIG ADDRESS", "etpd CONFIG ADDRESS SESSIONS"]),
+            ([wrong.name, "127.0.0.1:0"], 2, ["config refused: key 1 of channel 0"]), (["/nowhere.toml", "127.0.0.1:0"], 4, ["read fault"]),
+            ([config, taken], 7, [f"can't listen at {taken}: the address is in use", "listen fault"]),
+            ([config, "192.0.2.1:9002"], 7, ["can't listen at 192.0.2.1:9002: this machine has no such address", "listen fault"]),
+            ([config, "9002"], 7, ["can't listen at 9002: this is no address with a port, as 127.0.0.1:9002", "listen fault"]),
+        ):
+            told = subprocess.run([DEPLOY / "etpd-run", PROGRAMS / "etpd", *words], stdout=subprocess.DEVNULL, stderr=subprocess.PIPE, text=True)
+            self.assertEqual((told.returncode, told.stderr.splitlines()), (status, lines), words)
+        rows = re.findall(r"^\| (\d+)[,a-z ]* ?(?:`([a-z ]+))?", (ROOT / "docs/OPERATING.md").read_text(), re.MULTILINE)
+        self.assertEqual([(status, line.strip()) for status, line in rows if line], [
+            ("1", "usage"), ("2", "config refused"), ("4", "read fault"), ("5", "write fault"), ("6", "no memory"), ("7", "listen fault")])
+
+    async def test_has_a_status_where_its_report_has_no_room(self):
+        with open("/dev/full", "wb") as full:
+            process = subprocess.Popen([DEPLOY / "etpd-run", PROGRAMS / "etpd", DEPLOY / "etpd.toml", "127.0.0.1:0"], stdout=full, stderr=subprocess.PIPE,
+                                       text=True)
+        self.assertRegex(process.stderr.readline(), "^listening")
+        process.terminate()
+        _, told = process.communicate(timeout=STOP + 20)
+        self.assertEqual((process.returncode, told), (5, "write fault\n"))
+
+    async def test_the_65th_waits_for_a_place(self):
+        held = [await self.client() for _ in range(64)]
+        late = asyncio.create_task(self.client())
+        await asyncio.sleep(1)
+        self.assertFalse(late.done())
+        begun = time.monotonic()
+        held[29].close()
+        await late
+        self.assertLess(time.monotonic() - begun, PATIENCE)
+
+    async def test_a_full_journal_refuses_changes_and_sessions(self):
+        # Four entries: the first one, one of each of two sessions, and one of a load.
+        await self.end()
+        await self.begin("journal = 4\n")
+        rig, office = await self.client(), await self.client()
+        await rig.ask(22, 1, dict(uris={"c": URI}))
+        self.assertEqual((await rig.load(1))[0], "Pong")
+        value = dict(channelId=0, indexes=[dict(item=(1, 2))], value=dict(item=(5, 0)), valueAttributes=[])
+        name, heard = await rig.ask(22, 4, dict(data=[value]))
+        self.assertEqual((name, heard["error"][1]["code"]), ("ProtocolException", 12))
+        status, refused = await Session.dial(self.port, tls=False)
+        self.assertEqual(status, 101)
+        peer = self.peer(refused.socket.writer)
+        await self.goodbye(refused)
+        # Who is there goes on reading.
+        name, heard = await office.ask(21, 1, dict(uris={"c": URI}))
+        self.assertEqual((name, heard["metadata"]["c"]["indexes"][0]["interval"]["endIndex"]["item"]), ("GetChannelMetadataResponse", (1, 1)))
+        lines, told = await self.stop()
+        self.assertEqual(lines[0], "entries 4")
+        self.assertIn(f"no session for {peer}: the journal is full", [line[30:] for line in told])
 
 
 def left_out(lines):
@@ -821,4 +974,6 @@ class Lines(Run):
 
 
 if __name__ == "__main__":
+    # A busy machine makes it tell of each step that took long.
+    logging.getLogger("asyncio").setLevel(logging.ERROR)
     unittest.main(warnings="ignore")

@@ -9,9 +9,11 @@ PICTURE in the environment the picture of the page is written to that path.
 """
 import asyncio
 import json
+import logging
 import math
 import os
 import random
+import re
 import socket
 import struct
 import sys
@@ -115,6 +117,30 @@ class Case(unittest.IsolatedAsyncioTestCase):
                 await asyncio.sleep(0.05)
             self.assertEqual(held, wanted, f"channel {number}")
 
+    async def draws_in_a_frame(self, page, words, changed, told):
+        """Draws some frames in a view, each after a change of the first track's points since a time, and looks how long the middle one takes.
+
+        It is the whole of a frame, with the pixels that it ends in: reading one of them waits for the drawing. A machine that is busy delays
+        them, and its processors' caches are others', so there the least of the processor's times counts."""
+        await page.evaluate(words)
+        draw = """(async () => {
+          await new Promise(next => requestAnimationFrame(next));
+          const {column} = app.tracks[0].channel, begun = performance.now();
+          column.note(column.%s);
+          app.draw();
+          for (const canvas of [app.axis, ...app.tracks.map(it => it.canvas)]) canvas.getContext('2d').getImageData(0, 0, 1, 1);
+          return performance.now() - begun;
+        })()""" % changed
+        whole, busy = [], []
+        for _ in range(15):
+            before = await page.busy_time()
+            whole.append(await page.evaluate(draw))
+            busy.append(await page.busy_time() - before)
+        middle, processor = sorted(whole)[7], sorted(busy)
+        print(f"  a million points, {told}, {words!r}, from {changed} on: {middle:.1f} ms, of the processor {processor[0]:.1f} to {processor[-1]:.1f} ms",
+              file=sys.stderr)
+        self.assertLess(middle if browser.TIMES == 1 else processor[0], FRAME, words)
+
     async def followed(self, page, count):
         await page.until(f"app.link.channels.filter(it => it.isFollowed).length === {count}")
 
@@ -123,14 +149,14 @@ class Followed:
     """The cases that hold of every server. `store` makes one with these channels."""
 
     async def test_follows_loads_replacements_and_truncations(self):
-        kinds = ["double", "long", "string", "float", "boolean"]
+        kinds = ["double", "long", "string", "float", "boolean", "int", "bytes"]
         store = await self.store(specs(*kinds))
         values = {"double": lambda k: k / 8, "long": lambda k: (1 << 61) + k, "string": lambda k: f"sand {k}", "float": lambda k: k / 4,
-                  "boolean": lambda k: k % 2 == 0}
+                  "boolean": lambda k: k % 2 == 0, "int": lambda k: 7 - k, "bytes": lambda k: bytes([k % 256, 7])}
         chance, held = random.Random(1), {number: [] for number in range(len(kinds))}
         page = await self.open(store.url, [each[0] for each in store.specs])
         await self.followed(page, len(kinds))
-        for step in range(150):
+        for step in range(200):
             number = chance.randrange(len(kinds))
             value, last = values[kinds[number]], held[number][-1] if held[number] else 0
             what = chance.random()
@@ -196,25 +222,10 @@ class Followed:
         begun = time.monotonic()
         await page.until(f"app.link.channels[0].column.count === {MILLION}")
         held = time.monotonic() - begun
-        for words in ("app.view.all = true", "app.view.all = false; app.view.span = 3600e6"):
-            await page.evaluate(words)
-            # The whole of a frame, with the pixels that it ends in: reading one of them waits for the drawing. A machine that is busy
-            # delays some frames, so the middle one counts.
-            times = await page.evaluate("""(async () => {
-              const times = [];
-              for (let k = 0; k < 15; k++) {
-                await new Promise(next => requestAnimationFrame(next));
-                app.link.channels[0].column.note(app.link.channels[0].column.lastTime);
-                const begun = performance.now();
-                app.draw();
-                for (const canvas of [app.axis, app.tracks[0].canvas]) canvas.getContext('2d').getImageData(0, 0, 1, 1);
-                times.push(performance.now() - begun);
-              }
-              return times.sort((a, b) => a - b);
-            })()""")
-            print(f"  {type(self).__name__}: a million points held after {held:.1f} s, {words!r}: median {times[7]:.1f} ms, most {times[-1]:.1f} ms",
-                  file=sys.stderr)
-            self.assertLess(times[7], FRAME, words)
+        # Everything, an hour, and everything after a change of the first point.
+        for words, changed in (("app.view.all = true", "lastTime"), ("app.view.all = false; app.view.span = 3600e6", "lastTime"),
+                               ("app.view.all = true", "times[0]")):
+            await self.draws_in_a_frame(page, words, changed, f"{type(self).__name__}, held after {held:.1f} s")
 
 
 class WithStub(Followed, Case):
@@ -229,6 +240,13 @@ class WithEtpd(Followed, Case):
     async def store(self, channels):
         return await self.helper(Etpd(ETPD, channels))
 
+    async def open(self, *words, **more):
+        page = await super().open(*words, **more)
+        if browser.TIMES > 1:
+            # A server with run-time checks may take longer for a million points than the page waits for an answer.
+            await page.evaluate("Link.prototype.keep = () => {}")
+        return page
+
     async def test_begins_at_a_moment(self):
         store = await self.store(specs("double"))
         now = int(time.time())
@@ -238,10 +256,19 @@ class WithEtpd(Followed, Case):
         await page.until("app.link.channels[0].column.count > 200")
         first = await page.evaluate("app.link.channels[0].column.times[0]")
         self.assertTrue(now - 300 <= first / SECOND <= time.time() - 299, first)
+        # The newest point is of the second before `now`. The page says how old it is in whole seconds, once a second.
         await asyncio.sleep(1.5)
-        words = (await page.evaluate("document.getElementById('behind').textContent")).split()
-        behind = float(words[0]) * {"s": 1, "min": 60}[words[1]]
-        self.assertTrue(0 <= behind <= 1.1 * (time.time() - now + 1), behind)
+        told = await seconds_behind(page)
+        behind = time.time() - (now - 1)
+        self.assertTrue(behind - 2.5 <= told <= behind + 0.5, (told, behind))
+
+
+async def seconds_behind(page):
+    """How old the newest point is, as the page says below the tracks."""
+    words = await page.evaluate("document.getElementById('behind').textContent")
+    found = re.fullmatch(r"(\d+) s behind", words)
+    assert found, words
+    return int(found[1])
 
 
 class Drawn(Case):
@@ -334,6 +361,21 @@ class Drawn(Case):
         await page.until("app.reach()[1] === 1200")
         self.assertEqual(await page.evaluate("Array.from(app.tracks[0].channel.column.places.subarray(99, 102))"), [1049.5, 1200, 1200])
 
+    async def test_draws_a_million_points_by_depth_in_a_frame(self):
+        store = await self.helper(Stub([(uri(0), "GR", "double", "gAPI"), (uri(1), "Hole depth", "double", "m")]))
+        page = await self.open(store.url, [uri(0)], depth=uri(1))
+        await self.followed(page, 2)
+        # Drilling that pulls back by some metres again and again.
+        await page.evaluate("""{
+          const [curve, depth] = app.link.channels.map(it => it.column);
+          for (let k = 1; k <= %d; k++) {
+            curve.append({time: k * 1e6, branch: 5, value: 50 + 40 * Math.sin(k / 5000) + k %% 7});
+            depth.append({time: k * 1e6, branch: 5, value: 1000 + k / 300 + 3 * Math.sin(k / 300)});
+          }
+        }""" % MILLION)
+        for words in ("app.view.all = true", "app.view.all = false; app.view.span = 100"):
+            await self.draws_in_a_frame(page, words, "lastTime", "by depth")
+
     async def test_names_are_text(self):
         store = await self.helper(Stub([(uri(0), HOSTILE, "double", HOSTILE), (uri(1), "lithology", "string", "")], name=HOSTILE))
         await store.load(0, [(SECOND, 1.0)])
@@ -346,6 +388,25 @@ class Drawn(Case):
         self.assertIsNone(await page.evaluate("window.harmed"))
         self.assertEqual(await page.evaluate("document.querySelectorAll('img').length"), 0)
         self.assertEqual(await page.evaluate("document.querySelectorAll('script').length"), 1)
+
+    async def test_tells_how_far_behind_it_is_by_the_clock_of_the_server(self):
+        # The server's clock is an hour ahead of the browser's.
+        store = await self.helper(Stub([(uri(0), "ROP", "double", "m/h")], ahead=3600))
+        await store.load(0, [(int((store.now() - 42) * SECOND), 22.5)])
+        page = await self.open(store.url, [uri(0)])
+        await page.until("document.getElementById('held').textContent === '1 point held'")
+        self.assertIn(await seconds_behind(page), (42, 43, 44))
+        value, unit, age = await page.evaluate("['value', 'uom', 'age'].map(it => document.querySelector('.track .' + it).textContent)")
+        self.assertEqual((value, unit), ("22.5", "m/h"))
+        self.assertIn(age, ("42 s", "43 s", "44 s"))
+        await store.load(0, [(int(store.now() * SECOND), 23.25)])
+        await page.until("app.tracks[0].value.textContent === '23.25'")
+        self.assertLess(await seconds_behind(page), 2)
+        # It goes on counting while the link is broken.
+        await store.stop()
+        await page.until("document.getElementById('state').className === 'waiting'")
+        begun = await seconds_behind(page)
+        await page.until(f"parseInt(document.getElementById('behind').textContent) >= {begun + 3}")
 
     async def test_moves_by_wheel_drag_and_keys_and_comes_back_to_the_newest(self):
         store, page, _, (left, top, width, height) = await self.ramp([(at * SECOND, 1.0) for at in range(5000)], span=1000)
@@ -547,8 +608,40 @@ class Hostile(Case):
             session.write((1001).to_bytes(2, "big"), web_socket.CLOSE)
         await page.until("app.events.some(it => it.includes('the server goes away (1001); next try in 1 s'))")
 
+    async def quiet(self):
+        """A page that follows a channel, whose clock moves on by hand and whose timer is stopped."""
+        store = await self.helper(Stub(specs("double")))
+        page = await self.open(store.url, [uri(0)])
+        await self.followed(page, 1)
+        await page.evaluate("{ const real = Date.now; window.ahead = 0; Date.now = () => real() + ahead; clearInterval(app.link.watch); }")
+        return store, page
+
+    async def test_keeps_a_link_that_answers_while_the_page_is_hidden(self):
+        # A browser calls a hidden page's timers once a minute.
+        store, page = await self.quiet()
+        (session,) = store.sessions
+        before = session.heard.count("Ping")
+        for minute in range(1, 5):
+            await page.evaluate("ahead += 60000; app.link.keep()")
+            await page.until(f"app.link.heard >= app.link.pinged && app.link.heard > {minute} * 60000")
+        self.assertEqual((store.count, session.heard.count("Ping") - before, await page.evaluate("app.link.isOpen")), (1, 4, True))
+
+    async def test_gives_up_a_link_that_answers_no_more(self):
+        store, page = await self.quiet()
+        (session,) = store.sessions
+        session.Ping = lambda number, value: None
+        for seconds, told in ((16, False), (59, False), (2, True)):
+            await page.evaluate(f"ahead += {seconds * 1000}; app.link.keep()")
+            self.assertEqual(await page.evaluate("app.events.some(it => it.includes(' no answer for 60 s; next try in 1 s'))"), told, seconds)
+        await self.followed(page, 1)
+        self.assertEqual(store.count, 2)
+
     async def test_gives_up_a_server_that_says_nothing(self):
-        silent = await asyncio.start_server(lambda reader, writer: asyncio.sleep(60), "127.0.0.1", 0)
+        async def take(reader, writer):
+            await reader.read()
+            writer.close()
+
+        silent = await asyncio.start_server(take, "127.0.0.1", 0)
         page = await self.open(f"ws://127.0.0.1:{silent.sockets[0].getsockname()[1]}/", [uri(0)])
         await page.until("app.events.some(it => it.includes('no session within 10 s;'))")
         silent.close()
@@ -698,6 +791,8 @@ def drilled(now):
 
 
 if __name__ == "__main__":
+    # A busy machine makes it tell of each step that took long.
+    logging.getLogger("asyncio").setLevel(logging.ERROR)
     if browser.found() is None:
         print("test_page.py: skipped, no Chromium is installed (Debian: chromium)")
         sys.exit(0)

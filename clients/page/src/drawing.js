@@ -266,11 +266,18 @@ function goOver(pen, {blocks, values, places}, view, block, end) {
   pen.go(view.rowOf(blocks.first[block]), first, least, greatest, last);
 }
 
-function goAlong(pen, column, view, begin, end, breakStep) {
-  const {times} = column;
+function goAlong(pen, {times, values, places}, view, begin, end, breakStep) {
+  const top = view.begin, scale = view.height / view.span;
   for (let place = begin; place < end; place++) {
     if (place > begin && times[place] - times[place - 1] > breakStep) pen.lift();
-    goTo(pen, column, view, place);
+    const y = (places[place] - top) * scale, value = values[place], group = pen.group;
+    // Most points lie in the row of the one before.
+    if (group && y >= group.row && y < group.row + 1 && value >= group.least && value <= group.greatest) {
+      group.last = value;
+      group.end = y;
+    } else {
+      pen.go(y, value, value, value, value);
+    }
   }
 }
 

@@ -14,8 +14,8 @@ const GOING_AWAY = 1001;
 const TYPE_BOOLEAN = 5, TYPE_STRING = 10, TYPE_BYTES = 11;
 /** The longest message that the server may send in one part, in bytes: so short that reading one never holds up the page. */
 const PART_LIMIT = 1 << 20;
-/** How long a new link may take until its session is open, how often a Ping is sent, and after what silence the link is given up, in ms. */
-const OPEN_PATIENCE = 10000, PING_EVERY = 15000, SILENCE = 45000;
+/** How long a new link may take until its session is open, how often a Ping is sent, and how long its answer may take, in ms. */
+const OPEN_PATIENCE = 10000, PING_EVERY = 15000, ANSWER_PATIENCE = 60000;
 /** A link that lasted this long was a good one: the next wait is the shortest again, in ms. */
 const STOOD = 30000;
 
@@ -73,23 +73,27 @@ class Link {
   connect() {
     clearTimeout(this.timer);
     this.tell('connecting', `connecting to ${this.url}`);
-    Object.assign(this, {nextId: 2, lastId: 0, asks: new Map(), kept: null, isOpen: false, byId: new Map(), begun: Date.now()});
+    Object.assign(this, {nextId: 2, lastId: 0, asks: new Map(), kept: null, isOpen: false, byId: new Map(), begun: Date.now(), heard: 0, pinged: 0});
     const socket = new WebSocket(this.url, [SUBPROTOCOL]);
     this.socket = socket;
     socket.binaryType = 'arraybuffer';
     socket.onopen = () => this.socket === socket && this.openSession();
     socket.onmessage = event => this.socket === socket && this.hear(event.data);
     socket.onclose = event => this.socket === socket && this.lose(event.reason || `${event.code === GOING_AWAY ? 'the server goes away' : 'the link broke'} (${event.code})`);
-    this.heard = Date.now();
     this.watch = setInterval(() => this.keep(), 1000);
   }
 
-  /** Gives up a link that is silent, and keeps any other alive. */
+  /** Keeps a link alive, and gives up one that doesn't answer. A hidden page is called once a minute, so only what came since the last
+      Ping counts. */
   keep() {
-    const silent = Date.now() - this.heard;
-    if (!this.isOpen && silent > OPEN_PATIENCE) this.lose('no session within 10 s');
-    else if (silent > SILENCE) this.lose('nothing came for 45 s');
-    else if (this.isOpen && Date.now() - this.pinged > PING_EVERY) this.ping();
+    const now = Date.now();
+    if (!this.isOpen) {
+      if (now - this.begun > OPEN_PATIENCE) this.lose('no session within 10 s');
+    } else if (this.pinged > this.heard) {
+      if (now - this.pinged > ANSWER_PATIENCE) this.lose('no answer for 60 s');
+    } else if (now - this.pinged > PING_EVERY) {
+      this.ping();
+    }
   }
 
   ping() {
@@ -210,9 +214,9 @@ class Link {
   takeSession(body) {
     if (!body.supportedProtocols.some(it => it.protocol === 21)) throw new Fault('the server has no channels to subscribe to');
     this.isOpen = true;
+    this.pinged = this.heard;
     this.server = body.applicationName;
     this.skew = Number(body.currentDateTime) - Date.now() * 1000;
-    this.pinged = Date.now();
     this.tell('connected', `connected to ${this.server} at ${this.url}`);
     if (this.channels.length) this.askForMetadata();
   }

@@ -252,7 +252,7 @@ class App {
     const points = channels.reduce((sum, channel) => sum + channel.column.count, 0);
     const behind = newest === -Infinity ? 'no point yet' : `${ageText((this.link.now() - newest) / SECOND)} behind`;
     document.getElementById('behind').textContent = behind;
-    document.getElementById('held').textContent = `${points.toLocaleString('en')} points held`;
+    document.getElementById('held').textContent = `${points.toLocaleString('en')} point${points === 1 ? '' : 's'} held`;
     document.getElementById('server').textContent = this.link.server;
     document.title = this.link.server ? `${this.link.server} – log` : 'Log';
     const depthUnit = this.depth ? this.depth.uom : '';

@@ -15,7 +15,8 @@ import web_socket
 
 NAMES = ["chromium", "chromium-headless-shell", "chromium-browser", "google-chrome"]
 # How long anything is waited for, in seconds; a server with run-time checks, or a busy machine, is waited for longer.
-PATIENCE = 90 * int(os.environ.get("COLMJURR_PATIENCE", "1"))
+TIMES = int(os.environ.get("COLMJURR_PATIENCE", "1"))
+PATIENCE = 90 * TIMES
 
 
 def found():
@@ -90,6 +91,7 @@ class Browser:
         self.pages[session] = page
         for domain in ("Page", "Runtime", "Log"):
             await self.ask(f"{domain}.enable", session)
+        await self.ask("Performance.enable", session, timeDomain="threadTicks")
         await self.ask("Emulation.setDeviceMetricsOverride", session, width=width, height=height, deviceScaleFactor=1, mobile=False)
         await self.ask("Page.navigate", session, url=url)
         await page.until("document.readyState === 'complete'")
@@ -130,6 +132,11 @@ class Page:
                     return
             await asyncio.sleep(0.05)
         raise AssertionError(f"{expression} doesn't hold after {patience} s; {await self.evaluate('document.body.innerText')}")
+
+    async def busy_time(self):
+        """How long the page's thread has had the processor for tasks, in milliseconds."""
+        told = await self.browser.ask("Performance.getMetrics", self.session)
+        return 1000 * next(each["value"] for each in told["metrics"] if each["name"] == "TaskDuration")
 
     async def wheel(self, x, y, across, down):
         """Turns the wheel of the mouse at a place in the window."""

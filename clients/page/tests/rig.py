@@ -10,7 +10,7 @@ from pathlib import Path
 
 import web_socket
 import wire
-from stub import VERSION, double_items, interval, item, long_index, number_bytes
+from stub import VERSION, double_items, ended, interval, item, long_index, number_bytes
 
 SUBPROTOCOL = "etp12.energistics.org"
 PATIENCE = 60 * int(os.environ.get("COLMJURR_PATIENCE", "1"))
@@ -120,7 +120,7 @@ class Proxy:
 
     def __init__(self, url):
         self.host, self.port = re.match(r"ws://([^:/]+):(\d+)/", url).groups()
-        self.writers = []
+        self.writers, self.tasks = [], set()
 
     async def start(self):
         self.listener = await asyncio.start_server(self.take, "127.0.0.1", 0)
@@ -128,6 +128,7 @@ class Proxy:
         return self
 
     async def take(self, reader, writer):
+        self.tasks.add(asyncio.current_task())
         to_reader, to_writer = await asyncio.open_connection(self.host, self.port)
         self.writers += [writer, to_writer]
         await asyncio.gather(self.pump(reader, to_writer), self.pump(to_reader, writer))
@@ -147,5 +148,6 @@ class Proxy:
         self.writers = []
 
     async def stop(self):
-        self.cut()
         self.listener.close()
+        self.cut()
+        await ended(self.tasks)

@@ -53,6 +53,12 @@ def double_items(number, points):
     return b"".join(front + number_bytes(index) + b"\0\x0a" + pack(value) + b"\0" for index, value in points)
 
 
+async def ended(tasks):
+    """Waits for the ends of connections that were closed."""
+    if tasks:
+        await asyncio.wait(tasks, timeout=10)
+
+
 class Channel:
     def __init__(self, number, uri, name, kind, uom=""):
         self.number, self.uri, self.name, self.kind, self.uom, self.points = number, uri, name, kind, uom, {}
@@ -134,7 +140,7 @@ class Session:
         accepted = [dict(protocol=21, protocolVersion=VERSION, role="store", protocolCapabilities={})]
         self.say(0, 2, number, dict(
             applicationName=self.server.name, applicationVersion="1", serverInstanceId=INSTANCE, supportedProtocols=accepted,
-            supportedDataObjects=[], supportedCompression="", supportedFormats=["xml"], currentDateTime=int(time.time() * 1e6),
+            supportedDataObjects=[], supportedCompression="", supportedFormats=["xml"], currentDateTime=int(self.server.now() * 1e6),
             earliestRetainedChangeTime=0, sessionId=INSTANCE, endpointCapabilities={}))
         self.server.after_open(self)
 
@@ -176,13 +182,17 @@ class Session:
 
 
 class Stub:
-    """The server. `after_open` is called with each session that was opened."""
+    """The server. `after_open` is called with each session that was opened. Its clock is `ahead` of this machine's, in seconds."""
 
-    def __init__(self, channels, name="stub"):
-        self.name, self.most, self.sessions, self.count = name, 1 << 20, set(), 0
+    def __init__(self, channels, name="stub", ahead=0):
+        self.name, self.ahead, self.most, self.count = name, ahead, 1 << 20, 0
+        self.sessions, self.tasks = set(), set()
         self.channels = [Channel(number, *each) for number, each in enumerate(channels)]
         self.by_uri = {channel.uri: channel for channel in self.channels}
         self.after_open = lambda session: None
+
+    def now(self):
+        return time.time() + self.ahead
 
     async def start(self):
         self.listener = await asyncio.start_server(self.take, "127.0.0.1", 0)
@@ -191,6 +201,7 @@ class Stub:
 
     async def take(self, reader, writer):
         session = Session(self, reader, writer)
+        self.tasks.add(asyncio.current_task())
         self.sessions.add(session)
         self.count += 1
         try:
@@ -205,6 +216,7 @@ class Stub:
         self.listener.close()
         for session in list(self.sessions):
             session.writer.close()
+        await ended(self.tasks)
 
     def followers(self, number):
         return [(session, session.starts[number]) for session in self.sessions if number in session.starts]
