@@ -223,21 +223,21 @@ class Floods(Peer):
 
     def test_a_message_of_empty_frames(self):
         with unittest.mock.patch("colmjurr.websocket.FRAMES_LIMIT", 2000):
-            store = self.connect(self.flooded(lambda n: server_frame(0 if n else 2, b"", False)))
-            self.fails(colmjurr.PeerError, store.spaces, "in more than 2000 frames", limit=3)
+            store = self.connect(self.flooded(lambda n: server_frame(0 if n else 2, b"", False), seconds=30), ask_timeout=30)
+            self.fails(colmjurr.PeerError, store.spaces, "in more than 2000 frames", limit=30)
 
     def test_parts_of_a_notice_without_end(self):
         item = {"channelId": 0, "indexes": [dict(item=(1, 5))], "value": dict(item=(0, None)), "valueAttributes": []}
         make = lambda n: server_frame(2, message(21, 4, 3 + 2 * n, 0, 0, data=[item]))
         with unittest.mock.patch("colmjurr.session.NOTICE_LIMIT", 20_000):
-            store = self.connect(self.flooded(make))
-            self.fails(colmjurr.PeerError, store.spaces, "a notice of more than 20000 bytes", limit=3)
+            store = self.connect(self.flooded(make, seconds=30), ask_timeout=30)
+            self.fails(colmjurr.PeerError, store.spaces, "a notice of more than 20000 bytes", limit=30)
 
     def test_parts_of_a_reply_without_end(self):
         make = lambda n: server_frame(2, message(24, 2, 3 + 2 * n, 4, 0, dataspaces=[]))
         with unittest.mock.patch("colmjurr.session.REPLY_LIMIT", 20_000):
-            store = self.connect(self.flooded(make))
-            self.fails(colmjurr.PeerError, store.spaces, "a reply of more than 20000 bytes", limit=3)
+            store = self.connect(self.flooded(make, seconds=30), ask_timeout=30)
+            self.fails(colmjurr.PeerError, store.spaces, "a reply of more than 20000 bytes", limit=30)
 
     def test_parts_of_a_reply_that_nobody_waits_for(self):
         """The first request is given up. What goes on coming for it is counted, and does not keep the second one waiting for ever."""
