@@ -122,6 +122,15 @@ class Commands(CommandCase):
                 (["exporter", self.url, "--catalog", empty], 12, "is not a catalog"), (["range", self.url, channel_uri(0), "9" * 5000], 12, "not a moment")):
             with self.subTest(words=words):
                 self.assertIn(text, run(*words, status=status))
+        # files without an end are given up before they take memory
+        for words, status, text in (
+                (["put", self.url, well_uri(1), "/dev/zero"], 12, "more than 67,108,864 bytes"), (["check-config", "/dev/zero"], 2, "more than 1,048,576 bytes"),
+                (["exporter", self.url, "--catalog", "/dev/zero"], 12, "more than 16,777,216 bytes"),
+                (["copy", self.url, self.url, "--objects", "/dev/zero"], 12, "more than 16,777,216 bytes"),
+                (["ping", self.url, "--password-file", "/dev/zero"], 12, "more than 16,777,216 bytes"),
+                (["load", self.url, channel_uri(1), "/dev/zero"], 12, "input line 1: more than 1,048,576 bytes")):
+            with self.subTest(words=words):
+                self.assertIn(text, run(*words, status=status))
         for line, text in (("x 1", "line 1"), ("1", "no value"), ("1 x", "line 1"), ("5 1\n4 1", "does not rise")):
             with self.subTest(line=line):
                 self.assertIn(text, run("load", self.url, channel_uri(1), given=line + "\n", status=12))

@@ -60,6 +60,10 @@ def read_there(data, sender):
 
 
 SAMPLES = [(wire.SENDERS[kind], data, same) for kind, data, same in message_samples.samples() if kind in wire.SENDERS]
+# the messages of docs/samples too, each once; of the refusals some can't be read
+SHIPPED = sorted({
+    (wire.SENDERS[frame.kind], frame.data) for path in sorted((support.ROOT / "docs" / "samples").glob("*.cap"))
+    for frame in wire.read_frames(path.read_bytes()) if frame.kind in wire.SENDERS})
 
 
 class Codec(unittest.TestCase):
@@ -72,6 +76,21 @@ class Codec(unittest.TestCase):
             header, _, value = codec.read_message(data, sender)
             self.assertEqual(codec.write_message(header, value) == data, same, read[1])
         self.assertEqual(names, {body.name for body in wire.BODIES.values()})
+
+    def test_the_shipped_samples_are_read_as_outside(self):
+        names = set()
+        for sender, data in SHIPPED:
+            read = read_here(data, sender)
+            self.assertEqual(read, read_there(data, sender))
+            if isinstance(read, str):
+                continue
+            names.add(read[1])
+            header, body, value = wire.read_message(data, sender)
+            loose = wire.write_message(header, body, value, loose=True)
+            self.assertEqual(read_here(loose, sender), read_there(loose, sender))
+            for end in range(min(len(data), 400)):
+                self.assertEqual(read_here(data[:end], sender), read_there(data[:end], sender), (data, end))
+        self.assertGreater(len(names), 40)
 
     def test_every_message_in_other_spellings(self):
         for sender, data, _ in SAMPLES:

@@ -267,12 +267,13 @@ class Floods(Peer):
 
             return talk
 
-        with unittest.mock.patch("colmjurr.websocket.WRITE_LIMIT", 1.0):
-            store = self.connect(self.listen(serve(0.06)), ask_timeout=30)
+        limit = max(1.0, PATIENCE)
+        with unittest.mock.patch("colmjurr.websocket.WRITE_LIMIT", limit):
+            store = self.connect(self.listen(serve(0.06 * limit)), ask_timeout=limit)
             begun = time.monotonic()
             store.put(support.well_uri(1), bytes(24_000_000))
-            self.assertGreater(time.monotonic() - begun, 1.5)
-            store = self.connect(self.listen(serve(1000)), ask_timeout=30)
+            self.assertGreater(time.monotonic() - begun, 1.5 * limit)
+            store = self.connect(self.listen(serve(1000)), ask_timeout=limit)
             self.fails(colmjurr.LinkLost, lambda: store.put(support.well_uri(1), bytes(24_000_000)), "the server read nothing for", limit=12)
 
 

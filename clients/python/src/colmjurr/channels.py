@@ -35,6 +35,7 @@ class Channel:
         return f"<channel {self.name!r} {self.kind}{' in ' + self.uom if self.uom else ''}>"
 
     def take_record(self, record: dict) -> None:
+        """Takes over what the server says of the channel. Raises `PeerError` if the profile has no such channel."""
         symbol = schema.ENUMS["ChannelDataKind"][record["dataKind"]]
         if not symbol.startswith("type"):
             raise PeerError(f"a channel of kind {symbol}, which the profile does not have")
@@ -67,7 +68,8 @@ class Channel:
     # -- reading
 
     async def range(self, start: Optional[Moment] = None, end: Optional[Moment] = None, progress: Optional[Progress] = None) -> Points:
-        """The points from `start` to `end`, both included; None is the channel's beginning or end. `index_of` says what a moment may be.
+        """The points from `start` to `end`, both included; None is the channel's beginning or end. `index_of` says what a moment may be: an
+        int is in microseconds since 1970-01-01 UTC. The `Points` have `indexes` and `values` of shape (n,), these in the channel's unit.
         `progress` is called with the bytes that have arrived.
 
         A range that the server can give at once is read by one request, and so is as it was at one moment. A longer one is halved as often

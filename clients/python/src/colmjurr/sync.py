@@ -364,7 +364,8 @@ class Channel:
         self._runner.run(self.held.refresh())
 
     def range(self, start: Optional[Moment] = None, end: Optional[Moment] = None, progress: Optional[Progress] = None) -> Points:
-        """The points from `start` to `end`, both included; None is the channel's beginning or end. `index_of` says what a moment may be.
+        """The points from `start` to `end`, both included; None is the channel's beginning or end. `index_of` says what a moment may be: an
+        int is in microseconds since 1970-01-01 UTC. The `Points` have `indexes` and `values` of shape (n,), these in the channel's unit.
         `progress` is called with the bytes that have arrived.
 
         A range that the server can give at once is read by one request, and so is as it was at one moment. A longer one is halved as often

@@ -78,6 +78,7 @@ class WebSocket:
         self.reader, self.writer = reader, writer
         self.is_closing = False
         self.control_bytes = self.posted = 0
+        self.write_limit = WRITE_LIMIT
 
     def post(self, data: bytes) -> None:
         """Hands one binary message to the connection, where it may wait until the peer has read what was sent before."""
@@ -95,11 +96,11 @@ class WebSocket:
         return self.writer.transport.get_write_buffer_size()
 
     async def drain(self) -> None:
-        """Waits until little is left to send. Raises `LinkLost` if the peer reads nothing for WRITE_LIMIT seconds."""
+        """Waits until little is left to send. Raises `LinkLost` if the peer reads nothing for `write_limit` seconds."""
         gone = self.posted - self.waiting()
         while True:
             try:
-                async with asyncio.timeout(WRITE_LIMIT):
+                async with asyncio.timeout(self.write_limit):
                     return await self.writer.drain()
             except TimeoutError:
                 before, gone = gone, self.posted - self.waiting()
@@ -107,7 +108,7 @@ class WebSocket:
                 raise LinkLost(f"the connection broke off: {error}") from None
             if gone == before:
                 self.abort()
-                raise LinkLost(f"the server read nothing for {WRITE_LIMIT:.0f} s")
+                raise LinkLost(f"the server read nothing for {self.write_limit:.0f} s")
 
     def ping(self) -> None:
         self._control(PING, b"")
