@@ -1,6 +1,7 @@
 """The codec compared with the reader from outside: every message, other spellings, every prefix, and broken messages."""
 import struct
 import unittest
+import unittest.mock
 
 import support  # noqa: F401
 import hostile_messages
@@ -124,17 +125,19 @@ class Codec(unittest.TestCase):
         self.assertLess(refused, 6000)
 
     def test_too_many_values(self):
+        self.assertEqual(codec.NODE_LIMIT, 8_388_608)
         header = codec.write_header(codec.Header(18, 1, 0, 2, 2))
+        most = 50_000
         # the body, its boolean, its text and its list count as well
-        count = codec.NODE_LIMIT - 4
+        count = most - 4
         texts = bytearray(header + b"\0\0")
         codec.put_number(texts, count)
-        fine = bytes(texts) + bytes(count) + b"\0"
-        self.assertEqual(len(codec.read_message(fine, "C")[2]["dataspaceUris"]), count)
-        texts = bytearray(header + b"\0\0")
-        codec.put_number(texts, count + 1)
-        with self.assertRaises(WireError) as caught:
-            codec.read_message(bytes(texts) + bytes(count + 1) + b"\0", "C")
+        with unittest.mock.patch("colmjurr.codec.NODE_LIMIT", most):
+            self.assertEqual(len(codec.read_message(bytes(texts) + bytes(count) + b"\0", "C")[2]["dataspaceUris"]), count)
+            texts = bytearray(header + b"\0\0")
+            codec.put_number(texts, count + 1)
+            with self.assertRaises(WireError) as caught:
+                codec.read_message(bytes(texts) + bytes(count + 1) + b"\0", "C")
         self.assertEqual((caught.exception.cause, caught.exception.offset), ("limit", len(texts) + count))
 
     def test_a_length_that_is_not_there_takes_no_memory(self):

@@ -23,7 +23,7 @@ from pathlib import Path
 from typing import Any, BinaryIO, Callable, Iterator, NoReturn, Optional, TextIO
 
 from . import aio, conformance
-from .bridge import Bridge, plain_value
+from .bridge import Bridge, StreamError, plain_value
 from .configuration import catalog, read_configuration, read_configuration_file
 from .copying import Difference, copy, read_objects
 from .errors import (
@@ -728,7 +728,7 @@ def add_other_commands(command: Callable[..., argparse.ArgumentParser]) -> None:
 def status_of(error: Exception) -> int:
     kinds = (
         ((Difference,), DIFFERS), ((Stopped,), STOPPED), ((Refused, SomeRefused), REFUSED), ((ConfigError,), CONFIG),
-        ((DialError, HandshakeError, TimeLimit), LINK), ((WireError, LinkError), PEER), ((InputError, ValueRefused), INPUT),
+        ((DialError, HandshakeError, TimeLimit), LINK), ((WireError, LinkError), PEER), ((InputError, ValueRefused, StreamError), INPUT),
         ((ImportError,), USAGE), ((OSError,), FILE),
     )
     return next((status for classes, status in kinds if isinstance(error, classes)), PEER)
