@@ -266,7 +266,7 @@ class Conformance(unittest.TestCase):
         etpd, samples = support.program("etpd"), ROOT / "docs" / "samples"
         if etpd is None or not samples.is_dir():
             self.skipTest("no built etpd, or no docs/samples")
-        lines = run("conformance", "--etpd", etpd, samples).splitlines()
+        lines = run("conformance", "--etpd", etpd, "--timeout", WAIT, samples).splitlines()
         self.assertGreater(len(lines), 10)
         self.assertTrue(all(line.endswith(": as recorded") for line in lines), lines)
 
@@ -311,6 +311,14 @@ class Conformance(unittest.TestCase):
                 os.kill(int(number.read_text()), signal.SIGKILL)
             script.write_text("#!/bin/sh\nexit 3\n")
             self.assertIn("ended with status 3", run(*words, status=10))
+
+    def test_a_program_that_says_nothing(self):
+        with tempfile.TemporaryDirectory() as folder:
+            silent = Path(folder, "etpd")
+            silent.write_text("#!/bin/sh\nexec sleep 1000\n")
+            silent.chmod(0o755)
+            words = ["conformance", "--etpd", silent, "--timeout", "0.5", ROOT / "docs" / "samples" / "one_put.cap"]
+            self.assertIn("the server does not start", run(*words, status=10))
 
     def test_captures_that_are_none(self):
         from colmjurr import ValueRefused, conformance

@@ -18,6 +18,7 @@ import shlex
 import socket
 import subprocess
 import sys
+import threading
 import time
 from pathlib import Path
 from typing import Any, BinaryIO, Callable, Iterator, NoReturn, Optional, TextIO
@@ -559,7 +560,10 @@ class server_for:
         self.process = subprocess.Popen(
             [self.words.etpd, str(self.settings), "127.0.0.1:0"], stdout=subprocess.DEVNULL, stderr=subprocess.PIPE)
         said: Any = self.process.stderr
+        limit = threading.Timer(self.words.timeout, self.process.kill)
+        limit.start()
         line = said.readline().decode("utf-8", "replace")
+        limit.cancel()
         found = re.search(r"(\d+)\s*$", line)
         if not found:
             raise DialError(f"the server does not start: {line.strip()}")
