@@ -132,7 +132,7 @@ class LimitedSession(transactions.Session):
         """One channel at a time, as the tests of long channels ask."""
         for key, item in value["channels"].items():
             start = item["startIndex"]["item"]
-            if start[0] == 1 and not item["requestLatestIndexCount"][0] and len(self.store.from_index(item["channelId"], start[1])) > self.most:
+            if item["channelId"] < len(self.store.channels) and start[0] == 1 and not item["requestLatestIndexCount"][0] and len(self.store.from_index(item["channelId"], start[1])) > self.most:
                 return [(0, 1000, {"error": (0, None), "errors": {key: row_samples.info(12)}})]
         return super().on_subscribe_channels(moment, value)
 

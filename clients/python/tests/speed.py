@@ -19,6 +19,7 @@ import wire
 from colmjurr import channel_data, codec
 import colmjurr
 import numpy
+import pandas  # noqa: F401  so that the first table does not wait for it
 
 COUNT, LOT = 1_000_000, 500_000
 READ_AIM, LOAD_AIM = 2.0, 3.0

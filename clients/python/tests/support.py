@@ -8,6 +8,7 @@ import re
 import subprocess
 import sys
 import tempfile
+import threading
 import unittest
 import uuid
 from pathlib import Path
@@ -57,10 +58,18 @@ class RealServer:
         path = Path(self.folder.name, "server.toml")
         path.write_text(configuration(**settings))
         self.process = subprocess.Popen([program, str(path), f"127.0.0.1:{port}"], stdout=subprocess.DEVNULL, stderr=subprocess.PIPE)
+        limit = threading.Timer(60 * max(1, PATIENCE), self.process.kill)
+        limit.daemon = True
+        limit.start()
         line = self.process.stderr.readline()
+        limit.cancel()
         found = re.search(rb"([0-9]+)\s*$", line)
         if not found:
             raise RuntimeError(f"etpd says {line!r}")
+        # it writes a line for each session that ends, and would wait for a reader when the pipe is full
+        self.log = []
+        self.reader = threading.Thread(target=lambda: self.log.extend(self.process.stderr), daemon=True)
+        self.reader.start()
         self.port = int(found[1])
         self.url = f"ws://127.0.0.1:{self.port}/"
 
@@ -70,6 +79,7 @@ class RealServer:
             return
         self.process.kill()
         self.process.wait()
+        self.reader.join(10)
         self.process.stderr.close()
         self.folder.cleanup()
 

@@ -213,6 +213,26 @@ class Kills(unittest.TestCase):
         changes = [entry.change for entry in self.engine.entries(channel_uri(1), "long")]
         self.assertLessEqual(len(changes), 4, changes)
 
+    def test_streams_that_no_bridge_has_written(self):
+        """The bridge ends, and names the entry and what is wrong with it."""
+        key = f"etp:{channel_uri(1)}"
+        good = {"change": "append", "start": 0, "end": 0, "points": "[[1, 1]]"}
+        for entries, text in (
+                ([("5-3", good)], "entry 5-3 that no bridge has written: its id does not follow 0-0"), ([("1-0", {"x": "y"})], "it has no field b'points'"),
+                ([("1-0", {**good, "points": "[[1"})], "entry 1-0"), ([("1-0", {**good, "points": "[1]"})], "entry 1-0"),
+                ([("1-0", {**good, "change": "undo"})], "'undo' is no change"), ([("1-0", {**good, "end": "x"})], "entry 1-0"),
+                ([("1-0", good), ("2-0", good)], "an append at 1 after 1")):
+            with self.subTest(text=text):
+                self.engine.client.delete(key)
+                for number, fields in entries:
+                    self.engine.client.xadd(key, fields, id=number)
+                process = self.start()
+                self.assertEqual(process.wait(WAIT), 12)
+                end = time.monotonic() + 10
+                while not any(text in line for line in self.said):
+                    self.assertLess(time.monotonic(), end, self.said)
+                    time.sleep(0.05)
+
     def test_two_bridges_of_one_channel(self):
         self.start()
         with colmjurr.connect(self.server.url, **HOW) as store:

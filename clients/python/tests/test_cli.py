@@ -122,6 +122,15 @@ class Commands(CommandCase):
                 (["exporter", self.url, "--catalog", empty], 12, "is not a catalog"), (["range", self.url, channel_uri(0), "9" * 5000], 12, "not a moment")):
             with self.subTest(words=words):
                 self.assertIn(text, run(*words, status=status))
+        # files without an end are given up before they take memory
+        for words, status, text in (
+                (["put", self.url, well_uri(1), "/dev/zero"], 12, "more than 67,108,864 bytes"), (["check-config", "/dev/zero"], 2, "more than 1,048,576 bytes"),
+                (["exporter", self.url, "--catalog", "/dev/zero"], 12, "more than 16,777,216 bytes"),
+                (["copy", self.url, self.url, "--objects", "/dev/zero"], 12, "more than 16,777,216 bytes"),
+                (["ping", self.url, "--password-file", "/dev/zero"], 12, "more than 16,777,216 bytes"),
+                (["load", self.url, channel_uri(1), "/dev/zero"], 12, "input line 1: more than 1,048,576 bytes")):
+            with self.subTest(words=words):
+                self.assertIn(text, run(*words, status=status))
         for line, text in (("x 1", "line 1"), ("1", "no value"), ("1 x", "line 1"), ("5 1\n4 1", "does not rise")):
             with self.subTest(line=line):
                 self.assertIn(text, run("load", self.url, channel_uri(1), given=line + "\n", status=12))
@@ -257,7 +266,7 @@ class Conformance(unittest.TestCase):
         etpd, samples = support.program("etpd"), ROOT / "docs" / "samples"
         if etpd is None or not samples.is_dir():
             self.skipTest("no built etpd, or no docs/samples")
-        lines = run("conformance", "--etpd", etpd, samples).splitlines()
+        lines = run("conformance", "--etpd", etpd, "--timeout", WAIT, samples).splitlines()
         self.assertGreater(len(lines), 10)
         self.assertTrue(all(line.endswith(": as recorded") for line in lines), lines)
 
@@ -302,6 +311,14 @@ class Conformance(unittest.TestCase):
                 os.kill(int(number.read_text()), signal.SIGKILL)
             script.write_text("#!/bin/sh\nexit 3\n")
             self.assertIn("ended with status 3", run(*words, status=10))
+
+    def test_a_program_that_says_nothing(self):
+        with tempfile.TemporaryDirectory() as folder:
+            silent = Path(folder, "etpd")
+            silent.write_text("#!/bin/sh\nexec sleep 1000\n")
+            silent.chmod(0o755)
+            words = ["conformance", "--etpd", silent, "--timeout", "0.5", ROOT / "docs" / "samples" / "one_put.cap"]
+            self.assertIn("the server does not start", run(*words, status=10))
 
     def test_captures_that_are_none(self):
         from colmjurr import ValueRefused, conformance

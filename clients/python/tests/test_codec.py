@@ -1,6 +1,7 @@
 """The codec compared with the reader from outside: every message, other spellings, every prefix, and broken messages."""
 import struct
 import unittest
+import unittest.mock
 
 import support  # noqa: F401
 import hostile_messages
@@ -60,6 +61,10 @@ def read_there(data, sender):
 
 
 SAMPLES = [(wire.SENDERS[kind], data, same) for kind, data, same in message_samples.samples() if kind in wire.SENDERS]
+# the messages of docs/samples too, each once; of the refusals some can't be read
+SHIPPED = sorted({
+    (wire.SENDERS[frame.kind], frame.data) for path in sorted((support.ROOT / "docs" / "samples").glob("*.cap"))
+    for frame in wire.read_frames(path.read_bytes()) if frame.kind in wire.SENDERS})
 
 
 class Codec(unittest.TestCase):
@@ -72,6 +77,21 @@ class Codec(unittest.TestCase):
             header, _, value = codec.read_message(data, sender)
             self.assertEqual(codec.write_message(header, value) == data, same, read[1])
         self.assertEqual(names, {body.name for body in wire.BODIES.values()})
+
+    def test_the_shipped_samples_are_read_as_outside(self):
+        names = set()
+        for sender, data in SHIPPED:
+            read = read_here(data, sender)
+            self.assertEqual(read, read_there(data, sender))
+            if isinstance(read, str):
+                continue
+            names.add(read[1])
+            header, body, value = wire.read_message(data, sender)
+            loose = wire.write_message(header, body, value, loose=True)
+            self.assertEqual(read_here(loose, sender), read_there(loose, sender))
+            for end in range(min(len(data), 400)):
+                self.assertEqual(read_here(data[:end], sender), read_there(data[:end], sender), (data, end))
+        self.assertGreater(len(names), 40)
 
     def test_every_message_in_other_spellings(self):
         for sender, data, _ in SAMPLES:
@@ -105,17 +125,19 @@ class Codec(unittest.TestCase):
         self.assertLess(refused, 6000)
 
     def test_too_many_values(self):
+        self.assertEqual(codec.NODE_LIMIT, 8_388_608)
         header = codec.write_header(codec.Header(18, 1, 0, 2, 2))
+        most = 50_000
         # the body, its boolean, its text and its list count as well
-        count = codec.NODE_LIMIT - 4
+        count = most - 4
         texts = bytearray(header + b"\0\0")
         codec.put_number(texts, count)
-        fine = bytes(texts) + bytes(count) + b"\0"
-        self.assertEqual(len(codec.read_message(fine, "C")[2]["dataspaceUris"]), count)
-        texts = bytearray(header + b"\0\0")
-        codec.put_number(texts, count + 1)
-        with self.assertRaises(WireError) as caught:
-            codec.read_message(bytes(texts) + bytes(count + 1) + b"\0", "C")
+        with unittest.mock.patch("colmjurr.codec.NODE_LIMIT", most):
+            self.assertEqual(len(codec.read_message(bytes(texts) + bytes(count) + b"\0", "C")[2]["dataspaceUris"]), count)
+            texts = bytearray(header + b"\0\0")
+            codec.put_number(texts, count + 1)
+            with self.assertRaises(WireError) as caught:
+                codec.read_message(bytes(texts) + bytes(count + 1) + b"\0", "C")
         self.assertEqual((caught.exception.cause, caught.exception.offset), ("limit", len(texts) + count))
 
     def test_a_length_that_is_not_there_takes_no_memory(self):

@@ -66,7 +66,8 @@ class Copies(unittest.TestCase):
         self.assertIn("are not the first points", self.copy(status=17))
 
     def test_a_copy_that_is_broken_off_is_continued(self):
-        """Each run's links are cut after some hundred messages. The runs together copy all, and the last one finds all of it there."""
+        """Each run's links are cut in the middle of a message, after some hundred. The runs together copy all, and the last one finds what the
+        others have brought."""
         source, target = self.source, self.target
         source.put_space("w")
         objects = [well_uri(number, "w") for number in range(1, 61)]
@@ -88,7 +89,7 @@ class Copies(unittest.TestCase):
             while True:
                 runs += 1
                 self.assertLess(runs, 30)
-                proxy = Proxy(self.servers[1].port, every=150 + 30 * runs)
+                proxy = Proxy(self.servers[1].port, every=150 + 30 * runs, in_the_middle=True)
                 self.addCleanup(proxy.close)
                 try:
                     asyncio.run(copied(proxy.url))

@@ -187,6 +187,207 @@ class Frames(Peer):
         self.fails(colmjurr.TimeLimit, store.spaces, "GetDataspaces", limit=60)
 
 
+class Floods(Peer):
+    """Messages without end, each of them allowed. None of them gives a request more time, or takes memory without end."""
+
+    def flooded(self, make, seconds=4.0, reads=True, opens=True):
+        """A server that answers the message after RequestSession by the frames that `make(n)` gives for n = 0, 1, 2 .."""
+        async def serve(reader, writer):
+            await outside_server.shake_hands(reader, writer)
+            await outside_server.read_client_message(reader, writer)
+            writer.write(server_frame(2, open_session()))
+            await outside_server.read_client_message(reader, writer)
+            task = asyncio.create_task(reader.read(-1)) if reads else None
+            begun, number = time.monotonic(), 0
+            while time.monotonic() - begun < seconds * max(1, PATIENCE) and not writer.is_closing():
+                writer.write(b"".join(make(number + place) for place in range(200)))
+                number += 200
+                await writer.drain()
+                await asyncio.sleep(0.001)
+            if task:
+                task.cancel()
+
+        return self.listen(serve)
+
+    def test_acknowledgements_without_end(self):
+        make = lambda n: server_frame(2, message(0, 1001, 3 + 2 * n, 4, 0))
+        store = self.connect(self.flooded(make))
+        self.fails(colmjurr.TimeLimit, store.spaces, "GetDataspaces", limit=3)
+
+    def test_pings_of_the_session_that_nobody_reads_the_answers_of(self):
+        make = lambda n: server_frame(2, message(0, 8, 3 + 2 * n, 0, currentDateTime=0))
+        with unittest.mock.patch("colmjurr.websocket.WAITING_LIMIT", 10_000):
+            store = self.connect(self.flooded(make, reads=False))
+            self.fails(colmjurr.TimeLimit, store.spaces, "GetDataspaces", limit=3)
+            self.assertLess(store._held._session.link.waiting(), 1 << 20)
+
+    def test_a_message_of_empty_frames(self):
+        with unittest.mock.patch("colmjurr.websocket.FRAMES_LIMIT", 2000):
+            store = self.connect(self.flooded(lambda n: server_frame(0 if n else 2, b"", False), seconds=30), ask_timeout=30)
+            self.fails(colmjurr.PeerError, store.spaces, "in more than 2000 frames", limit=30)
+
+    def test_parts_of_a_notice_without_end(self):
+        item = {"channelId": 0, "indexes": [dict(item=(1, 5))], "value": dict(item=(0, None)), "valueAttributes": []}
+        make = lambda n: server_frame(2, message(21, 4, 3 + 2 * n, 0, 0, data=[item]))
+        with unittest.mock.patch("colmjurr.session.NOTICE_LIMIT", 20_000):
+            store = self.connect(self.flooded(make, seconds=30), ask_timeout=30)
+            self.fails(colmjurr.PeerError, store.spaces, "a notice of more than 20000 bytes", limit=30)
+
+    def test_parts_of_a_reply_without_end(self):
+        make = lambda n: server_frame(2, message(24, 2, 3 + 2 * n, 4, 0, dataspaces=[]))
+        with unittest.mock.patch("colmjurr.session.REPLY_LIMIT", 20_000):
+            store = self.connect(self.flooded(make, seconds=30), ask_timeout=30)
+            self.fails(colmjurr.PeerError, store.spaces, "a reply of more than 20000 bytes", limit=30)
+
+    def test_parts_of_a_reply_that_nobody_waits_for(self):
+        """The first request is given up. What goes on coming for it is counted, and does not keep the second one waiting for ever."""
+        def make(n):
+            time.sleep(0.002)
+            return server_frame(2, message(24, 2, 3 + 2 * n, 4, 0, dataspaces=[]))
+
+        with unittest.mock.patch("colmjurr.session.REPLY_LIMIT", 60_000), unittest.mock.patch("colmjurr.session.LEAST_RATE", 1 << 30):
+            store = self.connect(self.flooded(make, seconds=8))
+            self.fails(colmjurr.TimeLimit, store.spaces, limit=3)
+            self.fails(colmjurr.LinkLost, lambda: [store.ping() for _ in range(20)], limit=12)
+
+    def test_a_slow_line_is_waited_for_and_one_that_takes_nothing_is_not(self):
+        """A peer that reads slowly but steadily takes a put in longer than WRITE_LIMIT; one that reads nothing is given up after it."""
+        def serve(pause):
+            async def talk(reader, writer):
+                await outside_server.shake_hands(reader, writer)
+                await outside_server.read_client_message(reader, writer)
+                writer.write(server_frame(2, open_session()))
+                writer.get_extra_info("socket").setsockopt(socket.SOL_SOCKET, socket.SO_RCVBUF, 65_536)
+                taken = 0
+                while taken < 24_000_000 and (data := await reader.read(400_000)):
+                    taken += len(data)
+                    await asyncio.sleep(pause)
+                writer.write(server_frame(2, message(4, 9, 3, 4, success={"0": {name: [] for name in row_samples.LISTS}})))
+                await reader.read()
+
+            return talk
+
+        limit = max(1.0, PATIENCE)
+        with unittest.mock.patch("colmjurr.websocket.WRITE_LIMIT", limit):
+            store = self.connect(self.listen(serve(0.06 * limit)), ask_timeout=limit)
+            begun = time.monotonic()
+            store.put(support.well_uri(1), bytes(24_000_000))
+            self.assertGreater(time.monotonic() - begun, 1.5 * limit)
+            store = self.connect(self.listen(serve(1000)), ask_timeout=limit)
+            self.fails(colmjurr.LinkLost, lambda: store.put(support.well_uri(1), bytes(24_000_000)), "the server read nothing for", limit=12)
+
+
+def record(first=None, last=None, **more):
+    """What a server says of channel 0, a double."""
+    end = lambda index: {"item": (0, None) if index is None else (1, index) if isinstance(index, int) else index}
+    made = {name: codec.empty(part) for name, part in codec.schema.RECORDS["ChannelMetadataRecord"]}
+    axis = {name: codec.empty(part) for name, part in codec.schema.RECORDS["IndexMetadataRecord"]}
+    axis["interval"] = {"startIndex": end(first), "endIndex": end(last), "uom": "us", "depthDatum": ""}
+    return {**made, "uri": support.channel_uri(0), "id": 0, "channelName": "c0", "dataKind": 5 + 4, "indexes": [axis], **more}
+
+
+def item(index, channel=0, value=(5, 0)):
+    return {"channelId": channel, "indexes": [dict(item=(1, index))], "value": dict(item=value), "valueAttributes": []}
+
+
+class Answers(Peer):
+    """A server whose answers are well formed and make no sense."""
+
+    def store(self, answer, **how):
+        """A server that answers each message by what `answer(name, value)` gives: rows of protocol, number, flags and fields, where a row of
+        protocol and number alone is a notice."""
+        async def serve(reader, writer):
+            await outside_server.shake_hands(reader, writer)
+            number = 1
+            while (data := await outside_server.read_client_message(reader, writer)) is not None:
+                header, body, value = codec.read_message(data, "C")
+                if body.name == "RequestSession":
+                    rows = [open_session()]
+                elif body.name == "Ping" and answer("Ping", value) is None:
+                    rows = [message(0, 9, number, header.id, currentDateTime=0)]
+                else:
+                    rows = []
+                    for protocol, kind, is_reply, fields in answer(body.name, value) or []:
+                        rows.append(message(protocol, kind, number + 2 * len(rows), header.id if is_reply else 0, **fields))
+                number += 2 * len(rows)
+                for each in rows:
+                    writer.write(server_frame(2, each))
+
+        return self.connect(self.listen(serve), **{"ask_timeout": 5, **how})
+
+    @staticmethod
+    def channel(**ends):
+        """The answers that a channel needs to be found and opened."""
+        made = record(**ends)
+        opened = {"metadata": made, "preferRealtime": True, "dataChanges": True}
+        return {
+            "GetChannelMetadata": [(21, 2, True, {"metadata": {"0": made}})], "OpenChannels": [(22, 2, True, {"channels": {"0": opened}})],
+            "SubscribeChannels": [(21, 12, True, {"success": {"0": ""}})],
+        }
+
+    def answers(self, rows, **ends):
+        table = {**self.channel(**ends), **rows}
+        return self.store(lambda name, value: table.get(name)).channel(support.channel_uri(0))
+
+    def test_a_channel_that_is_none(self):
+        for given, text in ((record(first=(2, 0), last=5), "end in longs"), (record(dataKind=0), "which the profile does not have")):
+            store = self.store(lambda name, value: [(21, 2, True, {"metadata": {"0": given}})])
+            self.fails(colmjurr.PeerError, lambda: store.channel(support.channel_uri(0)), text)
+
+    def test_ranges(self):
+        for rows, text in (
+                ([item(5), item(5)], "do not rise: 5 after 5"), ([item(7), item(6)], "from 7 to 6 in a range"), ([item(5, 1)], "another channel"),
+                ([item(1)], "in a range from 2 to 9"), ([item(10)], "in a range from 2 to 9"), ([item(5, 0, (3, 1))], "not of kind double")):
+            with self.subTest(text=text):
+                channel = self.answers({"GetRanges": [(21, 10, True, {"data": rows})]})
+                self.fails(colmjurr.PeerError, lambda: channel.range(2, 9), text)
+
+    def test_a_range_that_is_too_long_in_whatever_parts(self):
+        """Every part of more than two indexes is refused, and the others have no point: 2^61 requests would come to the end."""
+        def answer(name, value):
+            if name != "GetRanges":
+                return self.channel(first=0, last=1 << 62).get(name)
+            interval = value["channelRanges"][0]["interval"]
+            is_long = interval["endIndex"]["item"][1] - interval["startIndex"]["item"][1] > 1
+            error = {"error": (1, dict(message="limit exceeded", code=12)), "errors": {}}
+            return [(21, 1000, True, error)] if is_long else [(21, 10, True, {"data": []})]
+
+        channel = self.store(answer).channel(support.channel_uri(0))
+        self.fails(colmjurr.PeerError, channel.range, "no point in 1000 parts", limit=30)
+
+    def test_watches(self):
+        append = lambda *indexes: (21, 4, False, {"data": [item(index) for index in indexes]})
+        interval = {"startIndex": dict(item=(1, 2)), "endIndex": dict(item=(1, 9)), "uom": "", "depthDatum": ""}
+        replaced = lambda *indexes: (21, 6, False, {
+            "changeTime": 0, "channelIds": [0], "changedInterval": interval, "data": [item(index) for index in indexes]})
+        for rows, text in (
+                ([append(5, 4)], "do not rise"), ([append(5), append(5)], "appended at 5, not after 5"), ([append(5), append(3)], "not after 5"),
+                ([append(5), replaced(1)], "outside of the interval"), ([append(5), replaced(10)], "outside of the interval"),
+                ([append(5), replaced(7), append(7)], "appended at 7, not after 7"), ([(21, 4, False, {"data": [item(5, 3)]})], "not subscribed")):
+            with self.subTest(text=text):
+                table = self.channel()
+                table["SubscribeChannels"] = table["SubscribeChannels"] + rows
+                channel = self.answers(table)
+                self.fails(colmjurr.PeerError, lambda: list(channel.watch(resume=None)), text)
+
+    def test_loads(self):
+        """Points whose Pong does not come, though the server is there; and a channel that is another one after the link was lost."""
+        table = self.channel()
+        store = self.store(lambda name, value: [] if name == "Ping" else table.get(name), ask_timeout=LIMIT)
+        channel = store.channel(support.channel_uri(0))
+        self.fails(colmjurr.TimeLimit, lambda: channel.load([1], [1.0]), "did not answer the points from index 1 on", limit=6)
+        strange = [(22, 2, True, {"channels": {"0": {"metadata": record(last=(2, 0)), "preferRealtime": True, "dataChanges": True}}})]
+        channel = self.answers({"OpenChannels": strange})
+        self.fails(colmjurr.PeerError, lambda: channel.load([1], [1.0]), "end in longs", limit=6)
+
+    def test_arrays(self):
+        metadata = {name: codec.empty(part) for name, part in codec.schema.RECORDS["DataArrayMetadata"]}
+        for dimensions in ([-1], [1 << 40], [1 << 20, 1 << 20], [5, -1]):
+            given = [(9, 7, True, {"arrayMetadata": {"0": {**metadata, "dimensions": dimensions}}})]
+            store = self.store(lambda name, value: given)
+            self.fails(colmjurr.PeerError, lambda: store.array(support.well_uri(1), "a").read(), "which the profile does not have")
+
+
 def reply(number, correlation=4, flags=2, spaces=()):
     return server_frame(2, message(24, 2, number, correlation, flags, dataspaces=list(spaces)))
 

@@ -187,16 +187,19 @@ class Away(ProxyCase):
     def test_a_loader_that_is_idle_outlives_many_breaks(self):
         """The patience counts from each break, not from the first one."""
         proxy = self.proxy()
-        channel = self.through(proxy, patience=1.5 * PATIENCE).channel(channel_uri(1))
+        store = self.through(proxy, patience=1.5 * PATIENCE)
+        channel = store.channel(channel_uri(1))
         last = channel.last or 0
         with channel.loader(every=0.01) as load:
             begun, breaks = time.monotonic(), 0
-            while time.monotonic() - begun < 2.5 * PATIENCE:
-                before = proxy.connections
+            while time.monotonic() - begun < 2.5 * PATIENCE or breaks < 3:
+                before = store._held.reconnects
                 proxy.cut_all()
                 breaks += 1
-                while proxy.connections == before:
+                # it has opened its channel again, and so has not lost its patience
+                while store._held.reconnects == before or load._held._session.lost is not None or load._held._patience.since is not None:
                     self.assertLess(time.monotonic() - begun, 60 * PATIENCE)
+                    self.assertFalse(load._held._is_over, load._held._errors)
                     time.sleep(0.01)
                 time.sleep(0.3)
             load(last + 1, 1)

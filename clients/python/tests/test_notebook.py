@@ -23,12 +23,16 @@ class Notebook(ServerCase):
         except ImportError as error:
             self.skipTest(f"{error.name} is not there")
         notebook = nbformat.read(EXAMPLES / "well_log.ipynb", 4)
+        for cell in notebook.cells:
+            # a server that is slow gets more time, as everywhere in the tests
+            cell.source = cell.source.replace("colmjurr.connect(URL)", f"colmjurr.connect(URL, ask_timeout={30 * max(1, PATIENCE)})")
         settings = {
             "COLMJURR_URL": self.server.url, "COLMJURR_CHANNELS": " ".join(each["uri"] for each in CHANNELS),
             "PYTHONPATH": str(HERE.parent / "src"), "MPLCONFIGDIR": "/tmp/colmjurr-matplotlib",
         }
         with unittest.mock.patch.dict(os.environ, settings):
-            nbclient.NotebookClient(notebook, timeout=int(180 * max(1, PATIENCE)), kernel_name="python3").execute()
+            limit = int(180 * max(1, PATIENCE))
+            nbclient.NotebookClient(notebook, timeout=limit, startup_timeout=limit, kernel_name="python3").execute()
         kinds = [output.get("data", {}).keys() for cell in notebook.cells if cell.cell_type == "code" for output in cell.outputs]
         self.assertTrue(any("image/png" in each or "text/plain" in each for each in kinds))
 

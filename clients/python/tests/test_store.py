@@ -177,9 +177,13 @@ class Arrays(Case):
     def test_more_than_a_message(self):
         array = self.store.array(self.uri, "large")
         values = numpy.arange(1_050, dtype="int32").reshape(105, 10)
+        steps = []
         with unittest.mock.patch("colmjurr.arrays.PIECE", 64):
-            array.write(values)
-            numpy.testing.assert_array_equal(array[:], values)
+            array.write(values, progress=lambda done, of: steps.append((done, of)))
+            self.assertEqual(steps, [*((60 * (place + 1), 1_050) for place in range(17)), (1_050, 1_050)])
+            steps.clear()
+            numpy.testing.assert_array_equal(array.read(progress=lambda done, of: steps.append((done, of))), values)
+            self.assertEqual((len(steps), steps[-1]), (18, (1_050, 1_050)))
             array[3:90] = values[3:90] * 2
         values[3:90] *= 2
         numpy.testing.assert_array_equal(array[:], values)
@@ -366,13 +370,16 @@ class Loading(Case):
     def test_by_time_and_by_count(self):
         store, other = self.connect(), self.connect()
         channel = store.channel(channel_uri(0))
-        with other.channel(channel_uri(0)).watch() as watch, channel.loader(every=0.05, most=5) as load:
-            load(1, 1.0)
-            self.assertEqual(list(watch.next(30).points), [(1, 1.0)])
-            for index in range(2, 7):
-                load(index, float(index))
-            self.assertEqual(list(watch.next(30).points), [(index, float(index)) for index in range(2, 7)])
-        self.assertEqual(load.taken, 6)
+        with other.channel(channel_uri(0)).watch() as watch:
+            with channel.loader(every=0.05, most=1000) as load:
+                load(1, 1.0)
+                self.assertEqual(list(watch.next(30 * support.PATIENCE).points), [(1, 1.0)])
+            self.assertEqual(load.taken, 1)
+            with channel.loader(every=None, most=5) as load:
+                for index in range(2, 7):
+                    load(index, float(index))
+                self.assertEqual(list(watch.next(30 * support.PATIENCE).points), [(index, float(index)) for index in range(2, 7)])
+            self.assertEqual(load.taken, 5)
 
     def test_a_refusal_is_told_with_its_first_index(self):
         channel = self.connect().channel(channel_uri(1))

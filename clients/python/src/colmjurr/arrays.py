@@ -2,7 +2,7 @@
 from __future__ import annotations
 
 import itertools
-from typing import TYPE_CHECKING, Any, Iterator, Mapping, NamedTuple, Optional, Union
+from typing import TYPE_CHECKING, Any, Callable, Iterator, Mapping, NamedTuple, Optional, Union
 
 from . import codec
 from .arrays_of_numbers import numpy
@@ -13,8 +13,8 @@ from .session import Reply, Session
 if TYPE_CHECKING:
     from .store import Store
 
-# Arrays of more elements are sent in pieces, so that each message stays well below a server's limit.
-PIECE = 1_000_000
+# Arrays of more elements are sent in pieces, so that each message stays well below a server's limit. No array has more than MOST_ELEMENTS.
+PIECE, MOST_ELEMENTS = 1_000_000, 4_194_304
 # For each numpy type the branch that carries the elements, and the logical type that says what they are.
 TYPES = {
     "bool": (0, 0), "int8": (6, 1), "uint8": (6, 2), "int16": (1, 3), "int32": (1, 4), "int64": (2, 5), "uint16": (1, 6), "uint32": (2, 7),
@@ -29,6 +29,7 @@ BY_LOGICAL.update({11: "int16", 12: "int32", 13: "int64", 14: "uint16", 15: "uin
 CARRIED = ("bool", "int32", "int64", "float32", "float64", "object", "uint8")
 
 Slices = Union[int, slice, tuple, Any]
+Progress = Callable[[int, Optional[int]], None]
 
 
 class ArrayInfo(NamedTuple):
@@ -63,6 +64,8 @@ class Array:
     async def info(self) -> ArrayInfo:
         """Shape, type, moments and custom data, as they are now. Raises `NotFound` if there is no such array."""
         found = await self._ask("GetDataArrayMetadata", "dataArrays", self._uid, True)
+        if any(size < 0 for size in found["dimensions"]) or _product(found["dimensions"]) > MOST_ELEMENTS:
+            raise PeerError(f"an array of the shape {tuple(found['dimensions'])!r:.100}, which the profile does not have")
         branch, logical = found["transportArrayType"], found["logicalArrayType"]
         name = BY_LOGICAL.get(logical, "")
         dtype = name if name and TYPES[name][0] == branch else CARRIED[branch]
@@ -72,13 +75,18 @@ class Array:
 
     # -- reading
 
-    async def read(self, where: Slices = ()) -> Any:
+    async def read(self, where: Slices = (), *, progress: Optional[Progress] = None) -> Any:
         """The elements of a region as an ndarray of the region's shape. `where` is what would be between an array's brackets: ints, slices
         with steps above 0, and `...`. Raises `NotFound` if there is no such array, and `IndexError` if an int is out of bounds. A region
-        of more than a million elements is read in pieces, each as it is at that moment."""
+        of more than a million elements is read in pieces, each as it is at that moment. `progress` is called with the number of elements
+        that have arrived, and with that of all."""
         info = await self.info()
         starts, counts, last = _region(where, info.shape)
-        made = [await self._piece(info, *piece) for piece in _pieces(starts, counts, PIECE)]
+        made: list[tuple[list[int], list[int], Any]] = []
+        for piece in _pieces(starts, counts, PIECE):
+            made.append(await self._piece(info, *piece))
+            if progress:
+                progress(sum(_product(sizes) for _, sizes, _ in made), _product(counts))
         return last(_assembled(info, starts, counts, made))
 
     async def _piece(self, info: ArrayInfo, starts: list[int], counts: list[int]) -> tuple[list[int], list[int], Any]:
@@ -99,9 +107,13 @@ class Array:
 
     # -- writing
 
-    async def write(self, values: Any, *, custom: Optional[Mapping[str, Any]] = None, preferred: Optional[tuple[int, ...]] = None) -> None:
+    async def write(
+        self, values: Any, *, custom: Optional[Mapping[str, Any]] = None, preferred: Optional[tuple[int, ...]] = None,
+        progress: Optional[Progress] = None,
+    ) -> None:
         """Puts the whole array, new or in place of the one at this path: at most 4,194,304 elements and 33,554,432 bytes. `preferred` is a
-        hint for readers: the shape in which the array is best read.
+        hint for readers: the shape in which the array is best read. `progress` is called with the number of elements that the server has
+        taken, and with that of all.
 
         An array of more than a million elements, or of a type that is carried by a wider one (int8, int16 and unsigned ints, except
         uint8), is created first and then filled: do that in a transaction if others must not see it half full."""
@@ -112,11 +124,17 @@ class Array:
             array = {"dimensions": shape, "data": {"item": _to_wire(held, branch)}}
             put = {"uid": self._uid, "array": array, "customData": custom_to_wire(custom or {})}
             await self._ask("PutDataArrays", "dataArrays", put)
+            if progress:
+                progress(held.size, held.size)
             return
         await self.make(tuple(shape), name, custom=custom, preferred=preferred)
+        taken = 0
         for starts, counts in _pieces([0] * len(shape), shape, PIECE):
             piece = held[tuple(slice(start, start + count) for start, count in zip(starts, counts))]
             await self._patch(starts, counts, piece, branch)
+            taken += _product(counts)
+            if progress:
+                progress(taken, held.size)
 
     async def make(
         self, shape: tuple[int, ...], dtype: str = "float64", *, custom: Optional[Mapping[str, Any]] = None,

@@ -70,6 +70,14 @@ class OtherWriter(EtpError):
     """Another program has added an entry to the stream."""
 
 
+class StreamError(EtpError):
+    """An entry of a stream is malformed, so it is not of a bridge. `key` is the stream, `entry` the id of the entry."""
+
+    def __init__(self, key: str, entry: str, cause: str):
+        super().__init__(f"the stream {key} has an entry {entry} that no bridge has written: {cause}")
+        self.key, self.entry = key, entry
+
+
 # --- points and entries ------------------------------------------------------------------------------------------------
 
 
@@ -149,9 +157,20 @@ class Stream:
         last = "-"
         while page := await self.redis.xrange(self.key, min=last, max="+", count=PAGE):
             for number, fields in page:
-                self.count = int(number.decode().split("-")[0])
-                fold([read_entry(fields, self.kind)], self.copy)
+                self._take(number.decode(), fields)
             last = f"({page[-1][0].decode()}"
+
+    def _take(self, number: str, fields: dict[bytes, bytes]) -> None:
+        """Takes over an entry that was read. Raises `StreamError` if it is malformed."""
+        try:
+            if number != f"{self.count + 1}-0":
+                raise ValueError(f"its id does not follow {self.count}-0")
+            fold([read_entry(fields, self.kind)], self.copy)
+        except KeyError as error:
+            raise StreamError(self.key, number, f"it has no field {error.args[0]!r}") from None
+        except (ValueError, TypeError) as error:
+            raise StreamError(self.key, number, str(error)) from None
+        self.count += 1
 
     async def add(self, entry: Entry) -> None:
         """Adds an entry after the last one. Raises `OtherWriter` if another program has added one, and the errors of Redis."""
@@ -168,9 +187,12 @@ class Stream:
 
 
 def read_entry(fields: dict[bytes, bytes], kind: str) -> Entry:
-    """The entry of a stream's fields."""
+    """The entry of a stream's fields. Raises `KeyError`, `ValueError` or `TypeError` if they are malformed."""
     points = [(int(at), _value(kind, value)) for at, value in json.loads(fields[b"points"])]
-    return Entry(fields[b"change"].decode(), int(fields[b"start"]), int(fields[b"end"]), points)
+    change = fields[b"change"].decode()
+    if change not in ("append", "replace", "truncate"):
+        raise ValueError(f"{change!r:.60} is no change")
+    return Entry(change, int(fields[b"start"]), int(fields[b"end"]), points)
 
 
 # --- the bridge --------------------------------------------------------------------------------------------------------
@@ -186,7 +208,8 @@ class Bridge:
         self.written = self.restarts = self.caught_up = 0
 
     async def run(self) -> None:
-        """Follows the channels, and begins again after each failure. Raises `NotFound` if the server has no such channel."""
+        """Follows the channels, and begins again after each failure. Raises `NotFound` if the server has no such channel, and `StreamError` if
+        a stream has an entry that no bridge has written."""
         from redis.exceptions import RedisError
 
         pause, said = PAUSE, ""
@@ -194,7 +217,7 @@ class Bridge:
             before = self.caught_up
             try:
                 await self._follow()
-            except NotFound:
+            except (NotFound, StreamError):
                 raise
             except (EtpError, RedisError, ConnectionError, OSError, asyncio.TimeoutError) as error:
                 self.restarts += 1

@@ -19,7 +19,6 @@ from .points import KINDS, NULL, Columns, columns_of
 NODES = 10
 # The fewest bytes of a point; the fewest points of a fast run; and how many shorter runs there may be before points are read one by one.
 LEAST_SIZE, SHORT_RUN, SHORT_RUNS = 7, 16, 4
-_ITEMS = "[DataItem]"
 _FLOATS = {8: (4, "<f4", 4), 10: (8, "<f8", 5)}
 _VARINTS = {2: 1, 4: 2, 6: 3}
 _DOUBLE = struct.Struct("<d")
@@ -42,23 +41,31 @@ def read_items(data: bytes, at: int) -> tuple[list[Columns], int]:
     try:
         return _read_fast(data, at)
     except (_Odd, IndexError):
-        cursor = Cursor(data, at)
-        items = codec.coder(_ITEMS)[0](cursor)
-        return columns_of_items(items), cursor.at
+        return _read_slowly(Cursor(data, at))
 
 
-def columns_of_items(items: list[dict]) -> list[Columns]:
-    """Columns of points that were read one by one. Raises `WireError` if a point does not have one index, a long: no server of the profile
-    sends such a point."""
+def _read_slowly(cursor: Cursor) -> tuple[list[Columns], int]:
+    """Reads points one by one, in whatever spelling. Raises `WireError` if a point does not have one index, a long: no server of the
+    profile sends such a point."""
+    cursor.count()
+    read_item = codec.coder("DataItem")[0]
+    items: list[dict] = []
+    begins: list[int] = []
+
+    def read_one() -> None:
+        begins.append(cursor.at)
+        items.append(read_item(cursor))
+
+    cursor.blocks(read_one)
     found: list[tuple[int, list]] = []
-    for item in items:
+    for item, begin in zip(items, begins):
         if len(item["indexes"]) != 1 or item["indexes"][0]["item"][0] != 1:
-            raise WireError("index", 0, "point whose index is not one long")
+            raise WireError("index", begin)
         row = (item["indexes"][0]["item"][1], *item["value"]["item"])
         if not found or found[-1][0] != item["channelId"]:
             found.append((item["channelId"], []))
         found[-1][1].append(row)
-    return [columns_of(channel, rows) for channel, rows in found]
+    return [columns_of(channel, rows) for channel, rows in found], cursor.at
 
 
 def _small_number(data: bytes, at: int) -> tuple[int, int]:

@@ -7,7 +7,7 @@ from . import codec, schema
 from .channel_data import write_items
 from .errors import LimitExceeded, PeerError, ValueRefused
 from .loading import Loader
-from .points import GREATEST, JOINED, KINDS, LEAST, NULL, Columns, Moment, Points, index_of
+from .points import GREATEST, JOINED, KINDS, LEAST, NULL, Columns, Moment, Points, first_fall, index_of
 from .session import Reply, Session
 from .watching import Watch
 
@@ -17,6 +17,8 @@ if TYPE_CHECKING:
 __all__ = ["Channel", "Loader", "Watch"]
 
 Progress = Callable[[int, Optional[int]], None]
+# How many parts of a range in a row may have no point or be refused as too long. Halving alone comes to some 130.
+IN_VAIN = 1000
 
 
 class Channel:
@@ -33,6 +35,7 @@ class Channel:
         return f"<channel {self.name!r} {self.kind}{' in ' + self.uom if self.uom else ''}>"
 
     def take_record(self, record: dict) -> None:
+        """Takes over what the server says of the channel. Raises `PeerError` if the profile has no such channel."""
         symbol = schema.ENUMS["ChannelDataKind"][record["dataKind"]]
         if not symbol.startswith("type"):
             raise PeerError(f"a channel of kind {symbol}, which the profile does not have")
@@ -40,11 +43,7 @@ class Channel:
         self.name: str = record["channelName"]
         self.uom: str = record["uom"]
         self.kind: str = symbol[4:].lower()
-        self.first: Optional[int] = None
-        self.last: Optional[int] = None
-        if record["indexes"]:
-            interval = record["indexes"][0]["interval"]
-            self.first, self.last = (interval[end]["item"][1] for end in ("startIndex", "endIndex"))
+        self.first, self.last = (end_of(record, end) for end in ("startIndex", "endIndex"))
 
     @property
     def unit(self) -> str:
@@ -57,15 +56,20 @@ class Channel:
         self.take_record(reply.item("metadata"))
 
     def points(self, pieces: list[Columns]) -> Points:
-        """Points of this channel. Raises `PeerError` if they are of another kind."""
+        """Points of this channel. Raises `PeerError` if they are of another kind, or if their indexes do not rise."""
         if any(piece.branch not in (NULL, KINDS[self.kind], JOINED) for piece in pieces):
             raise PeerError(f"points that are not of kind {self.kind}")
-        return Points(pieces, self.name, self.uom, self.kind)
+        made = Points(pieces, self.name, self.uom, self.kind)
+        fall = first_fall(made.indexes)
+        if fall is not None:
+            raise PeerError(f"points whose indexes do not rise: {int(made.indexes[fall])} after {int(made.indexes[fall - 1])}")
+        return made
 
     # -- reading
 
     async def range(self, start: Optional[Moment] = None, end: Optional[Moment] = None, progress: Optional[Progress] = None) -> Points:
-        """The points from `start` to `end`, both included; None is the channel's beginning or end. `index_of` says what a moment may be.
+        """The points from `start` to `end`, both included; None is the channel's beginning or end. `index_of` says what a moment may be: an
+        int is in microseconds since 1970-01-01 UTC. The `Points` have `indexes` and `values` of shape (n,), these in the channel's unit.
         `progress` is called with the bytes that have arrived.
 
         A range that the server can give at once is read by one request, and so is as it was at one moment. A longer one is halved as often
@@ -77,8 +81,12 @@ class Channel:
         seen = _Sum(progress) if progress else None
         pieces: list[Columns] = []
         left, is_clipped = [(begin, stop)], False
+        in_vain = 0
         while left:
             low, high = left.pop()
+            in_vain += 1
+            if in_vain > IN_VAIN:
+                raise PeerError(f"no point in {IN_VAIN} parts of a range that is too long to be read at once")
             if seen:
                 seen.begin()
             try:
@@ -92,7 +100,9 @@ class Channel:
                     middle = (low + high) // 2
                     left += [(middle + 1, high), (low, middle)]
                 continue
-            pieces += self._own(reply.body()["data"])
+            found = self._own(reply.body()["data"], low, high)
+            in_vain = 0 if found else in_vain
+            pieces += found
         return self.points(pieces)
 
     async def _range(self, low: int, high: int, seen: Any) -> Reply:
@@ -109,9 +119,13 @@ class Channel:
             found.insert(0, (self.last + 1, high))
         return [(begin, end) for begin, end in found if begin <= end]
 
-    def _own(self, pieces: list[Columns]) -> list[Columns]:
-        if any(piece.channel != self.id for piece in pieces):
-            raise PeerError("points of another channel")
+    def _own(self, pieces: list[Columns], low: int, high: int) -> list[Columns]:
+        """These pieces, if they are of this channel and in the interval that was asked for."""
+        for piece in pieces:
+            if piece.channel != self.id:
+                raise PeerError("points of another channel")
+            if not low <= int(piece.indexes[0]) <= int(piece.indexes[-1]) <= high:
+                raise PeerError(f"points from {int(piece.indexes[0])} to {int(piece.indexes[-1])} in a range from {low} to {high}")
         return pieces
 
     # -- writing
@@ -174,6 +188,17 @@ class Channel:
     ) -> Watch:
         """Watches the channel: `async for change in channel.watch()`. See `Watch`."""
         return Watch([self], start=start, latest=latest, changes=changes, resume=resume)
+
+
+def end_of(record: dict, which: str) -> Optional[int]:
+    """The first index (`startIndex`) or the last one (`endIndex`) of a channel's record in microseconds since 1970-01-01 UTC, or None if
+    the channel has no point. Raises `PeerError` if it is not a long."""
+    if not record["indexes"]:
+        return None
+    branch, value = record["indexes"][0]["interval"][which]["item"]
+    if branch not in (0, 1):
+        raise PeerError("a channel whose interval does not end in longs")
+    return value if branch else None
 
 
 def _interval(low: int, high: int) -> dict:

@@ -18,12 +18,13 @@ import shlex
 import socket
 import subprocess
 import sys
+import threading
 import time
 from pathlib import Path
 from typing import Any, BinaryIO, Callable, Iterator, NoReturn, Optional, TextIO
 
 from . import aio, conformance
-from .bridge import Bridge, plain_value
+from .bridge import Bridge, StreamError, plain_value
 from .configuration import catalog, read_configuration, read_configuration_file
 from .copying import Difference, copy, read_objects
 from .errors import (
@@ -32,6 +33,7 @@ from .errors import (
 from .exporter import Exporter
 from .points import GREATEST, LEAST, Points, index_of, moment_text
 from .progress import Bar
+from .store import MOST_DATA
 from .sync import Channel, Store, connect
 from .version import VERSION
 from .watching import Append, Change, Gap, Replace, Restarted, Truncate
@@ -40,8 +42,10 @@ from .websocket import Address
 USAGE, CONFIG, FILE, REFUSED, LINK, PEER, INPUT, STOPPED, DIFFERS = 1, 2, 4, 9, 10, 11, 12, 16, 17
 # How many bytes of an input are read at once, and how many of its points are few enough to wait for more before they are sent.
 READ, FEW = 1 << 18, 100
-# The longest text or bytes of a point, in bytes.
-LONGEST_VALUE = 32_768
+# The longest text or bytes of a point, and the longest line of an input, in bytes.
+LONGEST_VALUE, LONGEST_LINE = 32_768, 1 << 20
+# The most bytes of a file that names things: a catalog, a list of objects, a password.
+LONGEST_FILE = 1 << 24
 
 
 class InputError(Exception):
@@ -65,15 +69,34 @@ def how_to_connect(words: argparse.Namespace) -> dict[str, Any]:
     could see it."""
     password = os.environ.get("COLMJURR_PASSWORD")
     if words.password_file:
-        password = Path(words.password_file).read_text().rstrip("\r\n")
+        password = read_text(words.password_file).rstrip("\r\n")
     cert = (words.cert, words.key) if words.cert and words.key else words.cert
+    limits = {"ask_timeout": words.ask_timeout, "patience": words.patience}
     return {
         "user": words.user, "password": password, "ca": words.ca, "cert": cert, "timeout": words.timeout, "headers": dict(words.header),
+        **{name: value for name, value in limits.items() if value is not None},
     }
 
 
 def opened(words: argparse.Namespace) -> Store:
-    return connect(words.url, **how_to_connect(words), ask_timeout=words.ask_timeout)
+    return connect(words.url, **how_to_connect(words))
+
+
+def read_at_most(path: str, limit: int) -> bytes:
+    """The bytes of a file. Raises `ValueRefused` if there are more than `limit`, before they are read."""
+    with open(path, "rb") as file:
+        data = file.read(limit + 1)
+    if len(data) > limit:
+        raise ValueRefused(f"{path} has more than {limit:,} bytes")
+    return data
+
+
+def read_text(path: str) -> str:
+    """The text of a file that names things. Raises `ValueRefused` if it is too long or not UTF-8."""
+    try:
+        return read_at_most(path, LONGEST_FILE).decode()
+    except UnicodeDecodeError as error:
+        raise ValueRefused(f"{path} is not UTF-8 at {error.start}") from None
 
 
 def output(words: argparse.Namespace) -> TextIO:
@@ -104,7 +127,7 @@ def get(words: argparse.Namespace) -> None:
 
 
 def put(words: argparse.Namespace) -> None:
-    data = Path(words.file).read_bytes()
+    data = read_at_most(words.file, MOST_DATA)
     with opened(words) as store, Bar("put", "bytes") as bar:
         store.put(words.uri, data, name=words.name, format=words.format, progress=bar)
     print(f"put {words.uri}")
@@ -260,6 +283,8 @@ class Input:
             if end and not (self.is_csv and rest[:end].count(b'"') % 2):
                 yield from self.lot(rest[:end])
                 rest = rest[end:]
+            if len(rest) > LONGEST_LINE + READ:
+                raise InputError(f"input line {self.number + 1}: more than {LONGEST_LINE:,} bytes")
         if rest:
             yield from self.lot(rest)
 
@@ -392,7 +417,7 @@ def uris_of(path: Optional[str]) -> list[str]:
     """The channels of a catalog, or of a server's configuration."""
     if path is None:
         return []
-    data = Path(path).read_bytes()
+    data = read_at_most(path, LONGEST_FILE)
     try:
         if data.lstrip()[:1] != b"{":
             return [each.uri for each in read_configuration(data).channels]
@@ -433,8 +458,9 @@ def bridge(words: argparse.Namespace) -> None:
 
 
 def copy_(words: argparse.Namespace) -> None:
+    text = read_text(words.objects) if words.objects else ""
     try:
-        objects = read_objects(Path(words.objects).read_text(encoding="utf-8")) if words.objects else []
+        objects = read_objects(text)
     except ValueRefused as error:
         raise ValueRefused(f"{words.objects}: {error}") from None
     copied = [*uris_of(words.catalog), *words.channel]
@@ -444,7 +470,7 @@ def copy_(words: argparse.Namespace) -> None:
         print(line, flush=True)
 
     async def run(bar: Bar) -> None:
-        how = {**how_to_connect(words), "ask_timeout": words.ask_timeout}
+        how = how_to_connect(words)
         async with aio.connect(words.source, **how) as source, aio.connect(words.target, **how) as target:
             await copy(source, target, copied, objects, told, bar)
 
@@ -534,7 +560,10 @@ class server_for:
         self.process = subprocess.Popen(
             [self.words.etpd, str(self.settings), "127.0.0.1:0"], stdout=subprocess.DEVNULL, stderr=subprocess.PIPE)
         said: Any = self.process.stderr
+        limit = threading.Timer(self.words.timeout, self.process.kill)
+        limit.start()
         line = said.readline().decode("utf-8", "replace")
+        limit.cancel()
         found = re.search(r"(\d+)\s*$", line)
         if not found:
             raise DialError(f"the server does not start: {line.strip()}")
@@ -611,7 +640,9 @@ def connection_options() -> argparse.ArgumentParser:
     group.add_argument("--key", metavar="FILE", help="its key, if it is not in the same file")
     group.add_argument("--header", action="append", default=[], type=header, metavar="NAME:VALUE", help="a header of the handshake")
     group.add_argument("--timeout", type=seconds, default=10.0, metavar="S", help="seconds for dialing and opening the session (10)")
-    group.add_argument("--ask-timeout", type=seconds, default=30.0, metavar="S", help="seconds for each request (30)")
+    group.add_argument("--ask-timeout", type=seconds, metavar="S", help="seconds for each request (30; of the exporter 10)")
+    group.add_argument("--patience", type=seconds, metavar="S", help=(
+        "seconds for which a broken connection is dialed again (60); exporter and bridge dial until they are stopped"))
     return link
 
 
@@ -701,7 +732,7 @@ def add_other_commands(command: Callable[..., argparse.ArgumentParser]) -> None:
 def status_of(error: Exception) -> int:
     kinds = (
         ((Difference,), DIFFERS), ((Stopped,), STOPPED), ((Refused, SomeRefused), REFUSED), ((ConfigError,), CONFIG),
-        ((DialError, HandshakeError, TimeLimit), LINK), ((WireError, LinkError), PEER), ((InputError, ValueRefused), INPUT),
+        ((DialError, HandshakeError, TimeLimit), LINK), ((WireError, LinkError), PEER), ((InputError, ValueRefused, StreamError), INPUT),
         ((ImportError,), USAGE), ((OSError,), FILE),
     )
     return next((status for classes, status in kinds if isinstance(error, classes)), PEER)

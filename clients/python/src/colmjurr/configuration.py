@@ -10,7 +10,6 @@ import os
 import re
 import tomllib
 import uuid
-from pathlib import Path
 from typing import Any, NamedTuple, Optional, Union
 
 from .errors import ConfigError
@@ -50,7 +49,9 @@ class Configuration(NamedTuple):
 def read_configuration_file(path: Union[str, "os.PathLike[str]"]) -> Configuration:
     """The configuration in a file. Raises `ConfigError` with its path, and `OSError` if it can't be read."""
     try:
-        return read_configuration(Path(path).read_bytes())
+        with open(path, "rb") as file:
+            # one byte more than a document may have shows that it is too long
+            return read_configuration(file.read(LONGEST + 1))
     except ConfigError as error:
         error.path = str(path)
         raise
@@ -60,7 +61,7 @@ def read_configuration(data: bytes) -> Configuration:
     """The configuration in the bytes of a document. Raises `ConfigError` with the first refusal in the server's order: its cause, the line of
     the key (or else of its table), the key's name, and the numbers by which the server names key and channel."""
     if len(data) > LONGEST:
-        raise ConfigError(f"the document has {len(data):,} bytes, more than {LONGEST:,}")
+        raise ConfigError(f"the document has more than {LONGEST:,} bytes")
     try:
         text = data.decode()
     except UnicodeDecodeError as error:

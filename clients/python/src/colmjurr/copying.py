@@ -124,7 +124,7 @@ async def _copy_channel(source: Store, target: Store, uri: str, say: Told, progr
     whole = await one.range()
     known = other.last
     front = Points([], one.name, one.uom, one.kind) if known is None else await other.range()
-    if not _are_same(front, _first(whole, len(front))):
+    if not _are_same(front, whole.part(0, len(front))):
         raise Difference(f"the {len(front)} points of the target's channel {uri} are not the first points of the source's")
     told = (lambda done, of: progress(len(front) + done, len(whole))) if progress else None
     async with other.loader(None, skip_known=True, progress=told) as loader:
@@ -132,13 +132,6 @@ async def _copy_channel(source: Store, target: Store, uri: str, say: Told, progr
     if not _are_same(await other.range(), whole):
         raise Difference(f"the channel {uri} differs when it is read back")
     say(f"channel {uri}: {loader.taken} points, {loader.skipped} already there")
-
-
-def _first(points: Points, count: int) -> Points:
-    made = Points([], points.name, points.uom, points.kind)
-    made.indexes, made.values = points.indexes[:count], points.values[:count]
-    made.nulls = None if points.nulls is None else points.nulls[:count]
-    return made
 
 
 def _are_same(one: Points, other: Points) -> bool:

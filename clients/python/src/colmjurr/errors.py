@@ -17,7 +17,7 @@ CAUSES = {
     "boolean": "a boolean that is neither 0 nor 1", "branch": "no branch or symbol has this number", "utf8": "a text that is not UTF-8",
     "length": "a negative length", "blocksize": "a block whose items do not fill it", "doublekey": "a name that its map already has",
     "limit": "one value too many", "rest": "bytes after the body", "extension": "a header extension", "compressed": "a compressed body",
-    "protocol": "no such protocol", "message type": "not a message that a server sends",
+    "index": "a point whose index is not one long", "protocol": "no such protocol", "message type": "not a message that a server sends",
 }
 
 

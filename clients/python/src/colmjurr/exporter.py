@@ -146,15 +146,17 @@ class Exporter:
     async def answer(self, reader: asyncio.StreamReader, writer: asyncio.StreamWriter) -> None:
         """Answers one HTTP request, and closes the connection."""
         try:
-            head = await asyncio.wait_for(reader.readuntil(b"\r\n\r\n"), _REQUEST_SECONDS)
+            async with asyncio.timeout(_REQUEST_SECONDS):
+                head = await reader.readuntil(b"\r\n\r\n")
             words = head.split(b"\r\n", 1)[0].decode("latin-1").split(" ")
             status, kind, body = self._page(words)
             raw = body.encode()
             writer.write((
                 f"HTTP/1.1 {status}\r\nContent-Type: {kind}; charset=utf-8\r\nContent-Length: {len(raw)}\r\nConnection: close\r\n\r\n").encode())
             writer.write(b"" if words[0] == "HEAD" else raw)
-            await asyncio.wait_for(writer.drain(), _REQUEST_SECONDS)
-        except (asyncio.IncompleteReadError, asyncio.LimitOverrunError, asyncio.TimeoutError, ConnectionError, ValueError):
+            async with asyncio.timeout(_REQUEST_SECONDS):
+                await writer.drain()
+        except (asyncio.IncompleteReadError, asyncio.LimitOverrunError, TimeoutError, ConnectionError, ValueError):
             pass
         finally:
             writer.close()

@@ -8,8 +8,8 @@ from typing import TYPE_CHECKING, Any, Callable, Optional
 
 from .arrays_of_numbers import numpy
 from .channel_data import check_values, write_items
-from .errors import EtpError, LinkError, Refused, TimeLimit, ValueRefused, refusal
-from .points import Moment, index_of
+from .errors import EtpError, LinkError, PeerError, Refused, TimeLimit, ValueRefused, refusal
+from .points import Moment, first_fall, index_of
 from .session import Session
 
 if TYPE_CHECKING:
@@ -24,13 +24,15 @@ Progress = Callable[[int, Optional[int]], None]
 class Batch:
     """Points that are sent in one message, and whether they were."""
 
-    __slots__ = ("indexes", "values", "size", "first", "last", "number", "was_sent")
+    __slots__ = ("indexes", "values", "size", "first", "last", "number", "was_sent", "limit")
 
     def __init__(self, indexes: Any, values: Any):
         self.indexes, self.values, self.size = indexes, values, len(indexes)
         self.first, self.last = int(indexes[0]), int(indexes[-1])
         self.number = 0
         self.was_sent = False
+        # when the Pong that follows it has to be there, by the event loop's clock
+        self.limit = 0.0
 
 
 class Loader:
@@ -123,7 +125,7 @@ class Loader:
             raise ValueRefused(f"{len(moments)} indexes and {len(values)} values")
         if len(moments) == 0:
             return
-        begin = _first_fall(moments)
+        begin = first_fall(moments)
         if begin is not None:
             raise ValueRefused(f"the index at place {begin}, {int(moments[begin])}, does not rise above {int(moments[begin - 1])}")
         check_values(self.channel.kind, values)
@@ -187,13 +189,36 @@ class Loader:
         """Sends what is waiting, also over new connections, until it is stopped or can't go on."""
         try:
             while True:
-                await self._wake.wait()
-                self._wake.clear()
+                await self._woken()
                 await self._step()
         except EtpError as error:
-            self._errors.append(error)
-            self._is_over = True
-            self._room.set()
+            self._give_up(error)
+        except Exception as error:
+            self._give_up(PeerError(f"an answer that can't be handled: {error!r}"))
+            raise
+
+    async def _woken(self) -> None:
+        """Returns when there is something to do. If the server does not answer a batch in time, the connection is given up."""
+        clock = asyncio.get_running_loop()
+        session, timer = self._session, None
+        if self._sent and session is not None and session.lost is None:
+            timer = clock.call_at(self._sent[0].limit, self._wake.set)
+        try:
+            await self._wake.wait()
+        finally:
+            if timer is not None:
+                timer.cancel()
+        self._wake.clear()
+        if self._sent and session is not None and session is self._session and session.lost is None and self._sent[0].limit <= clock.time():
+            error = TimeLimit(f"the server did not answer the points from index {self._sent[0].first} on in time")
+            session.give_up(error)
+            await self._patience.wait(error)
+
+    def _give_up(self, error: EtpError) -> None:
+        """Tells whoever waits, now or later, that no more points are sent."""
+        self._errors.append(error)
+        self._is_over = True
+        self._room.set()
 
     async def _step(self) -> None:
         """Sends what is waiting, if need be over a new connection. Raises the last error if the patience is used up."""
@@ -214,12 +239,12 @@ class Loader:
 
     async def _begin(self, session: Session) -> None:
         """Opens the channel in a session, and finds out which of the batches that were sent have arrived."""
-        record = await self.channel.opened(session)
+        await self.channel.opened(session)
         if session is not self._session:
             self._session = session
             session.on_lost.append(lambda error: self._wake.set())
         self._is_stale = False
-        last = record["indexes"][0]["interval"]["endIndex"]["item"][1] if record["indexes"] else None
+        last = self.channel.last
         again = list(self._sent)
         self._sent.clear()
         for batch in again:
@@ -248,6 +273,7 @@ class Loader:
             batch.number = session.post("LoadChannelData", body)
             session.load_refused[batch.number] = functools.partial(self._refused, batch)
             _, pong = session.post_ping()
+            batch.limit = asyncio.get_running_loop().time() + session.limit()
             pong.add_done_callback(functools.partial(self._answered, batch, session))
             self._room.set()
             await session.link.drain()
@@ -306,14 +332,6 @@ def _moments(indexes: Any) -> Any:
         return numpy.array(moments, dtype="int64") if numpy is not None else moments
     except OverflowError:
         raise ValueRefused("an index has more than 64 bits") from None
-
-
-def _first_fall(moments: Any) -> Optional[int]:
-    """The place of the first index that does not rise above the one before it."""
-    if numpy is not None:
-        falls = numpy.flatnonzero(moments[1:] <= moments[:-1])
-        return int(falls[0]) + 1 if len(falls) else None
-    return next((place for place in range(1, len(moments)) if moments[place] <= moments[place - 1]), None)
 
 
 def _count_up_to(moments: Any, known: int) -> int:

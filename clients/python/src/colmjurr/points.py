@@ -46,6 +46,14 @@ def index_of(moment: Moment) -> int:
     return moment.__index__()
 
 
+def first_fall(indexes: Any) -> Optional[int]:
+    """The place of the first index that does not rise above the one before it, or None."""
+    if numpy is not None and hasattr(indexes, "dtype"):
+        falls = numpy.flatnonzero(indexes[1:] <= indexes[:-1])
+        return int(falls[0]) + 1 if len(falls) else None
+    return next((place for place in range(1, len(indexes)) if indexes[place] <= indexes[place - 1]), None)
+
+
 def time_of(index: int) -> datetime.datetime:
     """An index in microseconds since 1970-01-01 UTC as a `datetime` in UTC. Raises `ValueRefused` outside the years 1 to 9999."""
     try:
@@ -131,6 +139,13 @@ class Points:
     def __iter__(self) -> Iterator[tuple[int, Any]]:
         values = self.plain_values()
         return zip(self.indexes.tolist() if hasattr(self.indexes, "tolist") else self.indexes, values)
+
+    def part(self, begin: int, end: int) -> "Points":
+        """The points from place `begin` up to but not including place `end`, counted from 0."""
+        made = Points([], self.name, self.uom, self.kind)
+        made.indexes, made.values = self.indexes[begin:end], self.values[begin:end]
+        made.nulls = None if self.nulls is None else self.nulls[begin:end]
+        return made
 
     def plain_values(self) -> list:
         """The values as a list of Python's own types, with None for null."""

@@ -21,8 +21,8 @@ from .websocket import WebSocket
 PROTOCOLS = (4, 9, 18, 21, 22, 24)
 # The longest message in either direction: OpenSession allows it to the client, and RequestSession to the server.
 MESSAGE_LIMIT = 16_777_216
-# The most bytes of a reply in all its parts, and of the chunks of one reply.
-REPLY_LIMIT, BLOBS_LIMIT = 1 << 30, 67_108_864
+# The most bytes of a reply in all its parts, of the chunks of one reply, and of a notice in all its parts.
+REPLY_LIMIT, BLOBS_LIMIT, NOTICE_LIMIT = 1 << 30, 67_108_864, 1 << 29
 # A request has a second more for each so many bytes that are sent or arrive: a slow line is waited for, one that only drips is not.
 LEAST_RATE = 16_384
 # Seconds of silence after which a ping is sent, and after which the connection is given up. A longer time limit of requests counts instead,
@@ -52,7 +52,7 @@ class Reply:
         self.error: Optional[Refused] = None
         self.blobs: dict[bytes, bytearray] = {}
         self.unfinished: set[bytes] = set()
-        self.size = 0
+        self.size = self.blob_bytes = 0
 
     def add_part(self, name: str, value: dict) -> None:
         field = schema.GROWING.get(name)
@@ -87,7 +87,8 @@ class Reply:
         blob = value["blobId"]
         if blob not in self.unfinished:
             raise PeerError("a chunk that was not announced")
-        if sum(map(len, self.blobs.values())) + len(value["data"]) > BLOBS_LIMIT:
+        self.blob_bytes += len(value["data"])
+        if self.blob_bytes > BLOBS_LIMIT:
             raise PeerError(f"more than {BLOBS_LIMIT} bytes in the chunks of one reply", 1009)
         self.blobs[blob] += value["data"]
         if value["final"]:
@@ -123,11 +124,13 @@ class Session:
 
     def __init__(self, link: WebSocket, timeout: float):
         self.link, self.timeout = link, timeout
-        self.sent_id = self.heard_id = self.sent_bytes = self.notice_bytes = 0
+        self.sent_id = self.heard_id = self.sent_bytes = self.other_bytes = 0
         self.asks: dict[int, tuple[Reply, asyncio.Future]] = {}
-        self.abandoned: set[int] = set()
+        # the requests that nobody waits for any more, with the bytes of their replies that have arrived
+        self.abandoned: dict[int, int] = {}
         self.between: Any = None
         self.notice: dict[str, Any] = {}
+        self.notice_size = 0
         self.lost: Optional[EtpError] = None
         self.opened: dict = {}
         self.channels: dict[str, dict] = {}
@@ -152,8 +155,13 @@ class Session:
             raise refusal(17, f"a {name} of {len(message)} bytes, more than {MESSAGE_LIMIT}")
         self.link.post(message)
         self.sent_id += 2
-        self.sent_bytes = len(message)
+        # what was posted before is sent before
+        self.sent_bytes = max(len(message), self.link.waiting())
         return self.sent_id
+
+    def limit(self, timeout: Optional[float] = None) -> float:
+        """The seconds within which the message that was posted last has to be answered."""
+        return (self.timeout if timeout is None else timeout) + self.sent_bytes / LEAST_RATE
 
     def _expect(self, number: int, name: str) -> tuple[Reply, asyncio.Future]:
         row = Reply(name), asyncio.get_running_loop().create_future()
@@ -173,7 +181,7 @@ class Session:
         self, numbers: list[int], name: str, seen: Optional[Callable[[int], None]] = None, timeout: Optional[float] = None,
     ) -> Reply:
         """Waits for the reply to the message with the first of these ids. A reply to one of the others counts too."""
-        limit = (self.timeout if timeout is None else timeout) + self.sent_bytes / LEAST_RATE
+        limit = self.limit(timeout)
         reply, future = self._expect(numbers[0], name)
         for number in numbers[1:]:
             self.asks[number] = reply, future
@@ -183,7 +191,7 @@ class Session:
         finally:
             for number in numbers:
                 if self.asks.pop(number, None) and not future.done():
-                    self.abandoned.add(number)
+                    self.abandoned[number] = reply.size
         if reply.error is not None:
             raise reply.error
         return reply
@@ -203,8 +211,9 @@ class Session:
                 return future.result()
 
     def reply_bytes(self) -> int:
-        """The bytes that have arrived, without control frames and notices: those that give a request more time."""
-        return self.link.reader.total - self.link.control_bytes - self.notice_bytes
+        """The bytes that have arrived of replies: those that give a request more time. Control frames, notices, and messages of the session
+        itself do not."""
+        return self.link.reader.total - self.link.control_bytes - self.other_bytes
 
     async def ping(self) -> None:
         """Returns when the server has answered, and so has taken all that was sent before."""
@@ -260,20 +269,20 @@ class Session:
             raise PeerError(f"a message id that does not rise: {header.id} after {self.heard_id}")
         self.heard_id = header.id
         value = self._body(data, body, at)
-        if body.name == "Acknowledge":
-            return
         if body.name == "CloseSession":
             raise LinkLost(f"the server closed the session: {value['reason']}", 1000)
-        if body.name == "Ping":
-            self.post("Pong", codec.encoded("long", now()), FINAL, header.id)
+        if body.name in ("Acknowledge", "Ping"):
+            self.other_bytes += len(data)
+            if body.name == "Ping" and self.link.has_room():
+                self.post("Pong", codec.encoded("long", now()), FINAL, header.id)
             return
         place = header.correlation, body.name if header.correlation == 0 else ""
         if self.between is not None and self.between != place:
             raise PeerError(f"a {body.name} between the parts of another message")
         self.between = None if header.flags & FINAL else place
         if header.correlation == 0:
-            self.notice_bytes += len(data)
-            self._take_notice(header, body.name, value)
+            self.other_bytes += len(data)
+            self._take_notice(header, body.name, value, len(data))
         else:
             self._take_reply(header, body.name, value, len(data))
 
@@ -297,8 +306,11 @@ class Session:
     def _take_reply(self, header: Header, name: str, value: dict, size: int) -> None:
         number = header.correlation
         if number in self.abandoned:
+            self.abandoned[number] += size
+            if self.abandoned[number] > REPLY_LIMIT:
+                raise PeerError(f"a reply of more than {REPLY_LIMIT} bytes", 1009)
             if header.flags & FINAL:
-                self.abandoned.discard(number)
+                del self.abandoned[number]
             return
         if name == "ProtocolException" and number in self.load_refused:
             info = value["error"] or {"code": 0, "message": ""}
@@ -322,15 +334,18 @@ class Session:
             reply.fill_blobs()
             future.set_result(None)
 
-    def _take_notice(self, header: Header, name: str, value: dict) -> None:
+    def _take_notice(self, header: Header, name: str, value: dict, size: int) -> None:
         if name == "ProtocolException":
             info = value["error"] or {"code": 0, "message": ""}
             raise PeerError(f"the server could not read a message: {info['code']} {info['message']}")
         if name not in ("ChannelData", "RangeReplaced", "ChannelsTruncated", "SubscriptionsStopped"):
             raise PeerError(f"a {name} that was not requested")
+        self.notice_size += size
+        if self.notice_size > NOTICE_LIMIT:
+            raise PeerError(f"a notice of more than {NOTICE_LIMIT} bytes", 1009)
         self._keep_notice(name, value)
         if header.flags & FINAL:
-            whole, self.notice = self.notice, {}
+            whole, self.notice, self.notice_size = self.notice, {}, 0
             self._tell(name, whole)
 
     def _keep_notice(self, name: str, value: dict) -> None:
@@ -341,8 +356,6 @@ class Session:
             self.notice[field].update(value[field])
         else:
             self.notice[field].extend(value[field])
-        if name == "ChannelData" and sum(len(each.indexes) for each in self.notice[field]) > 1 << 24:
-            raise PeerError("a notice of more than 16,777,216 points", 1009)
 
     def _tell(self, name: str, value: dict) -> None:
         """Hands a whole notice to the followers of its channels."""

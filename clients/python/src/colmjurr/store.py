@@ -116,7 +116,9 @@ def connect(
     cert: Optional[websocket.Certificate] = None, headers: Optional[Mapping[str, str]] = None, timeout: float = 10.0,
     ask_timeout: float = 30.0, patience: float = 60.0, formats: Iterable[str] = ("xml", "json"), application: str = "colmjurr",
 ) -> Connector:
-    """Connects to the server at `ws://HOST:PORT/PATH` or `wss://HOST:PORT/PATH`; see `colmjurr.connect` for what each argument says."""
+    """Connects to the server at `ws://HOST:PORT/PATH` or `wss://HOST:PORT/PATH`; see `colmjurr.connect` for what each argument says. Time
+    limits are in seconds. Awaiting or entering it raises `DialError`, `HandshakeError` or `TimeLimit` if there is no connection, `Refused`
+    if the server refuses the session, and `ValueRefused` if the address or a certificate can't be read."""
     sent = dict(headers or {})
     if user is not None:
         token = base64.b64encode(f"{user}:{password or ''}".encode()).decode()
@@ -161,6 +163,8 @@ class Store:
             await session.close()
             raise
         session.timeout = self._ask_timeout
+        # a server does not read while it works on a request
+        session.link.write_limit = max(websocket.WRITE_LIMIT, self._ask_timeout)
         return session
 
     @property
@@ -188,6 +192,7 @@ class Store:
         return await self.insist(lambda used: used.ask(name, fields, seen))
 
     def patient(self) -> Patience:
+        """The patience of a caller who goes on over new connections, such as a loader or a watch."""
         return Patience(self)
 
     async def insist(self, action: Callable[[Session], Awaitable[Any]]) -> Any:

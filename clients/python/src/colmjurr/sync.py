@@ -268,11 +268,11 @@ class Array:
     def __len__(self) -> int:
         return self.shape[0]
 
-    def read(self, where: Slices = ()) -> Any:
+    def read(self, where: Slices = (), *, progress: Optional[Progress] = None) -> Any:
         """The elements of a region as an ndarray of the region's shape. `where` is what would be between an array's brackets: ints, slices
         with steps above 0, and `...`. Raises `IndexError` if an int is out of bounds. A region of more than a million elements is read in
-        pieces, each as it is at that moment."""
-        return self._runner.run(self._held.read(where))
+        pieces, each as it is at that moment. `progress` is called with the number of elements that have arrived, and with that of all."""
+        return self._runner.run(self._held.read(where, progress=progress))
 
     def __getitem__(self, where: Slices) -> Any:
         return self.read(where)
@@ -285,13 +285,17 @@ class Array:
         starts, counts = arrays.region_of(where, self.shape)
         self.patch(starts, arrays.spread(values, counts))
 
-    def write(self, values: Any, *, custom: Optional[Mapping[str, Any]] = None, preferred: Optional[tuple[int, ...]] = None) -> None:
+    def write(
+        self, values: Any, *, custom: Optional[Mapping[str, Any]] = None, preferred: Optional[tuple[int, ...]] = None,
+        progress: Optional[Progress] = None,
+    ) -> None:
         """Puts the whole array, new or in place of the one at this path: at most 4,194,304 elements and 33,554,432 bytes. `preferred` is a
-        hint for readers: the shape in which the array is best read.
+        hint for readers: the shape in which the array is best read. `progress` is called with the number of elements that the server has
+        taken, and with that of all.
 
         An array of more than a million elements, or of a type that is carried by a wider one (int8, int16 and unsigned ints, except
         uint8), is created first and then filled: do that in a transaction if others must not see it half full."""
-        self._runner.run(self._held.write(values, custom=custom, preferred=preferred))
+        self._runner.run(self._held.write(values, custom=custom, preferred=preferred, progress=progress))
 
     def make(
         self, shape: tuple[int, ...], dtype: str = "float64", *, custom: Optional[Mapping[str, Any]] = None,
@@ -360,7 +364,8 @@ class Channel:
         self._runner.run(self.held.refresh())
 
     def range(self, start: Optional[Moment] = None, end: Optional[Moment] = None, progress: Optional[Progress] = None) -> Points:
-        """The points from `start` to `end`, both included; None is the channel's beginning or end. `index_of` says what a moment may be.
+        """The points from `start` to `end`, both included; None is the channel's beginning or end. `index_of` says what a moment may be: an
+        int is in microseconds since 1970-01-01 UTC. The `Points` have `indexes` and `values` of shape (n,), these in the channel's unit.
         `progress` is called with the bytes that have arrived.
 
         A range that the server can give at once is read by one request, and so is as it was at one moment. A longer one is halved as often
@@ -419,7 +424,8 @@ class Loader:
         self._runner.run(self._held.load(index, value))
 
     def load_many(self, indexes: Any, values: Any) -> None:
-        """Gives many points: indexes (moments) and values of shape (n,)."""
+        """Gives many points: indexes (moments, see `index_of`) and values of shape (n,). Raises `ValueRefused` with the place, counted from
+        0, of an index that does not rise or a value that is not of the channel's kind; none of these points is sent then."""
         self._runner.run(self._held.load_many(indexes, values))
 
     def flush(self) -> None:
@@ -475,8 +481,11 @@ class Watch:
 
     async def _next_within(self, timeout: Optional[float]) -> Optional[Change]:
         try:
-            return await asyncio.wait_for(self._next(), timeout)
-        except asyncio.TimeoutError:
+            async with asyncio.timeout(timeout):
+                return await self._next()
+        except TimeoutError as error:
+            if isinstance(error, TimeLimit):
+                raise
             raise TimeLimit(f"no change came within {timeout:g} s") from None
 
     def close(self) -> None:

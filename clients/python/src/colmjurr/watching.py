@@ -9,7 +9,7 @@ from dataclasses import dataclass
 from typing import TYPE_CHECKING, Any, Coroutine, Optional, Union
 
 from . import codec
-from .errors import EtpError, LinkError, Refused, Stopped, TimeLimit, ValueRefused
+from .errors import EtpError, LinkError, PeerError, Refused, Stopped, TimeLimit, ValueRefused
 from .points import JOINED, LEAST, Columns, Moment, Points, index_of
 from .session import Session
 
@@ -262,7 +262,7 @@ class Watch:
         """Subscribes to the last points of a channel that has too many, and gives the ones before them too."""
         begun, held = followed.begins_anew, len(self._queue)
         start = followed.tail_from if followed.tail_from is not None else followed.start
-        followed.begins_anew, followed.tail_from = False, None
+        followed.begins_anew, followed.tail_from, followed.last = False, None, None
         await self._ask_for(session, [followed.channel.id], LATEST)
         await session.ping()
         place = next((at for at in range(held, len(self._queue)) if self._queue[at].channel is followed.channel), -1)
@@ -270,7 +270,7 @@ class Watch:
         if not isinstance(first, Append):
             raise Refused(12, "the channel has more points than a server begins a subscription with")
         before = await followed.channel.range(start, int(first.points.indexes[0]) - 1)
-        whole = _both(followed.channel, before, first.points)
+        whole = _both(followed.channel, before, _from(first.points, start))
         self._queue[place] = Restarted(followed.channel, whole) if begun else Append(followed.channel, whole)
         self._waiting += len(before)
 
@@ -340,6 +340,9 @@ class Watch:
                 self._restart(followed, value)
                 return
             points = followed.channel.points(value)
+            if self.changes and followed.last is not None and int(points.indexes[0]) <= followed.last:
+                # without the other changes it is not known what was removed
+                raise PeerError(f"points that are appended at {int(points.indexes[0])}, not after {followed.last}")
             followed.last = int(points.indexes[-1])
             self._put(Append(followed.channel, points))
             return
@@ -348,11 +351,13 @@ class Watch:
         if what == "replace":
             start, end, pieces = value
             points = followed.channel.points(pieces)
-            if followed.last is not None and start <= followed.last <= end:
-                followed.last = int(points.indexes[-1]) if len(points) else start - 1
+            if len(points) and not start <= int(points.indexes[0]) <= int(points.indexes[-1]) <= end:
+                raise PeerError(f"points outside of the interval from {start} to {end} that they replace")
+            if followed.last is None or followed.last <= end:
+                followed.last = int(points.indexes[-1]) if len(points) else _least(followed.last, start - 1)
             self._put(Replace(followed.channel, start, end, points))
         else:
-            followed.last = min(followed.last, value) if followed.last is not None else None
+            followed.last = _least(followed.last, value)
             self._put(Truncate(followed.channel, value))
 
     def _restart(self, followed: _Followed, pieces: list[Columns]) -> None:
@@ -367,12 +372,23 @@ class Watch:
         self._wake.set()
 
 
+def _least(last: Optional[int], end: int) -> Optional[int]:
+    """An index that no point is above, where none was above `last` and those above `end` are gone; None if there is no point."""
+    return None if last is None else min(last, end)
+
+
 def _size(change: Change) -> int:
     return 1 + (len(change.points) if isinstance(change, (Append, Replace, Restarted)) else 0)
 
 
 def _columns(points: Points) -> Columns:
     return Columns(0, points.indexes, JOINED, points.values, points.nulls)
+
+
+def _from(points: Points, start: Optional[int]) -> Points:
+    """The points from an index on: meanwhile a channel may have come to end before it, so that its last points begin before it too."""
+    place = 0 if start is None else bisect.bisect_left(points.indexes, start)
+    return points.part(place, len(points))
 
 
 def _both(channel: "Channel", first: Points, second: Points) -> Points:

@@ -4,6 +4,7 @@ from __future__ import annotations
 import asyncio
 import base64
 import hashlib
+import itertools
 import os
 import ssl
 import urllib.parse
@@ -16,9 +17,11 @@ SUBPROTOCOL = "etp12.energistics.org"
 # RFC 6455, section 1.3
 GUID = b"258EAFA5-E914-47DA-95CA-C5AB0DC85B11"
 CONTINUATION, TEXT, BINARY, CLOSE, PING, PONG = 0, 1, 2, 8, 9, 10
-# The longest message that is accepted, the longest head of an answer to the handshake, and how many bytes may wait to be sent before
-# pings are not answered any more.
-MESSAGE_LIMIT, HEAD_LIMIT, WAITING_LIMIT = 33_554_432, 16_384, 1 << 20
+# The longest message that is accepted and the most frames of one, the longest head of an answer to the handshake, and how many bytes may
+# wait to be sent before pings are not answered any more.
+MESSAGE_LIMIT, FRAMES_LIMIT, HEAD_LIMIT, WAITING_LIMIT = 33_554_432, 1 << 18, 16_384, 1 << 20
+# After how many frames others on the event loop have their turn.
+TURN = 256
 # Seconds after which a write that makes no progress is given up.
 WRITE_LIMIT = 30.0
 
@@ -74,37 +77,60 @@ class WebSocket:
     def __init__(self, reader: HeardReader, writer: asyncio.StreamWriter):
         self.reader, self.writer = reader, writer
         self.is_closing = False
-        self.control_bytes = 0
+        self.control_bytes = self.posted = 0
+        self.write_limit = WRITE_LIMIT
 
     def post(self, data: bytes) -> None:
         """Hands one binary message to the connection, where it may wait until the peer has read what was sent before."""
         if self.is_closing:
             raise LinkLost("the connection is closed")
-        self.writer.writelines(frame(BINARY, data))
+        self._write(BINARY, data)
+
+    def _write(self, opcode: int, data: bytes) -> None:
+        head, rest = frame(opcode, data)
+        self.posted += len(head) + len(rest)
+        self.writer.writelines((head, rest))
+
+    def waiting(self) -> int:
+        """How many bytes wait to be sent."""
+        return self.writer.transport.get_write_buffer_size()
 
     async def drain(self) -> None:
-        """Waits until little is left to send. Raises `LinkLost` if the peer reads nothing for WRITE_LIMIT seconds."""
-        try:
-            await asyncio.wait_for(self.writer.drain(), WRITE_LIMIT)
-        except asyncio.TimeoutError:
-            self.abort()
-            raise LinkLost(f"the server read nothing for {WRITE_LIMIT:.0f} s") from None
-        except (ConnectionError, OSError) as error:
-            raise LinkLost(f"the connection broke off: {error}") from None
+        """Waits until little is left to send. Raises `LinkLost` if the peer reads nothing for `write_limit` seconds."""
+        gone = self.posted - self.waiting()
+        while True:
+            try:
+                async with asyncio.timeout(self.write_limit):
+                    return await self.writer.drain()
+            except TimeoutError:
+                before, gone = gone, self.posted - self.waiting()
+            except (ConnectionError, OSError) as error:
+                raise LinkLost(f"the connection broke off: {error}") from None
+            if gone == before:
+                self.abort()
+                raise LinkLost(f"the server read nothing for {self.write_limit:.0f} s")
 
     def ping(self) -> None:
         self._control(PING, b"")
 
+    def has_room(self) -> bool:
+        """Whether so little waits to be sent that pings are answered. What a peer that reads nothing is owed takes no memory."""
+        return not self.writer.is_closing() and self.waiting() < WAITING_LIMIT
+
     def _control(self, opcode: int, data: bytes) -> None:
-        if not self.writer.is_closing() and self.writer.transport.get_write_buffer_size() < WAITING_LIMIT:
-            self.writer.writelines(frame(opcode, data))
+        if self.has_room():
+            self._write(opcode, data)
 
     async def recv(self) -> bytes:
         """The next binary message; pings that arrive before it are answered. Raises `LinkLost` at the end of the connection, and
-        `PeerError` for what a server may not send: a text, a masked frame, frames out of order, more than MESSAGE_LIMIT bytes."""
+        `PeerError` for what a server may not send: a text, a masked frame, frames out of order, more than MESSAGE_LIMIT bytes or
+        FRAMES_LIMIT frames."""
         parts: list[bytes] = []
         size = 0
-        while True:
+        for count in itertools.count(1):
+            if count % TURN == 0:
+                # frames that are there already are read without waiting: let others have their turn, and time limits be seen
+                await asyncio.sleep(0)
             last, opcode, data = await self._frame(size)
             if opcode in (CLOSE, PING, PONG):
                 self._take_control(last, opcode, data)
@@ -113,8 +139,11 @@ class WebSocket:
                 raise PeerError("a text message" if opcode == TEXT else f"a frame out of order, opcode {opcode}", 1002)
             parts.append(data)
             size += len(data)
+            if len(parts) > FRAMES_LIMIT:
+                raise PeerError(f"a message in more than {FRAMES_LIMIT} frames", 1009)
             if last:
-                return parts[0] if len(parts) == 1 else b"".join(parts)
+                break
+        return parts[0] if len(parts) == 1 else b"".join(parts)
 
     async def _frame(self, before: int) -> tuple[bool, int, bytes]:
         read = self.reader.readexactly
@@ -251,8 +280,11 @@ async def connect(
     address = Address(url)
     tls = tls_context(ca, cert) if address.is_secure else None
     try:
-        return await asyncio.wait_for(_connected(address, tls, headers), timeout)
-    except asyncio.TimeoutError:
+        async with asyncio.timeout(timeout):
+            return await _connected(address, tls, headers)
+    except TimeoutError as error:
+        if isinstance(error, TimeLimit):
+            raise
         raise TimeLimit(f"{url} did not answer within {timeout:g} s") from None
 
 
