@@ -13,7 +13,7 @@ from .arrays import Array
 from .channels import Channel, Watch
 from .codec import FINAL, NUMBERS
 from .data_value import custom_from_wire, custom_to_wire
-from .errors import EtpError, LinkError, LinkLost, Refused, SomeRefused, TimeLimit, ValueRefused
+from .errors import EtpError, LimitExceeded, LinkError, LinkLost, Refused, SomeRefused, TimeLimit, ValueRefused
 from .points import Moment, index_of
 from .session import Reply, Session
 from .transactions import Transaction
@@ -251,14 +251,22 @@ class Store:
         return _data_object(reply.item("dataObjects"))
 
     async def get_many(self, uris: Iterable[str], format: str = "", session: Optional[Session] = None) -> dict[str, DataObject]:
-        """The objects of these URIs, by URI. Those that are refused are left out; if all are, `SomeRefused` names them."""
+        """The objects of these URIs, by URI. Those that are refused are left out; if all are, `SomeRefused` names them. An object for which
+        there is no room beside the others is asked for alone."""
         found: dict[str, DataObject] = {}
         refused: dict[str, Refused] = {}
-        for some in _in_lots(list(dict.fromkeys(uris))):
+        left: list[list[str]] = list(_in_lots(list(dict.fromkeys(uris))))
+        while left:
+            some = left.pop()
             keys = {str(place): uri for place, uri in enumerate(some)}
             reply = await self.ask("GetDataObjects", again=True, session=session, uris=keys, format=format)
             found.update({keys[key]: _data_object(each) for key, each in (reply.value or {}).get("dataObjects", {}).items()})
-            refused.update({keys[key]: error for key, error in reply.refused.items()})
+            for key, error in reply.refused.items():
+                if isinstance(error, LimitExceeded) and len(some) > 1:
+                    # there is no room for it beside the others
+                    left.append([keys[key]])
+                else:
+                    refused[keys[key]] = error
         if refused and not found:
             raise SomeRefused(refused, {})
         return found

@@ -140,7 +140,8 @@ class Store:
         return self._runner.run(self._held.get(uri, format, progress))
 
     def get_many(self, uris: Iterable[str], format: str = "") -> dict[str, DataObject]:
-        """The objects of these URIs, by URI. Those that are refused are left out; if all are, `SomeRefused` names them."""
+        """The objects of these URIs, by URI. Those that are refused are left out; if all are, `SomeRefused` names them. An object for which
+        there is no room beside the others is asked for alone."""
         return self._runner.run(self._held.get_many(uris, format))
 
     def put(
