@@ -1,3 +1,4 @@
 pub mod BlockLemmas
+pub mod ChunkLemmas
 pub mod ItemLemmas
 pub mod OrderedLemmas

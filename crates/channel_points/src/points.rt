@@ -1,5 +1,5 @@
 //! The points of one channel.
-ghost use Rattle.std.specs.Prelude.{◌≡◌, ◌<◌, ◌≤◌, ◌==◌, ◌++◌, ◌∷◌, [], length, map, int_lt, slice_get, IfOk, OnErr, OnOk, Some};
+ghost use Rattle.std.specs.Prelude.{◌≡◌, ◌<◌, ◌≤◌, ◌+◌, ◌==◌, ◌++◌, ◌∷◌, [], length, map, take, drop, int_lt, slice_get, IfOk, OnErr, OnOk, Some};
 ghost use Rattle.std.specs.Bool.{OnTrue};
 ghost use Rattle.std.specs.Cmp.Lexicographic.{lists_equiv, lists_per, pointwise};
 ghost use Rattle.std.specs.Vec.{vec_len};
@@ -93,15 +93,28 @@ fn longer(alloc: Global, points: &[Point], point: Point) -> Result<Vec<Point>, N
     Ok(copies)
 }
 
-fn copy_all(alloc: Global, points: &[Point]) -> Result<Vec<Point>, NoMemory>
+/// Copies of points.
+pub(crate) fn copy_all(alloc: Global, points: &[Point]) -> Result<Vec<Point>, NoMemory>
     ensures { IfOk result (λ r. r.items ≡ points.now) }
 {
     let mut copies = Vec::new(alloc);
+    add_copies(alloc, &mut copies, points)?;
+    Ok(copies)
+}
+
+/// Copies of points come after the others.
+pub(crate) fn add_copies(
+    alloc: Global,
+    copies: &mut Vec<Point>,
+    points: &[Point],
+) -> Result<(), NoMemory>
+    ensures { OnOk result (copies.new.items ≡ copies.old.items ++ points.now) }
+{
     copies.reserve(points.len())?;
     for point in points {
         copies.push(point.copy(alloc)?)?;
     }
-    Ok(copies)
+    Ok(())
 }
 
 impl Points {
@@ -135,6 +148,15 @@ impl Points {
         }
     }
 
+    /// These points, moved and not copied, and without other owners yet.
+    pub(crate) fn own(points: Vec<Point>) -> Points
+        ensures { result ≡ points.items }
+    {
+        Points {
+            form: Form::Own(points),
+        }
+    }
+
     fn block(alloc: Global, mut points: Vec<Point>) -> Result<Points, NoMemory>
         ensures { IfOk result (λ r. r ≡ points.items) }
     {
@@ -162,11 +184,42 @@ impl Points {
         }
     }
 
+    /// `count` points after the first `start`. They share the memory of these where these are sealed.
+    pub(crate) fn part(
+        &self,
+        alloc: Global,
+        start: usize,
+        count: usize,
+    ) -> Result<Points, NoMemory>
+        requires { start + count ≤ length self.now }
+        ensures { IfOk result (λ r. r ≡ take count (drop start self.now)) }
+    {
+        match &self.form {
+            Form::Run {
+                block,
+                start: first,
+                ..
+            } => Ok(Points {
+                form: Form::Run {
+                    block: block.share()?,
+                    start: *first + start,
+                    end: *first + start + count,
+                },
+            }),
+            _ => Points::of(alloc, copy_all(alloc, &self.as_slice()[start..start + count])?),
+        }
+    }
+
     /// How many points there are.
     pub fn len(&self) -> usize
         ensures { result ≡ length self.now }
     {
-        self.as_slice().len()
+        match &self.form {
+            Form::Empty => 0,
+            Form::One(_) => 1,
+            Form::Own(points) => points.len(),
+            Form::Run { start, end, .. } => *end - *start,
+        }
     }
 
     /// Whether there are no points.
