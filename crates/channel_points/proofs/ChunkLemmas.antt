@@ -53,9 +53,9 @@ last-full cs f (g ∷ gs) full = ap last_size (sym (append_assoc cs (f ∷ []) (
 
 -- ---- the points of chunks
 
-pub joined-concat : {X : Type 0} (as bs : List (List X)) (u : List X) → joined (as ++ bs) u ≡ joined as (joined bs u)
-joined-concat [] bs u = refl
-joined-concat (a ∷ as) bs u = ap (λ l. a ++ l) (joined-concat as bs u)
+pub joined-concat : {X : Type 0} (cs ds : List (List X)) (u : List X) → joined (cs ++ ds) u ≡ joined cs (joined ds u)
+joined-concat [] ds u = refl
+joined-concat (c ∷ cs) ds u = ap (λ l. c ++ l) (joined-concat cs ds u)
 
 pub joined-tail : {X : Type 0} (cs : List (List X)) (t : List X) → joined cs t ≡ joined cs [] ++ t
 joined-tail [] t = refl
@@ -167,3 +167,64 @@ counted-shed h k count added counted e =
     let old_points : count ≡ length h.points = counted.shown in
     let bounded : count + added ≤ 18446744073709551615 = counted.bounded in
     record { shown = omega arith; coming = omega arith; bounded = omega arith }
+
+-- ---- chunks that are put together
+
+pub merged-chunks : (cs : List (List Point)) (c b : List Point) → AreChunks (cs ++ c ∷ []) → last_size (cs ++ c ∷ []) + length b ≤ 1024 → AreChunks (cs ++ (c ++ b) ∷ [])
+merged-chunks cs c b h few =
+    let last = chunked-last cs c h in
+    let some : 0 < length c = last.chunk.some in
+    let follows : 1024 < last_size cs + length c = last.follows in
+    let size : last_size (cs ++ c ∷ []) ≡ length c = last_size-push cs c in
+    let both : length (c ++ b) ≡ length c + length b = length-append c b in
+    chunked-push cs (c ++ b) last.chunks (record { some = omega arith; few = omega arith }) (omega arith)
+
+pub pushed-points : (cs : List (List Point)) (b : List Point) → joined (cs ++ b ∷ []) [] ≡ joined cs [] ++ b
+pushed-points cs b = joined-push cs b [] ∙ ap (joined cs) (append-nil b) ∙ joined-tail cs b
+
+pub merged-points : (cs : List (List Point)) (c b : List Point) → joined (cs ++ (c ++ b) ∷ []) [] ≡ joined (cs ++ c ∷ []) [] ++ b
+merged-points cs c b = pushed-points cs (c ++ b) ∙ sym (append_assoc (joined cs []) c b) ∙ ap (λ l. l ++ b) (sym (pushed-points cs c))
+
+pub pushed-chunks : (cs : List (List Point)) (b : List Point) → AreChunks cs → 0 < length b → length b ≤ 1024 → 1024 < last_size cs + length b → AreChunks (cs ++ b ∷ [])
+pushed-chunks cs b h some few follows = chunked-push cs b h (record { some = some; few = few }) follows
+
+abbrev pub size_in : Option (List Point) → ℕ
+size_in None = 1024
+size_in (Some c) = length c
+
+pub last_size-get : (cs : List (List Point)) → last_size cs ≡ size_in (slice_get cs (length cs - 1))
+last_size-get [] = refl
+last_size-get (c ∷ []) = refl
+last_size-get (c ∷ d ∷ ds) =
+    let e : length (c ∷ d ∷ ds) - 1 ≡ suc (length (d ∷ ds) - 1) = omega arith in
+    last_size-get (d ∷ ds) ∙ sym (ap (λ n. size_in (slice_get (c ∷ d ∷ ds) n)) e)
+
+-- the last chunk is opened
+pub stands-last : (cs ds : List (List Point)) (c t : List Point) → AreChunks cs → cs ≡ ds ++ c ∷ [] → t ≡ c → Stands ds t
+stands-last cs ds c t h e f =
+    let last = chunked-last ds c (subst AreChunks e h) in
+    let some : 0 < length c = last.chunk.some in
+    let size : length t ≡ length c = ap length f in
+    record {
+      chunks = last.chunks;
+      few = subst (λ l. length l ≤ 1024) (sym f) last.chunk.few;
+      follows = λ k. subst (λ l. 1024 < last_size ds + length l) (sym f) last.follows;
+      empty = λ k. absurd (omega arith);
+    }
+
+pub points-last : (cs ds : List (List Point)) (c t : List Point) → cs ≡ ds ++ c ∷ [] → t ≡ c → joined ds t ≡ joined cs []
+points-last cs ds c t e f = ap (joined ds) f ∙ joined-tail ds c ∙ sym (pushed-points ds c) ∙ ap (λ l. joined l []) (sym e)
+
+pub stands-none : (cs ds : List (List Point)) (t : List Point) → ds ≡ [] → t ≡ [] → Stands ds t
+stands-none cs ds t e f =
+    subst (λ X. X) (λ j. Stands (sym e j) (sym f j)) (record {
+      chunks = tt;
+      few = omega arith;
+      follows = λ h. absurd (omega arith);
+      empty = λ h. refl;
+    })
+
+pub small-chunks : (cs : List (List Point)) → AreChunks cs → AllByRecursion (λ c. length c ≤ 1024) cs
+small-chunks [] h = tt
+small-chunks (c ∷ []) h = (h.few, tt)
+small-chunks (c ∷ d ∷ ds) h = (h.0.few, small-chunks (d ∷ ds) h.2)

@@ -1,5 +1,5 @@
 -- How the points of a channel are kept: in chunks of 1 to 1,024, of which the last one is open.
-use Rattle.std.specs.Prelude.{ℕ, ◌≡◌, ◌<◌, ◌≤◌, ◌+◌, Bool, true, false, ℤ, not, int_lt, List, [], ◌∷◌, ◌++◌, length}
+use Rattle.std.specs.Prelude.{ℕ, ◌≡◌, ◌<◌, ◌≤◌, ◌+◌, Bool, true, false, ℤ, not, int_lt, Option, Some, None, List, [], ◌∷◌, ◌++◌, length}
 use Rattle.std.specs.List.{AllByRecursion}
 use Rattle.etp_values.specs.declared.point.Point.{Point}
 use Rattle.channel_points.specs.Blocks.{joined}
@@ -70,6 +70,11 @@ pub record HasRoom (sealed_len sealed_cap tail_len tail_cap fresh more : ℕ) : 
 abbrev pub lies_before : Bool → ℤ → ℤ → Bool
 lies_before true end index = not (int_lt end index)
 lies_before false end index = int_lt index end
+
+-- a list with this last index, if it has points, ends before another index, or at it if `ends` says so
+abbrev pub ends_before : Bool → ℤ → Option ℤ → Bool
+ends_before ends end None = false
+ends_before ends end (Some last) = lies_before ends end last
 
 -- the points are counted, and those that are about to be added too
 pub record AreCounted (h : Held) (count added : ℕ) : Type 0 where

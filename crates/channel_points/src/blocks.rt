@@ -2,10 +2,11 @@
 ghost use Rattle.std.specs.Prelude.{◌≡◌, ◌<◌, ◌≤◌, ◌+◌, ◌++◌, [], length, take, drop, IfOk, IfSome, OnOk};
 ghost use Rattle.std.specs.List.{AllByRecursion};
 ghost use Rattle.channel_points.specs.Blocks.{joined};
-ghost use Rattle.channel_points.specs.Chunks.{AreChunks, last_size};
+ghost use Rattle.channel_points.specs.Chunks.{AreChunks, Stands, last_size};
 
 use crate::chunks::CHUNK;
 use crate::points::{Points, add_copies, copy_all};
+use crate::reads::between;
 use etp_values::{NoMemory, Point};
 use std::alloc::Global;
 
@@ -109,14 +110,63 @@ pub(crate) fn add_between(
     let mut skip = start;
     let mut left = count;
     for block in sealed {
-        let first = skip.min(block.len());
-        let taken = left.min(block.len() - first);
+        let size = block.len();
+        let first = skip.min(size);
+        let taken = left.min(size - first);
         add_part(alloc, blocks, block, first, taken)?;
         skip -= first;
         left -= taken;
     }
-    let first = skip.min(tail.len());
-    let taken = left.min(tail.len() - first);
-    let last = copy_all(alloc, &tail[first..first + taken])?;
+    let from = skip.min(tail.len());
+    let rest = left.min(tail.len() - from);
+    let last = copy_all(alloc, between(tail, from, rest))?;
     add_block(alloc, blocks, Points::own(last))
+}
+
+/// Points come after the others, in chunks of 1,024 at most.
+pub(crate) fn add_all(
+    alloc: Global,
+    blocks: &mut Vec<Points>,
+    points: &Points,
+) -> Result<(), NoMemory>
+    requires { AreChunks blocks.old.items }
+    ensures chunks { OnOk result (AreChunks blocks.new.items) }
+    ensures points { OnOk result
+        (joined blocks.new.items [] ≡ joined blocks.old.items [] ++ points.now) }
+{
+    let mut start = 0usize;
+    while start < points.len() {
+        let taken = CHUNK.min(points.len() - start);
+        let part = points.part(alloc, start, taken)?;
+        add_block(alloc, blocks, part)?;
+        start += taken;
+    }
+    Ok(())
+}
+
+/// How many points there are, if a number can say it.
+pub(crate) fn count_all(blocks: &[Points]) -> Option<usize>
+    ensures { IfSome result (λ n. n ≡ length (joined blocks.now [])) }
+{
+    let mut count = 0usize;
+    for block in blocks {
+        let Some(sum) = count.checked_add(block.len()) else {
+            return None;
+        };
+        count = sum;
+    }
+    Some(count)
+}
+
+/// The points of the last chunk, which is not among the others any more.
+pub(crate) fn take_last(alloc: Global, blocks: &mut Vec<Points>) -> Result<Vec<Point>, NoMemory>
+    requires { AreChunks blocks.old.items }
+    ensures points { IfOk result
+        (λ t. joined blocks.new.items t.items ≡ joined blocks.old.items []) }
+    ensures stands { IfOk result (λ t. Stands blocks.new.items t.items) }
+{
+    match blocks.pop() {
+        Some(last) => last.into_vec(alloc),
+        None => Ok(Vec::new(alloc)),
+    }
 }

@@ -1,12 +1,18 @@
 //! The points of a channel in chunks that are shared, of which the last one is open.
-ghost use Rattle.std.specs.Prelude.{◌≡◌, ◌<◌, ◌≤◌, ◌+◌, ◌++◌, ◌∷◌, [], length, OnErr, OnOk};
+ghost use Rattle.std.specs.Prelude.{◌≡◌, ◌<◌, ◌≤◌, ◌+◌, ◌++◌, ◌∷◌, [], length, take, drop, int_lt, not, slice_get, option_map, IfOk, OnErr, OnOk};
 ghost use Rattle.std.specs.List.{AllByRecursion};
 ghost use Rattle.std.specs.Vec.{vec_len, vec_capacity};
+ghost use Rattle.etp_values.specs.Weight.{capped, weigh};
 ghost use Rattle.channel_points.specs.Blocks.{joined};
-ghost use Rattle.channel_points.specs.Chunks.{HasRoom, IsFresh, Stands, all_added, none_added, settled, with_added, with_tail};
+ghost use Rattle.channel_points.specs.Bytes.{point_bytes};
+ghost use Rattle.channel_points.specs.Chunks.{AreChunks, HasRoom, IsFresh, Stands, all_added, none_added, settled, with_added, with_tail};
+ghost use Rattle.channel_points.specs.Order.{Rises, first_of, last_of};
+ghost use Rattle.channel_points.specs.Splits.{IsSplit};
 
+use crate::blocks::{add_all, add_between, count_all, take_last};
 use crate::points::Points;
-use etp_values::{NoMemory, Point};
+use crate::reads::{bytes_between, copy_between, first_index, index_at, last_index, split};
+use etp_values::{List, NoMemory, Point};
 use std::alloc::Global;
 use std::marker::Model;
 use std::mem;
@@ -72,10 +78,12 @@ fn start_next(
         ≡ joined fresh.old.items more.old.items ++ point ∷ []) }
 {
     let mut next = Vec::new(alloc);
-    next.push(point)?;
+    next.reserve(1)?;
+    next.push_reserved(point);
+    fresh.reserve(1)?;
     let full = mem::replace(more, next);
     let block = Points::of(alloc, full)?;
-    fresh.push(block)?;
+    fresh.push_reserved(block);
     Ok(())
 }
 
@@ -94,7 +102,8 @@ fn add(
     if more.len() == CHUNK {
         return start_next(alloc, fresh, more, point);
     }
-    more.push(point)?;
+    more.reserve(1)?;
+    more.push_reserved(point);
     Ok(())
 }
 
@@ -186,6 +195,31 @@ fn join(tail: &mut Vec<Point>, more: &mut Vec<Point>)
     let _ = tail.append(more);
 }
 
+/// What is about to be added is, if it has no full chunk.
+fn keep_more(
+    sealed: &mut Vec<Points>,
+    tail: &mut Vec<Point>,
+    fresh: &mut Vec<Points>,
+    more: &mut Vec<Point>,
+)
+    requires stands { Stands sealed.old.items tail.old.items }
+    requires fresh { IsFresh fresh.old.items more.old.items }
+    requires none { fresh.old.items ≡ [] }
+    requires some { 0 < length more.old.items }
+    requires room { HasRoom (vec_len sealed.old) (vec_capacity sealed.old)
+        (vec_len tail.old) (vec_capacity tail.old) (vec_len fresh.old) (vec_len more.old) }
+    ensures stands { Stands sealed.new.items tail.new.items }
+    ensures points { joined sealed.new.items tail.new.items
+        ≡ joined sealed.old.items tail.old.items ++ joined fresh.old.items more.old.items }
+    ensures fresh { fresh.new.items ≡ [] }
+    ensures more { more.new.items ≡ [] }
+{
+    if tail.len() + more.len() <= CHUNK {
+        return join(tail, more);
+    }
+    attach(sealed, tail, fresh, more);
+}
+
 /// What is about to be added is. Takes no memory.
 fn keep(
     sealed: &mut Vec<Points>,
@@ -206,8 +240,8 @@ fn keep(
     if more.is_empty() {
         return;
     }
-    if fresh.is_empty() && tail.len() + more.len() <= CHUNK {
-        return join(tail, more);
+    if fresh.is_empty() {
+        return keep_more(sealed, tail, fresh, more);
     }
     attach(sealed, tail, fresh, more);
 }
@@ -232,6 +266,161 @@ impl Chunks {
         ensures { result ≡ length self.now.points }
     {
         self.count
+    }
+
+    /// These chunks, of which the last one is opened.
+    fn of(alloc: Global, mut blocks: Vec<Points>) -> Result<Chunks, NoMemory>
+        requires { AreChunks blocks.items }
+        ensures { IfOk result (λ c. c ≡ settled (joined blocks.items [])) }
+    {
+        let Some(count) = count_all(blocks.as_slice()) else {
+            return Err(NoMemory);
+        };
+        let tail = take_last(alloc, &mut blocks)?;
+        Ok(Chunks {
+            sealed: blocks,
+            tail,
+            fresh: Vec::new(alloc),
+            more: Vec::new(alloc),
+            count,
+            added: 0,
+        })
+    }
+
+    /// `count` points after the first `start` come after those of other chunks.
+    fn add_to(
+        &self,
+        alloc: Global,
+        blocks: &mut Vec<Points>,
+        start: usize,
+        count: usize,
+    ) -> Result<(), NoMemory>
+        requires { AreChunks blocks.old.items }
+        ensures chunks { OnOk result (AreChunks blocks.new.items) }
+        ensures points { OnOk result (joined blocks.new.items []
+            ≡ joined blocks.old.items [] ++ take count (drop start self.now.points)) }
+    {
+        add_between(
+            alloc,
+            blocks,
+            self.sealed.as_slice(),
+            self.tail.as_slice(),
+            start,
+            count,
+        )
+    }
+
+    /// The first `count` points, in chunks that share the memory of these.
+    pub fn front(&self, alloc: Global, count: usize) -> Result<Chunks, NoMemory>
+        ensures { IfOk result (λ c. c ≡ settled (take count self.now.points)) }
+    {
+        let mut blocks = Vec::new(alloc);
+        self.add_to(alloc, &mut blocks, 0, count)?;
+        Chunks::of(alloc, blocks)
+    }
+
+    /// These points with others in the place of `count` points after the first `start`, in chunks that share the memory of these.
+    pub fn splice(
+        &self,
+        alloc: Global,
+        start: usize,
+        count: usize,
+        points: &Points,
+    ) -> Result<Chunks, NoMemory>
+        requires { start + count ≤ length self.now.points }
+        ensures { IfOk result (λ c. c ≡ settled (take start self.now.points
+            ++ (points.now ++ drop count (drop start self.now.points)))) }
+    {
+        let mut blocks = Vec::new(alloc);
+        self.add_to(alloc, &mut blocks, 0, start)?;
+        add_all(alloc, &mut blocks, points)?;
+        self.add_to(
+            alloc,
+            &mut blocks,
+            start + count,
+            self.count - (start + count),
+        )?;
+        Chunks::of(alloc, blocks)
+    }
+
+    /// The index of the first point.
+    pub fn first_index(&self) -> Option<i64>
+        ensures { result ≡ first_of self.now.points }
+    {
+        match self.sealed.first() {
+            Some(block) => first_index(block.as_slice()),
+            None => first_index(self.tail.as_slice()),
+        }
+    }
+
+    /// The index of the last point.
+    pub fn last_index(&self) -> Option<i64>
+        ensures { result ≡ last_of self.now.points }
+    {
+        last_index(self.tail.as_slice())
+    }
+
+    /// The index of the last point, with those that are about to be added.
+    pub fn last_added(&self) -> Option<i64>
+        ensures { result ≡ last_of (self.now.points ++ self.now.added) }
+    {
+        if self.more.is_empty() {
+            return last_index(self.tail.as_slice());
+        }
+        last_index(self.more.as_slice())
+    }
+
+    /// The index of the point at a place.
+    pub fn index_at(&self, place: usize) -> Option<i64>
+        ensures { result ≡ option_map (λ x. x.index) (slice_get self.now.points place) }
+    {
+        index_at(self.sealed.as_slice(), self.tail.as_slice(), place)
+    }
+
+    /// How many points are below an index.
+    pub fn count_below(&self, index: i64) -> usize
+        requires { Rises self.now.points }
+        ensures { IsSplit (λ x. int_lt x.index index) self.now.points result }
+    {
+        split(self.sealed.as_slice(), self.tail.as_slice(), false, index)
+    }
+
+    /// How many points are at or below an index.
+    pub fn count_to(&self, index: i64) -> usize
+        requires { Rises self.now.points }
+        ensures { IsSplit (λ x. not (int_lt index x.index)) self.now.points result }
+    {
+        split(self.sealed.as_slice(), self.tail.as_slice(), true, index)
+    }
+
+    /// Copies of `count` points after the first `start`.
+    pub fn copy_between(
+        &self,
+        alloc: Global,
+        start: usize,
+        count: usize,
+    ) -> Result<List<Point>, NoMemory>
+        requires { start + count ≤ length self.now.points }
+        ensures { IfOk result (λ r. r ≡ take count (drop start self.now.points)) }
+    {
+        let mut copies = Vec::new(alloc);
+        copies.reserve(count)?;
+        copy_between(
+            alloc,
+            &mut copies,
+            self.sealed.as_slice(),
+            self.tail.as_slice(),
+            start,
+            count,
+        )?;
+        Ok(List::from_vec(copies))
+    }
+
+    /// What `count` points after the first `start` count, like [`point_bytes`](crate::point_bytes) for all of them together.
+    pub fn bytes_between(&self, start: usize, count: usize) -> u64
+        ensures { result ≡ capped (weigh point_bytes (take count (drop start self.now.points))) }
+    {
+        bytes_between(self.sealed.as_slice(), self.tail.as_slice(), start, count)
     }
 
     /// One more point is about to be added. If allocation fails, nothing is about to be added any more.

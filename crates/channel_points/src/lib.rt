@@ -10,6 +10,7 @@ mod bytes;
 mod chunks;
 mod items;
 mod points;
+mod reads;
 mod rows;
 mod search;
 

@@ -1,5 +1,5 @@
 //! The points of one channel.
-ghost use Rattle.std.specs.Prelude.{◌≡◌, ◌<◌, ◌≤◌, ◌+◌, ◌==◌, ◌++◌, ◌∷◌, [], length, map, take, drop, int_lt, slice_get, IfOk, OnErr, OnOk, Some};
+ghost use Rattle.std.specs.Prelude.{◌≡◌, ◌<◌, ◌≤◌, ◌+◌, ◌==◌, ◌++◌, ◌∷◌, [], length, map, take, drop, int_lt, slice_get, slice_range, IfOk, OnErr, OnOk, Some};
 ghost use Rattle.std.specs.Bool.{OnTrue};
 ghost use Rattle.std.specs.Cmp.Lexicographic.{lists_equiv, lists_per, pointwise};
 ghost use Rattle.std.specs.Vec.{vec_len};
@@ -8,10 +8,11 @@ ghost use Rattle.etp_values.specs.contracts.point.PointEq.TheImpl.Laws.{laws-law
 ghost use Rattle.etp_values.specs.contracts.point.PointPartialEq.TheImpl.{ghosts};
 ghost use Rattle.etp_values.specs.contracts.point.PointPartialEq.TheImpl.Laws.{laws-law as point_per};
 ghost use Rattle.channel_points.specs.Bytes.{point_bytes};
-ghost use Rattle.channel_points.specs.Order.{Rises};
+ghost use Rattle.channel_points.specs.Order.{Rises, last_of};
 ghost use Rattle.channel_points.specs.Splits.{IsSplit};
 
 use crate::bytes::points_bytes;
+use crate::reads::last_index;
 use crate::search::count_below;
 use etp_values::{Copied, DataValue, List, NoMemory, Point, Shared};
 use std::alloc::Global;
@@ -117,6 +118,28 @@ pub(crate) fn add_copies(
     Ok(())
 }
 
+/// `count` points after the first `start` of those from `first` to `end` in a block.
+fn part_of(
+    block: &Shared<List<Point>>,
+    first: usize,
+    end: usize,
+    start: usize,
+    count: usize,
+) -> Result<Points, NoMemory>
+    requires block { end ≤ length block.now }
+    requires within { first + start + count ≤ end }
+    ensures { IfOk result (λ r. r ≡ take count (drop start (slice_range block.now first end))) }
+{
+    let block = block.share()?;
+    Ok(Points {
+        form: Form::Run {
+            block,
+            start: first + start,
+            end: first + start + count,
+        },
+    })
+}
+
 impl Points {
     /// No points.
     pub fn none() -> Points
@@ -185,12 +208,7 @@ impl Points {
     }
 
     /// `count` points after the first `start`. They share the memory of these where these are sealed.
-    pub(crate) fn part(
-        &self,
-        alloc: Global,
-        start: usize,
-        count: usize,
-    ) -> Result<Points, NoMemory>
+    pub(crate) fn part(&self, alloc: Global, start: usize, count: usize) -> Result<Points, NoMemory>
         requires { start + count ≤ length self.now }
         ensures { IfOk result (λ r. r ≡ take count (drop start self.now)) }
     {
@@ -198,15 +216,12 @@ impl Points {
             Form::Run {
                 block,
                 start: first,
-                ..
-            } => Ok(Points {
-                form: Form::Run {
-                    block: block.share()?,
-                    start: *first + start,
-                    end: *first + start + count,
-                },
-            }),
-            _ => Points::of(alloc, copy_all(alloc, &self.as_slice()[start..start + count])?),
+                end,
+            } => part_of(block, *first, *end, start, count),
+            _ => Points::of(
+                alloc,
+                copy_all(alloc, &self.as_slice()[start..start + count])?,
+            ),
         }
     }
 
@@ -227,6 +242,13 @@ impl Points {
         ensures { result ≡ length self.now == 0 }
     {
         self.as_slice().len() == 0
+    }
+
+    /// The index of the last point.
+    pub fn last_index(&self) -> Option<i64>
+        ensures { result ≡ last_of self.now }
+    {
+        last_index(self.as_slice())
     }
 
     /// The index of the point at a position.
@@ -265,6 +287,17 @@ impl Points {
         ensures { IfOk result (λ r. r ≡ self.now) }
     {
         Ok(List::from_vec(copy_all(alloc, self.as_slice())?))
+    }
+
+    /// The points, moved where they have no other owners, else copied.
+    pub(crate) fn into_vec(self, alloc: Global) -> Result<Vec<Point>, NoMemory>
+        ensures { IfOk result (λ r. r.items ≡ self) }
+    {
+        let Points { form } = self;
+        match form {
+            Form::Own(points) => Ok(points),
+            form => copy_all(alloc, Points { form }.as_slice()),
+        }
     }
 
     /// Adds a point after the last one.
