@@ -9,6 +9,7 @@ use Rattle.std.proofs.lemmas.Int.{ints}
 use Rattle.std.proofs.lemmas.List.{take-append-le, drop-append-le, drop-drop, drop-take, take-take, take_all, drop_all, length-take, length-take-le}
 use Rattle.std.proofs.lemmas.List.Elements.{filter-append}
 use Rattle.etp_values.specs.declared.point.Point.{Point}
+use Rattle.etp_values.specs.Weight.{capped, weigh}
 use Rattle.etp_values.proofs.EachLemmas.{all-append, all-back, all-front, all-weaker}
 use Rattle.etp_values.proofs.IntLemmas.{int_lt_trans}
 use Rattle.channel_points.specs.Blocks.{joined}
@@ -221,6 +222,11 @@ pass-next ends end cs k c n within e pass split whole =
 pub count-next : {X : Type 0} (cs : List (List X)) (k : ℕ) (c : List X) → k < length cs → c ≡ get_or cs k c → length (joined (take (k + 1) cs) []) ≡ length (joined (take k cs) []) + length c
 count-next cs k c within e = ap length (joined-take cs k c within e) ∙ length-append (joined (take k cs) []) c
 
+pub size-last : {X : Type 0} (cs : List (List X)) (t : List X) (k : ℕ) → length cs ≤ k → length (joined cs t) ≡ length (joined (take k cs) []) + length t
+size-last cs t k past =
+    let none : drop k cs ≡ [] = drop_all k cs past in
+    ap length (sym (ap (λ l. joined (take k cs) [] ++ joined l t) (sym none) ∙ joined-split k cs t)) ∙ length-append (joined (take k cs) []) t
+
 -- the open chunk after the others
 pub split-last : (ends : Bool) (end : ℤ) (cs : List (List Point)) (t : List Point) (k n : ℕ) → length cs ≤ k → AllByRecursion (λ x. lies_before ends end x.index ≡ true) (joined (take k cs) []) → IsSplit (λ x. lies_before ends end x.index) t n
     → IsSplit (λ x. lies_before ends end x.index) (joined cs t) (length (joined (take k cs) []) + n)
@@ -291,3 +297,18 @@ split-take {X} p xs n s k e split =
         let past : s < n = grind (arith, nat_tests) in
         let size : length (take s xs) ≡ min s (length xs) = length-take s xs in
         subst (AllByRecursion (λ x. p x ≡ false)) (sym (drop_all k (take s xs) (omega arith))) tt
+
+pub rest-is : {X : Type 0} (n : ℕ) (xs : List X) → take (length xs - n) (drop n xs) ≡ drop n xs
+rest-is n xs = ap (λ k. take k (drop n xs)) (sym (length-drop n xs)) ∙ take_all (length (drop n xs)) (drop n xs) (omega arith)
+
+-- ---- what points count
+
+pub weigh-append : {X : Type 0} (f : X → ℕ) (xs ys : List X) → weigh f (xs ++ ys) ≡ weigh f xs + weigh f ys
+weigh-append f [] ys = omega arith
+weigh-append f (x ∷ xs) ys = let rest = weigh-append f xs ys in omega (arith, rest)
+
+pub bytes-next : (s v w all total new : ℕ) → new ≡ capped (s + capped v) → all ≡ v + w → capped (s + all) ≡ total → capped (new + w) ≡ total
+bytes-next s v w all total new e f h = omega arith
+
+pub bytes-last : (s v all total new : ℕ) → new ≡ capped (s + capped v) → all ≡ v → capped (s + all) ≡ total → new ≡ total
+bytes-last s v all total new e f h = omega arith

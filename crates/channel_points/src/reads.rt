@@ -180,6 +180,16 @@ pub(crate) fn bytes_between(sealed: &[Points], tail: &[Point], start: usize, cou
     sum.saturating_add(points_bytes(between(tail, from, rest)))
 }
 
+/// The index of the point at a place of these.
+fn index_in(points: &[Point], place: usize) -> Option<i64>
+    ensures { result ≡ option_map (λ x. x.index) (slice_get points.now place) }
+{
+    match points.get(place) {
+        Some(point) => Some(point.index),
+        None => None,
+    }
+}
+
 /// The index of the point at a place.
 pub(crate) fn index_at(sealed: &[Points], tail: &[Point], place: usize) -> Option<i64>
     ensures { result ≡ option_map (λ x. x.index) (slice_get (joined sealed.now tail.now) place) }
@@ -191,8 +201,5 @@ pub(crate) fn index_at(sealed: &[Points], tail: &[Point], place: usize) -> Optio
         }
         skip -= block.len();
     }
-    match tail.get(skip) {
-        Some(point) => Some(point.index),
-        None => None,
-    }
+    index_in(tail, skip)
 }

@@ -18,7 +18,7 @@ loop-start-preserved c =
     record {
       chunks = c.in_ok-add_block.ensures.chunks;
       points = c.in_ok-add_block.ensures.points ∙ (λ j. l.invariant.points j ++ c.in_ok-part.ensures j) ∙ append_assoc front (take l.start xs) (take n (drop l.start xs)) ∙ ap (λ x. front ++ x) (sym (take-add l.start n xs));
-      within = omega (arith, c.min-taken.ensures, c.len.ensures, c.len-2.ensures);
+      within = omega (arith, c.min-taken.ensures, c.len.ensures, c.len-in-loop-start.ensures);
     }
 
 pub returns-clause-points : goal.returns-clause-points

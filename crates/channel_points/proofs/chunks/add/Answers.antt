@@ -1,4 +1,4 @@
-use Rattle.std.proofs.Common.{◌≡◌, ◌<◌, ◌++◌, ◌∷◌, [], length, length-append, ap, ◌∙◌, arith}
+use Rattle.std.proofs.Common.{◌≡◌, ◌<◌, ◌+◌, ◌++◌, ◌∷◌, [], length, length-append, ap, ◌∙◌, arith}
 use Rattle.channel_points.specs.Blocks.{joined}
 use Rattle.channel_points.proofs.BlockLemmas.{joined-append}
 use Rattle.channel_points.proofs.ChunkLemmas.{fresh-add}

@@ -31,4 +31,4 @@ returns c =
     let n = c.min-rest.result in
     let front = l.copies.items in
     let whole = c.args.copies.now.items ++ take c.args.count (drop c.args.start (joined sealed t)) in
-    on_ok_weaker c.add_copies.result (λ h. h ∙ ap (λ x. front ++ x) c.between.ensures ∙ between-last front whole sealed t l.block-index l.skip l.left f n (omega arith) c.min-from.ensures c.min-rest.ensures l.invariant) c.add_copies.ensures
+    on_ok_weaker c.add_copies-2.result (λ h. h ∙ ap (λ x. front ++ x) c.between-2.ensures ∙ between-last front whole sealed t l.block-index l.skip l.left f n (omega arith) c.min-from.ensures c.min-rest.ensures l.invariant) c.add_copies-2.ensures

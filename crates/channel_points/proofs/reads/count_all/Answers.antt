@@ -7,10 +7,10 @@ pub overflow_add-count : goal.overflow_add-count
 overflow_add-count c =
     let l = c.loop-block in
     let all = size-at c.args.sealed.now [] l.block-index c.block-item.result (omega arith) c.block-item.is in
-    omega (arith, all, c.len.ensures, l.invariant, c.requires)
+    omega (arith, all, c.len-count.ensures, l.invariant, c.requires)
 
 pub loop-block-preserved : goal.loop-block-preserved
 loop-block-preserved c =
     let l = c.loop-block in
     let next = count-next c.args.sealed.now l.block-index c.block-item.result (omega arith) c.block-item.is in
-    omega (arith, next, c.len.ensures, l.invariant)
+    omega (arith, next, c.len-count.ensures, l.invariant)

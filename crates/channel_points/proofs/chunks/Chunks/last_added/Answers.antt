@@ -16,4 +16,4 @@ pub returns : goal.returns
 returns c =
     let k = c.self.inside in
     let some : 0 < length k.more.items = grind (arith, common_steps, nat_tests, c.is_empty.ensures, c.if-is_empty.false, k.more.ok.0) in
-    c.last_index.ensures ∙ ap last_of c.as_slice.ensures.value ∙ last-added-some (joined k.sealed.items k.tail.items) k.fresh.items k.more.items some ∙ ap (λ h. last_of (h.points ++ h.added)) c.self.view_is
+    c.last_index-2.ensures ∙ ap last_of c.as_slice-2.ensures.value ∙ last-added-some (joined k.sealed.items k.tail.items) k.fresh.items k.more.items some ∙ ap (λ h. last_of (h.points ++ h.added)) c.self.view_is

@@ -9,7 +9,7 @@ part_of-requires-clause-block c = (subst IsForm c.in-Run.is c.self.invariant).1
 
 pub part_of-requires-clause-within : goal.part_of-requires-clause-within
 part_of-requires-clause-within c =
-    part-within c.in-Run.block.now c.in-Run.first.now c.in-Run.end.now c.args.start c.args.count c.args.self.now (subst IsForm c.in-Run.is c.self.invariant).0 (subst IsForm c.in-Run.is c.self.invariant).1 (sym (ap points_in c.in-Run.is) ∙ c.self.view_is) c.requires
+    part-within c.in-Run.block c.in-Run.first c.in-Run.end c.args.start c.args.count c.args.self.now (subst IsForm c.in-Run.is c.self.invariant).0 (subst IsForm c.in-Run.is c.self.invariant).1 (sym (ap points_in c.in-Run.is) ∙ c.self.view_is) c.requires
 
 pub returns-in-Run : goal.returns-in-Run
 returns-in-Run c =
