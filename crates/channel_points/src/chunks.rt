@@ -127,6 +127,29 @@ fn make_room(
     Ok(())
 }
 
+/// Whether the last chunk has no other owners and is not ready for any.
+fn is_last_own(sealed: &[Points]) -> bool {
+    match sealed.last() {
+        Some(block) => !block.is_sealed(),
+        None => false,
+    }
+}
+
+/// Whoever takes points of the last chunk shares their memory from now on.
+fn seal_last(alloc: Global, sealed: &mut Vec<Points>) -> Result<(), NoMemory>
+    ensures { sealed.new.items ≡ sealed.old.items }
+{
+    if !is_last_own(sealed.as_slice()) {
+        return Ok(());
+    }
+    let Some(mut last) = sealed.pop() else {
+        return Ok(());
+    };
+    let done = last.seal(alloc);
+    sealed.push_reserved(last);
+    done
+}
+
 /// One more point is about to be added, and there is room for it.
 fn push(
     alloc: Global,
@@ -145,6 +168,9 @@ fn push(
     ensures room { OnOk result (HasRoom (vec_len sealed.new) (vec_capacity sealed.new)
         (vec_len tail.new) (vec_capacity tail.new) (vec_len fresh.new) (vec_len more.new)) }
 {
+    if let Err(error) = seal_last(alloc, sealed) {
+        return Err(error);
+    }
     if let Err(error) = add(alloc, fresh, more, point) {
         return Err(error);
     }

@@ -4,6 +4,7 @@
 //! as plain lists. [`Rows`] is a list that grows by blocks, so that no push moves what is there.
 #![tactic(auto)]
 
+mod block;
 mod blocks;
 mod boxed;
 mod bytes;

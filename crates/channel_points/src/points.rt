@@ -11,10 +11,11 @@ ghost use Rattle.channel_points.specs.Bytes.{point_bytes};
 ghost use Rattle.channel_points.specs.Order.{Rises, last_of};
 ghost use Rattle.channel_points.specs.Splits.{IsSplit};
 
+use crate::block::Block;
 use crate::bytes::points_bytes;
 use crate::reads::last_index;
 use crate::search::count_below;
-use etp_values::{Copied, DataValue, List, NoMemory, Point, Shared};
+use etp_values::{Copied, DataValue, List, NoMemory, Point};
 use std::alloc::Global;
 use std::marker::Model;
 use std::slice;
@@ -42,7 +43,7 @@ enum Form {
     One(Point),
     Own(Vec<Point>),
     Run {
-        block: Shared<List<Point>>,
+        block: Block,
         start: usize,
         end: usize,
     },
@@ -120,7 +121,7 @@ pub(crate) fn add_copies(
 
 /// `count` points after the first `start` of those from `first` to `end` in a block.
 fn part_of(
-    block: &Shared<List<Point>>,
+    block: &Block,
     first: usize,
     end: usize,
     start: usize,
@@ -185,7 +186,7 @@ impl Points {
     {
         points.shrink_to_fit();
         let end = points.len();
-        let block = Shared::new(alloc, List::from_vec(points))?;
+        let block = Block::of(alloc, &mut points)?;
         Ok(Points {
             form: Form::Run {
                 block,
@@ -317,6 +318,24 @@ impl Points {
     /// Whether a copy shares them.
     pub fn is_sealed(&self) -> bool {
         !matches!(&self.form, Form::Own(_))
+    }
+
+    /// Keeps the points so that a copy shares them.
+    pub(crate) fn seal(&mut self, alloc: Global) -> Result<(), NoMemory>
+        ensures { self.new ≡ self.old }
+    {
+        let Form::Own(points) = &mut self.form else {
+            return Ok(());
+        };
+        let end = points.len();
+        points.shrink_to_fit();
+        let block = Block::of(alloc, points)?;
+        self.form = Form::Run {
+            block,
+            start: 0,
+            end,
+        };
+        Ok(())
     }
 
     /// The same points, kept so that a copy shares them.
