@@ -16,7 +16,7 @@ use Rattle.channel_store.specs.Rows.{Row, plain, cleared, done, done_by, IsAppen
 use Rattle.std.specs.Ordering.{int_eq}
 use Rattle.channel_store.specs.Refusals.{is_listed, or_else, first_refusal, verdict}
 use Rattle.channel_store.specs.Store.{by_number}
-use Rattle.channel_store.specs.Sweeps.{shown_of, place_in, row_at, step_row, step_at, before_rows, with_row, modify, modify_at, all_done, AllAppending, AllDue, AreReady, IsNextIn, next_rows, steps}
+use Rattle.channel_store.specs.Sweeps.{shown_of, place_in, row_at, step_row, step_at, before_rows, with_row, modify, modify_at, all_done, AllAppending, AllDue, AreReady, IsNextIn, ids_ready, next_rows, steps}
 use Rattle.channel_store.proofs.EndedLemmas.{verdict-ok, verdict-err}
 use Rattle.channel_points.proofs.OrderedLemmas.{all-at}
 use Rattle.channel_store.proofs.NumberedLemmas.{by_number-same, by_number-modify, step_row-set, step_row-fails, step_row-beyond, shown-set, modify-set, modify-beyond}
@@ -166,6 +166,18 @@ next-after place at (negsuc k) j rows points h = h
 pub ready-after : (place : ℕ) (at id : ℤ) (rows : List Row) (readies : List Ready) → AreReady rows readies → AreReady (modify_at id (done place id at) rows) readies
 ready-after place at id rows [] h = tt
 ready-after place at id rows (q ∷ qs) h = (next-after place at id q.channel rows q.points h.0, ready-after place at id rows qs h.1)
+
+pub ids-push : (readies : List Ready) (q : Ready) → ids_ready (readies ++ q ∷ []) ≡ ids_ready readies ++ q.channel ∷ []
+ids-push [] q = refl
+ids-push (r ∷ rs) q = ap (λ l. r.channel ∷ l) (ids-push rs q)
+
+take-suc : (xs : List ℤ) (k : ℕ) (x : ℤ) → k < length xs → x ≡ get_or xs k x → take (suc k) xs ≡ take k xs ++ x ∷ []
+take-suc [] k x h e = absurd (omega arith)
+take-suc (y ∷ ys) zero x h e = ap (λ z. z ∷ []) (sym e)
+take-suc (y ∷ ys) (suc k) x h e = ap (λ l. y ∷ l) (take-suc ys k x (omega arith) e)
+
+pub take-next : (xs : List ℤ) (k : ℕ) (x : ℤ) → k < length xs → x ≡ get_or xs k x → take (k + 1) xs ≡ take k xs ++ x ∷ []
+take-next xs k x h e = ap (λ n. take n xs) (add-one k) ∙ take-suc xs k x h e
 
 -- ---- rows cleared so far
 

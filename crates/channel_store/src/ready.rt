@@ -35,13 +35,13 @@ pub fn ready_channels(
     ensures ready { IfOk result (λ r. AreReady tracks.now r.items) }
 {
     let mut readies = Vec::new(alloc);
-    readies.reserve(channels.len())?;
     for channel in channels {
+        readies.reserve(1)?;
         let points = points_after(alloc, tracks, *channel)?;
-        readies.push(Ready {
+        readies.push_reserved(Ready {
             channel: *channel,
             points,
-        })?;
+        });
     }
     Ok(readies)
 }
