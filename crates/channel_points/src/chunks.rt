@@ -357,15 +357,11 @@ impl Chunks {
         ensures { IfOk result (λ c. c ≡ settled (take start self.now.points
             ++ (points.now ++ drop count (drop start self.now.points)))) }
     {
+        let size = self.len();
         let mut blocks = Vec::new(alloc);
         self.add_to(alloc, &mut blocks, 0, start)?;
         add_all(alloc, &mut blocks, points)?;
-        self.add_to(
-            alloc,
-            &mut blocks,
-            start + count,
-            self.count - (start + count),
-        )?;
+        self.add_to(alloc, &mut blocks, start + count, size - (start + count))?;
         Chunks::of(alloc, blocks)
     }
 

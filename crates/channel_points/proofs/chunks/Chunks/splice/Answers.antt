@@ -7,9 +7,7 @@ use Rattle.channel_points.proofs.ReadLemmas.{rest-is}
 use Rattle.channel_points.proofs.chunks.Chunks.splice.Goals as goal
 
 pub overflow_add-start : goal.overflow_add-start
-overflow_add-start c =
-    let size = ap (λ h. length h.points) c.self.view_is in
-    omega (arith, size, c.requires, c.self.invariant.counted.shown, c.self.invariant.counted.bounded)
+overflow_add-start c = omega (arith, c.requires, c.len-size.ensures)
 
 pub returns : goal.returns
 returns c =
@@ -19,7 +17,7 @@ returns c =
     let ps = c.args.points.now in
     let first : joined c.add_to.new.blocks.items [] ≡ take s xs = c.in_ok-add_to.ensures.points ∙ ap (λ l. joined l [] ++ take s (drop 0 xs)) c.new-blocks.ensures.items in
     let second : joined c.add_all.new.blocks.items [] ≡ take s xs ++ ps = c.in_ok-add_all.ensures.points ∙ ap (λ l. l ++ ps) first in
-    let size : c.self.inside.count ≡ length xs = c.self.invariant.counted.shown ∙ ap (λ h. length h.points) c.self.view_is in
-    let rest : take (c.self.inside.count - (s + n)) (drop (s + n) xs) ≡ drop n (drop s xs) = ap (λ k. take (k - (s + n)) (drop (s + n) xs)) size ∙ rest-is (s + n) xs ∙ sym (drop-drop n s xs) in
+    let size : c.len-size.result ≡ length xs = c.len-size.ensures in
+    let rest : take (c.len-size.result - (s + n)) (drop (s + n) xs) ≡ drop n (drop s xs) = ap (λ k. take (k - (s + n)) (drop (s + n) xs)) size ∙ rest-is (s + n) xs ∙ sym (drop-drop n s xs) in
     let third : joined c.add_to-2.new.blocks.items [] ≡ (take s xs ++ ps) ++ drop n (drop s xs) = c.in_ok-add_to-2.ensures.points ∙ (λ j. second j ++ rest j) in
     subst (λ l. IfOk c.of.result (λ r. r ≡ settled l)) (third ∙ append_assoc (take s xs) ps (drop n (drop s xs))) c.of.ensures
