@@ -248,7 +248,7 @@ fn listed(touched: IndexMap<Key, u64>, room: Vec<Touch>) -> Vec<Touch>
 {
     let mut list = room;
     for (key, mark) in touched {
-        let _ = list.push(Touch { key, mark });
+        list.push_reserved(Touch { key, mark });
     }
     list
 }
