@@ -116,16 +116,17 @@ class Cases:
         self.files = {name: text.encode() for name, text in CONFIGS.items()}
         self.lines, self.answers = [], []
 
-    def add(self, name, words, bytes_in, outcomes, cut=0, read=0, write=0):
-        """A case; `outcomes` has what is written and the status line for the capture and then for each of its fronts."""
-        self.add_line(self.file(name, bytes_in), words, outcomes, cut, read, write)
+    def add(self, name, words, bytes_in, outcomes, cut=0, **faults):
+        """A case; `outcomes` has what is written and the status line for the capture and then for each of its fronts, and `faults` the
+        numbers of the calls that fail."""
+        self.add_line(self.file(name, bytes_in), words, outcomes, cut, **faults)
 
     def file(self, name, content):
         assert self.files.setdefault(name, content) == content
         return name
 
-    def add_line(self, name, words, outcomes, cut=0, read=0, write=0):
-        line = " ".join([str(cut), str(read), str(write), name, *words.split()])
+    def add_line(self, name, words, outcomes, cut=0, opening=0, config=0, read=0, write=0):
+        line = " ".join([*map(str, (cut, opening, config, read, write)), name, *words.split()])
         self.lines.append(line)
         self.answers.append(f"# {line}\n".encode() + b"".join(shown(*outcome) for outcome in outcomes))
 
@@ -289,7 +290,10 @@ def shipped():
 
 
 def add_failing_calls(cases):
-    """Each read of the shipped session and each write of its answers fails in turn, and then one that is never made.
+    """Opening the configuration, each read of it and of the shipped session, and each write of its answers fails in turn, and then one that
+    is never made.
+
+    The configuration's bytes come with one read, and its end is a second.
 
     The input gives a byte a read, so a read fails after as many bytes as there were reads before it; what answers the frames
     that are whole by then is written. The magic of the answers is a write of its own, made when that of the capture was read."""
@@ -302,6 +306,10 @@ def add_failing_calls(cases):
         cases.add("session.cap", "replay server.toml", given, [(written, "read fault" if number <= len(given) + 1 else "")], read=number)
     for number, written in (1, b""), (2, wire.MAGIC), (3, capture(*answers)):
         cases.add("session.cap", "replay server.toml", given, [(written, "write fault" if number < 3 else "")], write=number)
+    for fault, numbers in ("opening", 1), ("config", 2):
+        for number in range(1, numbers + 2):
+            outcome = (b"", "read fault") if number <= numbers else (capture(*answers), "")
+            cases.add("session.cap", "replay server.toml", given, [outcome], **{fault: number})
 
 
 def add_sessions(cases):

@@ -19,9 +19,18 @@ def messages(close):
     return [data for _, _, _, data in script.frames]
 
 
+def pings():
+    """What a client says that asks for no session: each ping is refused by one answer."""
+    script = Script()
+    rig = script.client()
+    for _ in range(3):
+        rig.ping(1)
+    return [data for _, _, _, data in script.frames]
+
+
 def cases():
     """Pairs of a line of the program's input and what is printed of it."""
-    for first, said in [(ID_LIMIT - less, messages(False)) for less in (1, 3, 5, 7, 9, 11, 13)] + [(1, messages(True))]:
+    for first, said in [(ID_LIMIT - less, messages(False)) for less in (1, 3, 5, 7, 9, 11, 13)] + [(1, messages(True)), (ID_LIMIT - 1, pings()), (ID_LIMIT - 3, pings())]:
         answers = []
         session = Session(Store(2), (), 1, first)
         for data in said:

@@ -6,7 +6,7 @@
 //! - `polls:MOMENT:COUNT` is COUNT polls of the tag 1, from that moment on, one a moment;
 //! - `load:N` is what the tool itself writes as the capture of a load of N messages.
 
-use crate::runs::{Faults, run_case};
+use crate::runs::{NO_FAULTS, run_case};
 use std::alloc::Global;
 use std::{fs, io};
 
@@ -72,8 +72,7 @@ fn push_load(rt: &HostRuntime, into: &mut Vec<u8>, size: &str) -> io::Result<()>
     let mut words = Vec::new(alloc);
     words.push(String::from_str(alloc, "capture")?)?;
     words.push(String::from_str(alloc, size)?)?;
-    let faults = Faults { read: 0, write: 0 };
-    match run_case(rt, words.as_slice(), faults, &[]) {
+    match run_case(rt, words.as_slice(), NO_FAULTS, &[]) {
         Ok((_, out)) => {
             into.extend_from_slice(out.as_bytes())?;
             Ok(())

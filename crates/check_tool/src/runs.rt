@@ -2,17 +2,35 @@
 
 ghost use Rattle.std.specs.Prelude.{◌<◌};
 
-use etp_outside::{DirHost, MemSink, MemSource, Status};
-use etp_values::{Blob, List, NoMemory};
+use etp_outside::{DirHost, Host, MemFile, MemHost, MemSink, MemSource, Status};
+use etp_values::{Blob, List, NoMemory, Text};
 use std::alloc::Global;
+use std::fs;
 use tool_forms::run_tool;
 
-/// The faults of a case: the numbers of the read and of the write that fail, or 0.
+/// The faults of a case: the numbers of the calls that fail, or 0.
 #[derive(Clone, Copy, Debug, PartialEq, Eq)]
 pub(crate) struct Faults {
+    /// Of opening a file.
+    pub opening: u64,
+    /// Of reading the configuration.
+    pub config: u64,
+    /// Of reading the input.
     pub read: u64,
+    /// Of writing the output.
     pub write: u64,
 }
+
+/// No call fails.
+pub(crate) const NO_FAULTS: Faults = Faults {
+    opening: 0,
+    config: 0,
+    read: 0,
+    write: 0,
+};
+
+/// The configuration of the cases in which a call to the host or to its file fails.
+const CONFIG: &str = "server.toml";
 
 /// A list of the number of a call that fails, and an empty one for 0.
 fn only(alloc: Global, number: u64) -> Result<List<u64>, NoMemory> {
@@ -30,6 +48,35 @@ fn at_a_time(len: usize) -> usize
     if len > 65_536 { 65_536 } else { 1 }
 }
 
+/// A host in memory that has the configuration, and fails as the case says. A configuration that is not there is empty.
+fn failing_host(rt: &HostRuntime, faults: Faults) -> Result<MemHost, NoMemory> {
+    let alloc = rt.alloc();
+    let content = fs::read(rt, CONFIG).unwrap_or(Vec::new(alloc));
+    let mut files = Vec::new(alloc);
+    files.push(MemFile {
+        name: Text::from_string(String::from_str(alloc, CONFIG)?),
+        content: Blob::from_vec(content)?,
+        fails: only(alloc, faults.config)?,
+    })?;
+    Ok(MemHost::new(List::from_vec(files), only(alloc, faults.opening)?))
+}
+
+/// Runs the tool over a host on a capture, and returns how that ended and what was written.
+fn run_over<H: Host>(
+    alloc: Global,
+    words: &[String],
+    host: &mut H,
+    faults: Faults,
+    capture: &[u8],
+) -> Result<(Status, MemSink), NoMemory> {
+    let bytes = Blob::copy(alloc, capture)?;
+    let most = at_a_time(capture.len());
+    let mut input = MemSource::in_pieces(bytes, only(alloc, faults.read)?, most);
+    let mut out = MemSink::new(Vec::new(alloc), only(alloc, faults.write)?);
+    let status = run_tool(alloc, words, host, &mut input, &mut out);
+    Ok((status, out))
+}
+
 /// Runs the tool on a capture, and returns how that ended and what was written.
 pub(crate) fn run_case(
     rt: &HostRuntime,
@@ -38,11 +85,10 @@ pub(crate) fn run_case(
     capture: &[u8],
 ) -> Result<(Status, MemSink), NoMemory> {
     let alloc = rt.alloc();
-    let bytes = Blob::copy(alloc, capture)?;
-    let most = at_a_time(capture.len());
-    let mut input = MemSource::in_pieces(bytes, only(alloc, faults.read)?, most);
-    let mut out = MemSink::new(Vec::new(alloc), only(alloc, faults.write)?);
-    let mut host = DirHost::new(rt);
-    let status = run_tool(alloc, words, &mut host, &mut input, &mut out);
-    Ok((status, out))
+    if faults.opening == 0 && faults.config == 0 {
+        let mut host = DirHost::new(rt);
+        return run_over(alloc, words, &mut host, faults, capture);
+    }
+    let mut host = failing_host(rt, faults)?;
+    run_over(alloc, words, &mut host, faults, capture)
 }

@@ -9,6 +9,7 @@ pub mod PlaceLemmas
 pub mod KeptLemmas
 pub mod JoinLemmas
 pub mod TypedLemmas
+pub mod LoadLemmas
 pub mod GroupLemmas
 pub mod LoopLemmas
 pub mod ChunkLemmas

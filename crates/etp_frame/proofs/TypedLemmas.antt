@@ -158,7 +158,7 @@ module _ (side : Side) (h : Header) (size place : ℕ) (bytes : List ℕ) (is : 
   pub typed_refused : (e : FrameError) → GivesMessage k (Err e) (as_body h size (length behind) (read_value k.schema node_limit behind)) → e ≢ f.NoMemory → read_of side bytes ≡ Err e
   typed_refused e read other = refused_tree side bytes e (refused_body side bytes (h, size) place e is.header is.plain is.sent (body_is ∙ read other))
 
-gives_by : (k : Kind Message) (b : Bool) (x : Message) (v : Value) (e : FrameError) → x ≡ k.read v → GivesMessage k (if b then Ok x else Err e) (if b then Ok v else Err e)
+pub gives_by : (k : Kind Message) (b : Bool) (x : Message) (v : Value) (e : FrameError) → x ≡ k.read v → GivesMessage k (if b then Ok x else Err e) (if b then Ok v else Err e)
 gives_by k true x v e same = (v, refl, same)
 gives_by k false x v e same = λ other. refl
 
@@ -175,7 +175,7 @@ error_is h front why.DoubleKey offset = refl
 error_is h front why.Limit offset = refl
 
 -- what is answered for a body of kind k that is expected in these bytes after a given number of others
-abbrev Expected : Header → Kind Message → ℕ → List ℕ → Result Message FrameError → Type 0
+abbrev pub Expected : Header → Kind Message → ℕ → List ℕ → Result Message FrameError → Type 0
 Expected h k front bytes result = GivesMessage k result (as_body h front (length bytes) (read_value k.schema node_limit bytes))
 
 -- The body of a message of kind k that was read from bytes after a given number of others. A call got the header's numbers as p and q, and

@@ -6,11 +6,15 @@ use Rattle.avro_bin.specs.declared.refusal.Refusal.{Refusal}
 use Rattle.avro_bin.specs.declared.refusal.Refusal.TheVariants as r
 use Rattle.avro_bin.specs.declared.tree.Tree.{Tree}
 use Rattle.etp_schema.specs.Bodies.{body_place}
-use Rattle.etp_schema.specs.Family.{Kind}
+use Rattle.etp_schema.specs.Family.{Kind, message}
 use Rattle.etp_schema.specs.declared.body.Side.{Side}
+use Rattle.msg_channel.specs.ChannelDataLoad.{load_channel_data_form}
+use Rattle.msg_channel.specs.declared.channel_data_load_messages.ChannelDataLoadMessage.TheVariants as load
+use Rattle.msg_channel.specs.declared.channel_data_load_messages.LoadChannelData.{LoadChannelData}
 use Rattle.etp_frame.specs.Reading.{shifted, header_in, admitted}
 use Rattle.etp_frame.specs.declared.header.Header.{Header}
 use Rattle.etp_frame.specs.declared.message.Message.{Message}
+use Rattle.etp_frame.specs.declared.message.Message.TheVariants as m
 use Rattle.etp_frame.specs.declared.error.FrameError.{FrameError}
 use Rattle.etp_frame.specs.declared.error.FrameError.TheVariants as f
 
@@ -69,3 +73,11 @@ ChecksMessage (Err e) expected = e ≢ f.NoMemory → expected ≡ Err e
 abbrev pub GivesMessage : Kind Message → Result Message FrameError → Result Value FrameError → Type 0
 GivesMessage k (Ok x) expected = (v : Value) × (expected ≡ Ok v) × (x ≡ k.read v)
 GivesMessage k (Err e) expected = e ≢ f.NoMemory → expected ≡ Err e
+
+-- the message that loads these points
+abbrev pub message_of_load : LoadChannelData → Message
+message_of_load x = m.ChannelDataLoad (load.LoadChannelData x)
+
+-- its kind
+abbrev pub load_kind : Kind Message
+load_kind = message 4 load_channel_data_form message_of_load

@@ -1,5 +1,6 @@
 //! Reading whole messages.
-ghost use Rattle.std.specs.Prelude.{◌≡◌, ◌≢◌, ◌<◌, ◌≤◌, ◌+◌, ◌-◌, ◌^◌, ◌==◌, if◌then◌else◌, length, Some, Ok, Err, IfOk, IfErr};
+ghost use Rattle.std.specs.Prelude.{◌≡◌, ◌≢◌, ◌<◌, ◌≤◌, ◌+◌, ◌-◌, ◌^◌, ◌==◌, if◌then◌else◌, length, Some, Ok, Err, IfOk, IfErr, pos};
+ghost use Rattle.std.specs.Bool.{OnTrue};
 ghost use Rattle.etp_values.specs.Gives.{Gives};
 ghost use Rattle.avro_bin.specs.Laws.{read_value, node_limit};
 ghost use Rattle.avro_bin.specs.Refusing.{refusal};
@@ -10,8 +11,8 @@ ghost use Rattle.etp_schema.specs.Bodies.{body_place};
 ghost use Rattle.etp_schema.specs.Shapes.{shape_at, table_size};
 ghost use Rattle.etp_frame.specs.Reading.{tree_of, read_of, header_in, admitted, as_body, body_in};
 ghost use Rattle.etp_schema.specs.Family.{Kind};
-ghost use Rattle.etp_frame.specs.Message.{typed_kind};
-ghost use Rattle.etp_frame.specs.Parts.{offset_in, as_header_error, as_body_error, GivesValue, GivesMessage, GivesTree, IsFront};
+ghost use Rattle.etp_frame.specs.Message.{channel_data_load_number, typed_kind};
+ghost use Rattle.etp_frame.specs.Parts.{offset_in, as_header_error, as_body_error, GivesValue, GivesMessage, GivesTree, IsFront, load_kind, message_of_load};
 ghost use Rattle.etp_frame.specs.declared.message.Message.{Message as AnyMessage};
 ghost use Rattle.etp_frame.specs.Wire.{IsMessage};
 ghost use Rattle.etp_frame.specs.declared.error.FrameError.TheVariants as f;
@@ -21,8 +22,13 @@ use crate::flags;
 use crate::header::Header;
 use crate::message::Message;
 use avro_bin::{Fault, NODE_LIMIT, Refusal, Tree, Why, decode, refusal_at};
-use etp_schema::{Reader, Side, body_of, is_protocol, read_body, schema_table};
+use etp_schema::{Reader, Side, body_of, is_protocol, protocols, read_body, schema_table};
+use etp_values::{Boxed, NoMemory};
+use msg_channel::{ChannelDataLoadMessage, LoadChannelData, read_load};
 use std::alloc::Global;
+
+/// The number of the message that loads points, among those of its protocol.
+const LOAD_KIND: i32 = 4;
 
 /// The header and the message of these bytes, which `sender` sent. If several causes refuse them, the first in the order of [`FrameError`]
 /// is returned. Flags other than those of a compressed body and of an extension refuse nothing.
@@ -46,6 +52,58 @@ pub fn read_message(
 
 /// The message of the body from this offset on, if it ends with the bytes.
 fn read_typed(
+    alloc: Global,
+    header: Header,
+    front: usize,
+    rest: &[u8],
+) -> Result<Message, FrameError>
+    requires { front + length rest.now < 2 ^ 64 }
+    ensures { (k : Kind AnyMessage) → typed_kind header.protocol header.kind ≡ Some k
+        → GivesMessage k result (as_body header front (length rest.now) (read_value k.schema node_limit rest.now)) }
+{
+    if is_load(&header) {
+        return read_loaded(alloc, header, front, rest);
+    }
+    read_by_kind(alloc, header, front, rest)
+}
+
+/// Whether the message is one that loads points.
+fn is_load(header: &Header) -> bool
+    ensures { OnTrue result ((header.now.protocol ≡ pos channel_data_load_number) × (header.now.kind ≡ pos load_kind.number)) }
+{
+    header.protocol == protocols::CHANNEL_DATA_LOAD && header.kind == LOAD_KIND
+}
+
+/// The load of the body from this offset on, if it ends with the bytes.
+fn read_loaded(
+    alloc: Global,
+    header: Header,
+    front: usize,
+    rest: &[u8],
+) -> Result<Message, FrameError>
+    requires { front + length rest.now < 2 ^ 64 }
+    ensures { GivesMessage load_kind result (as_body header front (length rest.now) (read_value load_kind.schema node_limit rest.now)) }
+{
+    let (load, length) = match read_load(alloc, rest) {
+        Ok(read) => read,
+        Err(refusal) => return Err(body_error(header, front, refusal)),
+    };
+    match load_message(alloc, load) {
+        Ok(message) => ended(header, message, front, length, rest.len()),
+        Err(_) => Err(FrameError::NoMemory),
+    }
+}
+
+/// The load as a message.
+fn load_message(alloc: Global, load: LoadChannelData) -> Result<Message, NoMemory>
+    ensures { IfOk result (λ x. x ≡ message_of_load load) }
+{
+    let load = Boxed::new(alloc, ChannelDataLoadMessage::LoadChannelData(load))?;
+    Ok(Message::ChannelDataLoad(load))
+}
+
+/// The message of the body from this offset on, read by its protocol and number, if it ends with the bytes.
+fn read_by_kind(
     alloc: Global,
     header: Header,
     front: usize,

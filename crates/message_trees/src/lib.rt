@@ -33,6 +33,7 @@ mod choices;
 mod core_messages;
 mod data;
 mod data_array_messages;
+mod data_calls;
 mod dataspace_messages;
 mod fields;
 mod in_tree;
@@ -47,6 +48,7 @@ mod transaction_messages;
 
 pub use body_in_tree::BodyInTree;
 pub use choices::{branch_of, branch_record};
+pub use data_calls::{data_by_tree, load_by_tree};
 pub use fields::Fields;
 pub use in_tree::{InTree, read_back, write_back};
 pub use leaves::symbol_of;

@@ -16,6 +16,7 @@ mod channel_records;
 mod channel_records_on_wire;
 mod channel_subscribe_messages;
 mod channel_subscribe_on_wire;
+mod data_calls;
 mod indexes;
 mod indexes_on_wire;
 mod points;
@@ -38,5 +39,6 @@ pub use channel_subscribe_messages::{
     GetChannelMetadataResponse, SubscribeChannels, SubscribeChannelsResponse, SubscriptionsStopped,
     UnsubscribeChannels, channel_subscribe_laws,
 };
+pub use data_calls::{read_load, write_data};
 pub use indexes::{IndexInterval, IndexValue, PassDirection, PassIndexedDepth};
 pub use points::{DataAttribute, DataItem, TruncateInfo};

@@ -11,8 +11,8 @@ returns-clause-form c = λ side sent few.
     let same : c.in_ok-blob.blob ≡ message_bytes h x = search rules in
     let fits : Fits h x = record {
       header = c.in_ok-write.ensures.fits;
-      typed = c.in_ok-write-2.ensures.typed;
-      body = c.in_ok-write-2.ensures.fits;
+      typed = c.in_ok-append_body.ensures.typed;
+      body = c.in_ok-append_body.ensures.fits;
       few = few;
     } in
     subst (IsMessage side h x) (sym same) (written_form side h x c.requires.plain c.requires.names sent fits)

@@ -1,0 +1,35 @@
+//! Channel data from and to bytes, without trees.
+ghost use Rattle.std.specs.Prelude.{◌≡◌, ◌++◌, ◌≤◌, IfOk, OnErr, OnOk, length};
+ghost use Rattle.avro_bin.specs.Laws.{node_limit, read_value};
+ghost use Rattle.avro_bin.specs.Plain.{plain};
+ghost use Rattle.avro_bin.specs.Shape.{FitsTree};
+ghost use Rattle.etp_schema.specs.Form.{Holds};
+ghost use Rattle.etp_schema.specs.Reading.{ReadsAs};
+ghost use Rattle.msg_channel.specs.ChannelDataLoad.{load_channel_data_form};
+ghost use Rattle.msg_channel.specs.ChannelSubscribe.{channel_data_form};
+
+use crate::channel_data_load_messages::LoadChannelData;
+use crate::channel_subscribe_messages::ChannelData;
+use avro_bin::Refusal;
+use etp_schema::{read_body, write_body};
+use etp_values::NoMemory;
+use std::alloc::Global;
+
+/// The load at the front of the bytes, and the length of its spelling: what `decode` and `from_tree` give. Bytes that begin with no load are
+/// refused, with the offset of the refused item.
+pub fn read_load(alloc: Global, bytes: &[u8]) -> Result<(LoadChannelData, usize), Refusal>
+    ensures reads { ReadsAs load_channel_data_form.from_value (read_value load_channel_data_form.schema node_limit bytes.now) result }
+    ensures within { IfOk result (λ r. r.1 ≤ length bytes.now) }
+{
+    read_body(alloc, bytes)
+}
+
+/// Appends the written spelling of the message: what `to_tree` and `encode` give. After `NoMemory` the bytes are unchanged.
+pub fn write_data(message: &ChannelData, into: &mut Vec<u8>) -> Result<(), NoMemory>
+    ensures written { OnOk result (into.new.items ≡ into.old.items ++ plain (channel_data_form.as_value message.now)) }
+    ensures kept { OnErr result (into.new.items ≡ into.old.items) }
+    ensures typed { OnOk result (Holds channel_data_form message.now) }
+    ensures fits { OnOk result (FitsTree (channel_data_form.as_value message.now)) }
+{
+    write_body(message, into)
+}
