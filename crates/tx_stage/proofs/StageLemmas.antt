@@ -56,3 +56,12 @@ pub note-full : (x : Transaction) (key : Key) → has_space x.spaces (space_of k
     → unless (note_refusal x key) ≡ Err Keys
 note-full x key has fresh full =
     λ j. unless (cond (not (has j)) (Some (Space (space_of key))) (cond (fresh j) None (cond (full j) (Some Keys) None)))
+
+-- a new one
+pub note-new : (x : Transaction) (es new : List (Key × ℕ)) (key k : Key) (mark : ℕ) → x.touched ≡ touches es → is_touched x.touched key ≡ false → k ≡ key → new ≡ es ++ (k, mark) ∷ []
+    → record x { touched = touches new } ≡ noted mark x key
+note-new x es new key k mark seen fresh same put =
+    (λ j. record x { touched = touches (put j) })
+    ∙ (λ j. record x { touched = touches-push es k mark j })
+    ∙ (λ j. record x { touched = sym seen j ++ record { key = same j; mark = mark } ∷ [] })
+    ∙ sym (λ j. cond (fresh j) x (record x { touched = x.touched ++ record { key = key; mark = mark } ∷ [] }))

@@ -22,11 +22,15 @@ pub record Altered : Type 0 where
 abbrev pub nothing : Altered
 nothing = record { own = []; gone = [] }
 
-unfoldable pub key_hash : Key → ℕ
-key_hash key = folding.finish (fold folding.write folding.initial (hashed_key.hash_input key))
+-- the hash of what a value feeds to a hasher
+unfoldable pub hashed : List (List ℕ) → ℕ
+hashed input = folding.finish (fold folding.write folding.initial input)
 
-unfoldable pub object_hash : StoreUri → ℕ
-object_hash uri = folding.finish (fold folding.write folding.initial (hashed_uri.hash_input uri))
+abbrev pub key_hash : Key → ℕ
+key_hash key = hashed (hashed_key.hash_input key)
+
+abbrev pub object_hash : StoreUri → ℕ
+object_hash uri = hashed (hashed_uri.hash_input uri)
 
 -- a key is an array of an object with one of these hashes
 abbrev pub is_array_of_any : List ℕ → Key → Bool

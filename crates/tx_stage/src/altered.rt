@@ -1,7 +1,6 @@
 //! The keys that operations alter, to be found.
-ghost use Rattle.std.specs.Prelude.{◌≡◌, ◌<◌, Some, None, OnOk, OnErr, fold, nat_eq};
+ghost use Rattle.std.specs.Prelude.{◌≡◌, ◌<◌, Some, None, OnOk, OnErr, nat_eq};
 ghost use Rattle.std.specs.Option.{option_copied};
-ghost use Rattle.std.specs.Hash.FoldHasher as folding;
 ghost use Rattle.indexmap.specs.IndexSet.{insert_key, spare};
 ghost use Rattle.tx_stage.specs.Altered as altered;
 
@@ -29,8 +28,9 @@ impl Model for AlteredKeys {
     ghost view = { λ s. record { own = s.own.keys; gone = s.gone.keys } };
 }
 
+#[tactic(auto, unfolding(crate::specs::Altered::hashed))]
 fn hash_of<T: Hash>(value: &T) -> u64
-    ensures { result ≡ folding.finish (fold folding.write folding.initial (T.hash_input value.now)) }
+    ensures { result ≡ altered.hashed (T.hash_input value.now) }
 {
     let mut state = FoldHasher::default();
     value.hash(&mut state);
