@@ -6,7 +6,6 @@ use Rattle.std.specs.Prelude.{nat_eq}
 use Rattle.std.proofs.lemmas.Bool.{eq-eqb, eqb-true, or_parts}
 use Rattle.std.proofs.Math.Bool.{and-false}
 use Rattle.indexmap.specs.IndexSet.{insert_key}
-use Rattle.etp_values.specs.declared.uri.StoreUri.{StoreUri}
 use Rattle.etp_values.specs.SameUri.{same_uri, same_uri-equiv, same_uri-is}
 use Rattle.tx_stage.specs.declared.key.Key.{Key}
 use Rattle.tx_stage.specs.declared.key.Key.TheVariants.{Space, Object, Array}

@@ -2,7 +2,7 @@
 use Rattle.std.proofs.Common.{ℕ, ◌+◌, Bool, true, false, cond, not, ◌||◌, Option, Some, None, Ok, Err, length, List, [], ◌∷◌, ◌++◌, ◌≡◌, refl, sym, ap, ◌∙◌, map, arith}
 use Rattle.std.specs.Prelude.{nat_le, is_some}
 use Rattle.std.specs.Map.{lookup}
-use Rattle.std.proofs.lemmas.List.Elements.{length-map}
+use Rattle.std.proofs.lemmas.List.{length-map}
 use Rattle.etp_values.specs.Weight.{weigh}
 use Rattle.tx_stage.specs.declared.error.StageError.TheVariants.{Space, Keys}
 use Rattle.tx_stage.specs.declared.key.Key.{Key}
