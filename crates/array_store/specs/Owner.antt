@@ -1,0 +1,23 @@
+-- What arrays belong to, and the numbers by which a store groups them.
+use Rattle.std.specs.Prelude.{ℕ, ◌≡◌, Bool, List, fold}
+use Rattle.std.specs.Hash.FoldHasher as folding
+use Rattle.etp_values.specs.contracts.text.TextHash.TheImpl.{ghosts as text}
+use Rattle.etp_values.specs.contracts.uri.StoreUriHash.TheImpl.{ghosts as uri}
+use Rattle.etp_values.specs.declared.uri.StoreUri.{StoreUri}
+use Rattle.array_store.specs.declared.key.ArrayKey.{ArrayKey}
+use Rattle.array_store.specs.declared.owner.Owner.{Owner}
+use Rattle.array_store.specs.declared.owner.Owner.TheVariants.{Object, Space}
+use Rattle.array_store.specs.Table.{is_of_object, is_in_space}
+
+-- the number of an object, which others may share
+unfoldable pub object_number : StoreUri → ℕ
+object_number u = folding.finish (fold folding.write folding.initial (uri.hash_input u))
+
+-- the number of a dataspace
+unfoldable pub space_number : List ℕ → ℕ
+space_number path = folding.finish (fold folding.write folding.initial (text.hash_input path))
+
+-- the array of a key belongs to it
+abbrev pub has : Owner → ArrayKey → Bool
+has (Object u) key = is_of_object u.now key
+has (Space path) key = is_in_space path.now key

@@ -1,0 +1,49 @@
+//! What arrays belong to.
+ghost use Rattle.std.specs.Prelude.{◌≡◌, fold};
+ghost use Rattle.std.specs.Hash.FoldHasher as folding;
+ghost use Rattle.array_store.specs.Owner as owner;
+
+use crate::key::ArrayKey;
+use etp_values::{StoreUri, Text};
+use std::hash::{FoldHasher, Hash, Hasher};
+
+/// An object or a dataspace, each with its arrays.
+#[derive(Clone, Copy, Drop)]
+pub(crate) enum Owner<'a> {
+    Object(&'a StoreUri),
+    Space(&'a Text),
+}
+
+fn hash_of<T: Hash>(value: &T) -> u64
+    ensures { result ≡ folding.finish (fold folding.write folding.initial (T.hash_input value.now)) }
+{
+    let mut state = FoldHasher::default();
+    value.hash(&mut state);
+    state.finish()
+}
+
+/// The number of an object's group.
+pub(crate) fn object_number(uri: &StoreUri) -> u64
+    ensures { result ≡ owner.object_number uri.now }
+{
+    hash_of(uri)
+}
+
+/// The number of a dataspace's group.
+pub(crate) fn space_number(path: &Text) -> u64
+    ensures { result ≡ owner.space_number path.now }
+{
+    hash_of(path)
+}
+
+impl<'a> Owner<'a> {
+    /// Whether the array of a key belongs to it.
+    pub(crate) fn has(self, key: &ArrayKey) -> bool
+        ensures { result ≡ owner.has self.entry key.now }
+    {
+        match self {
+            Owner::Object(uri) => uri.same(&key.uri),
+            Owner::Space(path) => *path == key.uri.space,
+        }
+    }
+}
