@@ -1,17 +1,25 @@
 -- Arrays that are taken out one after the other, and the groups that count them.
 use Rattle.std.proofs.Common.{ℕ, zero, suc, ◌+◌, ◌-◌, ◌≤◌, ◌<◌, Bool, true, false, cond, not, List, [], ◌∷◌, ◌++◌, length, take, filter, map, slice_get, Option, None, Some, ◌≡◌, ◌≢◌, get_or, refl, sym, ap, subst, ◌∙◌, arith}
-use Rattle.std.specs.Prelude.{is_some, nat_eq, slice_set, slice_index_or, swap_remove}
+use Rattle.std.specs.Prelude.{IfSome, is_some, nat_eq, slice_set, slice_index_or, swap_remove}
 use Rattle.std.specs.Map.{lookup, keys_of}
-use Rattle.std.proofs.lemmas.Bool.{false≢true, eqb-true, eqb-false}
+use Rattle.std.proofs.lemmas.Bool.{false≢true, eq-eqb, eqb-true, eqb-false}
+use Rattle.std.proofs.lemmas.Slice.Eq.{bytes_eq-Decides}
+use Rattle.indexmap.specs.IndexMap.{IndexMap, Updates}
+use Rattle.etp_values.specs.declared.uri.StoreUri.{StoreUri}
+use Rattle.etp_values.specs.SameUri.{same_uri-is}
 use Rattle.std.proofs.lemmas.List.{get_or-take, get_or-set_same, get_or-set_other, length-take-le, length-set}
 use Rattle.std.proofs.lemmas.List.Sums.{length-filter, sum_by-swap_remove}
 use Rattle.std.proofs.lemmas.Option.{slice_get_past, slice_get_within, slice_get-get_or, get_or_from_slice_get}
 use Rattle.array_store.specs.declared.groups.Group.{Group}
 use Rattle.array_store.specs.declared.key.ArrayKey.{ArrayKey}
 use Rattle.array_store.specs.declared.record.ArrayRecord.{ArrayRecord}
-use Rattle.array_store.specs.Groups.{count_among, Adds, Takes, SameCounts}
+use Rattle.array_store.specs.contracts.key.ArrayKeyPartialEq.TheImpl.{ghosts}
+use Rattle.array_store.specs.declared.owner.Numbers.{Numbers}
+use Rattle.array_store.specs.Groups.{count_among, entries_of, Adds, Takes, SameCounts}
 use Rattle.array_store.specs.Kept.{goes_at, object_of, space_of, CountsArrays, KeepsArrays, Loses, NoneFrom}
-use Rattle.array_store.specs.Table.{array_among, same_key, AllSound, DropsAmong}
+use Rattle.array_store.specs.Table.{array_among, is_in_space, is_of_object, same_key, AllSound, DropsAmong}
+use Rattle.array_store.specs.Owner.{numbers_of, object_number, space_number}
+use Rattle.array_store.proofs.SoundLemmas.{sound-drop}
 use Rattle.array_store.proofs.KeyLemmas.{same_key-is}
 
 -- ---- how many items of a list pass a test
@@ -216,6 +224,32 @@ counts-taken number old new i e groups less counts at taken takes = λ n.
 pub counts-le : (number : ArrayKey → ℕ) (es : List (ArrayKey × ArrayRecord)) (groups : List (ℕ × Group)) (n : ℕ) → CountsArrays number es groups → count_among groups n ≤ length es
 counts-le number es groups n counts = subst (λ m. m ≤ length es) (sym (counts n)) (filter-le (λ e. nat_eq n (number e.0)) es)
 
+-- ---- the counts of groups
+
+flip : (a b : ℕ) (c : Bool) → nat_eq a b ≡ c → nat_eq b a ≡ c
+flip a b true h = eq-eqb b a (sym (eqb-true a b h))
+flip a b false h = by (nat_eq b a) refl
+  where
+    by : (d : Bool) → nat_eq b a ≡ d → d ≡ false
+    by true back = absurd (eqb-false a b h (sym (eqb-true b a back)))
+    by false back = refl
+
+pub set-counts : (old new : List (ℕ × Group)) (number : ℕ) (o : Option Group) (count : ℕ) → entries_of o ≡ count
+    → ((q : ℕ) → lookup (nat_eq q) new ≡ cond (nat_eq number q) o (lookup (nat_eq q) old)) → (n : ℕ) → count_among new n ≡ cond (nat_eq n number) count (count_among old n)
+set-counts old new number o count is each n = ap entries_of (each n) ∙ by (nat_eq number n) refl
+  where
+    by : (b : Bool) → nat_eq number n ≡ b → entries_of (cond b o (lookup (nat_eq n) old)) ≡ cond (nat_eq n number) count (count_among old n)
+    by true same = is ∙ sym (ap (λ c. cond c count (count_among old n)) (flip number n true same))
+    by false other = sym (ap (λ c. cond c count (count_among old n)) (flip number n false other))
+
+kept-count : (old : List (ℕ × Group)) (number n : ℕ) (b : Bool) → nat_eq n number ≡ b → cond b (count_among old number) (count_among old n) ≡ count_among old n
+kept-count old number n true same = sym (ap (count_among old) (eqb-true n number same))
+kept-count old number n false other = refl
+
+pub same-counts : (old new : List (ℕ × Group)) (number : ℕ) (w : Group) → w.count ≡ count_among old number
+    → ((q : ℕ) → lookup (nat_eq q) new ≡ cond (nat_eq number q) (Some w) (lookup (nat_eq q) old)) → SameCounts old new
+same-counts old new number w is each = λ n. set-counts old new number (Some w) (count_among old number) is each n ∙ kept-count old number n (nat_eq n number) refl
+
 -- ---- what a store keeps
 
 pub kept-keys : (old new : List (ArrayKey × ArrayRecord)) (objects spaces : List (ℕ × Group)) → KeepsArrays old objects spaces → AllSound new → keys_of new ≡ keys_of old → KeepsArrays new objects spaces
@@ -224,3 +258,65 @@ kept-keys old new objects spaces kept sound same = record {
   by_object = counts-keys object_of old new objects kept.by_object same;
   by_space = counts-keys space_of old new spaces kept.by_space same;
 }
+
+slice_get-none : {X : Type 0} (xs : List X) (i : ℕ) → slice_get xs i ≡ None → length xs ≤ i
+slice_get-none [] i h = omega arith
+slice_get-none (x ∷ xs) zero h = absurd (false≢true (sym (ap is_some h)))
+slice_get-none (x ∷ xs) (suc i) h = let rest = slice_get-none xs i h in omega (arith, rest)
+
+-- the array at an index was taken out
+pub record TakenOut (old new : List (ArrayKey × ArrayRecord)) (index : ℕ) : Type 0 where
+  pub entry : ArrayKey × ArrayRecord
+  pub at : slice_get old index ≡ Some entry
+  pub taken : new ≡ swap_remove old index entry
+  pub each : (q : ArrayKey) → lookup (same_key q) new ≡ cond (same_key entry.0 q) None (lookup (same_key q) old)
+
+pub taken-out : {S : Type 0} (old new : IndexMap ArrayKey ArrayRecord S) (index : ℕ) (o : Option (ArrayKey × ArrayRecord)) → o ≡ slice_get old.entries index → index < length old.entries
+    → IfSome o (λ p. new.entries ≡ swap_remove old.entries index p) → IfSome o (λ p. Updates ghosts.eq old new p.0 None) → TakenOut old.entries new.entries index
+taken-out old new index None is within taken each = absurd (let past = slice_get-none old.entries index (sym is) in omega (arith, within, past))
+taken-out old new index (Some e) is within taken each = record { entry = e; at = sym is; taken = taken; each = λ q. each.0 q }
+
+pub taken-keeps : (old new : List (ArrayKey × ArrayRecord)) (index : ℕ) (objects less_objects spaces less_spaces : List (ℕ × Group)) (numbers : Numbers) → KeepsArrays old objects spaces → TakenOut old new index
+    → ((e : ArrayKey × ArrayRecord) → slice_get old index ≡ Some e → numbers ≡ numbers_of e.0) → Takes objects less_objects numbers.object → Takes spaces less_spaces numbers.space
+    → KeepsArrays new less_objects less_spaces
+taken-keeps old new index objects less_objects spaces less_spaces numbers kept out numbered from_object from_space =
+    let mine = numbered out.entry out.at in
+    record {
+      sound = sound-drop old new (same_key out.entry.0) kept.sound out.each;
+      by_object = counts-taken object_of old new index out.entry objects less_objects kept.by_object out.at out.taken (subst (λ (n : Numbers). Takes objects less_objects n.object) mine from_object);
+      by_space = counts-taken space_of old new index out.entry spaces less_spaces kept.by_space out.at out.taken (subst (λ (n : Numbers). Takes spaces less_spaces n.space) mine from_space);
+    }
+
+goes-entry : (goes : ArrayKey → Bool) (o : Option (ArrayKey × ArrayRecord)) (e : ArrayKey × ArrayRecord) → o ≡ Some e → goes_at goes o ≡ true → goes e.0 ≡ true
+goes-entry goes o e at gone = sym (ap (goes_at goes) at) ∙ gone
+
+pub out-loses : (goes : ArrayKey → Bool) (old new : List (ArrayKey × ArrayRecord)) (index : ℕ) → TakenOut old new index → goes_at goes (slice_get old index) ≡ true → Loses goes old new
+out-loses goes old new index out gone = taken-loses goes old new index out.entry out.at out.taken out.each (goes-entry goes (slice_get old index) out.entry out.at gone)
+
+pub out-rest : (goes : ArrayKey → Bool) (old new : List (ArrayKey × ArrayRecord)) (index : ℕ) → TakenOut old new index → NoneFrom goes (index + 1) old → NoneFrom goes index new
+out-rest goes old new index out rest = subst (NoneFrom goes index) (sym out.taken) (none-from-taken goes old index out.entry (slice_get_within old index out.entry out.at) rest)
+
+pub out-len : (old new : List (ArrayKey × ArrayRecord)) (index : ℕ) → TakenOut old new index → length new + 1 ≡ length old
+out-len old new index out =
+    let within = slice_get_within old index out.entry out.at in
+    omega (arith, within, length-taken old index out.entry, ap length out.taken)
+
+-- one more array, in groups that count it
+pub put-keeps : (old new : List (ArrayKey × ArrayRecord)) (key : ArrayKey) (objects more_objects spaces more_spaces : List (ℕ × Group)) (numbers : Numbers) → KeepsArrays old objects spaces → AllSound new
+    → keys_of new ≡ keys_of old ++ key ∷ [] → numbers ≡ numbers_of key → Adds objects more_objects numbers.object → Adds spaces more_spaces numbers.space → KeepsArrays new more_objects more_spaces
+put-keeps old new key objects more_objects spaces more_spaces numbers kept sound keys mine to_object to_space = record {
+  sound = sound;
+  by_object = counts-push object_of old new key objects more_objects kept.by_object keys (subst (λ (n : Numbers). Adds objects more_objects n.object) mine to_object);
+  by_space = counts-push space_of old new key spaces more_spaces kept.by_space keys (subst (λ (n : Numbers). Adds spaces more_spaces n.space) mine to_space);
+}
+
+-- an owner whose group counts nothing has no arrays
+pub none-of-object : (uri : StoreUri) (es : List (ArrayKey × ArrayRecord)) (groups : List (ℕ × Group)) → CountsArrays object_of es groups → count_among groups (object_number uri) ≡ 0
+    → length (filter (λ e. is_of_object uri e.0) es) ≡ 0
+none-of-object uri es groups counts none = none-of (is_of_object uri) object_of (object_number uri)
+    (λ k mine. eq-eqb (object_number uri) (object_of k) (ap object_number (same_uri-is uri k.uri mine))) es (sym (counts (object_number uri)) ∙ none)
+
+pub none-of-space : (path : List ℕ) (es : List (ArrayKey × ArrayRecord)) (groups : List (ℕ × Group)) → CountsArrays space_of es groups → count_among groups (space_number path) ≡ 0
+    → length (filter (λ e. is_in_space path e.0) es) ≡ 0
+none-of-space path es groups counts none = none-of (is_in_space path) space_of (space_number path)
+    (λ k mine. eq-eqb (space_number path) (space_of k) (ap space_number ((bytes_eq-Decides path k.uri.space).0 mine))) es (sym (counts (space_number path)) ∙ none)

@@ -4,15 +4,15 @@ use Rattle.array_store.specs.declared.groups.Group.{Group}
 use Rattle.array_store.specs.declared.key.ArrayKey.{ArrayKey}
 use Rattle.array_store.specs.declared.record.ArrayRecord.{ArrayRecord}
 use Rattle.array_store.specs.Groups.{count_among}
-use Rattle.array_store.specs.Owner.{object_number, space_number}
+use Rattle.array_store.specs.Owner.{numbers_of}
 use Rattle.array_store.specs.Table.{array_among, AllSound}
 
 -- the numbers of the object and of the dataspace of a key
 abbrev pub object_of : ArrayKey → ℕ
-object_of key = object_number key.uri
+object_of key = (numbers_of key).object
 
 abbrev pub space_of : ArrayKey → ℕ
-space_of key = space_number key.uri.space
+space_of key = (numbers_of key).space
 
 -- each group counts the arrays whose keys have its number
 abbrev pub CountsArrays : (ArrayKey → ℕ) → List (ArrayKey × ArrayRecord) → List (ℕ × Group) → Type 0

@@ -5,6 +5,7 @@ use Rattle.etp_values.specs.contracts.text.TextHash.TheImpl.{ghosts as text}
 use Rattle.etp_values.specs.contracts.uri.StoreUriHash.TheImpl.{ghosts as uri}
 use Rattle.etp_values.specs.declared.uri.StoreUri.{StoreUri}
 use Rattle.array_store.specs.declared.key.ArrayKey.{ArrayKey}
+use Rattle.array_store.specs.declared.owner.Numbers.{Numbers}
 use Rattle.array_store.specs.declared.owner.Owner.{Owner}
 use Rattle.array_store.specs.declared.owner.Owner.TheVariants.{Object, Space}
 use Rattle.array_store.specs.Table.{is_of_object, is_in_space}
@@ -16,6 +17,10 @@ object_number u = folding.finish (fold folding.write folding.initial (uri.hash_i
 -- the number of a dataspace
 unfoldable pub space_number : List ℕ → ℕ
 space_number path = folding.finish (fold folding.write folding.initial (text.hash_input path))
+
+-- the numbers of an array's object and dataspace
+abbrev pub numbers_of : ArrayKey → Numbers
+numbers_of key = record { object = object_number key.uri; space = space_number key.uri.space }
 
 -- the array of a key belongs to it
 abbrev pub has : Owner → ArrayKey → Bool

@@ -74,6 +74,21 @@ fn count_of(groups: &IndexMap<u64, Group>, number: u64) -> u64
     }
 }
 
+impl Group {
+    fn set_last(&mut self, last: usize)
+        ensures { self.new.count ≡ self.old.count }
+    {
+        self.last = last;
+    }
+
+    fn lose(&mut self)
+        requires { 0 < self.old.count }
+        ensures { self.new.count ≡ self.old.count - 1 }
+    {
+        self.count -= 1;
+    }
+}
+
 /// Sets the last entry of a group.
 fn set_last(groups: &mut IndexMap<u64, Group>, number: u64, last: usize)
     ensures counts { SameCounts groups.old.entries groups.new.entries }
@@ -82,7 +97,7 @@ fn set_last(groups: &mut IndexMap<u64, Group>, number: u64, last: usize)
     let Some(group) = groups.get_mut(&number) else {
         return;
     };
-    group.last = last;
+    group.set_last(last);
 }
 
 /// Counts one more entry of a group, the last in its list.
@@ -96,19 +111,36 @@ fn add(groups: &mut IndexMap<u64, Group>, number: u64, last: usize)
     let _ = groups.insert(number, Group { count, last });
 }
 
+/// Forgets a group.
+fn forget(groups: &mut IndexMap<u64, Group>, number: u64)
+    requires { count_among groups.old.entries number ≤ 1 }
+    ensures counts { Takes groups.old.entries groups.new.entries number }
+    ensures room { spare groups.old ≤ spare groups.new }
+{
+    let _ = groups.swap_remove(&number);
+}
+
+/// Counts one entry less of a group that has others.
+fn lose(groups: &mut IndexMap<u64, Group>, number: u64)
+    requires { 1 < count_among groups.old.entries number }
+    ensures counts { Takes groups.old.entries groups.new.entries number }
+    ensures room { spare groups.new ≡ spare groups.old }
+{
+    let Some(group) = groups.get_mut(&number) else {
+        unreachable!();
+    };
+    group.lose();
+}
+
 /// Counts one entry less of a group.
 fn take(groups: &mut IndexMap<u64, Group>, number: u64)
     ensures counts { Takes groups.old.entries groups.new.entries number }
     ensures room { spare groups.old ≤ spare groups.new }
 {
     if count_of(groups, number) <= 1 {
-        let _ = groups.swap_remove(&number);
-        return;
+        return forget(groups, number);
     }
-    let Some(group) = groups.get_mut(&number) else {
-        return;
-    };
-    group.count -= 1;
+    lose(groups, number);
 }
 
 impl Groups {

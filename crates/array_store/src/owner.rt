@@ -36,6 +36,24 @@ pub(crate) fn space_number(path: &Text) -> u64
     hash_of(path)
 }
 
+/// The numbers of the groups to which an array belongs.
+#[derive(Clone, Copy, Drop)]
+pub(crate) struct Numbers {
+    pub object: u64,
+    pub space: u64,
+}
+
+impl Numbers {
+    pub(crate) fn of(key: &ArrayKey) -> Numbers
+        ensures { result ≡ owner.numbers_of key.now }
+    {
+        Numbers {
+            object: object_number(&key.uri),
+            space: space_number(&key.uri.space),
+        }
+    }
+}
+
 impl<'a> Owner<'a> {
     /// Whether the array of a key belongs to it.
     pub(crate) fn has(self, key: &ArrayKey) -> bool

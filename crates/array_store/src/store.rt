@@ -6,10 +6,10 @@ use crate::error::ArrayError;
 use crate::groups::Groups;
 use crate::key::ArrayKey;
 use crate::op::ArrayOp;
-use crate::owner::{Owner, object_number, space_number};
+use crate::owner::{Numbers, Owner, object_number, space_number};
 use crate::patch::slice_record;
 use crate::record::ArrayRecord;
-use crate::table::{patch_array, patch_at, put_array, set_written};
+use crate::table::{numbers_at, patch_array, patch_at, put_array, set_written};
 use crate::weighed::WeighedArray;
 use etp_values::{AnyArray, List, NoMemory, StoreUri, Text};
 use indexmap::IndexMap;
@@ -154,14 +154,13 @@ impl ArrayStore {
         ensures succeeds { 0 < self.old.spare → IsOk result }
         ensures room { self.old.spare ≤ self.new.spare + 1 }
     {
-        let object = object_number(&key.uri);
-        let space = space_number(&key.uri.space);
+        let numbers = Numbers::of(&key);
         let _count = self.arrays.len();
         self.by_object.reserve(1)?;
         self.by_space.reserve(1)?;
         put_array(&mut self.arrays, key, value)?;
-        self.by_object.push(object);
-        self.by_space.push(space);
+        self.by_object.push(numbers.object);
+        self.by_space.push(numbers.space);
         Ok(())
     }
 
@@ -289,18 +288,11 @@ impl ArrayStore {
         ensures len { length self.new.arrays + 1 ≡ length self.old.arrays }
         ensures room { self.old.spare ≤ self.new.spare }
     {
-        let Some((key, _)) = self.arrays.get_index(index) else {
-            unreachable!();
-        };
-        let Some((moved, _)) = self.arrays.last() else {
-            unreachable!();
-        };
-        let object = object_number(&key.uri);
-        let space = space_number(&key.uri.space);
-        let moved_object = object_number(&moved.uri);
-        let moved_space = space_number(&moved.uri.space);
-        self.by_object.swap_remove(index, object, moved_object);
-        self.by_space.swap_remove(index, space, moved_space);
+        let numbers = numbers_at(&self.arrays, index);
+        let moved = numbers_at(&self.arrays, self.arrays.len() - 1);
+        self.by_object
+            .swap_remove(index, numbers.object, moved.object);
+        self.by_space.swap_remove(index, numbers.space, moved.space);
         let _ = self.arrays.swap_remove_index(index);
     }
 
@@ -349,9 +341,10 @@ impl ArrayStore {
         ensures room { self.old.spare ≤ self.new.spare }
     {
         self.take_listed(owner);
-        if self.may_have(owner) {
-            self.take_rest(owner);
+        if !self.may_have(owner) {
+            return;
         }
+        self.take_rest(owner);
     }
 
     /// Removes the arrays of an owner, and counts them.

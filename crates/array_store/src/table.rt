@@ -1,15 +1,19 @@
 //! Single steps on the table.
-ghost use Rattle.std.specs.Prelude.{◌≡◌, ◌<◌, ◌+◌, ◌≤◌, ◌++◌, ◌∷◌, [], Err, None, IsOk, IsSome, IfSome, OnOk, OnErr, is_some, true, false, length};
+ghost use Rattle.std.specs.Prelude.{◌≡◌, ◌<◌, ◌+◌, ◌≤◌, ◌++◌, ◌∷◌, [], Err, None, IsOk, IsSome, IfSome, OnOk, OnErr, Some, is_some, true, false, length, slice_get};
 ghost use Rattle.std.specs.Map.{keys_of};
 ghost use Rattle.std.specs.Option.{option_copied};
 ghost use Rattle.indexmap.specs.IndexMap.{spare};
 ghost use Rattle.array_store.specs.Table as table;
 ghost use Rattle.array_store.specs.Table.{array_among, AllSound, PatchesAmong, SetsAmong};
 ghost use Rattle.array_store.specs.Arrays.{is_bytes};
+ghost use Rattle.array_store.specs.Owner.{numbers_of};
+ghost use Rattle.array_store.specs.declared.key.ArrayKey.{ArrayKey as AKey};
+ghost use Rattle.array_store.specs.declared.record.ArrayRecord.{ArrayRecord as ARecord};
 ghost use Rattle.array_store.specs.Refusals.{record_refusal, patch_refusal, Refuses};
 
 use crate::error::ArrayError;
 use crate::key::ArrayKey;
+use crate::owner::Numbers;
 use crate::weighed::WeighedArray;
 use etp_values::{AnyArray, List};
 use indexmap::IndexMap;
@@ -102,4 +106,15 @@ pub(crate) fn set_written(arrays: &mut IndexMap<ArrayKey, WeighedArray>, key: &A
         unreachable!();
     };
     array.set_written(at);
+}
+
+/// The numbers of the array at an index.
+pub(crate) fn numbers_at(arrays: &IndexMap<ArrayKey, WeighedArray>, index: usize) -> Numbers
+    requires { index < length arrays.now.entries }
+    ensures { (e : AKey × ARecord) → slice_get arrays.now.entries index ≡ Some e → result ≡ numbers_of e.0 }
+{
+    let Some((key, _)) = arrays.get_index(index) else {
+        unreachable!();
+    };
+    Numbers::of(key)
 }

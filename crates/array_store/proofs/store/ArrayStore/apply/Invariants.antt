@@ -1,7 +1,7 @@
 use Rattle.std.proofs.Common.{◌≤◌, ◌+◌, length}
 use Rattle.std.specs.Vec.Iter.{into_iter_items}
 use Rattle.array_store.specs.Operations.{Continues}
-use Rattle.array_store.proofs.store.ArrayStore.apply_each.Given as goal
+use Rattle.array_store.proofs.store.ArrayStore.apply.Given as goal
 
 abbrev pub invariant-loop-op : goal.invariant-loop-op
 invariant-loop-op l = record {
