@@ -10,13 +10,17 @@ use Rattle.array_store.specs.declared.owner.Owner.{Owner}
 use Rattle.array_store.specs.declared.owner.Owner.TheVariants.{Object, Space}
 use Rattle.array_store.specs.Table.{is_of_object, is_in_space}
 
+-- the hash of what a value feeds to a hasher
+unfoldable pub hashed : List (List ℕ) → ℕ
+hashed input = folding.finish (fold folding.write folding.initial input)
+
 -- the number of an object, which others may share
 unfoldable pub object_number : StoreUri → ℕ
-object_number u = folding.finish (fold folding.write folding.initial (uri.hash_input u))
+object_number u = hashed (uri.hash_input u)
 
--- the number of a dataspace
+-- the number of a dataspace, which others may share
 unfoldable pub space_number : List ℕ → ℕ
-space_number path = folding.finish (fold folding.write folding.initial (text.hash_input path))
+space_number path = hashed (text.hash_input path)
 
 -- the numbers of an array's object and dataspace
 abbrev pub numbers_of : ArrayKey → Numbers

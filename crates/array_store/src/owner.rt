@@ -1,6 +1,5 @@
 //! What arrays belong to.
-ghost use Rattle.std.specs.Prelude.{◌≡◌, fold};
-ghost use Rattle.std.specs.Hash.FoldHasher as folding;
+ghost use Rattle.std.specs.Prelude.{◌≡◌};
 ghost use Rattle.array_store.specs.Owner as owner;
 
 use crate::key::ArrayKey;
@@ -14,8 +13,9 @@ pub(crate) enum Owner<'a> {
     Space(&'a Text),
 }
 
+#[tactic(auto, unfolding(crate::specs::Owner::hashed))]
 fn hash_of<T: Hash>(value: &T) -> u64
-    ensures { result ≡ folding.finish (fold folding.write folding.initial (T.hash_input value.now)) }
+    ensures { result ≡ owner.hashed (T.hash_input value.now) }
 {
     let mut state = FoldHasher::default();
     value.hash(&mut state);
@@ -23,6 +23,7 @@ fn hash_of<T: Hash>(value: &T) -> u64
 }
 
 /// The number of an object's group.
+#[tactic(auto, unfolding(crate::specs::Owner::object_number))]
 pub(crate) fn object_number(uri: &StoreUri) -> u64
     ensures { result ≡ owner.object_number uri.now }
 {
@@ -30,6 +31,7 @@ pub(crate) fn object_number(uri: &StoreUri) -> u64
 }
 
 /// The number of a dataspace's group.
+#[tactic(auto, unfolding(crate::specs::Owner::space_number))]
 pub(crate) fn space_number(path: &Text) -> u64
     ensures { result ≡ owner.space_number path.now }
 {
