@@ -1,5 +1,5 @@
 -- What arrays belong to, and the numbers by which a store groups them.
-use Rattle.std.specs.Prelude.{ℕ, ◌≡◌, Bool, List, fold}
+use Rattle.std.specs.Prelude.{ℕ, Bool, List, fold}
 use Rattle.std.specs.Hash.FoldHasher as folding
 use Rattle.etp_values.specs.contracts.text.TextHash.TheImpl.{ghosts as text}
 use Rattle.etp_values.specs.contracts.uri.StoreUriHash.TheImpl.{ghosts as uri}

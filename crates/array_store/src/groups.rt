@@ -1,5 +1,5 @@
 //! The entries of a table by what they belong to.
-ghost use Rattle.std.specs.Prelude.{◌≡◌, ℕ, ◌<◌, ◌+◌, ◌-◌, ◌≤◌, ◌^◌, ◌==◌, [], if◌then◌else◌, length, IsOk, OnOk, OnErr};
+ghost use Rattle.std.specs.Prelude.{◌≡◌, ◌<◌, ◌+◌, ◌-◌, ◌≤◌, ◌^◌, ◌==◌, [], if◌then◌else◌, length, IsOk, OnOk};
 ghost use Rattle.indexmap.specs.IndexMap.{spare};
 ghost use Rattle.array_store.specs.Groups.{count_among, count_in, Adds, Takes, SameCounts};
 

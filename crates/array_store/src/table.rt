@@ -1,7 +1,6 @@
 //! Single steps on the table.
 ghost use Rattle.std.specs.Prelude.{◌≡◌, ◌<◌, ◌+◌, ◌≤◌, ◌++◌, ◌∷◌, [], Err, None, IsOk, IsSome, IfSome, OnOk, OnErr, Some, is_some, true, false, length, slice_get};
 ghost use Rattle.std.specs.Map.{keys_of};
-ghost use Rattle.std.specs.Option.{option_copied};
 ghost use Rattle.indexmap.specs.IndexMap.{spare};
 ghost use Rattle.array_store.specs.Table as table;
 ghost use Rattle.array_store.specs.Table.{array_among, AllSound, PatchesAmong, SetsAmong};

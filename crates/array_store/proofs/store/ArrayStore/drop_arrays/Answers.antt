@@ -1,4 +1,4 @@
-use Rattle.std.proofs.Common.{◌≡◌, ◌-◌, ◌+◌, length, filter, rules, arith}
+use Rattle.std.proofs.Common.{◌-◌}
 use Rattle.array_store.specs.Owner.{has}
 use Rattle.array_store.proofs.GroupLemmas.{loses-all}
 use Rattle.array_store.proofs.store.ArrayStore.drop_arrays.Goals as goal

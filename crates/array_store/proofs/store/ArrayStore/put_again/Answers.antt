@@ -1,9 +1,9 @@
-use Rattle.std.proofs.Common.{◌≡◌, cond, Some, sym, subst, ap, ◌∙◌}
-use Rattle.std.specs.Prelude.{OnOk, is_some, true}
+use Rattle.std.proofs.Common.{◌≡◌, cond, Some, subst}
+use Rattle.std.specs.Prelude.{OnOk}
 use Rattle.std.specs.Map.{lookup}
 use Rattle.array_store.specs.declared.key.ArrayKey.{ArrayKey}
 use Rattle.array_store.specs.Table as table
-use Rattle.array_store.specs.Table.{Arrays, same_key, array_in}
+use Rattle.array_store.specs.Table.{same_key, array_in}
 use Rattle.array_store.proofs.store.ArrayStore.put_again.Goals as goal
 
 pub returns-clause-ok : goal.returns-clause-ok

@@ -1,4 +1,4 @@
-use Rattle.std.proofs.Common.{rules, ◌≡◌, ◌+◌, ◌-◌, sym, subst, arith}
+use Rattle.std.proofs.Common.{rules, ◌≡◌, ◌+◌, ◌-◌, sym, subst}
 use Rattle.array_store.specs.Kept.{NoneFrom}
 use Rattle.array_store.specs.Owner.{has}
 use Rattle.array_store.proofs.GroupLemmas.{loses-none, loses-more, none-from-end, none-goes}

@@ -1,4 +1,4 @@
-use Rattle.std.proofs.Common.{ℕ, ◌≤◌, length}
+use Rattle.std.proofs.Common.{◌≤◌}
 use Rattle.array_store.specs.Kept.{Loses, NoneFrom}
 use Rattle.array_store.specs.Owner.{has}
 use Rattle.array_store.proofs.store.ArrayStore.take_rest.Given as goal
