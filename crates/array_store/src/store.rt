@@ -251,13 +251,29 @@ impl ArrayStore {
         }
     }
 
+    /// How many arrays the objects with the number of this one have.
+    fn object_count(&self, uri: &StoreUri) -> u64
+        ensures { result ≡ 0 → length (filter (λ e. is_of_object uri.now e.0) self.now.arrays) ≡ 0 }
+    {
+        let number = object_number(uri);
+        self.by_object.count(number)
+    }
+
+    /// How many arrays the dataspaces with the number of this one have.
+    fn space_count(&self, path: &Text) -> u64
+        ensures { result ≡ 0 → length (filter (λ e. is_in_space path.now e.0) self.now.arrays) ≡ 0 }
+    {
+        let number = space_number(path);
+        self.by_space.count(number)
+    }
+
     /// Whether an owner may have arrays.
     fn may_have(&self, owner: Owner<'_>) -> bool
         ensures { result ≡ false → length (filter (λ e. has owner.entry e.0) self.now.arrays) ≡ 0 }
     {
         match owner {
-            Owner::Object(uri) => self.by_object.count(object_number(uri)) > 0,
-            Owner::Space(path) => self.by_space.count(space_number(path)) > 0,
+            Owner::Object(uri) => self.object_count(uri) > 0,
+            Owner::Space(path) => self.space_count(path) > 0,
         }
     }
 
