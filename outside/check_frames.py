@@ -12,6 +12,7 @@ import hostile_messages
 import join_samples
 import message_samples
 import part_samples
+import schema_places
 import value_cases
 
 
@@ -33,6 +34,8 @@ def main():
         (folder / "data" / file).write_bytes(content)
         lines.append(f"{part} {file}\n")
         answers.append(f"# {part} {file}\n{answer}")
+    lines.append("places\n")
+    answers.append("# places\n" + schema_places.answer())
     (folder / "stdin").write_text("".join(lines))
     (folder / "stdout").write_text("".join(answers))
 

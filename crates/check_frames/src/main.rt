@@ -1,6 +1,6 @@
 //! Runs messages and values through their layers, and prints what each gives.
 //!
-//! A line of the input is a part, and names the file that it is run on:
+//! A line of the input is a part, and names the file that it is run on, if it needs one:
 //!
 //! ```text
 //! messages CAPTURE                            reads, shows and writes messages
@@ -8,6 +8,7 @@
 //! joins CAPTURE                               joins messages with the chunks of their data
 //! parts CAPTURE                               cuts messages into the parts in which they are sent
 //! values LINES                                reads and writes values
+//! places                                      the places of messages' bodies in the schema's table
 //! ```
 //!
 //! What a part prints follows its line. The files and the expected output were made outside of this product
@@ -20,6 +21,7 @@ mod hostile;
 mod joins;
 mod messages;
 mod parts;
+mod places;
 mod values;
 
 use captures::{Capture, read_capture};
@@ -27,6 +29,7 @@ use hostile::print_hostile;
 use joins::join_all;
 use messages::print_all;
 use parts::cut_all;
+use places::print_places;
 use std::io::{self, BufRead, BufReader};
 use values::print_values;
 
@@ -56,6 +59,7 @@ fn run_line(rt: &HostRuntime, line: &str) -> io::Result<()> {
     let words: Vec<&str> = line.split_whitespace().collect(rt.alloc())?;
     match words.as_slice() {
         ["values", file] => print_values(rt, file),
+        ["places"] => print_places(rt),
         ["hostile", file, words @ ..] => print_hostile(rt, read_capture(rt, file)?, words),
         [part, file] => run_on(rt, part, &read_capture(rt, file)?),
         _ => println!(rt; "no part"),
