@@ -130,10 +130,11 @@ class Protocol:
 
 
 class Schema:
-    """What messages.txt says. `types` are the records and enumerations in order, `messages` the messages."""
+    """What messages.txt says. `types` are the records and enumerations in order, `messages` the messages, and `in_order` both as the file
+    has them."""
 
     def __init__(self, path=HERE / "messages.txt"):
-        self.files, self.protocols, self.named, self.types, self.messages = {}, {}, {}, [], []
+        self.files, self.protocols, self.named, self.types, self.messages, self.in_order = {}, {}, {}, [], [], []
         for number, line in enumerate(path.read_text().splitlines(), 1):
             try:
                 self.read_line(line)
@@ -179,11 +180,13 @@ class Schema:
     def read_record(self, words):
         self.begin(Record(words[1], [], self.file_in(words)), words)
         self.types.append(self.block)
+        self.in_order.append(self.block)
 
     def read_enum(self, words):
         word = words[words.index("as") + 1] if "as" in words else snake(words[1])
         self.begin(Enumeration(words[1], [], self.file_in(words), word), words)
         self.types.append(self.block)
+        self.in_order.append(self.block)
 
     def read_message(self, words):
         _, protocol, number, name, sender, *rest = words
@@ -196,6 +199,7 @@ class Schema:
         message.joined, message.chunks = "joined" in rest, "chunks" in rest
         owner.messages.append(message)
         self.messages.append(message)
+        self.in_order.append(message)
 
     def end_block(self):
         block, self.block = self.block, None

@@ -46,7 +46,7 @@ def nodes_of(schema):
         name = constant(type, holder, field)
         nodes.setdefault(name, Node(name, type))
 
-    for what in [*schema.types, *schema.messages]:
+    for what in schema.in_order:
         for field in getattr(what, "fields", []):
             add(field.type, what.name, field.name)
         name = what.snake.upper()
@@ -214,7 +214,7 @@ def write_etp_schema(schema, file):
     body = file("etp_schema/src/body.rt")
     body.put(body_functions(schema))
     shapes = file("etp_schema/specs/Shapes.antt")
-    shapes.put([each for what in [*schema.types, *schema.messages] for each in shape_paragraphs(what)])
+    shapes.put([each for what in schema.in_order for each in shape_paragraphs(what)])
     shapes.put([(None, table_shapes(nodes, schema)), (None, f"abbrev pub table_size : ℕ\ntable_size = {len(nodes)}")])
     file("etp_schema/specs/Bodies.antt").put(bodies(schema))
 

@@ -97,7 +97,20 @@ channel_data_load_names =
     called 7 (codes "ChannelsClosed") ∷
     called 8 (codes "ReplaceRangeResponse") ∷
     called 9 (codes "TruncateChannels") ∷
-    called 10 (codes "TruncateChannelsResponse") ∷ common_names
+    called 10 (codes "TruncateChannelsResponse") ∷
+    called 11 (codes "DefineChannels") ∷
+    called 12 (codes "DefineChannelsResponse") ∷
+    called 13 (codes "RetireChannels") ∷
+    called 14 (codes "RetireChannelsResponse") ∷ common_names
+
+-- StoreNotification
+abbrev pub store_notification_names : List NamedKind
+store_notification_names =
+    called 1 (codes "SubscribeNotifications") ∷
+    called 2 (codes "SubscribeNotificationsResponse") ∷
+    called 3 (codes "UnsubscribeNotifications") ∷
+    called 4 (codes "ObjectsChanged") ∷
+    called 5 (codes "NotificationsStopped") ∷ common_names
 
 -- a protocol, by its number, and its messages
 pub record NamedProtocol : Type 0 where
@@ -115,7 +128,8 @@ protocol_names =
     has 18 transaction_names ∷
     has 9 data_array_names ∷
     has 21 channel_subscribe_names ∷
-    has 22 channel_data_load_names ∷ []
+    has 22 channel_data_load_names ∷
+    has 5 store_notification_names ∷ []
 
 -- the name of a number, or none
 abbrev pub name_in : List NamedKind → ℤ → List ℕ

@@ -194,7 +194,19 @@ table_names =
     of_message (codes "ReplaceRangeResponse") (codes "channelChangeTime" ∷ []) ∷
     nothing ∷
     of_message (codes "TruncateChannels") (codes "channels" ∷ []) ∷
-    of_message (codes "TruncateChannelsResponse") (codes "channelsTruncatedTime" ∷ []) ∷ []
+    of_message (codes "TruncateChannelsResponse") (codes "channelsTruncatedTime" ∷ []) ∷
+    of_message (codes "DefineChannels") (codes "channels" ∷ []) ∷
+    of_message (codes "DefineChannelsResponse") (codes "ids" ∷ []) ∷
+    of_message (codes "RetireChannels") (codes "uris" ∷ []) ∷
+    of_message (codes "RetireChannelsResponse") (codes "success" ∷ []) ∷
+    of_message (codes "SubscribeNotifications") (codes "dataspaces" ∷ []) ∷
+    of_message (codes "SubscribeNotificationsResponse") (codes "success" ∷ []) ∷
+    of_message (codes "UnsubscribeNotifications") (codes "dataspaces" ∷ []) ∷
+    nothing ∷
+    of_record (codes "place" ∷ codes "changeTime" ∷ codes "kind" ∷ codes "uri" ∷ []) ∷
+    nothing ∷
+    of_message (codes "ObjectsChanged") (codes "changes" ∷ []) ∷
+    of_message (codes "NotificationsStopped") (codes "reason" ∷ codes "dataspaces" ∷ []) ∷ []
 
 -- the places that each node of the schema's table names
 abbrev pub table_children : List (List ℕ)
@@ -363,7 +375,19 @@ table_children =
     (3 ∷ []) ∷
     (79 ∷ []) ∷
     (162 ∷ []) ∷
-    (145 ∷ []) ∷ []
+    (145 ∷ []) ∷
+    (138 ∷ []) ∷
+    (145 ∷ []) ∷
+    (98 ∷ []) ∷
+    (98 ∷ []) ∷
+    (98 ∷ []) ∷
+    (98 ∷ []) ∷
+    (98 ∷ []) ∷
+    [] ∷
+    (3 ∷ 3 ∷ 172 ∷ 7 ∷ []) ∷
+    (173 ∷ []) ∷
+    (174 ∷ []) ∷
+    (7 ∷ 98 ∷ []) ∷ []
 
 -- the names at a place
 unfoldable pub names_at : ℕ → Named

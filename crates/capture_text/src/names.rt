@@ -311,6 +311,18 @@ static NAMES: &[Names] = &[
     Nothing,
     Message("TruncateChannels", &["channels"]),
     Message("TruncateChannelsResponse", &["channelsTruncatedTime"]),
+    Message("DefineChannels", &["channels"]),
+    Message("DefineChannelsResponse", &["ids"]),
+    Message("RetireChannels", &["uris"]),
+    Message("RetireChannelsResponse", &["success"]),
+    Message("SubscribeNotifications", &["dataspaces"]),
+    Message("SubscribeNotificationsResponse", &["success"]),
+    Message("UnsubscribeNotifications", &["dataspaces"]),
+    Nothing,
+    Record(&["place", "changeTime", "kind", "uri"]),
+    Nothing,
+    Message("ObjectsChanged", &["changes"]),
+    Message("NotificationsStopped", &["reason", "dataspaces"]),
 ];
 
 /// The names at each place of the schema's table.

@@ -44,6 +44,8 @@ use Rattle.client_core.specs.declared.state.Phase.TheVariants as phase
 use Rattle.client_laws.specs.Parts.{AreOfParts, DataspaceRises, CoreRises, IsFree, LoadRises, PartsAreJoined, ReadPartsAreJoined, Rise, Rises, Sent, Splits, StoreRises, SubscribeRises, has_objects, store_objects}
 use Rattle.client_laws.proofs.MergeLemmas.{front_rises, merged_behind}
 use Rattle.client_laws.proofs.TakenLemmas.{Ends, IsPart, Same, headers, join_whole, messages, one_part, put}
+use Rattle.msg_store.specs.StoreNotification.{object_change_form}
+use Rattle.msg_store.specs.declared.notification_messages.StoreNotificationMessage.TheVariants as notified
 
 -- ---- the items of all groups
 
@@ -257,7 +259,23 @@ load_ends limit (load.ChannelsClosed x) rise =
 load_ends limit (load.TruncateChannelsResponse x) rise =
     unread_end false (λ g. message.ChannelDataLoad (load.TruncateChannelsResponse (record x { channels_truncated_time = g }))) (λ g. (refl, refl, refl, refl, refl)) (entry_amount long_form) limit x.channels_truncated_time (λ a b. refl) (λ a h t. refl)
     (λ a. (refl, refl, refl, refl, refl, refl, refl, refl, refl))
+load_ends limit (load.DefineChannelsResponse x) rise =
+    names_end false (λ g. message.ChannelDataLoad (load.DefineChannelsResponse (record x { ids = g }))) (λ g. (refl, refl, refl, refl, refl)) (entry_amount long_form) limit x.ids (λ a b. refl) rise
+load_ends limit (load.RetireChannelsResponse x) rise =
+    names_end false (λ g. message.ChannelDataLoad (load.RetireChannelsResponse (record x { success = g }))) (λ g. (refl, refl, refl, refl, refl)) (entry_amount text_form) limit x.success (λ a b. refl) rise
 load_ends limit x rise = alone (message.ChannelDataLoad x)
+
+notified_ends : (limit : ℕ) (x : StoreNotificationMessage) → Parted (store_notification_parts limit x) (message.StoreNotification x)
+notified_ends limit (notified.SubscribeNotificationsResponse x) =
+    unread_end false (λ g. message.StoreNotification (notified.SubscribeNotificationsResponse (record x { success = g }))) (λ g. (refl, refl, refl, refl, refl)) (entry_amount text_form) limit x.success (λ a b. refl) (λ a h t. refl)
+    (λ a. (refl, refl, refl, refl, refl, refl, refl, refl, refl))
+notified_ends limit (notified.ObjectsChanged x) =
+    unread_end false (λ g. message.StoreNotification (notified.ObjectsChanged (record x { changes = g }))) (λ g. (refl, refl, refl, refl, refl)) (item_amount object_change_form) limit x.changes (λ a b. refl) (λ a h t. refl)
+    (λ a. (refl, refl, refl, refl, refl, refl, refl, refl, refl))
+notified_ends limit (notified.NotificationsStopped x) =
+    unread_end false (λ g. message.StoreNotification (notified.NotificationsStopped (record x { dataspaces = g }))) (λ g. (refl, refl, refl, refl, refl)) (entry_amount text_form) limit x.dataspaces (λ a b. refl) (λ a h t. refl)
+    (λ a. (refl, refl, refl, refl, refl, refl, refl, refl, refl))
+notified_ends limit x = alone (message.StoreNotification x)
 
 parts_end : (limit number blobs : ℕ) (m : Message) → has_objects m ≡ false → Rises m → Parted (parts limit number blobs m) m
 parts_end limit number blobs (message.Core x) without rise = core_ends limit x rise

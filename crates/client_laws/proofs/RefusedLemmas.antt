@@ -39,6 +39,8 @@ use Rattle.client_core.specs.declared.state.Phase.TheVariants as phase
 use Rattle.client_laws.specs.Parts.{AreOfParts, FirstIsRefused, IsBarred, Sent, has_objects, store_objects}
 use Rattle.client_laws.proofs.PartsLemmas.{comes_alike}
 use Rattle.client_laws.proofs.TakenLemmas.{IsAlike, ends_fresh, first_alike, headers, is_more, messages}
+use Rattle.msg_store.specs.StoreNotification.{object_change_form}
+use Rattle.msg_store.specs.declared.notification_messages.StoreNotificationMessage.TheVariants as notified
 
 -- ---- what a client sees of a message at first sight
 
@@ -140,7 +142,15 @@ load_shape : (limit : ℕ) (x : ChannelDataLoadMessage) → Shape (message.Chann
 load_shape limit (load.OpenChannelsResponse x) = in_groups (λ g. message.ChannelDataLoad (load.OpenChannelsResponse (record x { channels = g }))) (entry_amount open_channel_info_form) limit x.channels (λ g. (refl, refl, refl, refl))
 load_shape limit (load.ChannelsClosed x) = in_groups (λ g. message.ChannelDataLoad (load.ChannelsClosed (record x { id = g }))) (entry_amount long_form) limit x.id (λ g. (refl, refl, refl, refl))
 load_shape limit (load.TruncateChannelsResponse x) = in_groups (λ g. message.ChannelDataLoad (load.TruncateChannelsResponse (record x { channels_truncated_time = g }))) (entry_amount long_form) limit x.channels_truncated_time (λ g. (refl, refl, refl, refl))
+load_shape limit (load.DefineChannelsResponse x) = in_groups (λ g. message.ChannelDataLoad (load.DefineChannelsResponse (record x { ids = g }))) (entry_amount long_form) limit x.ids (λ g. (refl, refl, refl, refl))
+load_shape limit (load.RetireChannelsResponse x) = in_groups (λ g. message.ChannelDataLoad (load.RetireChannelsResponse (record x { success = g }))) (entry_amount text_form) limit x.success (λ g. (refl, refl, refl, refl))
 load_shape limit x = inl refl
+
+notified_shape : (limit : ℕ) (x : StoreNotificationMessage) → Shape (message.StoreNotification x) (store_notification_parts limit x)
+notified_shape limit (notified.SubscribeNotificationsResponse x) = in_groups (λ g. message.StoreNotification (notified.SubscribeNotificationsResponse (record x { success = g }))) (entry_amount text_form) limit x.success (λ g. (refl, refl, refl, refl))
+notified_shape limit (notified.ObjectsChanged x) = in_groups (λ g. message.StoreNotification (notified.ObjectsChanged (record x { changes = g }))) (item_amount object_change_form) limit x.changes (λ g. (refl, refl, refl, refl))
+notified_shape limit (notified.NotificationsStopped x) = in_groups (λ g. message.StoreNotification (notified.NotificationsStopped (record x { dataspaces = g }))) (entry_amount text_form) limit x.dataspaces (λ g. (refl, refl, refl, refl))
+notified_shape limit x = inl refl
 
 shape : (limit number blobs : ℕ) (m : Message) → has_objects m ≡ false → Shape m (parts limit number blobs m)
 shape limit number blobs (message.Core x) without = core_shape limit x

@@ -17,8 +17,8 @@ ghost use Rattle.msg_store.specs.declared.store_messages.StoreMessage.TheVariant
 use etp_values::{List, Named, NoMemory, Text};
 use msg_channel::{
     ChannelData, ChannelDataLoadMessage, ChannelSubscribeMessage, ChannelsTruncated,
-    GetChannelMetadataResponse, OpenChannelsResponse, RangeReplaced, SubscribeChannelsResponse,
-    SubscriptionsStopped,
+    DefineChannelsResponse, GetChannelMetadataResponse, OpenChannelsResponse, RangeReplaced,
+    RetireChannelsResponse, SubscribeChannelsResponse, SubscriptionsStopped,
 };
 use msg_core::{CoreMessage, DataspaceMessage, ProtocolException, PutDataspacesResponse};
 use msg_store::{PutDataObjectsResponse, StoreMessage};
@@ -382,6 +382,44 @@ fn open_channels_response(
     }
 }
 
+fn define_channels_response(
+    alloc: Global,
+    first: ChannelDataLoadMessage,
+    more: DefineChannelsResponse,
+) -> Result<ChannelDataLoadMessage, NoMemory>
+    ensures { IfOk result (λ m. m ≡ load_joined first (load.DefineChannelsResponse more)) }
+{
+    match first {
+        ChannelDataLoadMessage::DefineChannelsResponse(first) => {
+            let ids = merged(alloc, first.ids, more.ids)?;
+            Ok(ChannelDataLoadMessage::DefineChannelsResponse(DefineChannelsResponse {
+                ids,
+                ..first
+            }))
+        }
+        other => Ok(later(other, ChannelDataLoadMessage::DefineChannelsResponse(more))),
+    }
+}
+
+fn retire_channels_response(
+    alloc: Global,
+    first: ChannelDataLoadMessage,
+    more: RetireChannelsResponse,
+) -> Result<ChannelDataLoadMessage, NoMemory>
+    ensures { IfOk result (λ m. m ≡ load_joined first (load.RetireChannelsResponse more)) }
+{
+    match first {
+        ChannelDataLoadMessage::RetireChannelsResponse(first) => {
+            let success = merged(alloc, first.success, more.success)?;
+            Ok(ChannelDataLoadMessage::RetireChannelsResponse(RetireChannelsResponse {
+                success,
+                ..first
+            }))
+        }
+        other => Ok(later(other, ChannelDataLoadMessage::RetireChannelsResponse(more))),
+    }
+}
+
 /// A further part of a message, appended to what there is of it.
 pub fn load_joined(
     alloc: Global,
@@ -392,6 +430,12 @@ pub fn load_joined(
 {
     match more {
         ChannelDataLoadMessage::OpenChannelsResponse(more) => open_channels_response(
+            alloc, first, more,
+        ),
+        ChannelDataLoadMessage::DefineChannelsResponse(more) => define_channels_response(
+            alloc, first, more,
+        ),
+        ChannelDataLoadMessage::RetireChannelsResponse(more) => retire_channels_response(
             alloc, first, more,
         ),
         other => Ok(later(first, other)),

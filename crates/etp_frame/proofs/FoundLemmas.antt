@@ -33,6 +33,7 @@ use Rattle.etp_frame.specs.Message.{message_body, IsOf, IsOfCore, under, common_
 use Rattle.etp_frame.specs.declared.message.Message.{Message}
 use Rattle.etp_frame.specs.declared.message.Message.TheVariants as m
 use Rattle.etp_frame.proofs.KindLemmas.{lifted, kind_under, kind_behind, typed_has, at_each}
+use Rattle.msg_store.specs.declared.notification_messages.StoreNotificationMessage.TheVariants as notified
 
 -- what was found has the body's schema, and reads the body as the message
 abbrev pub Reads : Body → Message → Option (Kind Message) → Type 0
@@ -108,6 +109,17 @@ own_channel_data_load (load.ChannelsClosed x) = refl
 own_channel_data_load (load.ReplaceRangeResponse x) = refl
 own_channel_data_load (load.TruncateChannels x) = refl
 own_channel_data_load (load.TruncateChannelsResponse x) = refl
+own_channel_data_load (load.DefineChannels x) = refl
+own_channel_data_load (load.DefineChannelsResponse x) = refl
+own_channel_data_load (load.RetireChannels x) = refl
+own_channel_data_load (load.RetireChannelsResponse x) = refl
+
+own_store_notification : (x : StoreNotificationMessage) → is_some (kind_in common_kinds (pos (store_notification_body x).number)) ≡ false
+own_store_notification (notified.SubscribeNotifications x) = refl
+own_store_notification (notified.SubscribeNotificationsResponse x) = refl
+own_store_notification (notified.UnsubscribeNotifications x) = refl
+own_store_notification (notified.ObjectsChanged x) = refl
+own_store_notification (notified.NotificationsStopped x) = refl
 
 -- what is found after the messages of every protocol
 reads_behind : {M : Type 0} (whole : M → Message) (ks : List (Kind M)) (written : M → Body) (x : M) → is_some (kind_in common_kinds (pos (written x).number)) ≡ false → IsFound ks written x → Reads (written x) (whole x) (kind_in (common_kinds ++ under whole ks) (pos (written x).number))
@@ -132,13 +144,16 @@ channel_subscribe_at x = reads_behind m.ChannelSubscribe channel_subscribe_kinds
 channel_data_load_at : (x : ChannelDataLoadMessage) → Reads (channel_data_load_body x) (m.ChannelDataLoad x) (typed_kind (pos 22) (pos (channel_data_load_body x).number))
 channel_data_load_at x = reads_behind m.ChannelDataLoad channel_data_load_kinds channel_data_load_body x (own_channel_data_load x) (channel_data_load_found x)
 
+store_notification_at : (x : StoreNotificationMessage) → Reads (store_notification_body x) (m.StoreNotification x) (typed_kind (pos 5) (pos (store_notification_body x).number))
+store_notification_at x = reads_behind m.StoreNotification store_notification_kinds store_notification_body x (own_store_notification x) (store_notification_found x)
+
 exception_read : (x : ProtocolException) → Reads (body 1000 protocol_exception_form x) (m.Core (c.ProtocolException x)) (Some (message 1000 protocol_exception_form (λ y. m.Core (c.ProtocolException y))))
 exception_read x = (refl, λ h. ap (λ (y : ProtocolException). m.Core (c.ProtocolException y)) (protocol_exception_form.back x h))
 
 exception_at : (x : ProtocolException) (p : ℤ) → is_protocol p ≡ true → Reads (body 1000 protocol_exception_form x) (m.Core (c.ProtocolException x)) (typed_kind p (pos 1000))
 exception_at x p h =
     let r = exception_read x in
-    at_each (Reads (body 1000 protocol_exception_form x) (m.Core (c.ProtocolException x))) (pos 1000) protocols p (r, (r, (r, (r, (r, (r, (r, tt))))))) h
+    at_each (Reads (body 1000 protocol_exception_form x) (m.Core (c.ProtocolException x))) (pos 1000) protocols p (r, (r, (r, (r, (r, (r, (r, (r, tt)))))))) h
 
 acknowledge_read : (x : Acknowledge) → Reads (body 1001 acknowledge_form x) (m.Core (c.Acknowledge x)) (Some (message 1001 acknowledge_form (λ y. m.Core (c.Acknowledge y))))
 acknowledge_read x = (refl, λ h. ap (λ (y : Acknowledge). m.Core (c.Acknowledge y)) (acknowledge_form.back x h))
@@ -146,7 +161,7 @@ acknowledge_read x = (refl, λ h. ap (λ (y : Acknowledge). m.Core (c.Acknowledg
 acknowledge_at : (x : Acknowledge) (p : ℤ) → is_protocol p ≡ true → Reads (body 1001 acknowledge_form x) (m.Core (c.Acknowledge x)) (typed_kind p (pos 1001))
 acknowledge_at x p h =
     let r = acknowledge_read x in
-    at_each (Reads (body 1001 acknowledge_form x) (m.Core (c.Acknowledge x))) (pos 1001) protocols p (r, (r, (r, (r, (r, (r, (r, tt))))))) h
+    at_each (Reads (body 1001 acknowledge_form x) (m.Core (c.Acknowledge x))) (pos 1001) protocols p (r, (r, (r, (r, (r, (r, (r, (r, tt)))))))) h
 
 core_of : (x : CoreMessage) (p : ℤ) → IsOfCore x p → Reads (core_body x) (m.Core x) (typed_kind p (pos (core_body x).number))
 core_of (c.RequestSession x) p h = subst (λ (q : ℤ). Reads (core_body (c.RequestSession x)) (m.Core (c.RequestSession x)) (typed_kind q (pos 1))) (sym h) (core_at (c.RequestSession x))
@@ -166,6 +181,7 @@ found_of (m.Store x) p h = subst (λ (q : ℤ). Reads (store_body x) (m.Store x)
 found_of (m.DataArray x) p h = subst (λ (q : ℤ). Reads (data_array_body x) (m.DataArray x) (typed_kind q (pos (data_array_body x).number))) (sym h) (data_array_at x)
 found_of (m.ChannelSubscribe x) p h = subst (λ (q : ℤ). Reads (channel_subscribe_body x) (m.ChannelSubscribe x) (typed_kind q (pos (channel_subscribe_body x).number))) (sym h) (channel_subscribe_at x)
 found_of (m.ChannelDataLoad x) p h = subst (λ (q : ℤ). Reads (channel_data_load_body x) (m.ChannelDataLoad x) (typed_kind q (pos (channel_data_load_body x).number))) (sym h) (channel_data_load_at x)
+found_of (m.StoreNotification x) p h = subst (λ (q : ℤ). Reads (store_notification_body x) (m.StoreNotification x) (typed_kind q (pos (store_notification_body x).number))) (sym h) (store_notification_at x)
 
 again_under : {M : Type 0} (whole : M → Message) (written : M → Body) → ((x : M) → message_body (whole x) ≡ written x) → (ks : List (Kind M)) → AllByRecursion (IsAgain written) ks → AllByRecursion (IsAgain message_body) (under whole ks)
 again_under whole written same [] h = tt
@@ -184,7 +200,7 @@ behind_again : {M : Type 0} (whole : M → Message) (written : M → Body) → (
 behind_again whole written same ks h = common_again (under whole ks) (again_under whole written same ks h)
 
 all_again : AllByRecursion (λ q. AllByRecursion (IsAgain message_body) q.kinds) protocols
-all_again = (again_under m.Core core_body (λ x. refl) core_kinds core_again, (behind_again m.Dataspace dataspace_body (λ x. refl) dataspace_kinds dataspace_again, (behind_again m.Store store_body (λ x. refl) store_kinds store_again, (behind_again m.Transaction transaction_body (λ x. refl) transaction_kinds transaction_again, (behind_again m.DataArray data_array_body (λ x. refl) data_array_kinds data_array_again, (behind_again m.ChannelSubscribe channel_subscribe_body (λ x. refl) channel_subscribe_kinds channel_subscribe_again, (behind_again m.ChannelDataLoad channel_data_load_body (λ x. refl) channel_data_load_kinds channel_data_load_again, tt)))))))
+all_again = (again_under m.Core core_body (λ x. refl) core_kinds core_again, (behind_again m.Dataspace dataspace_body (λ x. refl) dataspace_kinds dataspace_again, (behind_again m.Store store_body (λ x. refl) store_kinds store_again, (behind_again m.Transaction transaction_body (λ x. refl) transaction_kinds transaction_again, (behind_again m.DataArray data_array_body (λ x. refl) data_array_kinds data_array_again, (behind_again m.ChannelSubscribe channel_subscribe_body (λ x. refl) channel_subscribe_kinds channel_subscribe_again, (behind_again m.ChannelDataLoad channel_data_load_body (λ x. refl) channel_data_load_kinds channel_data_load_again, (behind_again m.StoreNotification store_notification_body (λ x. refl) store_notification_kinds store_notification_again, tt))))))))
 
 -- what is read by a kind is a message of the protocol
 abbrev pub IsOwn : ℤ → Kind Message → Type 0
@@ -210,7 +226,7 @@ behind_own : {M : Type 0} (whole : M → Message) (p : ℤ) → is_protocol p �
 behind_own whole p h all ks = common_own p h (under whole ks) (own_under whole p all ks)
 
 all_own : AllByRecursion (λ q. AllByRecursion (IsOwn (pos q.number)) q.kinds) protocols
-all_own = (own_under m.Core (pos 0) core_own core_kinds, (behind_own m.Dataspace (pos 24) refl (λ x. refl) dataspace_kinds, (behind_own m.Store (pos 4) refl (λ x. refl) store_kinds, (behind_own m.Transaction (pos 18) refl (λ x. refl) transaction_kinds, (behind_own m.DataArray (pos 9) refl (λ x. refl) data_array_kinds, (behind_own m.ChannelSubscribe (pos 21) refl (λ x. refl) channel_subscribe_kinds, (behind_own m.ChannelDataLoad (pos 22) refl (λ x. refl) channel_data_load_kinds, tt)))))))
+all_own = (own_under m.Core (pos 0) core_own core_kinds, (behind_own m.Dataspace (pos 24) refl (λ x. refl) dataspace_kinds, (behind_own m.Store (pos 4) refl (λ x. refl) store_kinds, (behind_own m.Transaction (pos 18) refl (λ x. refl) transaction_kinds, (behind_own m.DataArray (pos 9) refl (λ x. refl) data_array_kinds, (behind_own m.ChannelSubscribe (pos 21) refl (λ x. refl) channel_subscribe_kinds, (behind_own m.ChannelDataLoad (pos 22) refl (λ x. refl) channel_data_load_kinds, (behind_own m.StoreNotification (pos 5) refl (λ x. refl) store_notification_kinds, tt))))))))
 
 -- what is found is written again as it was read, and is a message of the protocol, with the number that was searched
 pub typed_of : (p kind : ℤ) (k : Kind Message) → typed_kind p kind ≡ Some k → IsAgain message_body k × IsOwn p k × (kind ≡ pos k.number)

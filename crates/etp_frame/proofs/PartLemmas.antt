@@ -29,6 +29,8 @@ use Rattle.etp_frame.specs.Chunking.{as_sent}
 use Rattle.etp_frame.specs.Grouping.{entry_amount, item_amount}
 use Rattle.etp_frame.specs.Splitting.{core_parts, dataspace_parts, result_parts, store_parts, store_unsent, data_array_parts, channel_subscribe_parts, channel_data_load_parts, parts, is_unsent}
 use Rattle.etp_frame.proofs.WholeLemmas.{all_parts, sent_restored, with_chunks_whole, in_parts_whole}
+use Rattle.msg_store.specs.StoreNotification.{object_change_form}
+use Rattle.msg_store.specs.declared.notification_messages.StoreNotificationMessage.TheVariants as notified
 
 core_whole : (limit : ℕ) (x : CoreMessage) → whole (core_parts limit x) ≡ Some (m.Core x)
 core_whole limit (c.ProtocolException x) = all_parts (entry_amount error_info_form) limit (λ g. m.Core (c.ProtocolException (record x { errors = g }))) (λ a b. refl) x.errors
@@ -63,7 +65,15 @@ channel_data_load_whole : (limit : ℕ) (x : ChannelDataLoadMessage) → whole (
 channel_data_load_whole limit (load.OpenChannelsResponse x) = all_parts (entry_amount open_channel_info_form) limit (λ g. m.ChannelDataLoad (load.OpenChannelsResponse (record x { channels = g }))) (λ a b. refl) x.channels
 channel_data_load_whole limit (load.ChannelsClosed x) = all_parts (entry_amount long_form) limit (λ g. m.ChannelDataLoad (load.ChannelsClosed (record x { id = g }))) (λ a b. refl) x.id
 channel_data_load_whole limit (load.TruncateChannelsResponse x) = all_parts (entry_amount long_form) limit (λ g. m.ChannelDataLoad (load.TruncateChannelsResponse (record x { channels_truncated_time = g }))) (λ a b. refl) x.channels_truncated_time
+channel_data_load_whole limit (load.DefineChannelsResponse x) = all_parts (entry_amount long_form) limit (λ g. m.ChannelDataLoad (load.DefineChannelsResponse (record x { ids = g }))) (λ a b. refl) x.ids
+channel_data_load_whole limit (load.RetireChannelsResponse x) = all_parts (entry_amount text_form) limit (λ g. m.ChannelDataLoad (load.RetireChannelsResponse (record x { success = g }))) (λ a b. refl) x.success
 channel_data_load_whole limit x = refl
+
+store_notification_whole : (limit : ℕ) (x : StoreNotificationMessage) → whole (store_notification_parts limit x) ≡ Some (m.StoreNotification x)
+store_notification_whole limit (notified.SubscribeNotificationsResponse x) = all_parts (entry_amount text_form) limit (λ g. m.StoreNotification (notified.SubscribeNotificationsResponse (record x { success = g }))) (λ a b. refl) x.success
+store_notification_whole limit (notified.ObjectsChanged x) = all_parts (item_amount object_change_form) limit (λ g. m.StoreNotification (notified.ObjectsChanged (record x { changes = g }))) (λ a b. refl) x.changes
+store_notification_whole limit (notified.NotificationsStopped x) = all_parts (entry_amount text_form) limit (λ g. m.StoreNotification (notified.NotificationsStopped (record x { dataspaces = g }))) (λ a b. refl) x.dataspaces
+store_notification_whole limit x = refl
 
 result_whole : (limit : ℕ) (x : StoreMessage) → whole (result_parts limit x) ≡ Some (m.Store x)
 result_whole limit (s.PutDataObjectsResponse x) = all_parts (entry_amount put_response_form) limit (λ g. m.Store (s.PutDataObjectsResponse (record x { success = g }))) (λ a b. refl) x.success
@@ -87,6 +97,7 @@ parts_whole limit number k (m.Store x) u = store_whole limit number k x u
 parts_whole limit number k (m.DataArray x) u = data_array_whole limit x
 parts_whole limit number k (m.ChannelSubscribe x) u = channel_subscribe_whole limit x
 parts_whole limit number k (m.ChannelDataLoad x) u = channel_data_load_whole limit x
+parts_whole limit number k (m.StoreNotification x) u = store_notification_whole limit x
 
 -- what was answered as the parts, put together
 pub answered_whole : {E : Type 0} (r : Result (List Message) E) (limit number k : ℕ) (x : Message) → IfOk r (λ l. l ≡ parts limit number k x) → is_unsent x ≡ true → IfOk r (λ l. whole l ≡ Some x)

@@ -24,6 +24,7 @@ message_body (m.Store x) = store_body x
 message_body (m.DataArray x) = data_array_body x
 message_body (m.ChannelSubscribe x) = channel_subscribe_body x
 message_body (m.ChannelDataLoad x) = channel_data_load_body x
+message_body (m.StoreNotification x) = store_notification_body x
 
 -- the number of the Core protocol
 abbrev pub core_number : ℕ
@@ -53,6 +54,10 @@ channel_subscribe_number = 21
 abbrev pub channel_data_load_number : ℕ
 channel_data_load_number = 22
 
+-- that of StoreNotification
+abbrev pub store_notification_number : ℕ
+store_notification_number = 5
+
 -- the protocol whose enum has a message
 abbrev pub protocol_of : Message → ℕ
 protocol_of (m.Core x) = core_number
@@ -62,6 +67,7 @@ protocol_of (m.Store x) = store_number
 protocol_of (m.DataArray x) = data_array_number
 protocol_of (m.ChannelSubscribe x) = channel_subscribe_number
 protocol_of (m.ChannelDataLoad x) = channel_data_load_number
+protocol_of (m.StoreNotification x) = store_notification_number
 
 -- the protocol has the message of Core's enum: each protocol has ProtocolException and Acknowledge
 abbrev pub IsOfCore : CoreMessage → ℤ → Type 0
@@ -82,6 +88,7 @@ IsOf (m.Store x) protocol = protocol ≡ pos store_number
 IsOf (m.DataArray x) protocol = protocol ≡ pos data_array_number
 IsOf (m.ChannelSubscribe x) protocol = protocol ≡ pos channel_subscribe_number
 IsOf (m.ChannelDataLoad x) protocol = protocol ≡ pos channel_data_load_number
+IsOf (m.StoreNotification x) protocol = protocol ≡ pos store_notification_number
 
 -- the header names the message: its number, and a protocol that has it
 abbrev pub Names : Header → Message → Type 0
@@ -115,7 +122,8 @@ protocols =
     protocol transaction_number (common_kinds ++ under m.Transaction transaction_kinds) ∷
     protocol data_array_number (common_kinds ++ under m.DataArray data_array_kinds) ∷
     protocol channel_subscribe_number (common_kinds ++ under m.ChannelSubscribe channel_subscribe_kinds) ∷
-    protocol channel_data_load_number (common_kinds ++ under m.ChannelDataLoad channel_data_load_kinds) ∷ []
+    protocol channel_data_load_number (common_kinds ++ under m.ChannelDataLoad channel_data_load_kinds) ∷
+    protocol store_notification_number (common_kinds ++ under m.StoreNotification store_notification_kinds) ∷ []
 
 -- the messages of a protocol; none for a number that no protocol has
 abbrev pub kinds_in : List Protocol → ℤ → List (Kind Message)

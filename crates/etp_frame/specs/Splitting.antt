@@ -27,6 +27,8 @@ use Rattle.etp_frame.specs.declared.message.Message.{Message}
 use Rattle.etp_frame.specs.declared.message.Message.TheVariants as m
 use Rattle.etp_frame.specs.Chunking.{as_sent, long_objects, sent_amount, with_chunks}
 use Rattle.etp_frame.specs.Grouping.{entry_amount, item_amount, groups}
+use Rattle.msg_store.specs.StoreNotification.{object_change_form}
+use Rattle.msg_store.specs.declared.notification_messages.StoreNotificationMessage.TheVariants as notified
 
 -- A message whose one field can grow has its items in groups, and repeats the other fields. Any other is one part.
 
@@ -81,7 +83,15 @@ abbrev pub channel_data_load_parts : ℕ → ChannelDataLoadMessage → List Mes
 channel_data_load_parts limit (load.OpenChannelsResponse x) = map (λ g. m.ChannelDataLoad (load.OpenChannelsResponse (record x { channels = g }))) (groups (entry_amount open_channel_info_form) limit x.channels)
 channel_data_load_parts limit (load.ChannelsClosed x) = map (λ g. m.ChannelDataLoad (load.ChannelsClosed (record x { id = g }))) (groups (entry_amount long_form) limit x.id)
 channel_data_load_parts limit (load.TruncateChannelsResponse x) = map (λ g. m.ChannelDataLoad (load.TruncateChannelsResponse (record x { channels_truncated_time = g }))) (groups (entry_amount long_form) limit x.channels_truncated_time)
+channel_data_load_parts limit (load.DefineChannelsResponse x) = map (λ g. m.ChannelDataLoad (load.DefineChannelsResponse (record x { ids = g }))) (groups (entry_amount long_form) limit x.ids)
+channel_data_load_parts limit (load.RetireChannelsResponse x) = map (λ g. m.ChannelDataLoad (load.RetireChannelsResponse (record x { success = g }))) (groups (entry_amount text_form) limit x.success)
 channel_data_load_parts limit x = m.ChannelDataLoad x ∷ []
+
+abbrev pub store_notification_parts : ℕ → StoreNotificationMessage → List Message
+store_notification_parts limit (notified.SubscribeNotificationsResponse x) = map (λ g. m.StoreNotification (notified.SubscribeNotificationsResponse (record x { success = g }))) (groups (entry_amount text_form) limit x.success)
+store_notification_parts limit (notified.ObjectsChanged x) = map (λ g. m.StoreNotification (notified.ObjectsChanged (record x { changes = g }))) (groups (item_amount object_change_form) limit x.changes)
+store_notification_parts limit (notified.NotificationsStopped x) = map (λ g. m.StoreNotification (notified.NotificationsStopped (record x { dataspaces = g }))) (groups (entry_amount text_form) limit x.dataspaces)
+store_notification_parts limit x = m.StoreNotification x ∷ []
 
 -- The parts of a message that is sent if messages have at most `limit` bytes, in the session of a number, in which this many blobs were
 -- sent before.
@@ -93,6 +103,7 @@ parts limit number k (m.Store x) = store_parts limit number k x
 parts limit number k (m.DataArray x) = data_array_parts limit x
 parts limit number k (m.ChannelSubscribe x) = channel_subscribe_parts limit x
 parts limit number k (m.ChannelDataLoad x) = channel_data_load_parts limit x
+parts limit number k (m.StoreNotification x) = store_notification_parts limit x
 
 -- how many blobs a message is sent with
 abbrev pub store_blobs : ℕ → StoreMessage → ℕ

@@ -16,6 +16,7 @@ use Rattle.msg_store.specs.declared.store_messages.StoreMessage.TheVariants as s
 use Rattle.etp_frame.specs.Joining.{Objects, fed}
 use Rattle.etp_frame.specs.declared.message.Message.{Message}
 use Rattle.etp_frame.specs.declared.message.Message.TheVariants as m
+use Rattle.msg_store.specs.declared.notification_messages.StoreNotificationMessage.TheVariants as notified
 
 -- a message of Core with a further part of it
 abbrev pub core_joined : CoreMessage → CoreMessage → CoreMessage
@@ -64,7 +65,15 @@ abbrev pub channel_data_load_joined : ChannelDataLoadMessage → ChannelDataLoad
 channel_data_load_joined (load.OpenChannelsResponse x) (load.OpenChannelsResponse y) = load.OpenChannelsResponse (record x { channels = x.channels ++ y.channels })
 channel_data_load_joined (load.ChannelsClosed x) (load.ChannelsClosed y) = load.ChannelsClosed (record x { id = x.id ++ y.id })
 channel_data_load_joined (load.TruncateChannelsResponse x) (load.TruncateChannelsResponse y) = load.TruncateChannelsResponse (record x { channels_truncated_time = x.channels_truncated_time ++ y.channels_truncated_time })
+channel_data_load_joined (load.DefineChannelsResponse x) (load.DefineChannelsResponse y) = load.DefineChannelsResponse (record x { ids = x.ids ++ y.ids })
+channel_data_load_joined (load.RetireChannelsResponse x) (load.RetireChannelsResponse y) = load.RetireChannelsResponse (record x { success = x.success ++ y.success })
 channel_data_load_joined x y = x
+
+abbrev pub store_notification_joined : StoreNotificationMessage → StoreNotificationMessage → StoreNotificationMessage
+store_notification_joined (notified.SubscribeNotificationsResponse x) (notified.SubscribeNotificationsResponse y) = notified.SubscribeNotificationsResponse (record x { success = x.success ++ y.success })
+store_notification_joined (notified.ObjectsChanged x) (notified.ObjectsChanged y) = notified.ObjectsChanged (record x { changes = x.changes ++ y.changes })
+store_notification_joined (notified.NotificationsStopped x) (notified.NotificationsStopped y) = notified.NotificationsStopped (record x { dataspaces = x.dataspaces ++ y.dataspaces })
+store_notification_joined x y = x
 
 -- a message with a further part or chunk of it
 abbrev pub joined : Message → Message → Message
@@ -74,6 +83,7 @@ joined (m.Store x) (m.Store y) = m.Store (store_joined x y)
 joined (m.DataArray x) (m.DataArray y) = m.DataArray (data_array_joined x y)
 joined (m.ChannelSubscribe x) (m.ChannelSubscribe y) = m.ChannelSubscribe (channel_subscribe_joined x y)
 joined (m.ChannelDataLoad x) (m.ChannelDataLoad y) = m.ChannelDataLoad (channel_data_load_joined x y)
+joined (m.StoreNotification x) (m.StoreNotification y) = m.StoreNotification (store_notification_joined x y)
 joined x y = x
 
 -- a message with further parts and chunks, in their order

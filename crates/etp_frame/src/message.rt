@@ -35,6 +35,7 @@ pub enum Message {
     DataArray(Boxed<DataArrayMessage>),
     ChannelSubscribe(Boxed<ChannelSubscribeMessage>),
     ChannelDataLoad(Boxed<ChannelDataLoadMessage>),
+    StoreNotification(Boxed<StoreNotificationMessage>),
 }
 
 impl Message {
@@ -50,6 +51,7 @@ impl Message {
             Message::DataArray(message) => message.get().kind(),
             Message::ChannelSubscribe(message) => message.get().kind(),
             Message::ChannelDataLoad(message) => message.get().kind(),
+            Message::StoreNotification(message) => message.get().kind(),
         }
     }
 
@@ -65,6 +67,7 @@ impl Message {
             Message::DataArray(_) => protocols::DATA_ARRAY,
             Message::ChannelSubscribe(_) => protocols::CHANNEL_SUBSCRIBE,
             Message::ChannelDataLoad(_) => protocols::CHANNEL_DATA_LOAD,
+            Message::StoreNotification(_) => protocols::STORE_NOTIFICATION,
         }
     }
 
@@ -80,6 +83,7 @@ impl Message {
             Message::DataArray(_) => protocol == protocols::DATA_ARRAY,
             Message::ChannelSubscribe(_) => protocol == protocols::CHANNEL_SUBSCRIBE,
             Message::ChannelDataLoad(_) => protocol == protocols::CHANNEL_DATA_LOAD,
+            Message::StoreNotification(_) => protocol == protocols::STORE_NOTIFICATION,
         }
     }
 
@@ -99,6 +103,7 @@ impl Message {
             protocols::DATA_ARRAY => read_data_array(from, kind),
             protocols::CHANNEL_SUBSCRIBE => read_channel_subscribe(from, kind),
             protocols::CHANNEL_DATA_LOAD => read_channel_data_load(from, kind),
+            protocols::STORE_NOTIFICATION => read_store_notification(from, kind),
             _ => Ok(None),
         }
     }
@@ -117,6 +122,7 @@ impl Message {
             Message::DataArray(message) => message.get().write(into),
             Message::ChannelSubscribe(message) => message.get().write(into),
             Message::ChannelDataLoad(message) => message.get().write(into),
+            Message::StoreNotification(message) => message.get().write(into),
         }
     }
 
@@ -132,6 +138,7 @@ impl Message {
             Message::DataArray(message) => message.get().measure(),
             Message::ChannelSubscribe(message) => message.get().measure(),
             Message::ChannelDataLoad(message) => message.get().measure(),
+            Message::StoreNotification(message) => message.get().measure(),
         }
     }
 }
@@ -262,6 +269,19 @@ fn read_channel_data_load(from: &mut Reader<'_>, kind: i32) -> Result<Option<Mes
     }
     match ChannelDataLoadMessage::read(from, kind) {
         Ok(Some(message)) => Ok(Some(Message::ChannelDataLoad(boxed(from, message)?))),
+        Ok(None) => Ok(None),
+        Err(fault) => Err(fault),
+    }
+}
+
+fn read_store_notification(from: &mut Reader<'_>, kind: i32) -> Result<Option<Message>, Fault>
+    ensures { Reads (kind_at (kind_in (common_kinds ++ under m.StoreNotification store_notification_kinds) kind) from.old.left from.old.rest.now) result from.new }
+{
+    if is_common(kind) {
+        return read_common(from, kind);
+    }
+    match StoreNotificationMessage::read(from, kind) {
+        Ok(Some(message)) => Ok(Some(Message::StoreNotification(boxed(from, message)?))),
         Ok(None) => Ok(None),
         Err(fault) => Err(fault),
     }

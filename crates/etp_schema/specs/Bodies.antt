@@ -115,7 +115,20 @@ channel_data_load_rows =
     body 7 by_server place.CHANNELS_CLOSED shape.channels_closed ∷
     body 8 by_server place.REPLACE_RANGE_RESPONSE shape.replace_range_response ∷
     body 9 by_client place.TRUNCATE_CHANNELS shape.truncate_channels ∷
-    body 10 by_server place.TRUNCATE_CHANNELS_RESPONSE shape.truncate_channels_response ∷ common
+    body 10 by_server place.TRUNCATE_CHANNELS_RESPONSE shape.truncate_channels_response ∷
+    body 11 by_client place.DEFINE_CHANNELS shape.define_channels ∷
+    body 12 by_server place.DEFINE_CHANNELS_RESPONSE shape.define_channels_response ∷
+    body 13 by_client place.RETIRE_CHANNELS shape.retire_channels ∷
+    body 14 by_server place.RETIRE_CHANNELS_RESPONSE shape.retire_channels_response ∷ common
+
+-- StoreNotification
+abbrev pub store_notification_rows : List BodyRow
+store_notification_rows =
+    body 1 by_client place.SUBSCRIBE_NOTIFICATIONS shape.subscribe_notifications ∷
+    body 2 by_server place.SUBSCRIBE_NOTIFICATIONS_RESPONSE shape.subscribe_notifications_response ∷
+    body 3 by_client place.UNSUBSCRIBE_NOTIFICATIONS shape.unsubscribe_notifications ∷
+    body 4 by_server place.OBJECTS_CHANGED shape.objects_changed ∷
+    body 5 by_server place.NOTIFICATIONS_STOPPED shape.notifications_stopped ∷ common
 
 -- a protocol, and its messages
 pub record ProtocolRow : Type 0 where
@@ -133,7 +146,8 @@ protocols =
     protocol_row 18 transaction_rows ∷
     protocol_row 9 data_array_rows ∷
     protocol_row 21 channel_subscribe_rows ∷
-    protocol_row 22 channel_data_load_rows ∷ []
+    protocol_row 22 channel_data_load_rows ∷
+    protocol_row 5 store_notification_rows ∷ []
 
 -- whether a number of a message is this one
 abbrev pub is_number : ℕ → ℤ → Bool

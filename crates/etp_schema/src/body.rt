@@ -26,6 +26,7 @@ pub fn is_protocol(number: i32) -> bool
         protocols::DATA_ARRAY => true,
         protocols::CHANNEL_SUBSCRIBE => true,
         protocols::CHANNEL_DATA_LOAD => true,
+        protocols::STORE_NOTIFICATION => true,
         _ => false,
     }
 }
@@ -43,6 +44,7 @@ pub fn body_of(protocol: i32, kind: i32, sender: Side) -> Option<u32>
         protocols::DATA_ARRAY => data_array_body(kind, sender),
         protocols::CHANNEL_SUBSCRIBE => channel_subscribe_body(kind, sender),
         protocols::CHANNEL_DATA_LOAD => channel_data_load_body(kind, sender),
+        protocols::STORE_NOTIFICATION => store_notification_body(kind, sender),
         _ => None,
     }
 }
@@ -167,6 +169,25 @@ fn channel_data_load_body(kind: i32, sender: Side) -> Option<u32>
         (8, Side::Server) => Some(REPLACE_RANGE_RESPONSE),
         (9, Side::Client) => Some(TRUNCATE_CHANNELS),
         (10, Side::Server) => Some(TRUNCATE_CHANNELS_RESPONSE),
+        (11, Side::Client) => Some(DEFINE_CHANNELS),
+        (12, Side::Server) => Some(DEFINE_CHANNELS_RESPONSE),
+        (13, Side::Client) => Some(RETIRE_CHANNELS),
+        (14, Side::Server) => Some(RETIRE_CHANNELS_RESPONSE),
+        (protocols::PROTOCOL_EXCEPTION_KIND, _) => Some(PROTOCOL_EXCEPTION),
+        (protocols::ACKNOWLEDGE_KIND, _) => Some(ACKNOWLEDGE),
+        _ => None,
+    }
+}
+
+fn store_notification_body(kind: i32, sender: Side) -> Option<u32>
+    ensures { result ≡ place_of (row_in store_notification_rows kind sender) }
+{
+    match (kind, sender) {
+        (1, Side::Client) => Some(SUBSCRIBE_NOTIFICATIONS),
+        (2, Side::Server) => Some(SUBSCRIBE_NOTIFICATIONS_RESPONSE),
+        (3, Side::Client) => Some(UNSUBSCRIBE_NOTIFICATIONS),
+        (4, Side::Server) => Some(OBJECTS_CHANGED),
+        (5, Side::Server) => Some(NOTIFICATIONS_STOPPED),
         (protocols::PROTOCOL_EXCEPTION_KIND, _) => Some(PROTOCOL_EXCEPTION),
         (protocols::ACKNOWLEDGE_KIND, _) => Some(ACKNOWLEDGE),
         _ => None,

@@ -353,3 +353,27 @@ pub const MAP_OF_TRUNCATE_INFO: u32 = 162;
 pub const TRUNCATE_CHANNELS: u32 = 163;
 /// channelsTruncatedTime: {long}.
 pub const TRUNCATE_CHANNELS_RESPONSE: u32 = 164;
+/// channels: {ChannelMetadataRecord}.
+pub const DEFINE_CHANNELS: u32 = 165;
+/// ids: {long}.
+pub const DEFINE_CHANNELS_RESPONSE: u32 = 166;
+/// uris: {string}.
+pub const RETIRE_CHANNELS: u32 = 167;
+/// success: {string}.
+pub const RETIRE_CHANNELS_RESPONSE: u32 = 168;
+/// dataspaces: {string}.
+pub const SUBSCRIBE_NOTIFICATIONS: u32 = 169;
+/// success: {string}.
+pub const SUBSCRIBE_NOTIFICATIONS_RESPONSE: u32 = 170;
+/// dataspaces: {string}.
+pub const UNSUBSCRIBE_NOTIFICATIONS: u32 = 171;
+/// Set, Removed, ArrayChanged, SpaceDropped.
+pub const OBJECT_CHANGE_KIND: u32 = 172;
+/// place: long, changeTime: long, kind: ObjectChangeKind, uri: string.
+pub const OBJECT_CHANGE: u32 = 173;
+
+pub const LIST_OF_OBJECT_CHANGE: u32 = 174;
+/// changes: [ObjectChange].
+pub const OBJECTS_CHANGED: u32 = 175;
+/// reason: string, dataspaces: {string}.
+pub const NOTIFICATIONS_STOPPED: u32 = 176;

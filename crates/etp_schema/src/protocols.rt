@@ -16,6 +16,8 @@ pub const CHANNEL_SUBSCRIBE: i32 = 21;
 
 pub const CHANNEL_DATA_LOAD: i32 = 22;
 
+pub const STORE_NOTIFICATION: i32 = 5;
+
 /// ProtocolException is a message of every protocol.
 pub const PROTOCOL_EXCEPTION_KIND: i32 = 1000;
 /// Acknowledge is a message of every protocol.

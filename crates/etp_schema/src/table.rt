@@ -292,6 +292,18 @@ pub static TABLE: Table = Table {
         Node::Map(TRUNCATE_INFO),
         Node::Fields(&[MAP_OF_TRUNCATE_INFO]),
         Node::Fields(&[MAP_OF_LONG]),
+        Node::Fields(&[MAP_OF_CHANNEL_METADATA_RECORD]),
+        Node::Fields(&[MAP_OF_LONG]),
+        Node::Fields(&[MAP_OF_STRING]),
+        Node::Fields(&[MAP_OF_STRING]),
+        Node::Fields(&[MAP_OF_STRING]),
+        Node::Fields(&[MAP_OF_STRING]),
+        Node::Fields(&[MAP_OF_STRING]),
+        Node::Enum(4),
+        Node::Fields(&[LONG, LONG, OBJECT_CHANGE_KIND, STRING]),
+        Node::Array(OBJECT_CHANGE),
+        Node::Fields(&[LIST_OF_OBJECT_CHANGE]),
+        Node::Fields(&[STRING, MAP_OF_STRING]),
     ],
 };
 

@@ -16,6 +16,7 @@ use Rattle.msg_store.specs.declared.data_array_messages.DataArrayMessage.{DataAr
 use Rattle.msg_store.specs.declared.data_array_messages.DataArrayMessage.TheVariants as array
 use Rattle.msg_store.specs.declared.store_messages.StoreMessage.{StoreMessage}
 use Rattle.msg_store.specs.declared.store_messages.StoreMessage.TheVariants as object
+use Rattle.msg_store.specs.declared.notification_messages.StoreNotificationMessage.TheVariants as notified
 
 pub all_map : {A : Type 0} (P : Message → Type 0) (f : A → Message) → ((g : A) → P (f g)) → (gs : List A) → AllByRecursion P (map f gs)
 all_map P f h [] = tt
@@ -79,3 +80,14 @@ load_each P h limit (load.ChannelsClosed x) = all_map P _ (λ g. h (load.Channel
 load_each P h limit (load.ReplaceRangeResponse x) = (h (load.ReplaceRangeResponse x), tt)
 load_each P h limit (load.TruncateChannels x) = (h (load.TruncateChannels x), tt)
 load_each P h limit (load.TruncateChannelsResponse x) = all_map P _ (λ g. h (load.TruncateChannelsResponse (record x { channels_truncated_time = g }))) _
+load_each P h limit (load.DefineChannels x) = (h (load.DefineChannels x), tt)
+load_each P h limit (load.DefineChannelsResponse x) = all_map P _ (λ g. h (load.DefineChannelsResponse (record x { ids = g }))) _
+load_each P h limit (load.RetireChannels x) = (h (load.RetireChannels x), tt)
+load_each P h limit (load.RetireChannelsResponse x) = all_map P _ (λ g. h (load.RetireChannelsResponse (record x { success = g }))) _
+
+pub notified_each : (P : Message → Type 0) → ((x : StoreNotificationMessage) → P (message.StoreNotification x)) → (limit : ℕ) (x : StoreNotificationMessage) → AllByRecursion P (store_notification_parts limit x)
+notified_each P h limit (notified.SubscribeNotifications x) = (h (notified.SubscribeNotifications x), tt)
+notified_each P h limit (notified.SubscribeNotificationsResponse x) = all_map P _ (λ g. h (notified.SubscribeNotificationsResponse (record x { success = g }))) _
+notified_each P h limit (notified.UnsubscribeNotifications x) = (h (notified.UnsubscribeNotifications x), tt)
+notified_each P h limit (notified.ObjectsChanged x) = all_map P _ (λ g. h (notified.ObjectsChanged (record x { changes = g }))) _
+notified_each P h limit (notified.NotificationsStopped x) = all_map P _ (λ g. h (notified.NotificationsStopped (record x { dataspaces = g }))) _
