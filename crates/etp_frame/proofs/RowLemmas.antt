@@ -4,7 +4,7 @@ use Rattle.std.proofs.Common.{◌≡◌, ℕ, ℤ, pos, true, false, List, [], �
 use Rattle.std.specs.List.{AllByRecursion}
 use Rattle.std.proofs.lemmas.Option.{same_Some}
 use Rattle.avro_bin.specs.Schema.{Schema}
-use Rattle.etp_schema.specs.Bodies.{BodyRow, ProtocolRow, is_number, row_in, messages_in, has_number, schema_of, row_of, is_protocol, core_rows, dataspace_rows, store_rows, transaction_rows, data_array_rows, channel_subscribe_rows, channel_data_load_rows}
+use Rattle.etp_schema.specs.Bodies.{BodyRow, ProtocolRow, is_number, row_in, messages_in, has_number, schema_of, row_of, is_protocol, core_rows, dataspace_rows, store_rows, transaction_rows, data_array_rows, channel_subscribe_rows, channel_data_load_rows, store_notification_rows}
 use Rattle.etp_schema.specs.Bodies as bodies
 use Rattle.etp_schema.specs.Family.{Kind, kind_in}
 use Rattle.etp_schema.specs.declared.body.Side.{Side}
@@ -69,10 +69,13 @@ channel_subscribe_fit : RowsHave RowFits (kinds_in protocols (pos 21)) channel_s
 channel_subscribe_fit = (refl, (refl, (refl, (refl, (refl, (refl, (refl, (refl, (refl, (refl, (refl, (refl, (refl, tt)))))))))))))
 
 channel_data_load_fit : RowsHave RowFits (kinds_in protocols (pos 22)) channel_data_load_rows
-channel_data_load_fit = (refl, (refl, (refl, (refl, (refl, (refl, (refl, (refl, (refl, (refl, (refl, tt)))))))))))
+channel_data_load_fit = (refl, (refl, (refl, (refl, (refl, (refl, (refl, (refl, (refl, (refl, (refl, (refl, (refl, (refl, (refl, tt)))))))))))))))
+
+store_notification_fit : RowsHave RowFits (kinds_in protocols (pos 5)) store_notification_rows
+store_notification_fit = (refl, (refl, (refl, (refl, (refl, (refl, (refl, tt)))))))
 
 rows_fit : Agree RowFits bodies.protocols protocols
-rows_fit = (refl, core_fit, (refl, dataspace_fit, (refl, store_fit, (refl, transaction_fit, (refl, data_array_fit, (refl, channel_subscribe_fit, (refl, channel_data_load_fit, tt)))))))
+rows_fit = (refl, core_fit, (refl, dataspace_fit, (refl, store_fit, (refl, transaction_fit, (refl, data_array_fit, (refl, channel_subscribe_fit, (refl, channel_data_load_fit, (refl, store_notification_fit, tt))))))))
 
 fitting : (r : BodyRow) (o : Option (Kind Message)) → RowFits r o → (k : Kind Message) × (o ≡ Some k) × (k.schema ≡ r.schema)
 fitting r None h = absurd h

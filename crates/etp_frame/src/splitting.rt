@@ -7,7 +7,7 @@ use crate::message::Message;
 use crate::parting::one_part;
 use crate::parts::{
     channel_data_load_parts, channel_subscribe_parts, core_parts, data_array_parts,
-    dataspace_parts, store_parts,
+    dataspace_parts, store_notification_parts, store_parts,
 };
 use crate::sending::long_objects;
 use etp_values::{List, NoMemory};
@@ -36,6 +36,11 @@ fn parts_of(
             limit,
         ),
         Message::ChannelDataLoad(message) => channel_data_load_parts(
+            alloc,
+            message.into_inner(),
+            limit,
+        ),
+        Message::StoreNotification(message) => store_notification_parts(
             alloc,
             message.into_inner(),
             limit,
