@@ -69,6 +69,7 @@ ChannelSubscribeInfo: channelId:long startIndex:IndexValue dataChanges:boolean r
 ChannelRangeInfo: channelIds:[long] interval:IndexInterval secondaryIntervals:[IndexInterval]
 TruncateInfo: channelId:long newEndIndex:IndexValue
 OpenChannelInfo: metadata:ChannelMetadataRecord preferRealtime:boolean dataChanges:boolean
+ObjectChange: place:long changeTime:long kind:ObjectChangeKind uri:string
 MessageHeader: protocol:int messageType:int correlationId:long messageId:long messageFlags:int
 """
 
@@ -79,11 +80,12 @@ AnyLogicalArrayType: arrayOfBoolean arrayOfInt8 arrayOfUInt8 arrayOfInt16LE arra
 PassDirection: Up HoldingSteady Down
 ChannelIndexKind: DateTime ElapsedTime MeasuredDepth TrueVerticalDepth PassIndexedDepth Pressure Temperature Scalar
 IndexDirection: Increasing Decreasing Unordered
+ObjectChangeKind: Set Removed ArrayChanged SpaceDropped
 ChannelDataKind: DateTime ElapsedTime MeasuredDepth PassIndexedDepth TrueVerticalDepth typeBoolean typeInt typeLong typeFloat typeDouble typeString typeBytes
 """
 
 PROTOCOLS = {
-    0: "Core", 4: "Store", 9: "DataArray", 18: "Transaction", 21: "ChannelSubscribe", 22: "ChannelDataLoad", 24: "Dataspace",
+    0: "Core", 4: "Store", 5: "StoreNotification", 9: "DataArray", 18: "Transaction", 21: "ChannelSubscribe", 22: "ChannelDataLoad", 24: "Dataspace",
 }
 
 # A protocol's number, the message's number in it, its name, who sends it (C the client, S the server, B both), its fields.
@@ -144,6 +146,15 @@ MESSAGES = """
 22 8 ReplaceRangeResponse S channelChangeTime:long
 22 9 TruncateChannels C channels:{TruncateInfo}
 22 10 TruncateChannelsResponse S channelsTruncatedTime:{long}
+22 11 DefineChannels C channels:{ChannelMetadataRecord}
+22 12 DefineChannelsResponse S ids:{long}
+22 13 RetireChannels C uris:{string}
+22 14 RetireChannelsResponse S success:{string}
+5 1 SubscribeNotifications C dataspaces:{string}
+5 2 SubscribeNotificationsResponse S success:{string}
+5 3 UnsubscribeNotifications C dataspaces:{string}
+5 4 ObjectsChanged S changes:[ObjectChange]
+5 5 NotificationsStopped S reason:string dataspaces:{string}
 """
 
 # These are messages of every protocol.
