@@ -4,6 +4,8 @@ from write_messages import form, rust_type
 
 PARTS_FILES = {"Core": "exceptions"}
 COPIES = {"IndexInterval": "copied_interval"}
+# Lists of these records have a type of their own, which is made of a list and gives one.
+LISTS = {"DataItem": "DataItems"}
 
 
 def grown(message):
@@ -11,6 +13,17 @@ def grown(message):
     type = message.grows.type
     count = "entry_amount" if type.kind == "map" else "item_amount"
     return rust_type(type.parts[0]), f"({count} {form(type.parts[0])})"
+
+
+def own_list(message):
+    """The own type of the list that grows, or None."""
+    return None if is_map(message) else LISTS.get(message.grows.type.parts[0].name)
+
+
+def of_list(message, items):
+    """The field that grows, made of a list of its items."""
+    own = own_list(message)
+    return f"{own}::listed({items})" if own else items
 
 
 def is_map(message):
@@ -61,7 +74,7 @@ def with_items(protocol, alias, message):
     trait, method, word, holder = ("WithEntries", "with_entries", "entries", "Named")
     if not is_map(message):
         trait, method, word, holder = ("WithElements", "with_elements", "elements", "List")
-    fields = ", ".join(f"{each.rust}: {word if each is message.grows else copy_of(each)}" for each in message.fields)
+    fields = ", ".join(f"{each.rust}: {of_list(message, word) if each is message.grows else copy_of(each)}" for each in message.fields)
     file, enum = protocol.file, protocol.enum
     made = f"m.{protocol.name} ({with_field(alias, message, word, 'self.now')})"
     return f"""impl {trait}<{item}> for {message.name} {{
@@ -85,17 +98,24 @@ def parts_function(protocol, alias, message):
         holder, parts = "List", "parts_of_elements"
     names = [each.rust for each in message.fields]
     taken = not is_map(message) and len(names) > 1
+    empty = of_list(message, f"{holder}::new(alloc)")
+    listed = f"    let {own} = {own}.into_list(alloc)?;\n" if own_list(message) else ""
+    whole = ""
+    if own_list(message):
+        whole = (f"    if is_one_group(&message.{own}, limit) {{\n"
+                 f"        let whole = Boxed::new(alloc, {protocol.enum}::{message.name}(message))?;\n"
+                 f"        return one_part(alloc, Message::{protocol.name}(whole));\n    }}\n")
     if taken:
-        body = (f"    let {own} = mem::replace(&mut message.{own}, List::new(alloc));\n"
+        body = (f"    let {own} = mem::replace(&mut message.{own}, {empty});\n{listed}"
                 f"    {parts}(alloc, &message, {own}, limit)\n")
     else:
-        rest = ", ".join(f"{each}: {holder}::new(alloc)" if each == own else each for each in names)
-        body = (f"    let {message.name} {{ {', '.join(names)} }} = message;\n"
+        rest = ", ".join(f"{each}: {empty}" if each == own else each for each in names)
+        body = (f"    let {message.name} {{ {', '.join(names)} }} = message;\n{listed}"
                 f"    let rest = {message.name} {{ {rest} }};\n    {parts}(alloc, &rest, {own}, limit)\n")
     return (f"fn {protocol.snake}_{message.snake}(alloc: Global, {'mut ' if taken else ''}message: {message.name}, limit: u64)"
             f" -> Result<List<Message>, NoMemory>\n"
             f"    ensures {{ IfOk result (λ l. l ≡ {parts_word(protocol)}_parts limit ({alias}{message.name} message)) }}\n"
-            f"{{\n{body}}}")
+            f"{{\n{whole}{body}}}")
 
 
 def parts_match(protocol, written):
@@ -113,7 +133,7 @@ def names_of(schema, message):
     """The types of a message and of its items, if both are of one crate."""
     item = schema.named.get(message.grows.type.parts[0].name)
     same = item is not None and item.file.crate == message.file.crate
-    return [message.name, item.name] if same else [message.name]
+    return [message.name, *([own_list(message)] if own_list(message) else []), *([item.name] if same else [])]
 
 
 def write_part_functions(schema, protocol, file):
@@ -246,10 +266,17 @@ def joined_of(protocol):
     return [each for each in protocol.growing if each.joined]
 
 
+def needs_memory(message):
+    """Whether joining two parts asks for memory of its own."""
+    return is_map(message) or own_list(message) is not None
+
+
 def join_function(protocol, alias, message):
     enum, own = protocol.enum, message.grows.rust
-    call = f"merged(alloc, first.{own}, more.{own})" if is_map(message) else f"appended(first.{own}, more.{own})"
-    arguments = "alloc: Global, " if is_map(message) else ""
+    call = f"appended(first.{own}, more.{own})"
+    if needs_memory(message):
+        call = f"{'merged' if is_map(message) else 'appended_items'}(alloc, first.{own}, more.{own})"
+    arguments = "alloc: Global, " if needs_memory(message) else ""
     return (f"fn {message.snake}({arguments}first: {enum}, more: {message.name}) -> Result<{enum}, NoMemory>\n"
             f"    ensures {{ IfOk result (λ m. m ≡ {alias[:-1]}_joined first ({alias}{message.name} more)) }}\n{{\n"
             f"match first {{\n{enum}::{message.name}(first) => {{\nlet {own} = {call}?;\n"
@@ -259,7 +286,7 @@ def join_function(protocol, alias, message):
 
 def join_match(protocol, alias, written):
     name, enum = f"{alias[:-1]}_joined", protocol.enum
-    arms = "".join(f"{enum}::{each.name}(more) => {each.snake}({'alloc, ' if is_map(each) else ''}first, more),\n"
+    arms = "".join(f"{enum}::{each.name}(more) => {each.snake}({'alloc, ' if needs_memory(each) else ''}first, more),\n"
                    for each in written.in_order(f"fn {name}", joined_of(protocol)))
     return (f"pub fn {name}(alloc: Global, first: {enum}, more: {enum}) -> Result<{enum}, NoMemory>\n"
             f"    ensures {{ IfOk result (λ m. m ≡ {name} first more) }}\n{{\nmatch more {{\n{arms}"

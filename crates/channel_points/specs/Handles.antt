@@ -4,6 +4,8 @@ use Rattle.etp_values.specs.declared.point.Point.{Point}
 use Rattle.etp_values.specs.declared.point.ChannelPoint.{ChannelPoint}
 use Rattle.channel_points.specs.declared.items.Kept.{Kept}
 use Rattle.channel_points.specs.declared.items.Kept.TheVariants.{Single, Mixed}
+use Rattle.channel_points.specs.declared.items.LentPoints.{LentPoints}
+use Rattle.channel_points.specs.declared.items.LentPoints.TheVariants as lent
 use Rattle.channel_points.specs.declared.points.Form.{Form}
 use Rattle.channel_points.specs.declared.points.Form.TheVariants.{Empty, One, Own, Run}
 use Rattle.channel_points.specs.Bytes.{point_bytes}
@@ -30,6 +32,11 @@ of_channel id p = record { channel = id; point = p }
 abbrev pub items_in : Kept → List ChannelPoint
 items_in (Single id points) = map (of_channel id) points
 items_in (Mixed items) = items
+
+-- the items that are lent so
+abbrev pub lent_items : LentPoints → List ChannelPoint
+lent_items (lent.Single id points) = map (of_channel id) points.now
+lent_items (lent.Mixed items) = items.now
 
 -- the points of items without their channels
 abbrev pub points_alone : List ChannelPoint → List Point

@@ -4,7 +4,7 @@ ghost use Rattle.std.specs.Bool.{OnTrue};
 ghost use Rattle.std.specs.List.{AllByRecursion};
 ghost use Rattle.etp_values.specs.Weight.{capped, weigh};
 ghost use Rattle.channel_points.specs.Bytes.{point_bytes};
-ghost use Rattle.channel_points.specs.Handles.{item_bytes, of_channel, points_alone};
+ghost use Rattle.channel_points.specs.Handles.{item_bytes, lent_items, of_channel, points_alone};
 
 use crate::bytes::point_bytes;
 use crate::points::Points;
@@ -114,6 +114,27 @@ fn items_bytes(items: &[ChannelPoint]) -> u64
     sum
 }
 
+/// Points with their channels, lent to be read in order.
+#[derive(Clone, Copy)]
+pub enum LentPoints<'a> {
+    /// The points of one channel.
+    Single(i64, &'a [Point]),
+    /// Points that each have their own channel.
+    Mixed(&'a [ChannelPoint]),
+}
+
+impl<'a> LentPoints<'a> {
+    /// How many points there are.
+    pub fn len(self) -> usize
+        ensures { result ≡ length (lent_items self.entry) }
+    {
+        match self {
+            LentPoints::Single(_, points) => points.len(),
+            LentPoints::Mixed(items) => items.len(),
+        }
+    }
+}
+
 impl ChannelPoints {
     /// Points of one channel.
     pub fn single(channel: i64, points: Points) -> ChannelPoints
@@ -152,6 +173,16 @@ impl ChannelPoints {
         ensures { result ≡ length self.now == 0 }
     {
         self.len() == 0
+    }
+
+    /// Borrows the points.
+    pub fn lent(&self) -> LentPoints<'_>
+        ensures { lent_items result ≡ self.now }
+    {
+        match &self.kept {
+            Kept::Single { channel, points } => LentPoints::Single(*channel, points.as_slice()),
+            Kept::Mixed(items) => LentPoints::Mixed(items.get().as_slice()),
+        }
     }
 
     /// The channel of the point at an index.

@@ -13,7 +13,7 @@ mod search;
 
 pub use boxed::BoxedPoints;
 pub use bytes::{point_bytes, points_bytes};
-pub use items::{ChannelPoints, only_channel};
+pub use items::{ChannelPoints, LentPoints, only_channel};
 pub use points::Points;
 pub use rows::Rows;
 pub use search::count_below;

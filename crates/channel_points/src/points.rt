@@ -151,7 +151,7 @@ impl Points {
     }
 
     /// Borrows the points.
-    pub(crate) fn as_slice(&self) -> &[Point]
+    pub fn as_slice(&self) -> &[Point]
         ensures { result.now ≡ self.now }
     {
         match &self.form {

@@ -1,5 +1,5 @@
 -- Points as messages have them.
-use Rattle.std.specs.Prelude.{ℤ, Bool, false, List, [], ◌∷◌, ◌++◌, Option, Some, None, length, map, nat_lt, not, if◌then◌else◌}
+use Rattle.std.specs.Prelude.{◌≡◌, ℤ, Bool, true, false, List, [], ◌∷◌, ◌++◌, Option, Some, None, length, map, nat_lt, not, if◌then◌else◌}
 use Rattle.etp_values.specs.declared.code.ErrorCode.TheVariants.{InvalidArgument, InvalidIndexKind, NotFound, SizeExceeded}
 use Rattle.etp_values.specs.declared.data.DataValue.{DataValue}
 use Rattle.etp_values.specs.declared.data.DataValue.TheVariants.{String, Bytes}
@@ -7,24 +7,12 @@ use Rattle.etp_values.specs.declared.point.ChannelPoint.{ChannelPoint}
 use Rattle.etp_values.specs.declared.point.Point.{Point}
 use Rattle.keyed_requests.specs.declared.keys.Decision.{Decision}
 use Rattle.keyed_requests.specs.declared.keys.Decision.TheVariants.{Granted, Refused}
+pub use Rattle.msg_channel.specs.Items.{item_of, items_of, channel_items}
 use Rattle.msg_channel.specs.declared.indexes.IndexInterval.{IndexInterval}
 use Rattle.msg_channel.specs.declared.indexes.IndexValue.{IndexValue}
 use Rattle.msg_channel.specs.declared.indexes.IndexValue.TheVariants as index
 use Rattle.msg_channel.specs.declared.points.DataItem.{DataItem}
 use Rattle.channel_rows.specs.Opens.{is_open}
-
--- ---- points to be sent
-
--- a point of a channel: one long index, and no attributes
-abbrev pub item_of : ℤ → Point → DataItem
-item_of channel p = record { channel_id = channel; indexes = index.Long p.index ∷ []; value = p.value; value_attributes = [] }
-
-abbrev pub items_of : ℤ → List Point → List DataItem
-items_of channel points = map (item_of channel) points
-
--- points of several channels
-abbrev pub channel_items : List ChannelPoint → List DataItem
-channel_items points = map (λ x. item_of x.channel x.point) points
 
 -- ---- points that are loaded
 
@@ -73,6 +61,10 @@ loaded_after rest (Granted p) = put_first p (rest (Some p.point.index))
 abbrev pub loaded : List Bool → Option ℤ → List DataItem → Decision (List ChannelPoint)
 loaded opens before [] = Granted []
 loaded opens before (x ∷ xs) = loaded_after (λ z. loaded opens z xs) (item_point opens before x)
+
+-- an item of this point is loaded as it is
+abbrev pub CanLoad : List Bool → ChannelPoint → Type 0
+CanLoad opens x = (is_open opens x.channel ≡ true) × (is_value_large x.point.value ≡ false)
 
 -- points after these
 abbrev pub put_behind : List ChannelPoint → Decision (List ChannelPoint) → Decision (List ChannelPoint)

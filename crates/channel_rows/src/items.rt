@@ -1,12 +1,16 @@
 //! Points as messages have them.
-ghost use Rattle.std.specs.Prelude.{◌≡◌, IfOk, None};
-ghost use Rattle.channel_rows.specs.Points.{channel_items, ends_of, index_of, is_value_large, item_of, item_point, items_of, loaded, long_in, point_at, same_index};
+ghost use Rattle.std.specs.Prelude.{◌≡◌, false, map, IfOk, None};
+ghost use Rattle.std.specs.Bool.{OnTrue};
+ghost use Rattle.std.specs.List.{AllByRecursion};
+ghost use Rattle.channel_points.specs.Handles.{lent_items, of_channel};
+ghost use Rattle.channel_rows.specs.Points.{CanLoad, channel_items, ends_of, index_of, is_value_large, item_of, item_point, items_of, loaded, long_in, point_at, same_index};
 
 use crate::open_flags::Opens;
+use channel_points::{ChannelPoints, LentPoints};
 use etp_schema::Few;
 use etp_values::{ChannelPoint, DataValue, ErrorCode, List, NoMemory, Point};
 use keyed_requests::Decision;
-use msg_channel::{DataItem, IndexInterval, IndexValue};
+use msg_channel::{DataItem, DataItems, IndexInterval, IndexValue, items_of_points};
 use std::alloc::Global;
 
 /// The maximum length of a channel's value that is a text or a run of bytes, in bytes.
@@ -132,7 +136,7 @@ fn item_point(opens: &Opens, before: Option<i64>, item: DataItem) -> Decision<Ch
 }
 
 /// The points of items in order; the first that is refused refuses all.
-pub(crate) fn loaded(
+fn loaded_list(
     alloc: Global,
     opens: &Opens,
     items: List<DataItem>,
@@ -152,6 +156,93 @@ pub(crate) fn loaded(
         }
     }
     Ok(Decision::Granted(List::from_vec(points)))
+}
+
+/// Whether no value is large. `false` says nothing.
+fn are_small(points: &[Point]) -> bool
+    ensures { OnTrue result (AllByRecursion (λ p. is_value_large p.value ≡ false) points.now) }
+{
+    for point in points {
+        if is_value_large(&point.value) {
+            return false;
+        }
+    }
+    true
+}
+
+/// Whether all these points are loaded as they are. `false` says nothing.
+fn is_row_loaded(opens: &Opens, points: &[ChannelPoint]) -> bool
+    ensures { OnTrue result (AllByRecursion (CanLoad opens.now) points.now) }
+{
+    for one in points {
+        if !opens.is_open(one.channel) || is_value_large(&one.point.value) {
+            return false;
+        }
+    }
+    true
+}
+
+/// Whether all these points of a channel are loaded as they are. `false` says nothing.
+#[tactic(auto, using(crate::proofs::PointLemmas::run_can_load))]
+fn is_run_loaded(opens: &Opens, channel: i64, points: &[Point]) -> bool
+    ensures { OnTrue result (AllByRecursion (CanLoad opens.now) (map (of_channel channel) points.now)) }
+{
+    if !opens.is_open(channel) {
+        return false;
+    }
+    are_small(points)
+}
+
+/// Whether all points are loaded as they are. `false` says nothing.
+fn are_loaded(opens: &Opens, points: LentPoints<'_>) -> bool
+    ensures { OnTrue result (AllByRecursion (CanLoad opens.now) (lent_items points.entry)) }
+{
+    match points {
+        LentPoints::Single(channel, points) => is_run_loaded(opens, channel, points),
+        LentPoints::Mixed(points) => is_row_loaded(opens, points),
+    }
+}
+
+/// The points of items that are kept as points: mostly they are loaded as they are, and need not be looked at one by one.
+#[tactic(auto, using(crate::proofs::PointLemmas::all_loaded))]
+fn loaded_points(
+    alloc: Global,
+    opens: &Opens,
+    points: ChannelPoints,
+) -> Result<Decision<List<ChannelPoint>>, NoMemory>
+    ensures { IfOk result (λ d. d ≡ loaded opens.now None (channel_items points)) }
+{
+    if are_loaded(opens, points.lent()) {
+        let points = points.to_list(alloc)?;
+        return Ok(Decision::Granted(points));
+    }
+    let items = items_of_points(alloc, points.lent())?;
+    loaded_list(alloc, opens, items)
+}
+
+fn loaded_items(
+    alloc: Global,
+    opens: &Opens,
+    items: DataItems,
+) -> Result<Decision<List<ChannelPoint>>, NoMemory>
+    ensures { IfOk result (λ d. d ≡ loaded opens.now None items) }
+{
+    let items = items.into_list(alloc)?;
+    loaded_list(alloc, opens, items)
+}
+
+/// The points of items in order; the first that is refused refuses all.
+pub(crate) fn loaded(
+    alloc: Global,
+    opens: &Opens,
+    items: DataItems,
+) -> Result<Decision<List<ChannelPoint>>, NoMemory>
+    ensures { IfOk result (λ d. d ≡ loaded opens.now None items) }
+{
+    match items.into_points() {
+        Ok(points) => loaded_points(alloc, opens, points),
+        Err(items) => loaded_items(alloc, opens, items),
+    }
 }
 
 /// An index that is a long.

@@ -8,7 +8,7 @@ use crate::loads::{LoadOutcome, LoadPending};
 use crate::open_flags::Opens;
 use etp_values::{List, NoMemory};
 use keyed_requests::{Decision, Outcome, refused_outcome};
-use msg_channel::DataItem;
+use msg_channel::DataItems;
 use std::alloc::Global;
 use store_machine::StoreCall;
 
@@ -17,7 +17,7 @@ use store_machine::StoreCall;
 pub(crate) fn append_outcome(
     alloc: Global,
     opens: &Opens,
-    items: List<DataItem>,
+    items: DataItems,
 ) -> Result<LoadOutcome, NoMemory>
     ensures { let points = loaded opens.now None items in
         IfOk result (λ o. o ≡ load_called points) }

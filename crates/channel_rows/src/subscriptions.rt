@@ -19,7 +19,8 @@ use keyed_requests::{
     object_uri, refusal_alone, refused_outcome, reply_alone, request_outcome, request_reply,
 };
 use msg_channel::{
-    ChannelMetadataRecord, ChannelSubscribeMessage, GetChannelMetadataResponse, GetRangesResponse,
+    ChannelMetadataRecord, ChannelSubscribeMessage, DataItems, GetChannelMetadataResponse,
+    GetRangesResponse,
 };
 use server_config::ChannelDef;
 use std::alloc::Global;
@@ -240,7 +241,8 @@ fn points_reply(
 {
     match pending {
         SubscribePending::Ranges => {
-            let payload = channel_items(alloc, points)?;
+            let items = channel_items(alloc, points)?;
+            let payload = DataItems::listed(items);
             let response = GetRangesResponse { payload };
             reply_alone(alloc, ChannelSubscribeMessage::GetRangesResponse(response))
         }

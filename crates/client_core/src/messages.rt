@@ -7,7 +7,7 @@ use etp_frame::Message;
 use etp_schema::{ActiveStatusKind, Few, protocols};
 use etp_values::{Blob, Boxed, ChannelPoint, Id16, List, Named, NoMemory, Shared, StoreUri, Text};
 use msg_channel::{
-    ChannelDataLoadMessage, ChannelSubscribeInfo, ChannelSubscribeMessage, DataItem,
+    ChannelDataLoadMessage, ChannelSubscribeInfo, ChannelSubscribeMessage, DataItem, DataItems,
     GetChannelMetadata, IndexValue, LoadChannelData, OpenChannels, SubscribeChannels,
 };
 use msg_core::{
@@ -234,7 +234,8 @@ fn items_of(alloc: Global, points: List<ChannelPoint>) -> Result<List<DataItem>,
 fn load(alloc: Global, points: List<ChannelPoint>) -> Result<Message, NoMemory>
     ensures { IfOk result (λ m. m ≡ points_loaded points) }
 {
-    let payload = items_of(alloc, points)?;
+    let items = items_of(alloc, points)?;
+    let payload = DataItems::listed(items);
     Ok(Message::ChannelDataLoad(Boxed::new(
         alloc,
         ChannelDataLoadMessage::LoadChannelData(LoadChannelData { payload }),

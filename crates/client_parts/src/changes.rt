@@ -8,12 +8,12 @@ ghost use Rattle.client_parts.specs.Changes.{appended, behind, has_long_ends, ha
 ghost use Rattle.msg_channel.specs.declared.channel_subscribe_messages.ChannelSubscribeMessage.TheVariants as subscribe;
 
 use crate::grouping::{grouped, points_at};
-use channel_points::{BoxedPoints, Points};
+use channel_points::{BoxedPoints, ChannelPoints, Points};
 use channel_store::{ChangeMsg, What};
 use etp_values::{ChannelPoint, List, NoMemory, Point};
 use msg_channel::{
-    ChannelData, ChannelSubscribeMessage, ChannelsTruncated, DataItem, IndexInterval, IndexValue,
-    RangeReplaced, TruncateInfo,
+    ChannelData, ChannelSubscribeMessage, ChannelsTruncated, DataItem, DataItems, IndexInterval,
+    IndexValue, RangeReplaced, TruncateInfo,
 };
 use std::alloc::Global;
 use std::collections::BTreeMap;
@@ -99,7 +99,7 @@ fn map_points(alloc: Global, items: List<DataItem>) -> Result<List<ChannelPoint>
 }
 
 /// The points of items, if all of them are points.
-fn points_of(alloc: Global, items: List<DataItem>) -> Result<Option<List<ChannelPoint>>, NoMemory>
+fn all_points(alloc: Global, items: List<DataItem>) -> Result<Option<List<ChannelPoint>>, NoMemory>
     ensures { IfOk result (λ ps. ps ≡ points_of items) }
 {
     if !are_points(items.as_slice()) {
@@ -114,6 +114,32 @@ fn no_points(items: List<DataItem>) -> Result<Option<List<ChannelPoint>>, NoMemo
 {
     drop(items);
     Ok(None)
+}
+
+/// Items that are kept as points are points.
+fn kept_points(alloc: Global, points: ChannelPoints) -> Result<Option<List<ChannelPoint>>, NoMemory>
+    ensures { IfOk result (λ ps. ps ≡ Some points) }
+{
+    let points = points.to_list(alloc)?;
+    Ok(Some(points))
+}
+
+fn listed_points(alloc: Global, items: DataItems) -> Result<Option<List<ChannelPoint>>, NoMemory>
+    ensures { IfOk result (λ ps. ps ≡ points_of items) }
+{
+    let items = items.into_list(alloc)?;
+    all_points(alloc, items)
+}
+
+/// The points of items, where all of them are points.
+#[tactic(auto, using(crate::proofs::PointLemmas::points_of_items))]
+fn points_of(alloc: Global, items: DataItems) -> Result<Option<List<ChannelPoint>>, NoMemory>
+    ensures { IfOk result (λ ps. ps ≡ points_of items) }
+{
+    match items.into_points() {
+        Ok(points) => kept_points(alloc, points),
+        Err(items) => listed_points(alloc, items),
+    }
 }
 
 fn run_of(alloc: Global, point: ChannelPoint) -> Result<Run, NoMemory>

@@ -16,7 +16,7 @@ ghost use Rattle.msg_store.specs.declared.store_messages.StoreMessage.TheVariant
 
 use etp_values::{List, Named, NoMemory, Text};
 use msg_channel::{
-    ChannelData, ChannelDataLoadMessage, ChannelSubscribeMessage, ChannelsTruncated,
+    ChannelData, ChannelDataLoadMessage, ChannelSubscribeMessage, ChannelsTruncated, DataItems,
     GetChannelMetadataResponse, OpenChannelsResponse, RangeReplaced, SubscribeChannelsResponse,
     SubscriptionsStopped,
 };
@@ -118,6 +118,16 @@ fn appended<T: Drop>(first: List<T>, more: List<T>) -> Result<List<T>, NoMemory>
     let mut more = more.into_vec();
     items.append(&mut more)?;
     Ok(List::from_vec(items))
+}
+
+/// The items of both, one by one.
+fn appended_items(alloc: Global, first: DataItems, more: DataItems) -> Result<DataItems, NoMemory>
+    ensures { IfOk result (λ r. r ≡ first ++ more) }
+{
+    let first = first.into_list(alloc)?;
+    let more = more.into_list(alloc)?;
+    let items = appended(first, more)?;
+    Ok(DataItems::listed(items))
 }
 
 /// The later of two messages that are not parts of one: the earlier one is not looked at any more.
@@ -292,6 +302,7 @@ fn subscriptions_stopped(
 }
 
 fn channel_data(
+    alloc: Global,
     first: ChannelSubscribeMessage,
     more: ChannelData,
 ) -> Result<ChannelSubscribeMessage, NoMemory>
@@ -299,7 +310,7 @@ fn channel_data(
 {
     match first {
         ChannelSubscribeMessage::ChannelData(first) => {
-            let payload = appended(first.payload, more.payload)?;
+            let payload = appended_items(alloc, first.payload, more.payload)?;
             Ok(ChannelSubscribeMessage::ChannelData(ChannelData { payload, ..first }))
         }
         other => Ok(later(other, ChannelSubscribeMessage::ChannelData(more))),
@@ -307,6 +318,7 @@ fn channel_data(
 }
 
 fn range_replaced(
+    alloc: Global,
     first: ChannelSubscribeMessage,
     more: RangeReplaced,
 ) -> Result<ChannelSubscribeMessage, NoMemory>
@@ -314,7 +326,7 @@ fn range_replaced(
 {
     match first {
         ChannelSubscribeMessage::RangeReplaced(first) => {
-            let payload = appended(first.payload, more.payload)?;
+            let payload = appended_items(alloc, first.payload, more.payload)?;
             Ok(ChannelSubscribeMessage::RangeReplaced(RangeReplaced { payload, ..first }))
         }
         other => Ok(later(other, ChannelSubscribeMessage::RangeReplaced(more))),
@@ -354,8 +366,8 @@ pub fn subscribe_joined(
         ChannelSubscribeMessage::SubscriptionsStopped(more) => subscriptions_stopped(
             alloc, first, more,
         ),
-        ChannelSubscribeMessage::ChannelData(more) => channel_data(first, more),
-        ChannelSubscribeMessage::RangeReplaced(more) => range_replaced(first, more),
+        ChannelSubscribeMessage::ChannelData(more) => channel_data(alloc, first, more),
+        ChannelSubscribeMessage::RangeReplaced(more) => range_replaced(alloc, first, more),
         ChannelSubscribeMessage::ChannelsTruncated(more) => channels_truncated(first, more),
         other => Ok(later(first, other)),
     }

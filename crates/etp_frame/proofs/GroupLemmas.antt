@@ -113,7 +113,7 @@ module _ {A : Type 0} (size : A → Amount) (limit : ℕ) where
       (subst (λ (l : List A). fits limit (total size l) ≡ true) (sym (append_assoc (h ∷ hs) (x ∷ []) xs)) room)
 
   -- hence they are one group
-  one_group : (held xs : List A) → fits limit (total size (held ++ xs)) ≡ true → groups_from size limit held xs ≡ (held ++ xs) ∷ []
+  pub one_group : (held xs : List A) → fits limit (total size (held ++ xs)) ≡ true → groups_from size limit held xs ≡ (held ++ xs) ∷ []
   one_group held [] room = ap (λ (l : List A). l ∷ []) (sym (append-nil held))
   one_group held (x ∷ xs) room =
       leads_if size limit held x xs true (front_goes_in held x xs room)

@@ -8,10 +8,10 @@ use etp_values::{List, Named, NoMemory, Text};
 use std::alloc::Global;
 
 /// The bytes of a message that are reserved for everything but its items.
-const FRAME_ROOM: u64 = 4_096;
+pub(crate) const FRAME_ROOM: u64 = 4_096;
 
 /// The greatest number of nodes that the items of one message have.
-const ITEM_NODES: u64 = 8_388_544;
+pub(crate) const ITEM_NODES: u64 = 8_388_544;
 
 /// How items are measured.
 pub(crate) trait Measuring<T> {

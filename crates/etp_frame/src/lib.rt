@@ -26,6 +26,7 @@
 mod awaiting;
 mod checking;
 mod error;
+mod few_items;
 pub mod flags;
 mod grouping;
 mod header;

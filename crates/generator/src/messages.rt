@@ -9,8 +9,8 @@ use etp_frame::Message;
 use etp_schema::{Few, protocols};
 use etp_values::{Boxed, DataValue, List, Named, NoMemory, Text};
 use msg_channel::{
-    ChannelDataLoadMessage, ChannelSubscribeInfo, ChannelSubscribeMessage, DataItem, IndexInterval,
-    IndexValue, LoadChannelData, OpenChannels, ReplaceRange, SubscribeChannels,
+    ChannelDataLoadMessage, ChannelSubscribeInfo, ChannelSubscribeMessage, DataItem, DataItems,
+    IndexInterval, IndexValue, LoadChannelData, OpenChannels, ReplaceRange, SubscribeChannels,
 };
 use msg_core::{CoreMessage, Ping, RequestSession, SupportedProtocol, Version};
 use std::alloc::Global;
@@ -178,7 +178,8 @@ fn replace_range(
         depth_datum: Text::new(alloc),
     };
     let channel_ids = single(alloc, channel)?;
-    let payload = points(alloc, channel, first, value)?;
+    let items = points(alloc, channel, first, value)?;
+    let payload = DataItems::listed(items);
     Ok(Message::ChannelDataLoad(Boxed::new(
         alloc,
         ChannelDataLoadMessage::ReplaceRange(ReplaceRange {
@@ -193,7 +194,8 @@ fn replace_range(
 fn append_point(alloc: Global, channel: i64, at: i64, value: i64) -> Result<Message, NoMemory>
     ensures { IfOk result (λ m. m ≡ append_point channel at value) }
 {
-    let payload = points(alloc, channel, at, value)?;
+    let items = points(alloc, channel, at, value)?;
+    let payload = DataItems::listed(items);
     Ok(Message::ChannelDataLoad(Boxed::new(
         alloc,
         ChannelDataLoadMessage::LoadChannelData(LoadChannelData { payload }),

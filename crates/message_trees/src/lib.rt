@@ -38,6 +38,7 @@ mod dataspace_messages;
 mod fields;
 mod in_tree;
 mod indexes;
+mod items;
 mod leaves;
 mod many;
 mod points;

@@ -1,0 +1,4 @@
+pub mod ItemLemmas
+pub mod LoadLemmas
+pub mod PlainLemmas
+pub mod SmallLemmas

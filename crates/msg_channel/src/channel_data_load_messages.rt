@@ -6,7 +6,8 @@ ghost use Rattle.msg_channel.specs.ChannelDataLoad.{channel_data_load_body, chan
 
 use crate::channel_records::ChannelMetadataRecord;
 use crate::indexes::IndexInterval;
-use crate::points::{DataItem, TruncateInfo};
+use crate::items::DataItems;
+use crate::points::TruncateInfo;
 use etp_schema::Typed;
 use etp_values::{List, Named, Text};
 
@@ -70,7 +71,7 @@ impl Typed for CloseChannels {
 #[derive(Debug, Drop)]
 pub struct LoadChannelData {
     /// The points, those of one channel in the order of their indexes.
-    pub payload: List<DataItem>,
+    pub payload: DataItems,
 }
 
 impl Typed for LoadChannelData {
@@ -87,7 +88,7 @@ pub struct ReplaceRange {
     /// The channels' numbers.
     pub channel_ids: List<i64>,
     /// The points that replace them.
-    pub payload: List<DataItem>,
+    pub payload: DataItems,
 }
 
 impl Typed for ReplaceRange {

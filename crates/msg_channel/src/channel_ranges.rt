@@ -1,6 +1,7 @@
 //! The messages of the ChannelSubscribe protocol (21) that name intervals or ends of channels.
 use crate::indexes::IndexInterval;
-use crate::points::{DataItem, TruncateInfo};
+use crate::items::DataItems;
+use crate::points::TruncateInfo;
 use etp_schema::Typed;
 use etp_values::{Id16, List};
 
@@ -40,7 +41,7 @@ impl Typed for GetRanges {
 #[derive(Debug, Drop)]
 pub struct GetRangesResponse {
     /// The points, range by range in the order of the request.
-    pub payload: List<DataItem>,
+    pub payload: DataItems,
 }
 
 impl Typed for GetRangesResponse {
@@ -59,7 +60,7 @@ pub struct RangeReplaced {
     /// The interval whose points were dropped.
     pub changed_interval: IndexInterval,
     /// The points that are in the interval now.
-    pub payload: List<DataItem>,
+    pub payload: DataItems,
 }
 
 impl Typed for RangeReplaced {

@@ -7,9 +7,9 @@ ghost use Rattle.msg_channel.specs.ChannelSubscribe.{channel_subscribe_body, cha
 use crate::channel_ranges::{ChannelsTruncated, GetRanges, GetRangesResponse, RangeReplaced};
 use crate::channel_records::ChannelMetadataRecord;
 use crate::indexes::IndexValue;
-use crate::points::DataItem;
+use crate::items::DataItems;
 use etp_schema::Typed;
-use etp_values::{List, Named, Text};
+use etp_values::{Named, Text};
 
 /// What a client wants from one channel.
 #[derive(Debug, Drop)]
@@ -73,7 +73,7 @@ impl Typed for SubscribeChannels {
 #[derive(Debug, Drop)]
 pub struct ChannelData {
     /// The points, those of one channel in the order of their indexes.
-    pub payload: List<DataItem>,
+    pub payload: DataItems,
 }
 
 impl Typed for ChannelData {

@@ -19,8 +19,12 @@ mod channel_subscribe_on_wire;
 mod data_calls;
 mod indexes;
 mod indexes_on_wire;
+mod items;
+mod items_on_wire;
+mod plain;
 mod points;
 mod points_on_wire;
+mod small;
 
 pub use channel_data_load_messages::{
     ChannelDataLoadMessage, ChannelsClosed, CloseChannels, LoadChannelData, OpenChannelInfo,
@@ -41,4 +45,5 @@ pub use channel_subscribe_messages::{
 };
 pub use data_calls::{read_load, write_data};
 pub use indexes::{IndexInterval, IndexValue, PassDirection, PassIndexedDepth};
+pub use items::{DataItems, LentItems, items_of_points};
 pub use points::{DataAttribute, DataItem, TruncateInfo};

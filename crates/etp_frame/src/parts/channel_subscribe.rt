@@ -6,14 +6,15 @@ ghost use Rattle.etp_frame.specs.declared.message.Message.TheVariants as m;
 ghost use Rattle.etp_frame.specs.Splitting.{channel_subscribe_parts};
 ghost use Rattle.msg_channel.specs.declared.channel_subscribe_messages.ChannelSubscribeMessage.TheVariants as subscribe;
 
+use crate::few_items::is_one_group;
 use crate::message::Message;
 use crate::parting::{WithElements, WithEntries, one_part, parts_of_elements, parts_of_entries};
 use crate::parts::copies::copied_interval;
 use etp_values::{Boxed, Copied, List, Named, NoMemory, Text};
 use msg_channel::{
     ChannelData, ChannelMetadataRecord, ChannelSubscribeMessage, ChannelsTruncated, DataItem,
-    GetChannelMetadataResponse, GetRangesResponse, RangeReplaced, SubscribeChannelsResponse,
-    SubscriptionsStopped, TruncateInfo,
+    DataItems, GetChannelMetadataResponse, GetRangesResponse, RangeReplaced,
+    SubscribeChannelsResponse, SubscriptionsStopped, TruncateInfo,
 };
 use std::alloc::Global;
 use std::mem;
@@ -99,7 +100,9 @@ impl WithElements<DataItem> for ChannelData {
     {
         Ok(Message::ChannelSubscribe(Boxed::new(
             alloc,
-            ChannelSubscribeMessage::ChannelData(ChannelData { payload: elements }),
+            ChannelSubscribeMessage::ChannelData(ChannelData {
+                payload: DataItems::listed(elements),
+            }),
         )?))
     }
 }
@@ -112,9 +115,14 @@ fn channel_subscribe_channel_data(
 ) -> Result<List<Message>, NoMemory>
     ensures { IfOk result (λ l. l ≡ channel_subscribe_parts limit (subscribe.ChannelData message)) }
 {
+    if is_one_group(&message.payload, limit) {
+        let whole = Boxed::new(alloc, ChannelSubscribeMessage::ChannelData(message))?;
+        return one_part(alloc, Message::ChannelSubscribe(whole));
+    }
     let ChannelData { payload } = message;
+    let payload = payload.into_list(alloc)?;
     let rest = ChannelData {
-        payload: List::new(alloc),
+        payload: DataItems::listed(List::new(alloc)),
     };
     parts_of_elements(alloc, &rest, payload, limit)
 }
@@ -134,7 +142,7 @@ impl WithElements<DataItem> for RangeReplaced {
                 change_time: self.change_time,
                 channel_ids: self.channel_ids.copy(alloc)?,
                 changed_interval: copied_interval(alloc, &self.changed_interval)?,
-                payload: elements,
+                payload: DataItems::listed(elements),
             }),
         )?))
     }
@@ -148,7 +156,12 @@ fn channel_subscribe_range_replaced(
 ) -> Result<List<Message>, NoMemory>
     ensures { IfOk result (λ l. l ≡ channel_subscribe_parts limit (subscribe.RangeReplaced message)) }
 {
-    let payload = mem::replace(&mut message.payload, List::new(alloc));
+    if is_one_group(&message.payload, limit) {
+        let whole = Boxed::new(alloc, ChannelSubscribeMessage::RangeReplaced(message))?;
+        return one_part(alloc, Message::ChannelSubscribe(whole));
+    }
+    let payload = mem::replace(&mut message.payload, DataItems::listed(List::new(alloc)));
+    let payload = payload.into_list(alloc)?;
     parts_of_elements(alloc, &message, payload, limit)
 }
 
@@ -236,7 +249,9 @@ impl WithElements<DataItem> for GetRangesResponse {
     {
         Ok(Message::ChannelSubscribe(Boxed::new(
             alloc,
-            ChannelSubscribeMessage::GetRangesResponse(GetRangesResponse { payload: elements }),
+            ChannelSubscribeMessage::GetRangesResponse(GetRangesResponse {
+                payload: DataItems::listed(elements),
+            }),
         )?))
     }
 }
@@ -249,9 +264,14 @@ fn channel_subscribe_get_ranges_response(
 ) -> Result<List<Message>, NoMemory>
     ensures { IfOk result (λ l. l ≡ channel_subscribe_parts limit (subscribe.GetRangesResponse message)) }
 {
+    if is_one_group(&message.payload, limit) {
+        let whole = Boxed::new(alloc, ChannelSubscribeMessage::GetRangesResponse(message))?;
+        return one_part(alloc, Message::ChannelSubscribe(whole));
+    }
     let GetRangesResponse { payload } = message;
+    let payload = payload.into_list(alloc)?;
     let rest = GetRangesResponse {
-        payload: List::new(alloc),
+        payload: DataItems::listed(List::new(alloc)),
     };
     parts_of_elements(alloc, &rest, payload, limit)
 }

@@ -3,7 +3,7 @@ use Rattle.std.proofs.lemmas.Int.{to_z-of_z}
 use Rattle.std.specs.Vec.Iter.{into_iter_items}
 use Rattle.channel_rows.specs.Points.{loaded, put_behind}
 use Rattle.channel_rows.proofs.PointLemmas.{loaded_more}
-use Rattle.channel_rows.proofs.items.loaded.Goals as goal
+use Rattle.channel_rows.proofs.items.loaded_list.Goals as goal
 
 pub loop-item-preserved : goal.loop-item-preserved
 loop-item-preserved c =

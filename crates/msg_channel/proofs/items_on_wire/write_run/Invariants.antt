@@ -1,0 +1,18 @@
+use Rattle.std.proofs.Common.{◌≡◌, ◌++◌, map, drop}
+use Rattle.std.specs.Io.{StartsWith}
+use Rattle.std.specs.List.{AllByRecursion}
+use Rattle.avro_bin.specs.Plain.{plain_all}
+use Rattle.avro_bin.specs.Value.{row}
+use Rattle.avro_bin.specs.Shape.{AllFit}
+use Rattle.etp_schema.specs.Form.{Holds}
+use Rattle.msg_channel.specs.ChannelRecords.{data_item_form}
+use Rattle.msg_channel.specs.Items.{items_of}
+use Rattle.msg_channel.proofs.items_on_wire.write_run.Given as goal
+
+abbrev pub invariant-loop-point : goal.invariant-loop-point
+invariant-loop-point l = record {
+  written : l.into.items ++ plain_all (row (map data_item_form.as_value (items_of l.channel (drop l.point-index l.points)))) ≡ l.fn.into.items ++ plain_all (row (map data_item_form.as_value (items_of l.channel l.points)));
+  kept : StartsWith l.into.items l.fn.into.items;
+  typed : AllByRecursion (Holds data_item_form) (items_of l.channel (drop l.point-index l.points)) → AllByRecursion (Holds data_item_form) (items_of l.channel l.points);
+  fit : AllFit (row (map data_item_form.as_value (items_of l.channel (drop l.point-index l.points)))) → AllFit (row (map data_item_form.as_value (items_of l.channel l.points)));
+}
