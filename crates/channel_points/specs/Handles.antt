@@ -33,7 +33,7 @@ abbrev pub items_in : Kept → List ChannelPoint
 items_in (Single id points) = map (of_channel id) points
 items_in (Mixed items) = items
 
--- the items that are lent so
+-- the items that are borrowed this way
 abbrev pub lent_items : LentPoints → List ChannelPoint
 lent_items (lent.Single id points) = map (of_channel id) points.now
 lent_items (lent.Mixed items) = items.now

@@ -114,7 +114,7 @@ fn items_bytes(items: &[ChannelPoint]) -> u64
     sum
 }
 
-/// Points with their channels, lent to be read in order.
+/// Points with their channels, borrowed in order.
 #[derive(Clone, Copy)]
 pub enum LentPoints<'a> {
     /// The points of one channel.

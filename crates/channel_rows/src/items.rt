@@ -203,7 +203,7 @@ fn are_loaded(opens: &Opens, points: LentPoints<'_>) -> bool
     }
 }
 
-/// The points of items that are kept as points: mostly they are loaded as they are, and need not be looked at one by one.
+/// The points of items that are kept as points. As a rule they are loaded as they are, and no item is made.
 #[tactic(auto, using(crate::proofs::PointLemmas::all_loaded))]
 fn loaded_points(
     alloc: Global,

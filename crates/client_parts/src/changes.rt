@@ -131,7 +131,7 @@ fn listed_points(alloc: Global, items: DataItems) -> Result<Option<List<ChannelP
     all_points(alloc, items)
 }
 
-/// The points of items, where all of them are points.
+/// The points of items, if all of them are points.
 #[tactic(auto, using(crate::proofs::PointLemmas::points_of_items))]
 fn points_of(alloc: Global, items: DataItems) -> Result<Option<List<ChannelPoint>>, NoMemory>
     ensures { IfOk result (λ ps. ps ≡ points_of items) }

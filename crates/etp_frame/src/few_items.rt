@@ -1,4 +1,4 @@
-//! Items of channels that are known to have room in one message.
+//! Items that are known to have room in one message without being measured.
 ghost use Rattle.std.specs.Prelude.{◌≡◌, ◌∷◌, []};
 ghost use Rattle.std.specs.Bool.{OnTrue};
 ghost use Rattle.etp_frame.specs.Grouping.{groups, item_amount};
@@ -7,13 +7,13 @@ ghost use Rattle.msg_channel.specs.ChannelRecords.{data_item_form};
 use crate::grouping::{FRAME_ROOM, ITEM_NODES};
 use msg_channel::DataItems;
 
-/// The most bytes of an item of a point whose value has no memory of its own.
+/// The greatest number of bytes of an item of a point whose value has no memory of its own.
 const SMALL_BYTES: u64 = 36;
 
 /// The nodes of such an item.
 const SMALL_NODES: u64 = 10;
 
-/// Whether it is known without a measure that the items are one group. `false` says nothing.
+/// Whether the items are known to be one group. `false` says nothing.
 #[tactic(auto, using(crate::proofs::FewLemmas::one_of_few))]
 pub(crate) fn is_one_group(items: &DataItems, limit: u64) -> bool
     ensures { OnTrue result (groups (item_amount data_item_form) limit items.now ≡ items.now ∷ []) }

@@ -203,12 +203,17 @@ next_row count i n had new bytes rest x total lt pushed item so_far =
     ap (λ (l : List DataItem). items_at (push_at data_item_form.at) (count - (i + 1)) (l, 10 * (count - (i + 1)) + n) rest) more
     ∙ next_item count i n (channel_items had) bytes rest x.channel x.point total lt item so_far
 
+-- the same block by other points
+pub same_block : (count : ℕ) (bytes rest : List ℕ) (items points : List DataItem) → points ≡ items → ((n : ℕ) → items_at (push_at data_item_form.at) count ([], 10 * count + n) bytes ≡ Ok ((items, n), rest))
+    → (n : ℕ) → items_at (push_at data_item_form.at) count ([], 10 * count + n) bytes ≡ Ok ((points, n), rest)
+same_block count bytes rest items points is all n = all n ∙ ap (λ (l : List DataItem). Ok ((l, n), rest)) (sym is)
+
 -- a list of one block and the end
-pub plain_list : (left k : ℕ) (count : ℤ) (bytes front behind rest : List ℕ) (items : List DataItem) → number_at bytes ≡ Ok (count, front) → count ≡ pos k → 0 < k → 10 * k ≤ left
+pub plain_list : (left k : ℕ) (bytes front behind rest : List ℕ) (items : List DataItem) → number_at bytes ≡ Ok (pos k, front) → 0 < k → 10 * k ≤ left
     → ((n : ℕ) → items_at (push_at data_item_form.at) k ([], 10 * k + n) front ≡ Ok ((items, n), behind)) → behind ≡ 0 ∷ rest → list_at data_item_form left bytes ≡ Ok ((items, left - 10 * k), rest)
-plain_list left zero count bytes front behind rest items read is some enough all end = absurd (omega arith)
-plain_list left (suc j) count bytes front behind rest items read is some enough all end =
+plain_list left zero bytes front behind rest items read some enough all end = absurd (omega arith)
+plain_list left (suc j) bytes front behind rest items read some enough all end =
     let n : ℕ = left - 10 * suc j in
     let start : 10 * suc j + n ≡ left = omega arith in
-    block_is data_item_form.at left n j bytes front behind rest items (read ∙ ap (λ z. Ok (z, front)) is)
+    block_is data_item_form.at left n j bytes front behind rest items read
     (ap (λ (m : ℕ). items_at (push_at data_item_form.at) (suc j) ([], m) front) (sym start) ∙ all n) (ap number_at end ∙ byte_0 rest)

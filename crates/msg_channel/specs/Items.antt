@@ -1,4 +1,4 @@
--- Items of messages: those of points, and how items are kept.
+-- The items of messages: those of points, and how items are kept.
 use Rattle.std.specs.Prelude.{ℤ, ◌≤◌, List, [], ◌∷◌, drop, length, map}
 use Rattle.etp_values.specs.declared.point.ChannelPoint.{ChannelPoint}
 use Rattle.etp_values.specs.declared.point.Point.{Point}
@@ -21,19 +21,19 @@ items_of channel points = map (item_of channel) points
 abbrev pub channel_items : List ChannelPoint → List DataItem
 channel_items points = map (λ x. item_of x.channel x.point) points
 
--- the items that are kept so
+-- the items that are kept this way
 abbrev pub items_in : ItemsForm → List DataItem
 items_in (Listed items) = items
 items_in (Loaded points) = channel_items points
 items_in (Told channel points skip) = items_of channel (drop skip points)
 
--- what is left out are points that there are
+-- no more points are left out than there are
 abbrev pub IsForm : ItemsForm → Type 0
 IsForm (Listed items) = Unit {0}
 IsForm (Loaded points) = Unit {0}
 IsForm (Told channel points skip) = skip ≤ length points
 
--- the items that are lent so
+-- the items that are borrowed this way
 abbrev pub items_lent : LentItems → List DataItem
 items_lent (lent.Listed items) = items.now
 items_lent (lent.Points points) = channel_items (lent_items points)

@@ -1,4 +1,4 @@
-//! Items of messages, kept as they were read or as the points that they stand for.
+//! The items of messages, as a list or as the points that they are made of.
 ghost use Rattle.std.specs.Prelude.{◌≡◌, ◌≤◌, drop, length, map, IfErr, IfOk};
 ghost use Rattle.channel_points.specs.Handles.{lent_items, of_channel};
 ghost use Rattle.msg_channel.specs.Items.{channel_items, item_of, items_lent, items_of};
@@ -13,14 +13,14 @@ use std::marker::Model;
 
 /// The items of a message, in order. A contract sees the list of them.
 ///
-/// Items that stand for plain points, each with one long index and no attributes, need not be a list: they may be the points of a
-/// load as they were read, or those of a channel's change, which share the change's memory.
+/// Items of points, each with one long index and no attributes, need not be a list: they can be the points of a load as they were read, or
+/// those of a channel's change, which share the change's memory.
 #[derive(Debug)]
 pub struct DataItems {
     form: ItemsForm,
 }
 
-/// Written out, so that whoever holds one drops it by one call.
+/// Written out, so that whatever holds one drops it by a single call.
 impl Drop for DataItems {
     fn drop(self) {
         let DataItems { form } = self;
@@ -35,7 +35,7 @@ enum ItemsForm {
     Listed(List<DataItem>),
     /// As points with their channels.
     Loaded(ChannelPoints),
-    /// As the points of a channel from the place `skip` on.
+    /// As the points of a channel from the position `skip` on.
     Told {
         channel: i64,
         points: Points,
@@ -115,7 +115,7 @@ pub fn items_of_points(alloc: Global, points: LentPoints<'_>) -> Result<List<Dat
     }
 }
 
-/// The points of a channel from the place `skip` on.
+/// The points of a channel from the position `skip` on.
 fn told_points(channel: i64, points: &Points, skip: usize) -> LentPoints<'_>
     requires { skip ≤ length points.now }
     ensures { lent_items result ≡ map (of_channel channel) (drop skip points.now) }
@@ -123,12 +123,12 @@ fn told_points(channel: i64, points: &Points, skip: usize) -> LentPoints<'_>
     LentPoints::Single(channel, &points.as_slice()[skip..])
 }
 
-/// The items of a message, lent as they are kept.
+/// The items of a message, borrowed in the form in which they are kept.
 #[derive(Clone, Copy)]
 pub enum LentItems<'a> {
     /// One by one.
     Listed(&'a List<DataItem>),
-    /// As the points that they stand for.
+    /// As the points that they are made of.
     Points(LentPoints<'a>),
 }
 
@@ -151,7 +151,7 @@ impl DataItems {
         }
     }
 
-    /// The items of a channel's points from the place `skip` on. The points are moved and not copied.
+    /// The items of a channel's points from the position `skip` on. The points are moved and not copied.
     pub fn told(channel: i64, points: Points, skip: usize) -> DataItems
         requires { skip ≤ length points }
         ensures { result ≡ items_of channel (drop skip points) }
@@ -165,7 +165,7 @@ impl DataItems {
         }
     }
 
-    /// The items, to be read.
+    /// Borrows the items.
     #[tactic(auto, using(crate::proofs::ItemLemmas::single_items))]
     pub fn lent(&self) -> LentItems<'_>
         ensures { items_lent result ≡ self.now }
@@ -192,7 +192,7 @@ impl DataItems {
         }
     }
 
-    /// The points that the items stand for, where they are kept as points with their channels. Otherwise the items come back unchanged.
+    /// The points that the items are made of, if they are kept as points with their channels; otherwise the items, unchanged.
     pub fn into_points(self) -> Result<ChannelPoints, DataItems>
         ensures points { IfOk result (λ p. self ≡ channel_items p) }
         ensures items { IfErr result (λ d. d ≡ self) }
@@ -204,7 +204,7 @@ impl DataItems {
         }
     }
 
-    /// The items one by one. Those that are kept as points are copied. Where memory runs out, they are dropped.
+    /// The items one by one. Points are copied. If memory runs out, the items are dropped.
     #[tactic(auto, using(crate::proofs::ItemLemmas::single_items))]
     pub fn into_list(self, alloc: Global) -> Result<List<DataItem>, NoMemory>
         ensures { IfOk result (λ l. l ≡ self) }

@@ -1,4 +1,4 @@
-//! Items of messages from and to bytes.
+//! The items of messages from and to bytes.
 ghost use Rattle.std.specs.Prelude.{◌≡◌, ◌<◌, ◌^◌, OnOk, map, pos};
 ghost use Rattle.std.specs.List.{AllByRecursion};
 ghost use Rattle.avro_bin.specs.Number.{plain_number};

@@ -1,9 +1,9 @@
 //! Items that are plain points, read straight into points.
 //!
-//! A plain item has one index, a long, a value without memory of its own, and no attributes, each as a writer spells it. Nothing is
-//! refused here: where a call answers nothing, the items are read as those of any list.
-ghost use Rattle.std.specs.Prelude.{◌≡◌, ◌∷◌, ◌++◌, ◌+◌, ◌*◌, ℕ, [], IfSome, Ok};
-ghost use Rattle.avro_bin.specs.Reading.{items_at};
+//! A plain item has one index, a long, a value without memory of its own, and no attributes, each as it is written. Nothing is refused
+//! here: where a call returns `None`, the items are read like those of any list.
+ghost use Rattle.std.specs.Prelude.{◌≡◌, ◌∷◌, ◌++◌, ◌+◌, ◌*◌, ◌<◌, ◌≤◌, ℕ, [], IfSome, Ok, pos};
+ghost use Rattle.avro_bin.specs.Reading.{items_at, number_at};
 ghost use Rattle.avro_bin.specs.Along.{push_at};
 ghost use Rattle.etp_schema.specs.Form.{list_at};
 ghost use Rattle.msg_channel.specs.ChannelRecords.{data_item_form};
@@ -18,6 +18,9 @@ use std::alloc::Global;
 
 /// The fewest bytes of an item.
 const SHORTEST: usize = 7;
+
+/// The nodes of a plain item.
+const ITEM_NODES: u32 = 10;
 
 #[tactic(auto, using(crate::proofs::PlainLemmas::boolean_value))]
 fn boolean_value(bytes: &[u8]) -> Option<(DataValue, &[u8])>
@@ -121,7 +124,7 @@ fn with_room<T: Drop>(alloc: Global, count: u64, bytes: usize) -> Option<Vec<T>>
     }
 }
 
-/// Adds the point of the plain item at the front, where it is of this channel, and answers what follows the item.
+/// Adds the point of the plain item at the front, if it is of this channel, and returns what follows the item.
 fn take_point<'a>(channel: i64, bytes: &'a [u8], points: &mut Vec<Point>) -> Option<&'a [u8]>
     ensures { IfSome result (λ rest. (p : Point) × (points.new.items ≡ points.old.items ++ p ∷ []) × IsItem bytes.now channel p rest.now) }
 {
@@ -155,7 +158,7 @@ fn run_of<'a>(
     Some((points, rest))
 }
 
-/// Adds the plain item at the front as a point of its channel, and answers what follows the item.
+/// Adds the plain item at the front as a point of its channel, and returns what follows the item.
 fn take_item<'a>(bytes: &'a [u8], points: &mut Vec<ChannelPoint>) -> Option<&'a [u8]>
     ensures { IfSome result (λ rest. (i : ChannelPoint) × (points.new.items ≡ points.old.items ++ i ∷ []) × IsItem bytes.now i.channel i.point rest.now) }
 {
@@ -181,51 +184,89 @@ fn row_of<'a>(alloc: Global, count: u64, bytes: &'a [u8]) -> Option<(Vec<Channel
     Some((points, rest))
 }
 
+/// Points of one channel, moved and not copied.
+fn single(alloc: Global, channel: i64, points: Vec<Point>) -> Option<ChannelPoints>
+    ensures { IfSome result (λ p. channel_items p ≡ items_of channel points.items) }
+{
+    match Points::of(alloc, points) {
+        Ok(points) => Some(ChannelPoints::single(channel, points)),
+        Err(_) => None,
+    }
+}
+
+/// Points of several channels, moved and not copied.
+fn mixed(alloc: Global, points: Vec<ChannelPoint>) -> Option<ChannelPoints>
+    ensures { IfSome result (λ p. channel_items p ≡ channel_items points.items) }
+{
+    match ChannelPoints::of(alloc, List::from_vec(points)) {
+        Ok(points) => Some(points),
+        Err(_) => None,
+    }
+}
+
+/// The points of a block of so many plain items, all of this channel, and what follows them.
+#[tactic(auto, using(crate::proofs::PlainLemmas::same_block))]
+fn run_block(
+    alloc: Global,
+    channel: i64,
+    count: u64,
+    bytes: &[u8],
+) -> Option<(ChannelPoints, &[u8])>
+    ensures { IfSome result (λ r. (n : ℕ) → items_at (push_at data_item_form.at) count ([], 10 * count + n) bytes.now ≡ Ok ((channel_items r.0, n), r.1.now)) }
+{
+    let (points, rest) = run_of(alloc, channel, count, bytes)?;
+    let points = single(alloc, channel, points)?;
+    Some((points, rest))
+}
+
 /// The points of a block of so many plain items, and what follows them.
+#[tactic(auto, using(crate::proofs::PlainLemmas::same_block))]
+fn row_block(alloc: Global, count: u64, bytes: &[u8]) -> Option<(ChannelPoints, &[u8])>
+    ensures { IfSome result (λ r. (n : ℕ) → items_at (push_at data_item_form.at) count ([], 10 * count + n) bytes.now ≡ Ok ((channel_items r.0, n), r.1.now)) }
+{
+    let (points, rest) = row_of(alloc, count, bytes)?;
+    let points = mixed(alloc, points)?;
+    Some((points, rest))
+}
+
+/// The points of a block of so many plain items, and what follows them. As a rule all items are of the first one's channel.
 fn plain_block(alloc: Global, count: u64, bytes: &[u8]) -> Option<(ChannelPoints, &[u8])>
     ensures { IfSome result (λ r. (n : ℕ) → items_at (push_at data_item_form.at) count ([], 10 * count + n) bytes.now ≡ Ok ((channel_items r.0, n), r.1.now)) }
 {
     let Ok((channel, _)) = number(bytes) else {
         return None;
     };
-    if let Some((points, rest)) = run_of(alloc, channel, count, bytes) {
-        return single(alloc, channel, points, rest);
+    if let Some(block) = run_block(alloc, channel, count, bytes) {
+        return Some(block);
     }
-    let (points, rest) = row_of(alloc, count, bytes)?;
-    let Ok(points) = ChannelPoints::of(alloc, List::from_vec(points)) else {
-        return None;
-    };
-    Some((points, rest))
+    row_block(alloc, count, bytes)
 }
 
-fn single<'a>(
-    alloc: Global,
-    channel: i64,
-    points: Vec<Point>,
-    rest: &'a [u8],
-) -> Option<(ChannelPoints, &'a [u8])>
-    ensures { IfSome result (λ r. (channel_items r.0 ≡ items_of channel points.items) × (r.1.now ≡ rest.now)) }
+/// The count of a block of plain items, if it is above 0 and so many nodes are allowed, and what follows it.
+fn plain_count(left: u32, bytes: &[u8]) -> Option<(u32, &[u8])>
+    ensures read { IfSome result (λ r. number_at bytes.now ≡ Ok (pos r.0, r.1.now)) }
+    ensures some { IfSome result (λ r. 0 < r.0) }
+    ensures room { IfSome result (λ r. 10 * r.0 ≤ left) }
 {
-    let Ok(points) = Points::of(alloc, points) else {
+    let Ok((count, rest)) = number(bytes) else {
         return None;
     };
-    Some((ChannelPoints::single(channel, points), rest))
+    if count <= 0 || count > (left / ITEM_NODES) as i64 {
+        return None;
+    }
+    Some((count as u32, rest))
 }
 
-/// The points of a list of plain items that is spelled as one block with a count above 0 and the end, with the nodes that are still allowed
-/// and what follows.
+/// The points of a list of plain items that is spelled as one block with a count above 0 and the end, the number of nodes that are still
+/// allowed, and what follows.
+#[tactic(auto, using(crate::proofs::PlainLemmas::plain_list))]
 pub fn plain_items(alloc: Global, left: u32, bytes: &[u8]) -> Option<(ChannelPoints, u32, &[u8])>
     ensures { IfSome result (λ r. list_at data_item_form left bytes.now ≡ Ok ((channel_items r.0, r.1), r.2.now)) }
 {
-    let Ok((count, front)) = number(bytes) else {
-        return None;
-    };
-    if count <= 0 || count > (left / 10) as i64 {
-        return None;
-    }
+    let (count, front) = plain_count(left, bytes)?;
     let (points, behind) = plain_block(alloc, count as u64, front)?;
     let [0, rest @ ..] = behind else {
         return None;
     };
-    Some((points, left - 10 * count as u32, rest))
+    Some((points, left - ITEM_NODES * count, rest))
 }

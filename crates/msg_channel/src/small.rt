@@ -1,4 +1,4 @@
-//! Items of which it is known without a measure that they take few bytes.
+//! Items that are known to take few bytes without being measured.
 ghost use Rattle.std.specs.Prelude.{◌≡◌, true};
 ghost use Rattle.std.specs.Bool.{OnTrue};
 ghost use Rattle.std.specs.List.{AllByRecursion};
@@ -57,7 +57,7 @@ fn are_points_small(points: LentPoints<'_>) -> bool
 }
 
 impl DataItems {
-    /// Whether each item takes at most 36 bytes and ten nodes. `false` says nothing: so it answers of items that are kept one by one.
+    /// Whether each item takes at most 36 bytes and ten nodes. `false` says nothing; it is what items that are kept one by one give.
     pub fn are_small(&self) -> bool
         ensures { OnTrue result (AllByRecursion IsSmall self.now) }
     {
