@@ -3,11 +3,10 @@ ghost use Rattle.std.specs.Prelude.{◌≡◌, false, map, IfOk, None};
 ghost use Rattle.std.specs.Bool.{OnTrue};
 ghost use Rattle.std.specs.List.{AllByRecursion};
 ghost use Rattle.channel_points.specs.Handles.{lent_items, of_channel};
-ghost use Rattle.channel_rows.specs.Points.{CanLoad, channel_items, ends_of, index_of, is_value_large, item_of, item_point, items_of, loaded, long_in, point_at, same_index};
+ghost use Rattle.channel_rows.specs.Points.{CanLoad, channel_items, ends_of, index_of, is_value_large, item_point, items_of, loaded, long_in, point_at, same_index};
 
 use crate::open_flags::Opens;
-use channel_points::{ChannelPoints, LentPoints};
-use etp_schema::Few;
+use channel_points::{ChannelPoints, LentPoints, Points};
 use etp_values::{ChannelPoint, DataValue, ErrorCode, List, NoMemory, Point};
 use keyed_requests::Decision;
 use msg_channel::{DataItem, DataItems, IndexInterval, IndexValue, items_of_points};
@@ -16,51 +15,27 @@ use std::alloc::Global;
 /// The maximum length of a channel's value that is a text or a run of bytes, in bytes.
 pub const MAX_VALUE_LEN: usize = 32_768;
 
-/// A point of a channel as it is sent.
-fn item_of(alloc: Global, channel: i64, point: Point) -> DataItem
-    ensures { result ≡ item_of channel point }
-{
-    let Point { index, value } = point;
-    DataItem {
-        channel_id: channel,
-        indexes: Few::one(IndexValue::Long(index)),
-        value,
-        value_attributes: List::new(alloc),
-    }
-}
-
-/// Points of a channel as they are sent.
+/// Points of a channel as they are sent, moved and not copied.
 pub(crate) fn items_of(
     alloc: Global,
     channel: i64,
     points: List<Point>,
-) -> Result<List<DataItem>, NoMemory>
-    ensures { IfOk result (λ l. l ≡ items_of channel points) }
+) -> Result<DataItems, NoMemory>
+    ensures { IfOk result (λ d. d ≡ items_of channel points) }
 {
-    let mut items = Vec::new(alloc);
-    items.reserve(points.len())?;
-    for point in points.into_vec() {
-        let item = item_of(alloc, channel, point);
-        items.push(item)?;
-    }
-    Ok(List::from_vec(items))
+    let points = Points::of(alloc, points.into_vec())?;
+    Ok(DataItems::told(channel, points, 0))
 }
 
-/// Points of several channels as they are sent.
+/// Points of several channels as they are sent, moved and not copied.
 pub(crate) fn channel_items(
     alloc: Global,
     points: List<ChannelPoint>,
-) -> Result<List<DataItem>, NoMemory>
-    ensures { IfOk result (λ l. l ≡ channel_items points) }
+) -> Result<DataItems, NoMemory>
+    ensures { IfOk result (λ d. d ≡ channel_items points) }
 {
-    let mut items = Vec::new(alloc);
-    items.reserve(points.len())?;
-    for one in points.into_vec() {
-        let ChannelPoint { channel, point } = one;
-        let item = item_of(alloc, channel, point);
-        items.push(item)?;
-    }
-    Ok(List::from_vec(items))
+    let points = ChannelPoints::of(alloc, points)?;
+    Ok(DataItems::of_points(points))
 }
 
 fn same_index(before: Option<i64>) -> Decision<i64>

@@ -11,7 +11,7 @@ use channel_store::{ChannelChange, Sub, What};
 use etp_values::{List, Named, NoMemory, Point, Text};
 use keyed_requests::Sending;
 use msg_channel::{
-    ChannelData, ChannelSubscribeMessage, ChannelsTruncated, DataItems, IndexInterval, IndexValue,
+    ChannelData, ChannelSubscribeMessage, ChannelsTruncated, IndexInterval, IndexValue,
     RangeReplaced, SubscriptionsStopped, TruncateInfo,
 };
 use std::alloc::Global;
@@ -26,8 +26,7 @@ pub(crate) fn append_notice(
 ) -> Result<ChannelSubscribeMessage, NoMemory>
     ensures { IfOk result (λ m. m ≡ append_notice channel points) }
 {
-    let items = items_of(alloc, channel, points)?;
-    let payload = DataItems::listed(items);
+    let payload = items_of(alloc, channel, points)?;
     Ok(ChannelSubscribeMessage::ChannelData(ChannelData { payload }))
 }
 
@@ -54,8 +53,7 @@ fn replaced_notice(
 {
     let mut channel_ids = Vec::new(alloc);
     channel_ids.push(channel)?;
-    let items = items_of(alloc, channel, points)?;
-    let payload = DataItems::listed(items);
+    let payload = items_of(alloc, channel, points)?;
     Ok(ChannelSubscribeMessage::RangeReplaced(RangeReplaced {
         change_time: at,
         channel_ids: List::from_vec(channel_ids),

@@ -19,8 +19,7 @@ use keyed_requests::{
     object_uri, refusal_alone, refused_outcome, reply_alone, request_outcome, request_reply,
 };
 use msg_channel::{
-    ChannelMetadataRecord, ChannelSubscribeMessage, DataItems, GetChannelMetadataResponse,
-    GetRangesResponse,
+    ChannelMetadataRecord, ChannelSubscribeMessage, GetChannelMetadataResponse, GetRangesResponse,
 };
 use server_config::ChannelDef;
 use std::alloc::Global;
@@ -241,8 +240,7 @@ fn points_reply(
 {
     match pending {
         SubscribePending::Ranges => {
-            let items = channel_items(alloc, points)?;
-            let payload = DataItems::listed(items);
+            let payload = channel_items(alloc, points)?;
             let response = GetRangesResponse { payload };
             reply_alone(alloc, ChannelSubscribeMessage::GetRangesResponse(response))
         }
