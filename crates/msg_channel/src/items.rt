@@ -116,6 +116,7 @@ pub fn items_of_points(alloc: Global, points: LentPoints<'_>) -> Result<List<Dat
 }
 
 /// The points of a channel from the position `skip` on.
+#[tactic(auto, using(std::proofs::lemmas::List::take_rest))]
 fn told_points(channel: i64, points: &Points, skip: usize) -> LentPoints<'_>
     requires { skip ≤ length points.now }
     ensures { lent_items result ≡ map (of_channel channel) (drop skip points.now) }
@@ -182,6 +183,7 @@ impl DataItems {
     }
 
     /// How many items there are.
+    #[tactic(auto, using(crate::proofs::ItemLemmas::row_count, crate::proofs::ItemLemmas::told_count))]
     pub fn len(&self) -> usize
         ensures { result ≡ length self.now }
     {

@@ -129,15 +129,25 @@ fn measure_row(before: Measure, points: &[ChannelPoint]) -> Measure
     measure
 }
 
-/// How much of a message the items of points take.
-fn measure_points(points: LentPoints<'_>) -> Measure
-    ensures { result ≡ measured ((list_form data_item_form).as_value (channel_items (lent_items points.entry))) }
+/// This, and how much the items of points take.
+#[tactic(auto, using(crate::proofs::ItemLemmas::single_items))]
+fn measure_items(before: Measure, points: LentPoints<'_>) -> Measure
+    ensures { result ≡ measured_behind before (row (map data_item_form.as_value (channel_items (lent_items points.entry)))) }
 {
-    let before = Measure::of_count(points.len());
     match points {
         LentPoints::Single(channel, points) => measure_run(before, channel, points),
         LentPoints::Mixed(points) => measure_row(before, points),
     }
+}
+
+/// How much of a message the list of the items of points takes.
+#[tactic(auto, using(crate::proofs::ItemLemmas::points_measured))]
+fn measure_points(points: LentPoints<'_>) -> Measure
+    ensures { result ≡ measured ((list_form data_item_form).as_value (channel_items (lent_items points.entry))) }
+{
+    let count = points.len();
+    let before = Measure::of_count(count);
+    measure_items(before, points)
 }
 
 impl OnWire for DataItems {
