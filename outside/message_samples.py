@@ -154,6 +154,8 @@ def debug(node, value):
             return struct("Id16", [("bytes", str(list(value)))])
         case Enum(_, symbols):
             return symbols[value][0].upper() + symbols[value][1:]
+        case Array(Record("DataItem") as item):
+            return struct("DataItems", [("form", f"Listed({list_of('List', [debug(item, each) for each in value])})")])
         case Array(item):
             return list_of("List", [debug(item, each) for each in value])
         case Map(item):
