@@ -304,15 +304,20 @@ def memory(run):
     print(f"after they have gone: {run.memory():.0f} MB")
 
     def send_whole():
+        """Whether the message was answered within the connection's time limit; a busy machine may need longer."""
         peer = Peer(run.port)
-        peer.send(data)
-        run.next(peer)
-        peer.close()
+        try:
+            peer.send(data)
+            run.next(peer)
+            return True
+        except TimeoutError:
+            return False
+        finally:
+            peer.close()
 
-    together(32, send_whole)
-    together(32, send_whole)
+    answered = together(32, send_whole) + together(32, send_whole)
     time.sleep(1)
-    print(f"after 64 connections that each sent a message of 32 MiB: {run.memory():.0f} MB")
+    print(f"after 64 connections that each sent a message of 32 MiB, {answered.count(True)} answered in time: {run.memory():.0f} MB")
 
 
 def slow(run):
