@@ -12,17 +12,22 @@ import hostile_messages
 import join_samples
 import message_samples
 import part_samples
+import piece_samples
 import value_cases
 
 
 def parts():
     """Of each part its name, its file and what that has, and what the part prints."""
     samples = message_samples.samples_capture()
+    messages, joins, cut = message_samples.capture(), join_samples.capture(), part_samples.capture()
     lines, answers = value_cases.cases()
-    yield "messages", "messages.cap", message_samples.capture(), message_samples.answer()
+    yield "messages", "messages.cap", messages, message_samples.answer()
     yield "hostile", "samples.cap", samples, "".join(hostile_messages.answer(samples))
-    yield "joins", "joins.cap", join_samples.capture(), join_samples.answer()
-    yield "parts", "parts.cap", part_samples.capture(), part_samples.answer()
+    yield "joins", "joins.cap", joins, join_samples.answer()
+    yield "parts", "parts.cap", cut, part_samples.answer()
+    for file, capture in (("messages.cap", messages), ("joins.cap", joins), ("parts.cap", cut)):
+        yield "pieces", file, capture, piece_samples.pieces_answer(capture)
+    yield "feeds", "feeds.txt", piece_samples.lines().encode(), piece_samples.answer()
     yield "values", "values.txt", lines.encode(), answers
 
 

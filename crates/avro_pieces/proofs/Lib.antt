@@ -5,3 +5,4 @@ pub mod TurnLemmas
 pub mod OpenLemmas
 pub mod EntryLemmas
 pub mod GoingLemmas
+pub mod PassageLemmas

@@ -62,3 +62,7 @@ Passes read (p.Whole len) = (v : Value) × (read ≡ Ok (v, len))
 -- why a passage refuses bytes of which reading says this
 abbrev pub PassRefuses : Result (Value × ℕ) Refusal → Refusal → Type 0
 PassRefuses read e = (e ≡ r.NoMemory) ⊎ ((read ≡ Err e) × IsNotShort e)
+
+-- a passage that has come so far in some bytes has come so far in them with more behind them
+abbrev pub StandsLonger : Type 0
+StandsLonger = (nodes : List Node) (bytes more : List ℕ) (p : Passage) → StandsAt nodes bytes p → StandsAt nodes (bytes ++ more) p

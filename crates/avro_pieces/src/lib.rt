@@ -12,4 +12,4 @@ mod level;
 mod passage;
 mod turn;
 
-pub use passage::{Passage, Passed};
+pub use passage::{Passage, Passed, stands_longer};

@@ -3,7 +3,7 @@ ghost use Rattle.std.specs.Prelude.{◌≡◌, ◌<◌, ◌-◌, ℕ, List, leng
 ghost use Rattle.avro_bin.specs.Schema.{schema, IsTable};
 ghost use Rattle.avro_bin.specs.declared.schema.Node.{Node};
 ghost use Rattle.avro_bin.specs.Laws.{read_value, node_limit};
-ghost use Rattle.avro_pieces.specs.Passage.{StandsAt, Passes, PassRefuses};
+ghost use Rattle.avro_pieces.specs.Passage.{StandsAt, StandsLonger, Passes, PassRefuses};
 
 use crate::going::{Going, run};
 use crate::level::Level;
@@ -52,7 +52,8 @@ fn stand(id: u32, bytes: &[u8], going: Going) -> (Passage, usize)
 impl Passage {
     /// A passage at the front of a value of the node at this place of a table.
     pub fn new(alloc: Global, id: u32) -> Result<Passage, NoMemory>
-        ensures { IfOk result (λ p. (nodes : List Node) → id < length nodes → (bytes : List ℕ) → StandsAt nodes bytes p) }
+        ensures place { IfOk result (λ p. p.id ≡ id) }
+        ensures stands { IfOk result (λ p. (nodes : List Node) → id < length nodes → (bytes : List ℕ) → StandsAt nodes bytes p) }
     {
         let mut levels = Vec::new(alloc);
         levels.push(Level::Node(id))?;
@@ -105,3 +106,8 @@ impl Passage {
         }
     }
 }
+
+/// For proofs only: a passage stands where it is when more bytes come behind those that it was told.
+pub fn stands_longer()
+    ensures { StandsLonger }
+{}

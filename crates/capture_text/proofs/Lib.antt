@@ -3,3 +3,4 @@ pub mod PieceLemmas
 pub mod TableLemmas
 pub mod ValueLemmas
 pub mod WritingLemmas
+pub mod FeedingLemmas

@@ -7,3 +7,4 @@ pub mod Lines
 pub mod Parts
 pub mod Points
 pub mod Laws
+pub mod Feeding

@@ -7,10 +7,11 @@ ghost use Rattle.capture_text.specs.Lines.{line_of, checked_line, checked_of};
 ghost use Rattle.capture_text.specs.Parts.{WritesAs};
 
 use crate::faults::put_fault;
+use crate::feeding::check_pieces;
 use crate::pieces::{put, put_number};
 use crate::showing::sender_of;
 use etp_capture::Frame;
-use etp_frame::{FrameError, check_message};
+use etp_frame::FrameError;
 use etp_values::NoMemory;
 use std::alloc::Global;
 
@@ -63,8 +64,8 @@ pub fn check_frame(
     let Some(sender) = sender_of(frame.kind) else {
         return Ok(Checked::NoMessage);
     };
-    match check_message(alloc, frame.bytes.as_bytes(), sender) {
-        Ok(_) => Ok(Checked::Taken),
+    match check_pieces(alloc, frame.bytes.as_bytes(), sender) {
+        Ok(()) => Ok(Checked::Taken),
         Err(error) => refuse(into, offset, &error),
     }
 }

@@ -12,6 +12,7 @@
 mod checking;
 mod counting;
 mod faults;
+mod feeding;
 mod laws;
 mod names;
 mod pieces;

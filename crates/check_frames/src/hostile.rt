@@ -9,8 +9,8 @@
 //! prints the lines themselves.
 ghost use Rattle.std.specs.Prelude.{◌<◌, length};
 
-mod making;
-mod random;
+pub(crate) mod making;
+pub(crate) mod random;
 mod tally;
 
 use crate::captures::{Capture, sender_of};

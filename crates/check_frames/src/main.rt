@@ -7,6 +7,8 @@
 //! hostile CAPTURE [SEED THOUSANDS [lines]]    makes broken messages out of those of a capture, shows and checks them
 //! joins CAPTURE                               joins messages with the chunks of their data
 //! parts CAPTURE                               cuts messages into the parts in which they are sent
+//! pieces CAPTURE                              feeds readers the messages of a capture in pieces
+//! feeds LINES                                 feeds readers the pieces of a line
 //! values LINES                                reads and writes values
 //! ```
 //!
@@ -16,17 +18,21 @@
 
 mod captures;
 mod digest;
+mod feeds;
 mod hostile;
 mod joins;
 mod messages;
 mod parts;
+mod pieces;
 mod values;
 
 use captures::{Capture, read_capture};
+use feeds::print_feeds;
 use hostile::print_hostile;
 use joins::join_all;
 use messages::print_all;
 use parts::cut_all;
+use pieces::feed_messages;
 use std::io::{self, BufRead, BufReader};
 use values::print_values;
 
@@ -45,6 +51,7 @@ fn run_on(rt: &HostRuntime, part: &str, capture: &Capture) -> io::Result<()> {
         "messages" => print_all(rt, frames)?,
         "joins" => join_all(rt, frames)?,
         "parts" => cut_all(rt, frames)?,
+        "pieces" => feed_messages(rt, frames)?,
         _ => println!(rt; "no such part")?,
     }
     print_fault(rt, capture)
@@ -55,6 +62,7 @@ fn run_line(rt: &HostRuntime, line: &str) -> io::Result<()> {
     println!(rt; "# {line}")?;
     let words: Vec<&str> = line.split_whitespace().collect(rt.alloc())?;
     match words.as_slice() {
+        ["feeds", file] => print_feeds(rt, file),
         ["values", file] => print_values(rt, file),
         ["hostile", file, words @ ..] => print_hostile(rt, read_capture(rt, file)?, words),
         [part, file] => run_on(rt, part, &read_capture(rt, file)?),

@@ -17,3 +17,4 @@ pub mod FedLemmas
 pub mod WholeLemmas
 pub mod PartLemmas
 pub mod FaultLemmas
+pub mod FeedingLemmas

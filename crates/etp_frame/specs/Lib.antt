@@ -12,3 +12,5 @@ pub mod Grouping
 pub mod Grouped
 pub mod Chunking
 pub mod Splitting
+pub mod Pieces
+pub mod Standing

@@ -6,6 +6,8 @@
 //! [`read_tree`] stops before the message and returns the body's tree, for whoever shows a body of any kind, and
 //! [`check_message`] returns only the header and builds no value of the body; both refuse the same bytes for the same reasons
 //! ([`same_refusals`]).
+//! A [`MessageReader`] is fed a message in pieces, and says after each what [`read_message`] says of all bytes so far; what is refused for
+//! good stays so ([`refused_stays`]).
 //! [`write_message`] writes the one written spelling, `message_bytes`. The laws between them depend on
 //! [`wire_form_is_read`], [`one_reading`], [`tree_is_body`], [`rows_are_typed`] and [`written_is_read`].
 //!
@@ -34,9 +36,11 @@ mod laws;
 mod message;
 mod parting;
 mod parts;
+mod pieces;
 mod reading;
 mod sending;
 mod splitting;
+mod stage;
 mod writing;
 
 pub use awaiting::Carrier;
@@ -48,6 +52,8 @@ pub use laws::{
     one_reading, rows_are_typed, same_refusals, tree_is_body, wire_form_is_read, written_is_read,
 };
 pub use message::Message;
+pub use pieces::{MessageReader, refused_stays};
 pub use reading::{read_message, read_tree};
 pub use splitting::{blobs_in, split};
+pub use stage::Reading;
 pub use writing::{write_in_room, write_message};

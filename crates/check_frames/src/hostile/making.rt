@@ -110,7 +110,7 @@ pub(crate) fn damaged(
 }
 
 /// Changes, removes or doubles a byte, or cuts off everything from it on.
-fn damage(random: &mut Random, bytes: &mut Vec<u8>) -> Result<(), NoMemory> {
+pub(crate) fn damage(random: &mut Random, bytes: &mut Vec<u8>) -> Result<(), NoMemory> {
     if bytes.is_empty() {
         return Ok(());
     }
