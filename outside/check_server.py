@@ -104,9 +104,10 @@ class Run:
                     ends[tag] = LINK_FAULT
         lines = [f"entries {server.store.length}"]
         lines += [f"session {number} writes {count}" for number, count in sorted(writes.items())]
-        lines.append(f"= {LISTEN_FAULT if self.door else 0}")
+        lines += [f"= {LISTEN_FAULT}", "listener failed 1"] if self.door else ["= 0"]
         for tag in sorted(numbers, key=numbers.get):
             lines.append(f"session {numbers[tag]} ended {(ends[tag] or PEER_END)[0]}")
+            lines += ["link failed 1"] * (ends[tag] == LINK_FAULT)
             lines += sent[tag]
         return "\n".join(lines) + "\n"
 

@@ -4,8 +4,8 @@
 //! A line `serve CONFIG SESSIONS RULES LINK ..` of the input is a run. CONFIG is the file of the configuration, and SESSIONS how many links
 //! are served; `SESSIONS@FAIL` also gives the number of the listener's call that fails. A link is `FAIL:ITEM,..`: the number of its call
 //! that fails, or 0, and what comes over it, where `-` is an idle turn and anything else a message in hexadecimal. The rules, `-` for none,
-//! make sessions wait where the order of what they do matters (`gates`). What is printed is the server's report and its status, and then,
-//! in the order of their numbers, how each session ended and what it was sent.
+//! make sessions wait where the order of what they do matters (`gates`). What is printed is the server's report, its status and how often the
+//! listener failed, if it did; and then, in the order of their numbers, how each session ended, how often its link failed, and what it was sent.
 //!
 //! A line `ids FIRST MESSAGE ..` is a session alone: the first of its own ids, and the messages that it gets, each in hexadecimal.
 //!
@@ -45,7 +45,8 @@ fn serve<R: AllocGlobal + Files + Print + Threads + Wait + Sync>(
     let status = run_server(rt, alloc, words, &mut host, door, &mut out, &clock, gate);
     io::writer(rt).write_all(out.as_bytes())?;
     let number = status.number();
-    println!(rt; "= {number}")
+    println!(rt; "= {number}")?;
+    print_failed(rt, "listener", door.faults())
 }
 
 fn print_sent<R: AllocGlobal + Print>(rt: &R, link: &MemLink) -> io::Result<()> {
@@ -56,12 +57,21 @@ fn print_sent<R: AllocGlobal + Print>(rt: &R, link: &MemLink) -> io::Result<()> 
     Ok(())
 }
 
+/// Prints how often something failed, if it did.
+fn print_failed<R: AllocGlobal + Print>(rt: &R, name: &str, faults: u64) -> io::Result<()> {
+    if faults == 0 {
+        return Ok(());
+    }
+    println!(rt; "{name} failed {faults}")
+}
+
 /// The links that came back of the session with a number.
 fn print_session<R: AllocGlobal + Print>(rt: &R, door: &MemDoor, number: u64) -> io::Result<()> {
     for back in door.returned() {
         if back.number == number {
             let end = back.end;
             println!(rt; "session {number} ended {end}")?;
+            print_failed(rt, "link", back.link.faults())?;
             print_sent(rt, &back.link)?;
         }
     }
