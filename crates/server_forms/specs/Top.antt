@@ -1,5 +1,5 @@
 -- What the top call answers, by all that it was given and left.
-use Rattle.std.specs.Prelude.{◌≡◌, ◌⊎◌, ◌+◌, ◌≤◌, ℕ, ℤ, Bool, true, false, List, drop, Option, None, Some, IfSome, Ok}
+use Rattle.std.specs.Prelude.{◌≡◌, ◌⊎◌, ◌+◌, ◌≤◌, ℕ, ℤ, Bool, true, false, List, [], ◌∷◌, drop, Option, None, Some, IfSome, Ok}
 use Rattle.std.specs.Io.KnownBytes.{Keeps}
 use Rattle.chan_defs.specs.Config.{defs}
 use Rattle.server_config.specs.declared.config.Config.{Config as Settings}
@@ -16,9 +16,11 @@ use Rattle.gathered_text.specs.Writing.{Writes}
 use Rattle.gathered_text.specs.declared.writing.Wrote.{Wrote}
 use Rattle.gathered_text.specs.declared.writing.Wrote.TheVariants.{Whole, WriteFault, NoMemory}
 use Rattle.store_machine.specs.Answers.{has_room_for}
-use Rattle.store_machine.specs.Legal.{Legal}
+use Rattle.store_hub.specs.Words.{by_of}
+use Rattle.store_machine.specs.Legal.{Legal, door as entry_of_door}
 use Rattle.store_machine.specs.declared.journal.Act.TheVariants.{Enter}
 use Rattle.store_machine.specs.declared.journal.Entry.{Entry}
+use Rattle.turn_book.specs.Lists.{own}
 use Rattle.server_forms.specs.Report.{report}
 use Rattle.server_forms.specs.Words.{Command}
 
@@ -63,7 +65,8 @@ abbrev pub HasEntered : Settings → List Entry → ℕ → ℕ → Type 0
 HasEntered config journal given now = (now ≤ given + entered (drop 1 journal)) ⊎ (has_room_for config journal Enter ≡ false)
 
 -- Links were served from one new store. There is an answer for each link that was given out, over the journal that the store had in the
--- end, which is legal; and of the report of that journal all was written, or a front: if the output failed, or memory ran out
+-- end, which is legal, and in which the server itself has no entry but its first; and of the report of that journal all was written, or a
+-- front: if the output failed, or memory ran out
 pub record ServesWith (status : Status) (config : Settings) (test : List ℤ → Bool) (door : Door) (output : Output) : Type 0 where
   pub end : Served
   pub reported : Wrote
@@ -71,6 +74,7 @@ pub record ServesWith (status : Status) (config : Settings) (test : List ℤ →
   pub legal : Legal config journal
   pub links : ServedOver end test config 1 journal door.given door.now door.backs door.taken
   pub let_in : status ≡ outcome.Done → HasEntered config journal door.given door.now
+  pub silent : own by_of 0 journal ≡ (0, entry_of_door) ∷ []
   pub status_is : status ≡ status_of end reported
   pub written : Writes reported (report journal) output.before output.after
   pub cause : reported ≡ WriteFault → Rose output.faults output.count
