@@ -13,7 +13,7 @@ use crate::link::WsLink;
 use crate::log::{DoorLog, NoLog};
 use crate::refusal::Refusal;
 use crate::room::Ready;
-use etp_outside::{Link, Listened, Listener, Next};
+use etp_outside::{Link, Listened, Listener, Next, ProofText};
 use std::alloc::Global;
 use std::io;
 use std::net::{Net, SocketAddr, TcpListener, TcpStream};
@@ -46,6 +46,8 @@ pub struct TcpDoor<'a, R> {
     faults: u64,
     given: u64,
     stopped: bool,
+    /// Where it last began to listen.
+    place: Option<ProofText>,
     /// Where its links wait. `None` before the first link is asked for.
     posts: Option<Posts>,
 }
@@ -66,6 +68,7 @@ impl<'a, R: Net<Listener = TcpListener, Stream = TcpStream> + Clock> TcpDoor<'a,
             faults: 0,
             given: 0,
             stopped: false,
+            place: None,
             posts: None,
         }
     }
@@ -73,6 +76,7 @@ impl<'a, R: Net<Listener = TcpListener, Stream = TcpStream> + Clock> TcpDoor<'a,
     /// The same door, which gives no more links once the standard input has ended. If the standard input ended before the first link was
     /// asked for, or is a file, it is ignored.
     pub fn until_input_ends(self) -> TcpDoor<'a, R>
+        ensures at { ⟦<TcpDoor<'a, R> as Listener>⟧.at result ≡ ⟦<TcpDoor<'a, R> as Listener>⟧.at self.entry }
         ensures faults { ⟦<TcpDoor<'a, R> as Listener>⟧.faults result ≡ ⟦<TcpDoor<'a, R> as Listener>⟧.faults self.entry }
         ensures given { ⟦<TcpDoor<'a, R> as Listener>⟧.given result ≡ ⟦<TcpDoor<'a, R> as Listener>⟧.given self.entry }
         ensures stopped { ⟦<TcpDoor<'a, R> as Listener>⟧.stopped result ≡ ⟦<TcpDoor<'a, R> as Listener>⟧.stopped self.entry }
@@ -107,6 +111,7 @@ impl<'a, R: Net<Listener = TcpListener, Stream = TcpStream> + Clock> TcpDoor<'a,
         ensures kept { self.old.faults ≤ self.new.faults }
         ensures given { self.new.given ≡ self.old.given }
         ensures stopped { self.new.stopped ≡ self.old.stopped }
+        ensures at { self.new.place.address ≡ self.old.place }
     {
         self.faults = self.faults.saturating_add(1);
     }
@@ -116,6 +121,7 @@ impl<'a, R: Net<Listener = TcpListener, Stream = TcpStream> + Clock> TcpDoor<'a,
         ensures faults { self.new.faults ≡ self.old.faults }
         ensures given { self.new.given ≡ self.old.given }
         ensures stopped { self.new.stopped ≡ self.old.stopped }
+        ensures at { self.new.place.address ≡ self.old.place }
     {
         match &mut self.posts {
             Some(posts) => posts.take(self.rt, alloc, peer),
@@ -128,6 +134,7 @@ impl<'a, R: Net<Listener = TcpListener, Stream = TcpStream> + Clock> TcpDoor<'a,
         ensures faults { self.new.faults ≡ self.old.faults }
         ensures given { self.new.given ≡ self.old.given }
         ensures stopped { self.new.stopped ≡ self.old.stopped }
+        ensures at { self.new.place.address ≡ self.old.place }
     {
         if let Some(posts) = &mut self.posts {
             posts.put(post);
@@ -142,9 +149,11 @@ impl<'a, R: Net<Listener = TcpListener, Stream = TcpStream> + Clock> TcpDoor<'a,
         log: &mut L,
     ) -> Option<ServerLink>
         ensures link { IfSome result (λ l. IsAccepted (⟦<ServerLink as Link>⟧.talk l) (⟦<ServerLink as Link>⟧.faults l) (⟦<ServerLink as Link>⟧.ended l)) }
+        ensures usable { IfSome result (λ l. ⟦<ServerLink as Link>⟧.closed l ≡ false) }
         ensures faults { self.new.faults ≡ self.old.faults }
         ensures given { self.new.given ≡ self.old.given }
         ensures stopped { self.new.stopped ≡ self.old.stopped }
+        ensures at { self.new.place.address ≡ self.old.place }
     {
         let Ready { caller, upgrade } = ready;
         let mut caller = caller;
@@ -174,6 +183,7 @@ impl<'a, R: Net<Listener = TcpListener, Stream = TcpStream> + Clock> TcpDoor<'a,
         ensures faults { self.new.faults ≡ self.old.faults }
         ensures given { self.new.given ≡ self.old.given }
         ensures stopped { self.new.stopped ≡ self.old.stopped }
+        ensures at { self.new.place.address ≡ self.old.place }
     {
         match &mut self.hall {
             Some(hall) => hall.next_ready(),
@@ -186,6 +196,7 @@ impl<'a, R: Net<Listener = TcpListener, Stream = TcpStream> + Clock> TcpDoor<'a,
         ensures faults { self.new.faults ≡ self.old.faults }
         ensures given { self.new.given ≡ self.old.given }
         ensures stopped { self.new.stopped ≡ self.old.stopped }
+        ensures at { self.new.place.address ≡ self.old.place }
     {
         if self.hall.is_some() {
             return Ok(());
@@ -206,6 +217,7 @@ impl<'a, R: Net<Listener = TcpListener, Stream = TcpStream> + Clock> TcpDoor<'a,
         ensures faults { self.new.faults ≡ self.old.faults }
         ensures given { self.new.given ≡ self.old.given }
         ensures stopped { self.new.stopped ≡ self.old.stopped }
+        ensures at { self.new.place.address ≡ self.old.place }
     {
         let Some(listener) = &self.listener else {
             return Turn::Failed;
@@ -221,6 +233,7 @@ impl<'a, R: Net<Listener = TcpListener, Stream = TcpStream> + Clock> TcpDoor<'a,
         ensures faults { self.new.faults ≡ self.old.faults }
         ensures given { self.new.given ≡ self.old.given }
         ensures stopped { self.new.stopped ≡ self.old.stopped }
+        ensures at { self.new.place.address ≡ self.old.place }
     {
         self.hall = None;
         self.listener = None;
@@ -232,9 +245,11 @@ impl<'a, R: Net<Listener = TcpListener, Stream = TcpStream> + Clock> TcpDoor<'a,
     /// The next link.
     fn next_link<L: DoorLog>(&mut self, alloc: Global, log: &mut L) -> Next<ServerLink>
         ensures link { IfLink result (λ l. IsAccepted (⟦<ServerLink as Link>⟧.talk l) (⟦<ServerLink as Link>⟧.faults l) (⟦<ServerLink as Link>⟧.ended l)) }
+        ensures usable { IfLink result (λ l. ⟦<ServerLink as Link>⟧.closed l ≡ false) }
         ensures faults { self.new.faults ≡ self.old.faults }
         ensures given { self.new.given ≡ self.old.given }
         ensures stopped { self.new.stopped ≡ self.old.stopped }
+        ensures at { self.new.place.address ≡ self.old.place }
     {
         if let Err(error) = self.open(alloc) {
             log.unaccepted(&error);
@@ -262,8 +277,10 @@ impl<'a, R: Net<Listener = TcpListener, Stream = TcpStream> + Clock> TcpDoor<'a,
     /// The next link, as [`next`](Listener::next) returns it. The connections that are turned away meanwhile are reported to the log.
     pub fn next_told<L: DoorLog>(&mut self, alloc: Global, log: &mut L) -> Next<ServerLink>
         ensures link { IfLink result (λ l. IsAccepted (⟦<ServerLink as Link>⟧.talk l) (⟦<ServerLink as Link>⟧.faults l) (⟦<ServerLink as Link>⟧.ended l)) }
+        ensures usable { IfLink result (λ l. ⟦<ServerLink as Link>⟧.closed l ≡ false) }
         ensures given { ⟦<TcpDoor<'a, R> as Listener>⟧.given self.new ≡ ⟦<TcpDoor<'a, R> as Listener>⟧.given self.old + links result }
         ensures stopped { ⟦<TcpDoor<'a, R> as Listener>⟧.stopped self.new ≡ (⟦<TcpDoor<'a, R> as Listener>⟧.stopped self.old || is_stop result) }
+        ensures at { ⟦<TcpDoor<'a, R> as Listener>⟧.at self.new ≡ ⟦<TcpDoor<'a, R> as Listener>⟧.at self.old }
         ensures kept { ⟦<TcpDoor<'a, R> as Listener>⟧.faults self.old ≤ ⟦<TcpDoor<'a, R> as Listener>⟧.faults self.new }
         ensures cause { result ≡ Next.Failed → Rose (⟦<TcpDoor<'a, R> as Listener>⟧.faults self.old) (⟦<TcpDoor<'a, R> as Listener>⟧.faults self.new) }
     {
@@ -292,6 +309,7 @@ impl<'a, R: Net<Listener = TcpListener, Stream = TcpStream> + Clock> TcpDoor<'a,
     pub fn back_told<L: DoorLog>(&mut self, link: ServerLink, number: u64, end: u8, log: &mut L)
         ensures given { ⟦<TcpDoor<'a, R> as Listener>⟧.given self.new ≡ ⟦<TcpDoor<'a, R> as Listener>⟧.given self.old }
         ensures stopped { ⟦<TcpDoor<'a, R> as Listener>⟧.stopped self.new ≡ ⟦<TcpDoor<'a, R> as Listener>⟧.stopped self.old }
+        ensures at { ⟦<TcpDoor<'a, R> as Listener>⟧.at self.new ≡ ⟦<TcpDoor<'a, R> as Listener>⟧.at self.old }
         ensures kept { ⟦<TcpDoor<'a, R> as Listener>⟧.faults self.old ≤ ⟦<TcpDoor<'a, R> as Listener>⟧.faults self.new }
     {
         let post = link.into_post();
@@ -306,6 +324,7 @@ impl<'a, R: Net<Listener = TcpListener, Stream = TcpStream> + Clock> TcpDoor<'a,
         ensures faults { self.new.faults ≡ self.old.faults }
         ensures given { self.new.given ≡ self.old.given }
         ensures stopped { self.new.stopped ≡ self.old.stopped }
+        ensures at { self.new.place.address ≡ self.old.place }
     {
         self.hall = None;
         self.listener = None;
@@ -329,7 +348,8 @@ fn accept(alloc: Global, caller: &mut Caller, upgrade: &Upgrade) -> Result<(), R
 
 /// The link over a connection that was accepted. The post is given back if the system refuses what the link needs.
 fn link_of(alloc: Global, caller: Caller, post: Post) -> Result<ServerLink, Post>
-    ensures { IfOk result (λ l. IsAccepted (⟦<ServerLink as Link>⟧.talk l) (⟦<ServerLink as Link>⟧.faults l) (⟦<ServerLink as Link>⟧.ended l)) }
+    ensures link { IfOk result (λ l. IsAccepted (⟦<ServerLink as Link>⟧.talk l) (⟦<ServerLink as Link>⟧.faults l) (⟦<ServerLink as Link>⟧.ended l)) }
+    ensures usable { IfOk result (λ l. ⟦<ServerLink as Link>⟧.closed l ≡ false) }
 {
     WsLink::new(
         alloc,
@@ -352,12 +372,15 @@ impl<'a, R: Net<Listener = TcpListener, Stream = TcpStream> + Clock> Listener fo
 
     ghost backs = { λ d. None };
 
+    ghost at = { λ d. d.place };
+
     ghost few = { λ d. tt };
 
     fn listen(&mut self, address: &str) -> Listened {
         match self.bind(address) {
             Ok(()) => {
                 self.cause = None;
+                self.place = Some(ProofText::of(address));
                 Listened::Done
             }
             Err(error) => {

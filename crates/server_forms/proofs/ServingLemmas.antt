@@ -28,7 +28,7 @@ use Rattle.etp_serve.specs.declared.served.Served.{Served}
 use Rattle.etp_serve.specs.declared.served.Served.TheVariants as why
 use Rattle.etp_serve.proofs.AcceptLemmas.{own_still}
 use Rattle.server_forms.specs.Report.{report}
-use Rattle.server_forms.specs.Top.{Answers, AtMost, Door, Fulfils, HasEntered, Output, ServesWith, Tries, Untouched, door_of, output_of, status_of}
+use Rattle.server_forms.specs.Top.{Answers, AtMost, Door, Fulfils, HasEntered, ListensThere, Output, ServesWith, Tries, Untouched, door_of, output_of, status_of}
 use Rattle.server_forms.specs.Words.{Command}
 
 -- ---- links
@@ -150,6 +150,10 @@ fulfils_of status command files test listener output config read (inr s) = inr r
 pub no_memory : (c : Option Command) (files : List ℕ → Option (List ℕ)) (test : List ℤ → Bool) (door : Door) (output : Output) → Untouched door output → Answers outcome.NoMemory c files test door output
 no_memory None files test listener output same = (inr refl, same)
 no_memory (Some command) files test listener output same = inr (refl, same)
+
+pub there_same : (c : Option Command) (given now : ℕ) (place : Option (List ℕ)) → now ≡ given → ListensThere c given now place
+there_same None given now place same = same
+there_same (Some command) given now place same = inl same
 
 pub at_most_same : (c : Option Command) (given now : ℕ) → now ≡ given → AtMost c given now
 at_most_same None given now same = same

@@ -35,6 +35,15 @@ pub record Door : Type 0 where
 abbrev pub door_of : ℕ → ℕ → Option (List Back) → Option (List Back) → Door
 door_of given now backs taken = record { given = given; now = now; backs = backs; taken = taken }
 
+-- links were given out only after the listener was told to listen at this address, and at no other since
+abbrev pub ListensAt : List ℕ → ℕ → ℕ → Option (List ℕ) → Type 0
+ListensAt address given now place = (now ≡ given) ⊎ (place ≡ Some address)
+
+-- the same for the address of a command
+abbrev pub ListensThere : Option Command → ℕ → ℕ → Option (List ℕ) → Type 0
+ListensThere None given now place = now ≡ given
+ListensThere (Some command) given now place = ListensAt command.address given now place
+
 -- what an output holds before a call and after it, and how often it had failed before and has after it
 pub record Output : Type 0 where
   pub before : Option (List ℕ)
