@@ -1,5 +1,5 @@
 -- What a listener in memory answers, and how it is afterwards.
-use Rattle.std.specs.Prelude.{◌≡◌, ◌+◌, ◌-◌, ◌==◌, ◌++◌, ◌∷◌, ℕ, true, false, List, [], drop, length, map, None, Some, if◌then◌else◌}
+use Rattle.std.specs.Prelude.{◌≡◌, ◌+◌, ◌-◌, ◌==◌, ◌++◌, ◌∷◌, ℕ, true, false, List, [], drop, length, map, Some, if◌then◌else◌}
 use Rattle.std.specs.List.{slice_get}
 use Rattle.std.specs.Option.{option_map}
 use Rattle.etp_outside.specs.Calls.{after_call, fails_next, new_script}
@@ -15,7 +15,7 @@ use Rattle.etp_outside.specs.declared.mem_door.Returned.{Returned}
 
 -- the listener before its first call
 abbrev pub first_porch : List Line → List ℕ → Porch
-first_porch lines fails = record { place = None; waiting = lines; back = []; out = 0; stopped = false; script = new_script fails }
+first_porch lines fails = record { waiting = lines; back = []; out = 0; stopped = false; script = new_script fails }
 
 -- how many links it has given out
 abbrev pub given_by : Porch → ℕ
@@ -33,9 +33,9 @@ abbrev pub IsListenAnswer : Porch → Listened → Type 0
 IsListenAnswer d Listen.Done = fails_next d.script ≡ false
 IsListenAnswer d Listen.Failed = fails_next d.script ≡ true
 
-abbrev pub after_listen : Porch → List ℕ → Listened → Porch
-after_listen d address Listen.Done = record d { place = Some address; script = after_call d.script false }
-after_listen d address Listen.Failed = record d { script = after_call d.script true }
+abbrev pub after_listen : Porch → Listened → Porch
+after_listen d Listen.Done = record d { script = after_call d.script false }
+after_listen d Listen.Failed = record d { script = after_call d.script true }
 
 -- a call that is not listed gives out the next link in its state before its first call, or stops if none is left
 abbrev pub IsNextAnswer : Porch → Next Line → Type 0

@@ -1,5 +1,5 @@
 //! Where links come from.
-ghost use Rattle.std.specs.Prelude.{◌≡◌, ◌+◌, ◌≤◌, ◌||◌, ℕ, Bool, true, false, List, Some, IfSome, IsSome, length};
+ghost use Rattle.std.specs.Prelude.{◌≡◌, ◌+◌, ◌≤◌, ◌||◌, ℕ, Bool, true, false, List, IfSome, IsSome, length};
 ghost use Rattle.std.specs.declared.option.Option.{Option};
 ghost use Rattle.etp_outside.specs.Faults.{Rose};
 ghost use Rattle.etp_outside.specs.Told.{Told};
@@ -47,12 +47,12 @@ pub trait Listener {
     /// The links that it took back, if it reveals them.
     ghost backs: { Self → Option (List Back) };
 
-    /// The address at which it last began to listen, if it did.
+    /// The address at which it last began to listen, if it reveals that.
     ghost at: { Self → Option (List ℕ) };
 
     /// Begins to listen at an address.
     fn listen(&mut self, address: &str) -> Listened
-        ensures at { result ≡ Listened.Done → at self.new ≡ Some address.now }
+        ensures at { result ≡ Listened.Done → Told (at self.old) (at self.new) (λ before place. place ≡ address.now) }
         ensures given { given self.new ≡ given self.old }
         ensures stopped { stopped self.new ≡ stopped self.old }
         ensures backs { backs self.new ≡ backs self.old }

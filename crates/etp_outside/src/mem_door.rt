@@ -1,5 +1,5 @@
 //! A listener in memory.
-ghost use Rattle.std.specs.Prelude.{◌≡◌, ◌+◌, ◌≤◌, ◌||◌, Some, IfOk, IsSome, length, true, false};
+ghost use Rattle.std.specs.Prelude.{◌≡◌, ◌+◌, ◌≤◌, ◌||◌, None, Some, IfOk, IsSome, length, true, false};
 ghost use Rattle.etp_outside.specs.Faults.{Rose};
 ghost use Rattle.etp_outside.specs.Doors.{IfLink, IsAccepted, TakesBack, back_of, is_stop, links};
 ghost use Rattle.etp_outside.specs.MemDoors.{IsListenAnswer, IsNextAnswer, after_back, after_listen, after_next, all_back, first_porch, given_by};
@@ -8,7 +8,6 @@ ghost use Rattle.etp_outside.specs.DoorLaws.{few_back};
 use crate::link::Link;
 use crate::listener::{Listened, Listener, Next};
 use crate::mem_link::MemLink;
-use crate::proof_text::ProofText;
 use crate::script::Script;
 use etp_values::{List, NoMemory};
 use std::alloc::Global;
@@ -27,9 +26,8 @@ pub struct Returned {
 
 /// A listener that gives out the links of a list, each in its state before its first call, and then stops. It keeps those that come back,
 /// and fails at the calls of `listen` and `next` that another list names, both counted together.
-#[derive(Drop)]
+#[derive(Debug, Drop)]
 pub struct MemDoor {
-    place: Option<ProofText>,
     waiting: VecDeque<MemLink>,
     back: Vec<Returned>,
     out: u64,
@@ -43,7 +41,7 @@ impl Model for MemDoor {
 
     ghost Value = { Porch };
 
-    ghost view = { λ d. record { place = d.place; waiting = d.waiting.items; back = d.back.items; out = d.out; stopped = d.stopped; script = d.script } };
+    ghost view = { λ d. record { waiting = d.waiting.items; back = d.back.items; out = d.out; stopped = d.stopped; script = d.script } };
 
     ghost invariant = { λ d. (length d.back.items + d.out + length d.waiting.items ≤ vec_capacity d.back)
         × (length d.back.items + d.out + length d.waiting.items < 2 ^ 64) };
@@ -58,7 +56,6 @@ impl MemDoor {
         let waiting = VecDeque::from(links.into_vec());
         let back = Vec::with_capacity(alloc, waiting.len())?;
         Ok(MemDoor {
-            place: None,
             waiting,
             back,
             out: 0,
@@ -93,14 +90,13 @@ impl Listener for MemDoor {
 
     ghost backs = { λ d. Some (all_back d.back) };
 
-    ghost at = { λ d. d.place };
+    ghost at = { λ d. None };
 
     ghost few = { few_back };
 
-    fn listen(&mut self, address: &str) -> Listened
+    fn listen(&mut self, _address: &str) -> Listened
         ensures answer { IsListenAnswer self.old result }
-        ensures after { self.new ≡ after_listen self.old address.now result }
-        ensures at { result ≡ Listened.Done → self.new.place ≡ Some address.now }
+        ensures after { self.new ≡ after_listen self.old result }
         ensures given { given_by self.new ≡ given_by self.old }
         ensures stopped { self.new.stopped ≡ self.old.stopped }
         ensures backs { Some (all_back self.new.back) ≡ Some (all_back self.old.back) }
@@ -112,7 +108,6 @@ impl Listener for MemDoor {
             return Listened::Failed;
         }
         self.script.passed();
-        self.place = Some(ProofText::of(address));
         Listened::Done
     }
 
@@ -122,7 +117,6 @@ impl Listener for MemDoor {
         ensures link { IfLink result (λ l. IsAccepted (Some l.talk) l.script.faults l.ended) }
         ensures tells { IfLink result (λ l. IsSome (Some (all_back self.new.back)) → IsSome (Some l.talk)) }
         ensures usable { IfLink result (λ l. l.closed ≡ false) }
-        ensures at { self.new.place ≡ self.old.place }
         ensures given { given_by self.new ≡ given_by self.old + links result }
         ensures stopped { self.new.stopped ≡ (self.old.stopped || is_stop result) }
         ensures backs { Some (all_back self.new.back) ≡ Some (all_back self.old.back) }
@@ -145,7 +139,6 @@ impl Listener for MemDoor {
 
     fn back(&mut self, link: MemLink, number: u64, end: u8)
         requires closed { link.closed ≡ true }
-        ensures at { self.new.place ≡ self.old.place }
         ensures after { self.new ≡ after_back self.old link number end }
         ensures back { TakesBack (given_by self.old) (back_of number end link.script.faults link.ended (Some link.talk))
             (all_back self.old.back) (all_back self.new.back) }

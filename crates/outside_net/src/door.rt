@@ -13,7 +13,7 @@ use crate::link::WsLink;
 use crate::log::{DoorLog, NoLog};
 use crate::refusal::Refusal;
 use crate::room::Ready;
-use etp_outside::{Link, Listened, Listener, Next, ProofText};
+use etp_outside::{Link, Listened, Listener, Next};
 use std::alloc::Global;
 use std::io;
 use std::net::{Net, SocketAddr, TcpListener, TcpStream};
@@ -46,8 +46,6 @@ pub struct TcpDoor<'a, R> {
     faults: u64,
     given: u64,
     stopped: bool,
-    /// Where it last began to listen.
-    place: Option<ProofText>,
     /// Where its links wait. `None` before the first link is asked for.
     posts: Option<Posts>,
 }
@@ -68,7 +66,6 @@ impl<'a, R: Net<Listener = TcpListener, Stream = TcpStream> + Clock> TcpDoor<'a,
             faults: 0,
             given: 0,
             stopped: false,
-            place: None,
             posts: None,
         }
     }
@@ -76,7 +73,6 @@ impl<'a, R: Net<Listener = TcpListener, Stream = TcpStream> + Clock> TcpDoor<'a,
     /// The same door, which gives no more links once the standard input has ended. If the standard input ended before the first link was
     /// asked for, or is a file, it is ignored.
     pub fn until_input_ends(self) -> TcpDoor<'a, R>
-        ensures at { ⟦<TcpDoor<'a, R> as Listener>⟧.at result ≡ ⟦<TcpDoor<'a, R> as Listener>⟧.at self.entry }
         ensures faults { ⟦<TcpDoor<'a, R> as Listener>⟧.faults result ≡ ⟦<TcpDoor<'a, R> as Listener>⟧.faults self.entry }
         ensures given { ⟦<TcpDoor<'a, R> as Listener>⟧.given result ≡ ⟦<TcpDoor<'a, R> as Listener>⟧.given self.entry }
         ensures stopped { ⟦<TcpDoor<'a, R> as Listener>⟧.stopped result ≡ ⟦<TcpDoor<'a, R> as Listener>⟧.stopped self.entry }
@@ -111,7 +107,6 @@ impl<'a, R: Net<Listener = TcpListener, Stream = TcpStream> + Clock> TcpDoor<'a,
         ensures kept { self.old.faults ≤ self.new.faults }
         ensures given { self.new.given ≡ self.old.given }
         ensures stopped { self.new.stopped ≡ self.old.stopped }
-        ensures at { self.new.place.address ≡ self.old.place }
     {
         self.faults = self.faults.saturating_add(1);
     }
@@ -121,7 +116,6 @@ impl<'a, R: Net<Listener = TcpListener, Stream = TcpStream> + Clock> TcpDoor<'a,
         ensures faults { self.new.faults ≡ self.old.faults }
         ensures given { self.new.given ≡ self.old.given }
         ensures stopped { self.new.stopped ≡ self.old.stopped }
-        ensures at { self.new.place.address ≡ self.old.place }
     {
         match &mut self.posts {
             Some(posts) => posts.take(self.rt, alloc, peer),
@@ -134,7 +128,6 @@ impl<'a, R: Net<Listener = TcpListener, Stream = TcpStream> + Clock> TcpDoor<'a,
         ensures faults { self.new.faults ≡ self.old.faults }
         ensures given { self.new.given ≡ self.old.given }
         ensures stopped { self.new.stopped ≡ self.old.stopped }
-        ensures at { self.new.place.address ≡ self.old.place }
     {
         if let Some(posts) = &mut self.posts {
             posts.put(post);
@@ -153,7 +146,6 @@ impl<'a, R: Net<Listener = TcpListener, Stream = TcpStream> + Clock> TcpDoor<'a,
         ensures faults { self.new.faults ≡ self.old.faults }
         ensures given { self.new.given ≡ self.old.given }
         ensures stopped { self.new.stopped ≡ self.old.stopped }
-        ensures at { self.new.place.address ≡ self.old.place }
     {
         let Ready { caller, upgrade } = ready;
         let mut caller = caller;
@@ -183,7 +175,6 @@ impl<'a, R: Net<Listener = TcpListener, Stream = TcpStream> + Clock> TcpDoor<'a,
         ensures faults { self.new.faults ≡ self.old.faults }
         ensures given { self.new.given ≡ self.old.given }
         ensures stopped { self.new.stopped ≡ self.old.stopped }
-        ensures at { self.new.place.address ≡ self.old.place }
     {
         match &mut self.hall {
             Some(hall) => hall.next_ready(),
@@ -196,7 +187,6 @@ impl<'a, R: Net<Listener = TcpListener, Stream = TcpStream> + Clock> TcpDoor<'a,
         ensures faults { self.new.faults ≡ self.old.faults }
         ensures given { self.new.given ≡ self.old.given }
         ensures stopped { self.new.stopped ≡ self.old.stopped }
-        ensures at { self.new.place.address ≡ self.old.place }
     {
         if self.hall.is_some() {
             return Ok(());
@@ -217,7 +207,6 @@ impl<'a, R: Net<Listener = TcpListener, Stream = TcpStream> + Clock> TcpDoor<'a,
         ensures faults { self.new.faults ≡ self.old.faults }
         ensures given { self.new.given ≡ self.old.given }
         ensures stopped { self.new.stopped ≡ self.old.stopped }
-        ensures at { self.new.place.address ≡ self.old.place }
     {
         let Some(listener) = &self.listener else {
             return Turn::Failed;
@@ -233,7 +222,6 @@ impl<'a, R: Net<Listener = TcpListener, Stream = TcpStream> + Clock> TcpDoor<'a,
         ensures faults { self.new.faults ≡ self.old.faults }
         ensures given { self.new.given ≡ self.old.given }
         ensures stopped { self.new.stopped ≡ self.old.stopped }
-        ensures at { self.new.place.address ≡ self.old.place }
     {
         self.hall = None;
         self.listener = None;
@@ -249,7 +237,6 @@ impl<'a, R: Net<Listener = TcpListener, Stream = TcpStream> + Clock> TcpDoor<'a,
         ensures faults { self.new.faults ≡ self.old.faults }
         ensures given { self.new.given ≡ self.old.given }
         ensures stopped { self.new.stopped ≡ self.old.stopped }
-        ensures at { self.new.place.address ≡ self.old.place }
     {
         if let Err(error) = self.open(alloc) {
             log.unaccepted(&error);
@@ -280,7 +267,6 @@ impl<'a, R: Net<Listener = TcpListener, Stream = TcpStream> + Clock> TcpDoor<'a,
         ensures usable { IfLink result (λ l. ⟦<ServerLink as Link>⟧.closed l ≡ false) }
         ensures given { ⟦<TcpDoor<'a, R> as Listener>⟧.given self.new ≡ ⟦<TcpDoor<'a, R> as Listener>⟧.given self.old + links result }
         ensures stopped { ⟦<TcpDoor<'a, R> as Listener>⟧.stopped self.new ≡ (⟦<TcpDoor<'a, R> as Listener>⟧.stopped self.old || is_stop result) }
-        ensures at { ⟦<TcpDoor<'a, R> as Listener>⟧.at self.new ≡ ⟦<TcpDoor<'a, R> as Listener>⟧.at self.old }
         ensures kept { ⟦<TcpDoor<'a, R> as Listener>⟧.faults self.old ≤ ⟦<TcpDoor<'a, R> as Listener>⟧.faults self.new }
         ensures cause { result ≡ Next.Failed → Rose (⟦<TcpDoor<'a, R> as Listener>⟧.faults self.old) (⟦<TcpDoor<'a, R> as Listener>⟧.faults self.new) }
     {
@@ -309,7 +295,6 @@ impl<'a, R: Net<Listener = TcpListener, Stream = TcpStream> + Clock> TcpDoor<'a,
     pub fn back_told<L: DoorLog>(&mut self, link: ServerLink, number: u64, end: u8, log: &mut L)
         ensures given { ⟦<TcpDoor<'a, R> as Listener>⟧.given self.new ≡ ⟦<TcpDoor<'a, R> as Listener>⟧.given self.old }
         ensures stopped { ⟦<TcpDoor<'a, R> as Listener>⟧.stopped self.new ≡ ⟦<TcpDoor<'a, R> as Listener>⟧.stopped self.old }
-        ensures at { ⟦<TcpDoor<'a, R> as Listener>⟧.at self.new ≡ ⟦<TcpDoor<'a, R> as Listener>⟧.at self.old }
         ensures kept { ⟦<TcpDoor<'a, R> as Listener>⟧.faults self.old ≤ ⟦<TcpDoor<'a, R> as Listener>⟧.faults self.new }
     {
         let post = link.into_post();
@@ -324,7 +309,6 @@ impl<'a, R: Net<Listener = TcpListener, Stream = TcpStream> + Clock> TcpDoor<'a,
         ensures faults { self.new.faults ≡ self.old.faults }
         ensures given { self.new.given ≡ self.old.given }
         ensures stopped { self.new.stopped ≡ self.old.stopped }
-        ensures at { self.new.place.address ≡ self.old.place }
     {
         self.hall = None;
         self.listener = None;
@@ -372,7 +356,7 @@ impl<'a, R: Net<Listener = TcpListener, Stream = TcpStream> + Clock> Listener fo
 
     ghost backs = { λ d. None };
 
-    ghost at = { λ d. d.place };
+    ghost at = { λ d. None };
 
     ghost few = { λ d. tt };
 
@@ -380,7 +364,6 @@ impl<'a, R: Net<Listener = TcpListener, Stream = TcpStream> + Clock> Listener fo
         match self.bind(address) {
             Ok(()) => {
                 self.cause = None;
-                self.place = Some(ProofText::of(address));
                 Listened::Done
             }
             Err(error) => {

@@ -151,9 +151,9 @@ pub no_memory : (c : Option Command) (files : List ℕ → Option (List ℕ)) (t
 no_memory None files test listener output same = (inr refl, same)
 no_memory (Some command) files test listener output same = inr (refl, same)
 
-pub there_same : (c : Option Command) (given now : ℕ) (place : Option (List ℕ)) → now ≡ given → ListensThere c given now place
-there_same None given now place same = same
-there_same (Some command) given now place same = inl same
+pub there_same : (c : Option Command) (given now : ℕ) (before place : Option (List ℕ)) → now ≡ given → ListensThere c given now before place
+there_same None given now before place same = same
+there_same (Some command) given now before place same = inl same
 
 pub at_most_same : (c : Option Command) (given now : ℕ) → now ≡ given → AtMost c given now
 at_most_same None given now same = same

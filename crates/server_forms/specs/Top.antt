@@ -6,6 +6,7 @@ use Rattle.server_config.specs.declared.config.Config.{Config as Settings}
 use Rattle.config_file.specs.Settings.{IsNoConfig}
 use Rattle.etp_outside.specs.Doors.{Back}
 use Rattle.etp_outside.specs.Faults.{Rose}
+use Rattle.etp_outside.specs.Told.{Told}
 use Rattle.etp_outside.specs.declared.status.Status.{Status}
 use Rattle.etp_outside.specs.declared.status.Status.TheVariants as outcome
 use Rattle.etp_serve.specs.Accepted.{IsReached}
@@ -35,14 +36,14 @@ pub record Door : Type 0 where
 abbrev pub door_of : ℕ → ℕ → Option (List Back) → Option (List Back) → Door
 door_of given now backs taken = record { given = given; now = now; backs = backs; taken = taken }
 
--- links were given out only after the listener was told to listen at this address, and at no other since
-abbrev pub ListensAt : List ℕ → ℕ → ℕ → Option (List ℕ) → Type 0
-ListensAt address given now place = (now ≡ given) ⊎ (place ≡ Some address)
+-- links were given out only by a listener that was told to listen at this address, and at no other since, if it reveals where it listens
+abbrev pub ListensAt : List ℕ → ℕ → ℕ → Option (List ℕ) → Option (List ℕ) → Type 0
+ListensAt address given now before place = (now ≡ given) ⊎ Told before place (λ old new. new ≡ address)
 
 -- the same for the address of a command
-abbrev pub ListensThere : Option Command → ℕ → ℕ → Option (List ℕ) → Type 0
-ListensThere None given now place = now ≡ given
-ListensThere (Some command) given now place = ListensAt command.address given now place
+abbrev pub ListensThere : Option Command → ℕ → ℕ → Option (List ℕ) → Option (List ℕ) → Type 0
+ListensThere None given now before place = now ≡ given
+ListensThere (Some command) given now before place = ListensAt command.address given now before place
 
 -- what an output holds before a call and after it, and how often it had failed before and has after it
 pub record Output : Type 0 where

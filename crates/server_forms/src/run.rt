@@ -46,7 +46,7 @@ pub fn run_server<H: Host, A: Listener, W: Sink, C: Clock, G: Gate, R: Threads +
     ensures answers { Answers result (command_in (map string_bytes words.now)) (H.content host.old) (C.passes clock.now)
         (door_of (A.given door.old) (A.given door.new) (A.backs door.old) (A.backs door.new)) (output_of (W.held out.old) (W.held out.new) (W.faults out.old) (W.faults out.new)) }
     ensures most { AtMost (command_in (map string_bytes words.now)) (A.given door.old) (A.given door.new) }
-    ensures there { ListensThere (command_in (map string_bytes words.now)) (A.given door.old) (A.given door.new) (A.at door.new) }
+    ensures there { ListensThere (command_in (map string_bytes words.now)) (A.given door.old) (A.given door.new) (A.at door.old) (A.at door.new) }
     ensures over { result ≡ Done → IsOver (command_in (map string_bytes words.now)) (A.stopped door.new) (A.given door.old) (A.given door.new) }
     ensures read_cause { result ≡ ReadFault → Rose (H.faults host.old) (H.faults host.new) }
     ensures write_cause { result ≡ WriteFault → Rose (W.faults out.old) (W.faults out.new) }
@@ -78,7 +78,7 @@ fn run<H: Host, A: Listener, W: Sink, C: Clock, G: Gate, R: Threads + Wait + Syn
     ensures fulfils { Fulfils result (as_command command.entry) (H.content host.old) (C.passes clock.now)
         (door_of (A.given door.old) (A.given door.new) (A.backs door.old) (A.backs door.new)) (output_of (W.held out.old) (W.held out.new) (W.faults out.old) (W.faults out.new)) }
     ensures most { AtMost (Some (as_command command.entry)) (A.given door.old) (A.given door.new) }
-    ensures there { ListensThere (Some (as_command command.entry)) (A.given door.old) (A.given door.new) (A.at door.new) }
+    ensures there { ListensThere (Some (as_command command.entry)) (A.given door.old) (A.given door.new) (A.at door.old) (A.at door.new) }
     ensures over { result ≡ Done → IsOver (Some (as_command command.entry)) (A.stopped door.new) (A.given door.old) (A.given door.new) }
     ensures read_cause { result ≡ ReadFault → Rose (H.faults host.old) (H.faults host.new) }
     ensures write_cause { result ≡ WriteFault → Rose (W.faults out.old) (W.faults out.new) }
@@ -115,7 +115,7 @@ fn serve<A: Listener, W: Sink, C: Clock, G: Gate, R: Threads + Wait + Sync>(
     ensures tries { Tries result config.now (C.passes clock.now)
         (door_of (A.given door.old) (A.given door.new) (A.backs door.old) (A.backs door.new)) (output_of (W.held out.old) (W.held out.new) (W.faults out.old) (W.faults out.new)) }
     ensures most { IfSome most (λ m. A.given door.new ≤ A.given door.old + m) }
-    ensures there { ListensAt address.now (A.given door.old) (A.given door.new) (A.at door.new) }
+    ensures there { ListensAt address.now (A.given door.old) (A.given door.new) (A.at door.old) (A.at door.new) }
     ensures over { result ≡ Done → (A.stopped door.new ≡ true) ⊎ IsReached most (A.given door.old) (A.given door.new) }
     ensures write_cause { result ≡ WriteFault → Rose (W.faults out.old) (W.faults out.new) }
     ensures listen_cause { result ≡ ListenFault → Rose (A.faults door.old) (A.faults door.new) }
@@ -165,7 +165,7 @@ fn serve_at<A: Listener, C: Clock, G: Gate, R: Threads + Wait + Sync>(
     ensures all { ServesAll result (C.passes clock.now) (config_of hub.now) (known pass.old) (known pass.new)
         (A.given door.old) (A.given door.new) (A.backs door.old) (A.backs door.new) }
     ensures most { IfSome most (λ m. A.given door.new ≤ A.given door.old + m) }
-    ensures there { ListensAt address.now (A.given door.old) (A.given door.new) (A.at door.new) }
+    ensures there { ListensAt address.now (A.given door.old) (A.given door.new) (A.at door.old) (A.at door.new) }
     ensures over { result ≡ why.Stopped
         → (A.stopped door.new ≡ true) ⊎ IsReached most (A.given door.old) (A.given door.new) }
     ensures kept { A.faults door.old ≤ A.faults door.new }

@@ -1,4 +1,5 @@
-use Rattle.std.proofs.Common.{◌≡◌, ◌∙◌, true, refl, inl, inr, arith}
+use Rattle.std.proofs.Common.{◌≡◌, ℕ, List, Option, true, refl, sym, subst, inl, inr, arith}
+use Rattle.etp_outside.specs.Told.{Told}
 use Rattle.etp_outside.proofs.FaultLemmas.{rose_later}
 use Rattle.store_hub.specs.Passes.{known, config_of}
 use Rattle.server_forms.proofs.ServingLemmas.{most_from, most_same, reached_from, served_from, served_none}
@@ -16,7 +17,9 @@ returns-in-Done-clause-most g c =
     most_from c.args.most (L.given c.listen.new.self) (L.given c.args.door.now) (L.given c.serve_all.new.door) c.listen.ensures.given c.serve_all.ensures.most
 
 pub returns-in-Done-clause-there : goal.returns-in-Done-clause-there
-returns-in-Done-clause-there g c = inr (c.serve_all.ensures.at ∙ c.in-Done.ensures.at refl)
+returns-in-Done-clause-there g c =
+    let at = g.A.Listener.at in
+    inr (subst (λ (place : Option (List ℕ)). Told (at c.args.door.now) place (λ old new. new ≡ c.args.address.now)) (sym c.serve_all.ensures.at) (c.in-Done.ensures.at refl))
 
 pub returns-in-Done-clause-over : goal.returns-in-Done-clause-over
 returns-in-Done-clause-over g c = λ is.
