@@ -145,7 +145,8 @@ abbrev pub IsStartOf : List Point → Option Start → ℤ → Type 0
 IsStartOf points None start = ⊥
 IsStartOf points (Some ask) start = start ≡ start_of points ask
 
--- a subscription is as a key asks, where these entries are followed by all that it is sent of its channel
+-- a subscription is as a key asks of a store that has these entries: it is from the place after them on, and starts where the key asks
+-- among the points that the channel has there
 abbrev pub IsAskedBy : List Entry → ChannelSubscribeInfo → Sub → Type 0
 IsAskedBy before x s =
     (s.channel ≡ x.channel_id) × (s.all ≡ x.data_changes) × (s.from ≡ length before)
@@ -208,7 +209,7 @@ IsMatter e v w sent (Stops lag ids) = IsPoll e × (w.subs ≡ [])
 
 -- ---- the law
 
--- what the store answered by is the first entries of the history, below the first of the places that are left
+-- the store answered by the first entries of the history, up to the first of the places that are left
 abbrev pub IsAnsweredAfter : List Entry → List ℕ → Matter → Type 0
 IsAnsweredAfter h places (Begins header asked before decided changes) = IsPrefix before h × ((left : List ℕ) × (places ≡ length before ∷ left))
 IsAnsweredAfter h places (Aside request sayings) = Unit {0}

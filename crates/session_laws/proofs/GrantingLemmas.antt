@@ -1,8 +1,8 @@
 -- What each event of a run adds to what was sent.
 use Rattle.std.specs.Prelude.{ℕ, Bool, true, false, List, [], ◌∷◌, ◌++◌, ◌≡◌, ◌≤◌, Option, Some, None, drop, length, take, refl}
 use Rattle.std.specs.List.{AllByRecursion}
-use Rattle.std.proofs.Common.{ap, sym, ◌∙◌, subst, append-nil, arith, length-take}
-use Rattle.std.proofs.lemmas.List.{take-append-drop}
+use Rattle.std.proofs.Common.{ap, sym, ◌∙◌, subst, append-nil}
+use Rattle.std.proofs.lemmas.List.{length-take-le, take-append-drop}
 use mathlib.Core.List.{IsPrefix}
 use Rattle.etp_values.proofs.RisingLemmas.{rises_bound}
 use Rattle.etp_values.specs.Rising.{Rises}
@@ -45,7 +45,7 @@ answered_after h last [] (Begins hd x before decided changes) rises by = absurd 
 answered_after h last (p ∷ ps) (Begins hd x before decided changes) rises by =
     let is : take p h ≡ before = cc by in
     let within : p ≤ length h = rises_bound p ps (length h) rises.1 in
-    let long : p ≡ length before = sym (length-take p h ∙ omega (arith, within)) ∙ ap length is in
+    let long : p ≡ length before = sym (length-take-le p h within) ∙ ap (λ (l : List Entry). length l) is in
     (subst (λ (l : List Entry). IsPrefix l h) is (drop p h, take-append-drop p h), (ps, ap (λ (n : ℕ). n ∷ ps) long))
 answered_after h last places (Aside r sayings) rises by = tt
 answered_after h last places (Ends hd x decided) rises by = tt
