@@ -1,9 +1,9 @@
 //! Runs the tool on cases, and prints what it wrote and how it ended.
 //!
 //! A line of the input is a case, `CUT OPENING CONFIG READ WRITE CAPTURE WORD..`: the words are those of the tool, CAPTURE is its input
-//! (`captures`), and its output is in memory. The input gives one byte at a time, or 65,536 if it has more bytes than that. Where they are not
-//! 0, the opening of a file of number OPENING fails, the read of the configuration of number CONFIG, the read of the input of number READ, and
-//! the write of number WRITE. The tool is run on the capture and on each of its prefixes that is up to CUT bytes shorter. Of an input that was made for the case, and of an output of 400,000 bytes or more, the length and a digest are printed. The
+//! (`captures`), and its output is in memory. The input gives one byte at a time, or 65,536 if it has more bytes than that. OPENING, CONFIG, READ
+//! and WRITE, if they are not 0, are the numbers of the call that fails: of the openings of files, the reads of the configuration, the reads of
+//! the input, and the writes. The tool is run on the capture and on each of its prefixes that is up to CUT bytes shorter. Of an input that was made for the case, and of an output of 400,000 bytes or more, the length and a digest are printed. The
 //! cases and the expected output were made by a program that shares no code with this one (`outside/check_tool.py`). After the cases the
 //! tool is run over a system that fails, and the program ends as that does.
 //! How often the host, the input and the output of a case failed is printed if one did.
