@@ -125,8 +125,7 @@ fn run<R: AllocGlobal + Files + Print + Threads + Wait + Sync>(
     let content = fs::read(rt, it.config)?;
     let gate = gate_of(alloc, it.rules).map_err(|_| AllocError)?;
     let mut door = door_of(alloc, it.listener, links).map_err(|_| AllocError)?;
-    let mut host = host_of(alloc, it.config, content, it.opening, it.read)
-        .map_err(|_| AllocError)?;
+    let mut host = host_of(alloc, it.config, content, it.opening, it.read).map_err(|_| AllocError)?;
     let mut out = sink_of(alloc, it.write).map_err(|_| AllocError)?;
     serve(rt, words, &mut host, &mut door, &mut out, &gate)?;
     if gate.was_missed() {
