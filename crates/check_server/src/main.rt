@@ -115,7 +115,7 @@ struct Run<'a> {
     write: &'a str,
 }
 
-fn run<R: AllocGlobal + Files + Print + Threads + Wait + Sync>(
+fn make_run<R: AllocGlobal + Files + Print + Threads + Wait + Sync>(
     rt: &R,
     words: &[String],
     it: &Run<'_>,
@@ -153,7 +153,7 @@ fn run_case<R: AllocGlobal + Files + Print + Threads + Wait + Sync>(
         write: numbers.next().unwrap_or("0"),
     };
     let command = command(rt.alloc(), config, count).map_err(|_| AllocError)?;
-    run(rt, command.as_slice(), &it, links)
+    make_run(rt, command.as_slice(), &it, links)
 }
 
 fn run_line<R>(rt: &R, line: &str) -> io::Result<()>
