@@ -83,7 +83,7 @@ def pieces_answer(capture):
         count(sorts["cut"], frame.data[:random.below(max(len(frame.data), 1))], sender)
     return "".join(
         f"{sort}: more {counts['more']} whole {counts['whole']} refused {counts['refused']} different 0\n" for sort, counts in sorts.items()
-    )
+    ) + end_of(capture)
 
 
 def read_frames(capture):
@@ -94,6 +94,16 @@ def read_frames(capture):
             yield next(frames)
         except (StopIteration, wire.Unreadable):
             return
+
+
+def end_of(capture):
+    """What is printed at the end of a capture whose last frame is cut; nothing for any other."""
+    try:
+        for _ in wire.read_frames(capture):
+            pass
+    except wire.Unreadable as fault:
+        return f"the input ended in the frame at offset {fault}\n"
+    return ""
 
 
 def lines():
