@@ -4,15 +4,20 @@
 //! as plain lists. [`Rows`] is a list that grows by blocks, so that no push moves what is there.
 #![tactic(auto)]
 
+mod block;
+mod blocks;
 mod boxed;
 mod bytes;
+mod chunks;
 mod items;
 mod points;
+mod reads;
 mod rows;
 mod search;
 
 pub use boxed::BoxedPoints;
 pub use bytes::{point_bytes, points_bytes};
+pub use chunks::Chunks;
 pub use items::{ChannelPoints, only_channel};
 pub use points::Points;
 pub use rows::Rows;
