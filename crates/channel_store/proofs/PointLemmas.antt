@@ -1,9 +1,9 @@
 -- The points of a channel in order.
 use Rattle.std.proofs.Common.{refl, ℕ, suc, ◌≡◌, ◌≤◌, ◌+◌, ◌-◌, Bool, true, false, cond, not, List, [], ◌∷◌, ◌++◌, length, take, drop, filter, ap, sym, ◌∙◌, arith, subst, append-nil, append_assoc, length-drop, Option, Some, None, option_map}
-use Rattle.std.specs.Prelude.{ℤ, int_lt, slice_get, fold, Ok, Err}
+use Rattle.std.specs.Prelude.{ℤ, int_lt, min, slice_get, fold, Ok, Err}
 use Rattle.std.specs.List.{AllByRecursion}
 use Rattle.std.proofs.lemmas.Int.{ints}
-use Rattle.std.proofs.lemmas.List.{take_all}
+use Rattle.std.proofs.lemmas.List.{drop-drop, drop_all, take-take, take_all}
 use Rattle.etp_values.specs.declared.point.Point.{Point}
 use Rattle.channel_store.specs.declared.change.What.{What}
 use Rattle.channel_store.specs.declared.change.What.TheVariants.{Append, Replace, Truncate}
@@ -17,6 +17,7 @@ use Rattle.channel_store.specs.Rows.{Fits, takes, before_next, joins}
 use Rattle.channel_store.specs.Told.{told_by, with_point}
 use Rattle.channel_store.specs.Splits.{IsSplit}
 use Rattle.etp_values.proofs.EachLemmas.{all-append, all-push, all-weaker}
+use Rattle.channel_points.proofs.ReadLemmas.{split-take}
 use Rattle.channel_points.proofs.OrderedLemmas.{all-filter, filter-all, all-cross, rises-push, rises-append, rises-filter, none-pass, all-fail}
 
 -- ---- tests on indexes
@@ -152,6 +153,44 @@ put_below-filter to points (x ∷ xs) rises = by (at_most x.index to) refl (put_
 pub put_below-split : (to : ℤ) (points xs : List Point) (n : ℕ) → Rises xs → IsSplit (λ x. at_most x.index to) xs n → take n xs ++ (points ++ drop n xs) ≡ put_below to points xs
 put_below-split to points xs n rises split = (λ j. split.front j ++ (points ++ split.back j)) ∙ sym (put_below-filter to points xs rises)
 
+low-outside : (from to : ℤ) (xs : List Point) → filter (λ x. at_most x.index to) (outside from to xs) ≡ filter (λ x. at_most x.index to) (filter (λ x. int_lt x.index from) xs)
+low-outside from to [] = refl
+low-outside from to (x ∷ xs) = by (int_lt x.index from) (at_most x.index to) refl refl (low-outside from to xs)
+  where
+    by : (a b : Bool) → int_lt x.index from ≡ a → at_most x.index to ≡ b → filter (λ x. at_most x.index to) (outside from to xs) ≡ filter (λ x. at_most x.index to) (filter (λ x. int_lt x.index from) xs)
+        → filter (λ x. at_most x.index to) (cond (not (is_within from to x.index)) (x ∷ outside from to xs) (outside from to xs))
+        ≡ filter (λ x. at_most x.index to) (cond (int_lt x.index from) (x ∷ filter (λ x. int_lt x.index from) xs) (filter (λ x. int_lt x.index from) xs))
+    by true true ea eb rest = grind arith
+    by true false ea eb rest = grind arith
+    by false true ea eb rest = grind arith
+    by false false ea eb rest = grind arith
+
+high-outside : (from to : ℤ) (xs : List Point) → filter (λ x. not (at_most x.index to)) (outside from to xs) ≡ filter (λ x. not (at_most x.index to)) xs
+high-outside from to [] = refl
+high-outside from to (x ∷ xs) = by (int_lt x.index from) (at_most x.index to) refl refl (high-outside from to xs)
+  where
+    by : (a b : Bool) → int_lt x.index from ≡ a → at_most x.index to ≡ b → filter (λ x. not (at_most x.index to)) (outside from to xs) ≡ filter (λ x. not (at_most x.index to)) xs
+        → filter (λ x. not (at_most x.index to)) (cond (not (is_within from to x.index)) (x ∷ outside from to xs) (outside from to xs))
+        ≡ cond (not (at_most x.index to)) (x ∷ filter (λ x. not (at_most x.index to)) xs) (filter (λ x. not (at_most x.index to)) xs)
+    by true true ea eb rest = grind arith
+    by true false ea eb rest = grind arith
+    by false true ea eb rest = grind arith
+    by false false ea eb rest = grind arith
+
+-- these points in the place of those of an interval, where `s` are below it and `e` are up to its end
+pub put-spliced : (from to : ℤ) (more xs : List Point) (s e k c : ℕ) → Rises xs → IsSplit (λ x. int_lt x.index from) xs s → IsSplit (λ x. at_most x.index to) xs e → k ≡ min s e → c ≡ e - s
+    → take k xs ++ (more ++ drop c (drop k xs)) ≡ put_below to more (outside from to xs)
+put-spliced from to more xs s e k c rises below within ek ec =
+    let sum : k + c ≡ e = omega arith in
+    let front : take k xs ≡ filter (λ x. at_most x.index to) (outside from to xs) =
+    sym (take-take k s xs (omega arith)) ∙ (split-take (λ x. at_most x.index to) xs e s k (omega arith) within).front ∙ ap (filter (λ x. at_most x.index to)) below.front ∙ sym (low-outside from to xs) in
+    let back : drop c (drop k xs) ≡ filter (λ x. not (at_most x.index to)) (outside from to xs) =
+    drop-drop c k xs ∙ ap (λ n. drop n xs) sum ∙ within.back ∙ sym (high-outside from to xs) in
+    (λ j. front j ++ (more ++ back j)) ∙ sym (put_below-filter to more (outside from to xs) (rises-outside from to xs rises))
+
+pub appended-is : (xs more : List Point) (n : ℕ) → n ≡ length xs → take n xs ++ (more ++ drop 0 (drop n xs)) ≡ xs ++ more
+appended-is xs more n e = (λ j. take_all n xs (omega arith) j ++ (more ++ drop_all n xs (omega arith) j)) ∙ ap (λ l. xs ++ l) (append-nil more)
+
 -- ---- what a change leaves is in order
 
 all-both : (from to : ℤ) (xs : List Point) → AllByRecursion (λ x. at_most x.index to ≡ true) xs → AllByRecursion (λ x. not (is_within from to x.index) ≡ true) xs → AllByRecursion (λ x. int_lt x.index from ≡ true) xs
@@ -203,9 +242,3 @@ pub joins-ok : (id : ℤ) (points : List Point) (w : What) (p : Point) → takes
 joins-ok id points w p h k =
     ap (λ b. cond b (cond (follows (before_next points w) p.index) (Ok (with_point p w)) (Err (Order id))) (Err (Outside id))) h
     ∙ ap (λ b. cond b (Ok (with_point p w)) (Err (Order id))) k
-
--- what the next point of an append has to follow
-pub last-behind : (points told more : List Point) (w : What) → told ≡ told_by w → w ≡ Append more → or_last (last_of told) (last_of points) ≡ last_of (before_next points w)
-last-behind points told more w e h =
-    let same : told ≡ more = e ∙ ap told_by h in
-    ap (λ l. or_last (last_of l) (last_of points)) same ∙ sym (last_of-append points more) ∙ ap (λ v. last_of (before_next points v)) (sym h)

@@ -1,4 +1,4 @@
-use Rattle.std.proofs.Common.{subst, ◌∙◌, ◌≡◌, ◌-◌, length, take, drop}
+use Rattle.std.proofs.Common.{ap, subst, ◌∙◌, ◌≡◌, ◌-◌, length, take, drop}
 use Rattle.std.specs.Prelude.{IfOk}
 use mir.Syntax.{w64}
 use mir.Val.{to_z, of_z}
@@ -9,8 +9,8 @@ use Rattle.channel_store.proofs.points.copy_past.Goals as goal
 
 pub returns : goal.returns
 returns c =
-    let xs = c.args.points.now in
+    let xs = c.args.points.now.points in
     let n = c.count_below-place.result in
     let start : to_z w64 (of_z w64 c.args.start) ≡ c.args.start = to_z-of_z w64 c.args.start c.ranges.start in
-    let rest : take (length xs - n) (drop n xs) ≡ past (to_z w64 (of_z w64 c.args.start)) xs = rest-is n xs ∙ c.count_below-place.ensures.back in
-    subst (λ l. IfOk c.copy_all.result (λ r. r ≡ l)) (rest ∙ (λ j. past (start j) xs)) c.copy_all.ensures
+    let rest : take (c.len.result - n) (drop n xs) ≡ past (to_z w64 (of_z w64 c.args.start)) xs = ap (λ k. take (k - n) (drop n xs)) c.len.ensures ∙ rest-is n xs ∙ c.count_below-place.ensures.back in
+    subst (λ l. IfOk c.copy_between.result (λ r. r ≡ l)) (rest ∙ (λ j. past (start j) xs)) c.copy_between.ensures
