@@ -5,3 +5,4 @@ pub mod ItemLemmas
 pub mod OrderedLemmas
 pub mod PartLemmas
 pub mod ReadLemmas
+pub mod RunLemmas

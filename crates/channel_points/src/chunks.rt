@@ -12,6 +12,7 @@ ghost use Rattle.channel_points.specs.Splits.{IsSplit};
 use crate::blocks::{add_all, add_between, count_all, take_last};
 use crate::points::Points;
 use crate::reads::{bytes_between, copy_between, first_index, index_at, last_index, split};
+use crate::run::PointRun;
 use etp_values::{List, NoMemory, Point};
 use std::alloc::Global;
 use std::marker::Model;
@@ -136,7 +137,7 @@ fn is_last_own(sealed: &[Points]) -> bool {
 }
 
 /// Whoever takes points of the last chunk shares their memory from now on.
-fn seal_last(alloc: Global, sealed: &mut Vec<Points>) -> Result<(), NoMemory>
+pub(crate) fn seal_last(alloc: Global, sealed: &mut Vec<Points>) -> Result<(), NoMemory>
     ensures { sealed.new.items ≡ sealed.old.items }
 {
     if !is_last_own(sealed.as_slice()) {
@@ -436,6 +437,20 @@ impl Chunks {
             count,
         )?;
         Ok(List::from_vec(copies))
+    }
+
+    /// `count` points after the first `start`, in chunks that share the memory of these.
+    pub fn run_between(
+        &self,
+        alloc: Global,
+        start: usize,
+        count: usize,
+    ) -> Result<PointRun, NoMemory>
+        ensures { IfOk result (λ r. r ≡ take count (drop start self.now.points)) }
+    {
+        let mut parts = Vec::new(alloc);
+        self.add_to(alloc, &mut parts, start, count)?;
+        PointRun::of(alloc, parts)
     }
 
     /// What `count` points after the first `start` count, like [`point_bytes`](crate::point_bytes) for all of them together.

@@ -1,5 +1,5 @@
 -- What is about to happen to a channel, and what is then.
-use Rattle.std.proofs.Common.{ℕ, ◌≡◌, ◌<◌, Bool, true, false, cond, List, [], ◌∷◌, ◌++◌, Option, Some, None, refl, ap, sym, ◌∙◌, append-nil, append_assoc, subst}
+use Rattle.std.proofs.Common.{ℕ, ◌≡◌, ◌<◌, Bool, true, false, cond, List, [], ◌∷◌, ◌++◌, Option, Some, None, refl, ap, sym, ◌∙◌, append-nil, subst}
 use Rattle.std.specs.Prelude.{ℤ, Result, Ok, Err}
 use Rattle.etp_values.specs.declared.point.Point.{Point}
 use Rattle.channel_points.specs.Chunks.{Held, all_added, settled}

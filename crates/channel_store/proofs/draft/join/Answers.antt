@@ -1,4 +1,4 @@
-use Rattle.std.proofs.Common.{◌≡◌, ap, ◌∙◌, sym}
+use Rattle.std.proofs.Common.{ap, ◌∙◌}
 use Rattle.channel_store.specs.Told.{with_point}
 use Rattle.channel_store.proofs.TrackLemmas.{ready-with}
 use Rattle.channel_store.proofs.draft.join.Goals as goal

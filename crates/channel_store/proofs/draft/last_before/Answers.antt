@@ -1,4 +1,4 @@
-use Rattle.std.proofs.Common.{◌≡◌, ◌++◌, ap, sym, ◌∙◌}
+use Rattle.std.proofs.Common.{◌++◌, ap, sym, ◌∙◌}
 use Rattle.channel_store.specs.Drafts.{appends}
 use Rattle.channel_store.specs.Points.{last_of}
 use Rattle.channel_store.specs.Rows.{before_next}

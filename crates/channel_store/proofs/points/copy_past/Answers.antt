@@ -1,10 +1,10 @@
-use Rattle.std.proofs.Common.{ap, subst, ◌∙◌, ◌≡◌, ◌-◌, length, take, drop}
+use Rattle.std.proofs.Common.{ap, subst, ◌∙◌, ◌≡◌, ◌-◌, take, drop}
 use Rattle.std.specs.Prelude.{IfOk}
 use mir.Syntax.{w64}
 use mir.Val.{to_z, of_z}
 use Rattle.std.proofs.lemmas.Int.{to_z-of_z}
 use Rattle.channel_store.specs.Points.{past}
-use Rattle.channel_store.proofs.PointLemmas.{rest-is}
+use Rattle.channel_points.proofs.ReadLemmas.{rest-is}
 use Rattle.channel_store.proofs.points.copy_past.Goals as goal
 
 pub returns : goal.returns

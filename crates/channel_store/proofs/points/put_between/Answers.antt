@@ -1,4 +1,4 @@
-use Rattle.std.proofs.Common.{◌≡◌, ap, subst, ◌∙◌, arith}
+use Rattle.std.proofs.Common.{◌≡◌, subst, ◌∙◌, arith}
 use Rattle.std.specs.Prelude.{IfOk}
 use mir.Syntax.{w64}
 use mir.Val.{to_z, of_z}

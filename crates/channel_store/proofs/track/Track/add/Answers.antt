@@ -1,10 +1,9 @@
-use Rattle.std.proofs.Common.{◌≡◌, ap, sym, subst, ◌∙◌, Ok, Err, Some, None, w64, to_z, of_z}
+use Rattle.std.proofs.Common.{◌≡◌, ap, sym, ◌∙◌, Ok, Some, w64, to_z, of_z}
 use Rattle.std.proofs.lemmas.Int.{to_z-of_z}
-use Rattle.channel_store.specs.Channels.{IsKept}
-use Rattle.channel_store.specs.Rows.{added, joins}
-use Rattle.channel_store.specs.Told.{ending, with_point}
-use Rattle.channel_store.specs.Tracks.{IsDrafted, row_of}
-use Rattle.channel_store.proofs.TrackLemmas.{added-err, added-none, added-ok, drafted-some, joins-facts}
+use Rattle.channel_store.specs.Rows.{added}
+use Rattle.channel_store.specs.Told.{with_point}
+use Rattle.channel_store.specs.Tracks.{row_of}
+use Rattle.channel_store.proofs.TrackLemmas.{added-err, added-ok, drafted-some, joins-facts}
 use Rattle.channel_store.proofs.track.Track.add.Goals as goal
 
 pub check-requires : goal.check-requires
