@@ -7,7 +7,7 @@ ghost use Rattle.channel_store.specs.Splits.{IsSplit};
 ghost use Rattle.channel_store.specs.Told.{size_of, size_within};
 
 use crate::change::What;
-use channel_points::{Chunks, Points};
+use channel_points::{Chunks, PointRun, Points};
 use etp_values::{List, NoMemory, Point};
 use std::alloc::Global;
 
@@ -93,13 +93,13 @@ pub fn size_inside_within(points: &Chunks, from: i64, to: i64, most: u64) -> Opt
     size_of_few(points, start, count, most)
 }
 
-/// Copies of the points at or past `start`.
-pub fn copy_past(alloc: Global, points: &Chunks, start: i64) -> Result<List<Point>, NoMemory>
+/// The points at or past `start`, in chunks that share the memory of these.
+pub fn run_past(alloc: Global, points: &Chunks, start: i64) -> Result<PointRun, NoMemory>
     requires { Rises points.now.points }
     ensures { IfOk result (λ r. r ≡ past start points.now.points) }
 {
     let place = points.count_below(start);
-    points.copy_between(alloc, place, points.len() - place)
+    points.run_between(alloc, place, points.len() - place)
 }
 
 /// The size of the points at or past `start`.

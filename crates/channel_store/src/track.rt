@@ -12,10 +12,10 @@ use crate::draft::{Way, check, join};
 use crate::error::ChannelError;
 use crate::places::{change_at, mark_changes, next_place};
 use crate::points::{
-    PointSize, apply, copy_inside, copy_past, index_from_end, size_inside, size_inside_within,
+    PointSize, apply, copy_inside, index_from_end, run_past, size_inside, size_inside_within,
     size_past, size_past_within,
 };
-use channel_points::{Chunks, Points, Rows};
+use channel_points::{Chunks, PointRun, Points, Rows};
 use etp_values::{Copied, List, NoMemory, Point, StoreUri};
 use server_config::{ChannelDef, ValueKind};
 use std::alloc::Global;
@@ -91,11 +91,11 @@ impl Track {
         index_from_end(&self.points, count)
     }
 
-    /// Copies of the points at or past `start`.
-    pub fn tail(&self, alloc: Global, start: i64) -> Result<List<Point>, NoMemory>
+    /// The points at or past `start`, in chunks that share the memory of the channel's.
+    pub fn tail(&self, alloc: Global, start: i64) -> Result<PointRun, NoMemory>
         ensures { IfOk result (λ r. r ≡ past start self.now.shown.points) }
     {
-        copy_past(alloc, &self.points, start)
+        run_past(alloc, &self.points, start)
     }
 
     /// How many points are from `from` to `to`, and what they count.

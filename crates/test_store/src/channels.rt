@@ -185,6 +185,22 @@ fn changes_points_of_two_chunks(rt: HostRuntime) -> Result<(), Fail> {
     Ok(())
 }
 
+/// The points from an index on come in chunks of at most 1,024.
+#[test]
+fn hands_out_chunks(rt: HostRuntime) -> Result<(), Fail> {
+    let alloc = rt.alloc();
+    let mut store = two_channels(alloc)?;
+    store.append(0, 10, &run(alloc, 1, 1025)?)?;
+    equal(&rt, store.tail(0, 1)?.len(), 1025);
+    equal(&rt, store.tail(0, 1)?.chunks(), 2);
+    equal(&rt, store.tail(0, 1)?.chunk_from(1000).len(), 24);
+    store.truncate(1, 20, &ids(alloc, &[0])?, &ids(alloc, &[1])?)?;
+    equal(&rt, store.tail(0, 1)?.chunks(), 1);
+    truncate(alloc, &mut store, 2, 0, 0)?;
+    equal(&rt, store.tail(0, 1)?.chunks(), 0);
+    Ok(())
+}
+
 #[test]
 fn keeps_each_change_at_its_place(rt: HostRuntime) -> Result<(), Fail> {
     let alloc = rt.alloc();
