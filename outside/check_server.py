@@ -1,6 +1,6 @@
 #!/usr/bin/env python3
-"""Runs of the server over links in memory, and sessions with few ids left, for the program `check_server`, and what is answered to them
-by the server of `sessions.py`.
+"""Runs of the server over links in memory, sessions with few ids left, and calls of the server with words of its own, for the program
+`check_server`, and what is answered to them by the server of `sessions.py`.
 
     python3 check_server.py ../crates/check_server
 
@@ -17,8 +17,8 @@ from sessions import INSTANCE, JOURNAL_FULL, PEER_END, Server
 HEAD = f'instance = "{INSTANCE}"\nname = "wd"\n'
 CONFIGS = {"server.toml": (HEAD, 4_194_304), "two_entries.toml": (HEAD + "journal = 2\n", 2)}
 LINK_FAULT = b"\6"
-# the status of a program whose listener failed
-LISTEN_FAULT = 7
+# the statuses of a program whose input, output or listener failed
+READ_FAULT, WRITE_FAULT, LISTEN_FAULT = 4, 5, 7
 
 
 class Broken(Exception):
@@ -39,10 +39,12 @@ class Calls:
 
 class Run:
     """Links, each with its messages, and the order in which the sessions' messages are answered; `fail` has by a link's place the number
-    of its call that fails, and `door` is the number of the listener's call that fails, for one link that is served before."""
+    of its call that fails, and `door` is the number of the listener's call that fails, for one link that is served before. `opening`, `read` and
+    `write` are the numbers of the calls that fail of opening and reading the configuration and of writing the report."""
 
-    def __init__(self, config="server.toml", door=0):
+    def __init__(self, config="server.toml", door=0, opening=0, read=0, write=0):
         self.config, self.links, self.rules, self.idle, self.fail, self.door = config, [], [], False, {}, door
+        self.opening, self.read, self.write = opening, read, write
 
     def link(self, *calls):
         """A link whose client makes these calls, each a function of the client and a moment."""
@@ -60,11 +62,17 @@ class Run:
         ]
         rules = ",".join(".".join(map(str, rule)) for rule in self.rules) or "-"
         # with a call of the listener that fails, one session more is wanted than there are links
-        sessions = f"{len(links) + 1}@{self.door}" if self.door else str(len(links))
+        numbers = [self.door, self.opening, self.read, self.write]
+        while numbers and not numbers[-1]:
+            numbers.pop()
+        sessions = "@".join(map(str, [len(links) + bool(self.door), *numbers]))
         return " ".join(["serve", self.config, sessions, rules, *links])
 
     def answer(self, order=None):
         """What is printed, where the messages are answered in the order of these links, or one link after the other."""
+        # the configuration's bytes come with one read, and its end is a second
+        if self.opening == 1 or self.read in (1, 2):
+            return f"= {READ_FAULT}\nhost failed 1\n"
         server = Server(CONFIGS[self.config][1])
         writes, sent, ends, numbers = {0: 0}, {}, {}, {}
         calls = {tag: Calls(self.fail.get(tag, 0)) for tag in range(len(self.links))}
@@ -104,9 +112,14 @@ class Run:
                     ends[tag] = LINK_FAULT
         lines = [f"entries {server.store.length}"]
         lines += [f"session {number} writes {count}" for number, count in sorted(writes.items())]
-        lines.append(f"= {LISTEN_FAULT if self.door else 0}")
+        # the report is one write
+        if self.write == 1:
+            lines = [f"= {WRITE_FAULT}", "output failed 1"]
+        else:
+            lines += [f"= {LISTEN_FAULT}", "listener failed 1"] if self.door else ["= 0"]
         for tag in sorted(numbers, key=numbers.get):
             lines.append(f"session {numbers[tag]} ended {(ends[tag] or PEER_END)[0]}")
+            lines += ["link failed 1"] * (ends[tag] == LINK_FAULT)
             lines += sent[tag]
         return "\n".join(lines) + "\n"
 
@@ -146,6 +159,11 @@ def runs():
         failing = Run(door=number)
         failing.link(opened, put("w"), listed, closed)
         yield failing, None
+    # and so do opening the configuration, each read of it and the write of the report, and then a call of each that is never made
+    for fails in ({"opening": 1}, {"opening": 2}, {"read": 1}, {"read": 2}, {"read": 3}, {"write": 1}, {"write": 2}):
+        failing = Run(**fails)
+        failing.link(opened, put("w"), listed, closed)
+        yield failing, None
     leaving = Run()
     leaving.link(opened)
     yield leaving, None
@@ -181,11 +199,36 @@ def runs():
     yield crowded, None
 
 
+# How the server is called, as it says where it is called in another way.
+USAGE = "usage\netpd CONFIG ADDRESS\netpd CONFIG ADDRESS SESSIONS\n= 1\n"
+# It was called as it should be, with an address at which nobody can listen: its store has the one entry that it makes itself.
+UNHEARD = """can't listen at nowhere: this is no address with a port, as 127.0.0.1:9002
+entries 1
+session 0 writes 0
+listen fault
+= 7
+"""
+
+
+def calls():
+    """Pairs of a call of the server, by its words, and what it writes and ends with."""
+    for words in "server.toml nowhere", "server.toml nowhere 1", "server.toml nowhere 1000000":
+        yield words, UNHEARD
+    yield "absent.toml nowhere 1", "read fault\n= 4\n"
+    yield "no_name.toml nowhere 1", "config refused: key 2 of channel 0\n= 2\n"
+    malformed = ["", " server.toml", " server.toml nowhere 1 1", " -x nowhere", " server.toml -x", " server.toml nowhere -1"]
+    malformed += [f" server.toml nowhere {count}" for count in ("0", "01", "+1", "1.0", "1000001", "18446744073709551617", "few")]
+    for words in malformed:
+        yield words.strip(), USAGE
+
+
 def main():
     folder = pathlib.Path(sys.argv[1])
     for name, (text, _) in CONFIGS.items():
         (folder / "data" / name).write_text(text)
+    (folder / "data" / "no_name.toml").write_text(f'instance = "{INSTANCE}"\n')
     made = [(run.line(), run.answer(order)) for run, order in runs()] + list(spent_ids.cases())
+    made += [(" ".join(["etpd", *words.split()]), answer) for words, answer in calls()]
     (folder / "stdin").write_text("".join(line + "\n" for line, _ in made))
     (folder / "stdout").write_text("".join(answer for _, answer in made))
 
