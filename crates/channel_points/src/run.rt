@@ -1,5 +1,5 @@
 //! Points of a channel as they are handed out, in chunks that share the memory of the channel's.
-ghost use Rattle.std.specs.Prelude.{◌≡◌, ◌≤◌, ◌+◌, ◌*◌, ◌==◌, [], length, drop, IfOk};
+ghost use Rattle.std.specs.Prelude.{◌≡◌, ◌≤◌, ◌+◌, ◌*◌, ◌==◌, [], length, take, drop, IfOk};
 ghost use Rattle.etp_values.specs.Weight.{capped, weigh};
 ghost use Rattle.channel_points.specs.Blocks.{joined};
 ghost use Rattle.channel_points.specs.Bytes.{point_bytes};
@@ -64,6 +64,16 @@ fn rest_of_chunk(parts: &[Points], place: usize) -> &[Point]
         skip -= part.len();
     }
     &[]
+}
+
+/// Copies of the first `count` points.
+fn copy_first(alloc: Global, parts: &[Points], count: usize) -> Result<List<Point>, NoMemory>
+    ensures { IfOk result (λ r. r ≡ take count (joined parts.now [])) }
+{
+    let mut copies = Vec::new(alloc);
+    copies.reserve(count)?;
+    copy_between(alloc, &mut copies, parts, &[], 0, count)?;
+    Ok(List::from_vec(copies))
 }
 
 impl PointRun {
@@ -139,16 +149,6 @@ impl PointRun {
     pub fn to_list(&self, alloc: Global) -> Result<List<Point>, NoMemory>
         ensures { IfOk result (λ r. r ≡ self.now) }
     {
-        let mut copies = Vec::new(alloc);
-        copies.reserve(self.count)?;
-        copy_between(
-            alloc,
-            &mut copies,
-            self.parts.as_slice(),
-            &[],
-            0,
-            self.count,
-        )?;
-        Ok(List::from_vec(copies))
+        copy_first(alloc, self.parts.as_slice(), self.count)
     }
 }
