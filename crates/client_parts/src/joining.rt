@@ -180,6 +180,24 @@ fn put_dataspaces_response(
     }
 }
 
+fn get_dataspaces_response(
+    first: DataspaceMessage,
+    more: GetDataspacesResponse,
+) -> Result<DataspaceMessage, NoMemory>
+    ensures { IfOk result (λ m. m ≡ dataspace_joined first (dataspace.GetDataspacesResponse more)) }
+{
+    match first {
+        DataspaceMessage::GetDataspacesResponse(first) => {
+            let dataspaces = appended(first.dataspaces, more.dataspaces)?;
+            Ok(DataspaceMessage::GetDataspacesResponse(GetDataspacesResponse {
+                dataspaces,
+                ..first
+            }))
+        }
+        other => Ok(later(other, DataspaceMessage::GetDataspacesResponse(more))),
+    }
+}
+
 /// A further part of a message, appended to what there is of it.
 pub fn dataspace_joined(
     alloc: Global,
@@ -465,23 +483,5 @@ pub fn load_joined(
             alloc, first, more,
         ),
         other => Ok(later(first, other)),
-    }
-}
-
-fn get_dataspaces_response(
-    first: DataspaceMessage,
-    more: GetDataspacesResponse,
-) -> Result<DataspaceMessage, NoMemory>
-    ensures { IfOk result (λ m. m ≡ dataspace_joined first (dataspace.GetDataspacesResponse more)) }
-{
-    match first {
-        DataspaceMessage::GetDataspacesResponse(first) => {
-            let dataspaces = appended(first.dataspaces, more.dataspaces)?;
-            Ok(DataspaceMessage::GetDataspacesResponse(GetDataspacesResponse {
-                dataspaces,
-                ..first
-            }))
-        }
-        other => Ok(later(other, DataspaceMessage::GetDataspacesResponse(more))),
     }
 }
