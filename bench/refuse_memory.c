@@ -1,12 +1,14 @@
 // Loaded before the C library (LD_PRELOAD), it refuses one request for memory of a program: the one with the number REFUSE_AT, counted from 1.
-// REFUSE_REPORT names a file that gets the number of all requests when the program ends. A signal USR1 begins the count anew, for a server that
-// has started.
+// Only the program's own requests count, and not those that a library makes. REFUSE_REPORT names a file that gets the number of all requests when
+// the program ends. With REFUSE_ON_SIGNAL they are counted from a signal USR1 on, for a server that has started.
 #define _GNU_SOURCE
 #include <dlfcn.h>
 #include <errno.h>
 #include <fcntl.h>
+#include <link.h>
 #include <signal.h>
 #include <stdatomic.h>
+#include <stdint.h>
 #include <stdio.h>
 #include <stdlib.h>
 #include <string.h>
@@ -21,6 +23,21 @@ static atomic_long requests;
 static long refuse_at = -1;
 static char first_room[4096];
 static size_t first_used;
+// Where the program's own code stands.
+static uintptr_t code_from = UINTPTR_MAX, code_to;
+
+// The first object is the program itself.
+static int note_code(struct dl_phdr_info *object, size_t size, void *unused) {
+    (void)size, (void)unused;
+    for (int i = 0; i < object->dlpi_phnum; i++) {
+        const ElfW(Phdr) *part = &object->dlpi_phdr[i];
+        if (part->p_type != PT_LOAD || !(part->p_flags & PF_X)) continue;
+        uintptr_t from = object->dlpi_addr + part->p_vaddr, to = from + part->p_memsz;
+        if (from < code_from) code_from = from;
+        if (to > code_to) code_to = to;
+    }
+    return 1;
+}
 
 static void begin_again(int signal_number) {
     (void)signal_number;
@@ -33,6 +50,7 @@ __attribute__((constructor)) static void load(void) {
     real_realloc = dlsym(RTLD_NEXT, "realloc");
     real_aligned_alloc = dlsym(RTLD_NEXT, "aligned_alloc");
     real_posix_memalign = dlsym(RTLD_NEXT, "posix_memalign");
+    dl_iterate_phdr(note_code, NULL);
     const char *at = getenv("REFUSE_AT");
     refuse_at = at ? atol(at) : 0;
     if (getenv("REFUSE_ON_SIGNAL")) {
@@ -57,9 +75,9 @@ __attribute__((destructor)) static void report(void) {
     close(file);
 }
 
-// Whether this request is the one that is refused. Before the library is loaded nothing is.
-static int refused(void) {
-    if (refuse_at < 0) return 0;
+// Whether the request from this place is the one that is refused. Before the library is loaded nothing is.
+static int refused(void *from) {
+    if (refuse_at < 0 || (uintptr_t)from < code_from || (uintptr_t)from >= code_to) return 0;
     if (atomic_fetch_add(&requests, 1) + 1 != refuse_at) return 0;
     errno = ENOMEM;
     return 1;
@@ -67,7 +85,7 @@ static int refused(void) {
 
 void *malloc(size_t size) {
     if (!real_malloc) load();
-    return refused() ? NULL : real_malloc(size);
+    return refused(__builtin_return_address(0)) ? NULL : real_malloc(size);
 }
 
 // dlsym asks for memory itself, before there is a function to ask.
@@ -79,20 +97,20 @@ void *calloc(size_t count, size_t size) {
         first_used += wanted;
         return found;
     }
-    return refused() ? NULL : real_calloc(count, size);
+    return refused(__builtin_return_address(0)) ? NULL : real_calloc(count, size);
 }
 
 void *realloc(void *old, size_t size) {
     if (!real_realloc) load();
-    return refused() ? NULL : real_realloc(old, size);
+    return refused(__builtin_return_address(0)) ? NULL : real_realloc(old, size);
 }
 
 void *aligned_alloc(size_t align, size_t size) {
     if (!real_aligned_alloc) load();
-    return refused() ? NULL : real_aligned_alloc(align, size);
+    return refused(__builtin_return_address(0)) ? NULL : real_aligned_alloc(align, size);
 }
 
 int posix_memalign(void **to, size_t align, size_t size) {
     if (!real_posix_memalign) load();
-    return refused() ? ENOMEM : real_posix_memalign(to, align, size);
+    return refused(__builtin_return_address(0)) ? ENOMEM : real_posix_memalign(to, align, size);
 }

@@ -139,9 +139,32 @@ class Runs:
         items = "" if talk is None else " ".join([str(fails)] + ["-" if data is None else data.hex().upper() for data in talk.coming])
         self.lines.append(" | ".join([words, content(file), content(input), items] + [str(full)] * (full > 0)))
         self.answers.append(f"{written}= {status} {line}")
+        # whether a call of the link failed, or the dialer had no link
+        failed = fails > 0 and sent is not None
+        self.answers += ["dialer failed 1"] * (failed or talk is None and status == 10)
         if talk is not None and to is not None:
             self.answers.append(to)
+            self.answers += ["link failed 1"] * failed
             self.answers += ["sent " + shown(data) for data in talk.sent[:sent]]
+
+    def fail_each(self, words, talk, calls, written, status=0, line="", **given):
+        """Runs in which each call in turn fails, and then one that is never made: first those of the dialer, and then those of the link. `calls` has
+        a letter for each call of the link, `s` for a send and `r` for what comes, and a `w` where the output is written."""
+        self.run(words, talk, status=10, line="link fault", to=None, **given)
+        self.lines[-1] = self.lines[-1].replace("| 0 ", "| 0@1 ", 1)
+        self.answers.append("dialer failed 1")
+        self.run(words, talk, written, status, line, **given)
+        self.lines[-1] = self.lines[-1].replace("| 0 ", "| 0@2 ", 1)
+        number = 0
+        for place, call in enumerate(calls):
+            if call == "w":
+                continue
+            number += 1
+            before = calls[:place]
+            # the Close of what was refused anyway changes nothing
+            was_refused = status == 9 and place == len(calls) - 1
+            self.run(words, talk, written if "w" in before else "", *((status, line) if was_refused else (10, "link fault")), fails=number, sent=before.count("s"), **given)
+        self.run(words, talk, written, status, line, fails=number + 1, **given)
 
 
 def commands(runs):
@@ -425,7 +448,41 @@ def watches(runs):
     runs.run(f"watch ws://here/ {channel(0)} 2", talk, status=11, line="peer fault")
 
 
+def failing_calls(runs):
+    runs.remark("each call of the dialer and of the link fails in turn: a put, a get, a get of what is absent, a load, a load of no point, a watch")
+    talk = Talk().begin()
+    asked = talk.put(1, b"abc")
+    talk.hear(4, 9, asked, dict(success={"c": PUT}))
+    talk.close()
+    runs.fail_each(f"put ws://here/ {well(1)} file", talk, "srsrws", f"put {well(1)}\n", file=b"abc")
+    talk = Talk().begin()
+    asked = talk.get(1)
+    talk.hear(4, 4, asked, dict(dataObjects={"c": data_object(1, b"abc", written=2, created=2)}))
+    talk.close()
+    runs.fail_each(f"get ws://here/ {well(1)}", talk, "srsrws", "abc")
+    talk = Talk().begin()
+    talk.refuse_keys(4, talk.get(2), {"c": 11})
+    talk.close()
+    runs.fail_each(f"get ws://here/ {well(2)}", talk, "srsrs", "", 9, "refused 11")
+    talk = Talk().begin()
+    talk.open_channel(0)
+    talk.load(0, (10, (3, 1)), (20, (3, 2)))
+    talk.ping()
+    talk.close()
+    runs.fail_each(f"load ws://here/ {channel(0)}", talk, "srsrssrws", "loaded 2\n", input=b"10 1\n20 2\n")
+    talk = Talk().begin()
+    talk.open_channel(0)
+    runs.fail_each(f"load ws://here/ {channel(0)}", talk, "srsr", "", 12, "input line 1", input=b"x")
+    talk = Talk().begin()
+    talk.meta(0, 10, 20)
+    talk.subscribe(0)
+    talk.append(0, (10, 1), (20, 2))
+    talk.close()
+    runs.fail_each(f"watch ws://here/ {channel(0)} 1", talk, "srsrsrrws", "latest 20 2\nwindow 1\n20 2\ncounts 1 2 0 0\n")
+
+
 def outside(runs):
+    failing_calls(runs)
     runs.remark("words in no form, a server that can't be dialed, a port and a path, a file that isn't there")
     runs.run(f"watch ws://here/ {channel(0)}", status=1, line="usage")
     runs.run(f"get ws://here/ {well(1)}", status=10, line="link fault")

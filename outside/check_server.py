@@ -17,8 +17,8 @@ from sessions import INSTANCE, JOURNAL_FULL, PEER_END, Server
 HEAD = f'instance = "{INSTANCE}"\nname = "wd"\n'
 CONFIGS = {"server.toml": (HEAD, 4_194_304), "two_entries.toml": (HEAD + "journal = 2\n", 2)}
 LINK_FAULT = b"\6"
-# the status of a program whose listener failed
-LISTEN_FAULT = 7
+# the statuses of a program whose input, output or listener failed
+READ_FAULT, WRITE_FAULT, LISTEN_FAULT = 4, 5, 7
 
 
 class Broken(Exception):
@@ -39,10 +39,12 @@ class Calls:
 
 class Run:
     """Links, each with its messages, and the order in which the sessions' messages are answered; `fail` has by a link's place the number
-    of its call that fails, and `door` is the number of the listener's call that fails, for one link that is served before."""
+    of its call that fails, and `door` is the number of the listener's call that fails, for one link that is served before. `opening`, `read` and
+    `write` are the numbers of the calls that fail of opening and reading the configuration and of writing the report."""
 
-    def __init__(self, config="server.toml", door=0):
+    def __init__(self, config="server.toml", door=0, opening=0, read=0, write=0):
         self.config, self.links, self.rules, self.idle, self.fail, self.door = config, [], [], False, {}, door
+        self.opening, self.read, self.write = opening, read, write
 
     def link(self, *calls):
         """A link whose client makes these calls, each a function of the client and a moment."""
@@ -60,11 +62,17 @@ class Run:
         ]
         rules = ",".join(".".join(map(str, rule)) for rule in self.rules) or "-"
         # with a call of the listener that fails, one session more is wanted than there are links
-        sessions = f"{len(links) + 1}@{self.door}" if self.door else str(len(links))
+        numbers = [self.door, self.opening, self.read, self.write]
+        while numbers and not numbers[-1]:
+            numbers.pop()
+        sessions = "@".join(map(str, [len(links) + bool(self.door), *numbers]))
         return " ".join(["serve", self.config, sessions, rules, *links])
 
     def answer(self, order=None):
         """What is printed, where the messages are answered in the order of these links, or one link after the other."""
+        # the configuration's bytes come with one read, and its end is a second
+        if self.opening == 1 or self.read in (1, 2):
+            return f"= {READ_FAULT}\nhost failed 1\n"
         server = Server(CONFIGS[self.config][1])
         writes, sent, ends, numbers = {0: 0}, {}, {}, {}
         calls = {tag: Calls(self.fail.get(tag, 0)) for tag in range(len(self.links))}
@@ -104,9 +112,14 @@ class Run:
                     ends[tag] = LINK_FAULT
         lines = [f"entries {server.store.length}"]
         lines += [f"session {number} writes {count}" for number, count in sorted(writes.items())]
-        lines.append(f"= {LISTEN_FAULT if self.door else 0}")
+        # the report is one write
+        if self.write == 1:
+            lines = [f"= {WRITE_FAULT}", "output failed 1"]
+        else:
+            lines += [f"= {LISTEN_FAULT}", "listener failed 1"] if self.door else ["= 0"]
         for tag in sorted(numbers, key=numbers.get):
             lines.append(f"session {numbers[tag]} ended {(ends[tag] or PEER_END)[0]}")
+            lines += ["link failed 1"] * (ends[tag] == LINK_FAULT)
             lines += sent[tag]
         return "\n".join(lines) + "\n"
 
@@ -144,6 +157,11 @@ def runs():
     # so does each call of the listener: that by which it listens, and those that give the first link and a second one
     for number in 1, 2, 3:
         failing = Run(door=number)
+        failing.link(opened, put("w"), listed, closed)
+        yield failing, None
+    # and so do opening the configuration, each read of it and the write of the report, and then a call of each that is never made
+    for fails in ({"opening": 1}, {"opening": 2}, {"read": 1}, {"read": 2}, {"read": 3}, {"write": 1}, {"write": 2}):
+        failing = Run(**fails)
         failing.link(opened, put("w"), listed, closed)
         yield failing, None
     leaving = Run()

@@ -128,7 +128,8 @@ class Cases:
     def add_line(self, name, words, outcomes, cut=0, opening=0, config=0, read=0, write=0):
         line = " ".join([*map(str, (cut, opening, config, read, write)), name, *words.split()])
         self.lines.append(line)
-        self.answers.append(f"# {line}\n".encode() + b"".join(shown(*outcome) for outcome in outcomes))
+        failing = dict(host=opening or config, input=read, output=write)
+        self.answers.append(f"# {line}\n".encode() + b"".join(shown(*outcome) + counts(outcome[1], **failing) for outcome in outcomes))
 
     def replay(self, name, bytes_in, bytes_out, status="", config="server.toml"):
         self.add(name, f"replay {config}", bytes_in, [(bytes_out, status)])
@@ -180,6 +181,12 @@ def shown(bytes_out, status):
     number = next((number for start, number in NUMBERS.items() if status.startswith(start)), 0)
     told = (status + "\n" if status else "") + (USAGE if status == "usage" else "")
     return bytes_out + f"\n= {number}\n{told}".encode()
+
+
+def counts(status, host, input, output):
+    """How often each failed of which a call was to fail, where one did."""
+    failed = [bool(host and status == "read fault"), bool(input and status == "read fault"), bool(output and status == "write fault")]
+    return "failed: host {:d} input {:d} output {:d}\n".format(*failed).encode() if any(failed) else b""
 
 
 def listed_by_wire(command, content):

@@ -1,5 +1,6 @@
 -- What is said of the pieces of a message is said of the whole.
-use Rattle.std.proofs.Common.{◌≡◌, List, ℕ, [], ◌++◌, Ok, Err, refl, sym, ap, subst, ◌∙◌, append-nil}
+use Rattle.std.proofs.Common.{◌≡◌, ◌<◌, List, ℕ, [], ◌++◌, Result, Ok, Err, length, refl, sym, ap, subst, ◌∙◌, append-nil}
+use Rattle.std.specs.Prelude.{IfOk}
 use Rattle.std.proofs.lemmas.List.{append_assoc}
 use Rattle.avro_bin.specs.Laws.{IsBytes}
 use Rattle.etp_schema.specs.declared.body.Side.{Side}
@@ -38,6 +39,17 @@ goes_on side whole bytes piece left old new answer fed cut same says was = recor
 -- the same under other names
 pub moved : (side : Side) (whole left rest : List ℕ) (reader other : Hearing) (answer same : Reading) → HasSaid side whole left reader answer → other ≡ reader → same ≡ answer → rest ≡ left → HasSaid side whole rest other same
 moved side whole left rest reader other answer same h r a l = rw (r, a, l) h
+
+-- what is answered of a piece, with what is left in a form of its own
+pub says_left : {L : Type 0} (r : Result (Hearing × Reading × L) FrameError) (now : L → List ℕ) (side : Side) (whole left : List ℕ) (reader : Hearing) (answer : Reading) → HasSaid side whole left reader answer
+    → IfOk r (λ x. (x.0 ≡ reader) × (x.1 ≡ answer) × (now x.2 ≡ left)) → IfOk r (λ x. HasSaid side whole (now x.2) x.0 x.1)
+says_left (Ok x) now side whole left reader answer said is = moved side whole left (now x.2) reader x.0 answer x.1 said is.0 is.1 is.2
+says_left (Err e) now side whole left reader answer said is = tt
+
+pub less_left : {L : Type 0} (r : Result (Hearing × Reading × L) FrameError) (now : L → List ℕ) (bytes left : List ℕ) (reader : Hearing) (answer : Reading) → length left < length bytes
+    → IfOk r (λ x. (x.0 ≡ reader) × (x.1 ≡ answer) × (now x.2 ≡ left)) → IfOk r (λ x. length (now x.2) < length bytes)
+less_left (Ok x) now bytes left reader answer less is = rw is.2 less
+less_left (Err e) now bytes left reader answer less is = tt
 
 -- a piece that is refused
 pub refuses_whole : (side : Side) (whole bytes piece left : List ℕ) (old : Hearing) (e : FrameError) (fed : IsFed side whole bytes old) → IsBytes whole → bytes ≡ piece ++ left

@@ -70,14 +70,24 @@ fn only(alloc: Global, word: &str) -> Result<List<u64>, NoMemory> {
     Ok(List::from_vec(numbers))
 }
 
-/// A dialer of the link of these words, the first of which is the number of its call that fails; without words a dialer of no link.
+/// The numbers of the link's call and of the dialer's that fail.
+fn failing_calls(word: &str) -> (&str, &str) {
+    match word.split_once('@') {
+        Some(numbers) => numbers,
+        None => (word, "0"),
+    }
+}
+
+/// A dialer of the link of these words, the first of which has the numbers of the calls that fail; without words a dialer of no link.
 fn dialer_of(alloc: Global, text: &str) -> Result<MemDial, NoMemory> {
     let words: Vec<&str> = text.split_whitespace().collect(alloc)?;
+    let [fails, items @ ..] = words.as_slice() else {
+        return MemDial::new(alloc, List::new(alloc), List::new(alloc));
+    };
+    let (call, dialed) = failing_calls(fails);
     let mut links = Vec::new(alloc);
-    if let [fails, items @ ..] = words.as_slice() {
-        links.push(MemLink::new(alloc, items_of(alloc, items)?, only(alloc, fails)?))?;
-    }
-    MemDial::new(alloc, List::from_vec(links), List::new(alloc))
+    links.push(MemLink::new(alloc, items_of(alloc, items)?, only(alloc, call)?))?;
+    MemDial::new(alloc, List::from_vec(links), only(alloc, dialed)?)
 }
 
 /// An output of which the write of this number fails.

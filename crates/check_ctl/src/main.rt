@@ -4,9 +4,10 @@
 //! the input, and the link; a fifth one is the number of the write to the output that fails. A content is in hexadecimal, `-` for none. A link is the number of its call that fails, or 0, and what comes
 //! over it: `-` is an idle turn, and anything else a message in hexadecimal; after the last one the peer has ended the link. An empty field
 //! means that there is no link to dial. The clock returns 7, 8 and so on. A line that begins with `#` is printed as it is.
+//! `CALL@DIAL` in place of the link's number also has the number of the call of the dialer that fails.
 //!
-//! What is printed is what the command wrote, and then its status and status line, where the link was dialed to, and each message that was
-//! sent over it. The lines and the expected output were made outside of this product (`outside/check_ctl.py`).
+//! What is printed is what the command wrote, and then its status and status line, how often the dialer failed, if it did, where the link was
+//! dialed to, how often it failed, if it did, and each message that was sent over it. The lines and the expected output were made outside of this product (`outside/check_ctl.py`).
 #![tactic(auto)]
 
 mod cases;
@@ -28,6 +29,14 @@ const FIRST_MOMENT: i64 = 7;
 /// How many points the window shows.
 const WINDOW_LEN: u64 = 1;
 
+/// Prints how often something failed, if it did.
+fn print_failed<R: AllocGlobal + Print>(rt: &R, name: &str, faults: u64) -> io::Result<()> {
+    if faults == 0 {
+        return Ok(());
+    }
+    println!(rt; "{name} failed {faults}")
+}
+
 fn print_message<R: AllocGlobal + Print>(rt: &R, message: &[u8]) -> io::Result<()> {
     let digits = digits_of(rt.alloc(), message)?;
     println!(rt; "sent {digits}")
@@ -45,6 +54,7 @@ fn print_link<R: AllocGlobal + Print>(rt: &R, link: &MemLink) -> io::Result<()> 
         }
         None => println!(rt; "nowhere")?,
     }
+    print_failed(rt, "link", link.faults())?;
     for message in link.sent() {
         print_message(rt, message.as_bytes())?;
     }
@@ -52,6 +62,7 @@ fn print_link<R: AllocGlobal + Print>(rt: &R, link: &MemLink) -> io::Result<()> 
 }
 
 fn print_links<R: AllocGlobal + Print>(rt: &R, dialer: &MemDial) -> io::Result<()> {
+    print_failed(rt, "dialer", dialer.faults())?;
     for link in dialer.returned() {
         print_link(rt, link)?;
     }

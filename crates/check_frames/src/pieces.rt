@@ -2,7 +2,7 @@
 //!
 //! Each message of a capture is fed as it is, damaged in one to three places, and cut: after an empty piece, in pieces of 1, 7 and 4,096
 //! bytes. It is printed how many answers of each sort there were, and how many of them and of what the readers finished with differ from
-//! what is read of the same bytes. Of the answers after the first 1,024 bytes every 64th is compared, and the last one.
+//! what is read of the same bytes. Of the answers after the first 1,024 bytes every 256th is compared, and the last one.
 //! `outside/piece_samples.py` counts the answers.
 use crate::captures::{Placed, sender_of};
 use crate::hostile::making::damage;
@@ -76,7 +76,7 @@ fn is_alike(one: &Read, other: &Read) -> bool {
 
 /// Whether the answer to the front of the bytes is compared.
 fn is_compared(front: &[u8], bytes: &[u8]) -> bool {
-    front.len() <= COMPARED || front.len() % 64 == 0 || front.len() == bytes.len()
+    front.len() <= COMPARED || front.len() % 256 == 0 || front.len() == bytes.len()
 }
 
 /// Compares the answer to bytes with what is read of them.
@@ -168,7 +168,7 @@ struct Tally {
 }
 
 /// Feeds the messages of these frames.
-fn tally(alloc: Global, frames: &[Placed]) -> Result<Tally, NoMemory> {
+fn feed_frames(alloc: Global, frames: &[Placed]) -> Result<Tally, NoMemory> {
     let mut random = Random::new(1);
     let mut tally = Tally {
         whole: Answers::new(),
@@ -195,7 +195,7 @@ fn print_answers(rt: &HostRuntime, sort: &str, answers: &Answers) -> io::Result<
 
 /// Feeds the messages of these frames, and prints how many answers there were.
 pub(crate) fn feed_messages(rt: &HostRuntime, frames: &[Placed]) -> io::Result<()> {
-    let Ok(tally) = tally(rt.alloc(), frames) else {
+    let Ok(tally) = feed_frames(rt.alloc(), frames) else {
         return println!(rt; "no memory");
     };
     print_answers(rt, "as they are", &tally.whole)?;

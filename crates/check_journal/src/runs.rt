@@ -54,7 +54,7 @@ fn call_lines(alloc: Global, calls: &[DiskCall]) -> Result<String, NoMemory> {
     Ok(lines)
 }
 
-/// Appends a group, in one call where it is a single entry.
+/// Appends a group, by `append` if it is a single entry.
 fn append_group<D: Disk>(
     alloc: Global,
     file: &mut JournalFile<D>,

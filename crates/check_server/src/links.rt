@@ -1,6 +1,6 @@
-//! The links of a run.
-use etp_outside::{Item, MemDoor, MemLink};
-use etp_values::{Blob, List, NoMemory};
+//! The links of a run, its configuration and its output, in memory.
+use etp_outside::{Item, MemDoor, MemFile, MemHost, MemLink, MemSink};
+use etp_values::{Blob, List, NoMemory, Text};
 use std::alloc::Global;
 
 fn item_of(alloc: Global, word: &str) -> Result<Item, NoMemory> {
@@ -43,4 +43,26 @@ pub(crate) fn door_of(alloc: Global, fails: &str, words: &[&str]) -> Result<MemD
         links.push(link(alloc, word)?)?;
     }
     MemDoor::new(alloc, List::from_vec(links), only(alloc, fails)?)
+}
+
+/// A host that has a file of this name. The opening and the read whose numbers these words denote fail.
+pub(crate) fn host_of(
+    alloc: Global,
+    name: &str,
+    content: Vec<u8>,
+    opening: &str,
+    read: &str,
+) -> Result<MemHost, NoMemory> {
+    let mut files = Vec::new(alloc);
+    files.push(MemFile {
+        name: Text::copy(alloc, name)?,
+        content: Blob::from_vec(content)?,
+        fails: only(alloc, read)?,
+    })?;
+    Ok(MemHost::new(List::from_vec(files), only(alloc, opening)?))
+}
+
+/// An output of which the write fails whose number `fails` denotes.
+pub(crate) fn sink_of(alloc: Global, fails: &str) -> Result<MemSink, NoMemory> {
+    Ok(MemSink::new(Vec::new(alloc), only(alloc, fails)?))
 }

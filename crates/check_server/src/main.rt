@@ -2,10 +2,11 @@
 //! answered, in hexadecimal.
 //!
 //! A line `serve CONFIG SESSIONS RULES LINK ..` of the input is a run. CONFIG is the file of the configuration, and SESSIONS how many links
-//! are served; `SESSIONS@FAIL` also gives the number of the listener's call that fails. A link is `FAIL:ITEM,..`: the number of its call
+//! are served; `SESSIONS@LISTENER@OPENING@READ@WRITE` also has the numbers of the calls that fail, or 0: of the listener, of opening the
+//! configuration, of reading it, and of writing the report. What isn't there is 0. A link is `FAIL:ITEM,..`: the number of its call
 //! that fails, or 0, and what comes over it, where `-` is an idle turn and anything else a message in hexadecimal. The rules, `-` for none,
-//! make sessions wait where the order of what they do matters (`gates`). What is printed is the server's report and its status, and then,
-//! in the order of their numbers, how each session ended and what it was sent.
+//! make sessions wait where the order of what they do matters (`gates`). What is printed is the server's report, its status and how often the
+//! host, the listener and the output failed, if they did; and then, in the order of their numbers, how each session ended, how often its link failed, and what it was sent.
 //!
 //! A line `ids FIRST MESSAGE ..` is a session alone: the first of its own ids, and the messages that it gets, each in hexadecimal.
 //!
@@ -20,14 +21,15 @@ mod links;
 mod program;
 mod spent_ids;
 
-use etp_outside::{DirHost, MemDoor, MemLink, MemSink, StepClock};
-use etp_values::{List, NoMemory};
+use etp_outside::{MemDoor, MemHost, MemLink, MemSink, StepClock};
+use etp_values::NoMemory;
 use gates::{Turns, gate_of};
-use links::door_of;
+use links::{door_of, host_of, sink_of};
 use program::call;
 use server_forms::run_server;
 use spent_ids::play_from;
 use std::alloc::{AllocError, Global};
+use std::fs;
 use std::io::{self, BufRead, BufReader, Write};
 use std::net::{Net, TcpListener, TcpStream};
 use std::rt::{Env, Files};
@@ -42,17 +44,19 @@ const LAST: u64 = 65;
 fn serve<R: AllocGlobal + Files + Print + Threads + Wait + Sync>(
     rt: &R,
     words: &[String],
+    host: &mut MemHost,
     door: &mut MemDoor,
+    out: &mut MemSink,
     gate: &Turns,
 ) -> io::Result<()> {
-    let alloc = rt.alloc();
-    let mut host = DirHost::new(rt);
-    let mut out = MemSink::new(Vec::new(alloc), List::new(alloc));
     let clock = StepClock::new(1, 1);
-    let status = run_server(rt, alloc, words, &mut host, door, &mut out, &clock, gate);
+    let status = run_server(rt, rt.alloc(), words, host, door, out, &clock, gate);
     io::writer(rt).write_all(out.as_bytes())?;
     let number = status.number();
-    println!(rt; "= {number}")
+    println!(rt; "= {number}")?;
+    print_failed(rt, "host", host.faults())?;
+    print_failed(rt, "listener", door.faults())?;
+    print_failed(rt, "output", out.faults())
 }
 
 fn print_sent<R: AllocGlobal + Print>(rt: &R, link: &MemLink) -> io::Result<()> {
@@ -63,12 +67,21 @@ fn print_sent<R: AllocGlobal + Print>(rt: &R, link: &MemLink) -> io::Result<()> 
     Ok(())
 }
 
+/// Prints how often something failed, if it did.
+fn print_failed<R: AllocGlobal + Print>(rt: &R, name: &str, faults: u64) -> io::Result<()> {
+    if faults == 0 {
+        return Ok(());
+    }
+    println!(rt; "{name} failed {faults}")
+}
+
 /// The links that came back of the session with a number.
 fn print_session<R: AllocGlobal + Print>(rt: &R, door: &MemDoor, number: u64) -> io::Result<()> {
     for back in door.returned() {
         if back.number == number {
             let end = back.end;
             println!(rt; "session {number} ended {end}")?;
+            print_failed(rt, "link", back.link.faults())?;
             print_sent(rt, &back.link)?;
         }
     }
@@ -91,16 +104,31 @@ fn command(alloc: Global, config: &str, sessions: &str) -> Result<Vec<String>, N
     Ok(words)
 }
 
+/// A run's configuration, its rules, and the numbers of the calls that fail.
+#[derive(Clone, Copy)]
+struct Run<'a> {
+    config: &'a str,
+    rules: &'a str,
+    listener: &'a str,
+    opening: &'a str,
+    read: &'a str,
+    write: &'a str,
+}
+
 fn run<R: AllocGlobal + Files + Print + Threads + Wait + Sync>(
     rt: &R,
     words: &[String],
-    rules: &str,
-    fails: &str,
+    it: &Run<'_>,
     links: &[&str],
 ) -> io::Result<()> {
-    let gate = gate_of(rt.alloc(), rules).map_err(|_| AllocError)?;
-    let mut door = door_of(rt.alloc(), fails, links).map_err(|_| AllocError)?;
-    serve(rt, words, &mut door, &gate)?;
+    let alloc = rt.alloc();
+    let content = fs::read(rt, it.config)?;
+    let gate = gate_of(alloc, it.rules).map_err(|_| AllocError)?;
+    let mut door = door_of(alloc, it.listener, links).map_err(|_| AllocError)?;
+    let mut host =
+        host_of(alloc, it.config, content, it.opening, it.read).map_err(|_| AllocError)?;
+    let mut out = sink_of(alloc, it.write).map_err(|_| AllocError)?;
+    serve(rt, words, &mut host, &mut door, &mut out, &gate)?;
     if gate.was_missed() {
         println!(rt; "someone waited in vain")?;
     }
@@ -115,12 +143,18 @@ fn run_case<R: AllocGlobal + Files + Print + Threads + Wait + Sync>(
     rules: &str,
     links: &[&str],
 ) -> io::Result<()> {
-    let (count, fails) = match sessions.split_once('@') {
-        Some((count, fails)) => (count, fails),
-        None => (sessions, "0"),
+    let mut numbers = sessions.split('@');
+    let count = numbers.next().unwrap_or("0");
+    let it = Run {
+        config,
+        rules,
+        listener: numbers.next().unwrap_or("0"),
+        opening: numbers.next().unwrap_or("0"),
+        read: numbers.next().unwrap_or("0"),
+        write: numbers.next().unwrap_or("0"),
     };
     let command = command(rt.alloc(), config, count).map_err(|_| AllocError)?;
-    run(rt, command.as_slice(), rules, fails, links)
+    run(rt, command.as_slice(), &it, links)
 }
 
 fn run_line<R>(rt: &R, line: &str) -> io::Result<()>

@@ -73,8 +73,8 @@ fn push_load(rt: &HostRuntime, into: &mut Vec<u8>, size: &str) -> io::Result<()>
     words.push(String::from_str(alloc, "capture")?)?;
     words.push(String::from_str(alloc, size)?)?;
     match run_case(rt, words.as_slice(), NO_FAULTS, &[]) {
-        Ok((_, out)) => {
-            into.extend_from_slice(out.as_bytes())?;
+        Ok(ran) => {
+            into.extend_from_slice(ran.out.as_bytes())?;
             Ok(())
         }
         Err(_) => Ok(()),

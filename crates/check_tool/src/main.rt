@@ -1,11 +1,12 @@
 //! Runs the tool on cases, and prints what it wrote and how it ended.
 //!
 //! A line of the input is a case, `CUT OPENING CONFIG READ WRITE CAPTURE WORD..`: the words are those of the tool, CAPTURE is its input
-//! (`captures`), and its output is in memory. The input gives one byte at a time, or 65,536 if it has more bytes than that. Where they are not
-//! 0, the opening of a file of number OPENING fails, the read of the configuration of number CONFIG, the read of the input of number READ, and
-//! the write of number WRITE. The tool is run on the capture and on each of its prefixes that is up to CUT bytes shorter. Of an input that was made for the case, and of an output of 400,000 bytes or more, the length and a digest are printed. The
+//! (`captures`), and its output is in memory. The input gives one byte at a time, or 65,536 if it has more bytes than that. OPENING, CONFIG, READ
+//! and WRITE, if they are not 0, are the numbers of the call that fails: of the openings of files, the reads of the configuration, the reads of
+//! the input, and the writes. The tool is run on the capture and on each of its prefixes that is up to CUT bytes shorter. Of an input that was made for the case, and of an output of 400,000 bytes or more, the length and a digest are printed. The
 //! cases and the expected output were made by a program that shares no code with this one (`outside/check_tool.py`). After the cases the
 //! tool is run over a system that fails, and the program ends as that does.
+//! How often the host, the input and the output of a case failed is printed if one did.
 #![tactic(auto)]
 
 mod captures;
@@ -14,7 +15,7 @@ mod runs;
 
 use crate::captures::read_capture;
 use crate::digest::digest;
-use crate::runs::{Faults, run_case};
+use crate::runs::{Faults, Ran, run_case};
 use etp_outside::{Status, StdSink};
 use faulty_system::FaultySystem;
 use std::io::{self, BufRead, BufReader, Write};
@@ -36,6 +37,15 @@ fn print_output(rt: &HostRuntime, bytes: &[u8]) -> io::Result<()> {
     io::writer(rt).write_all(bytes)
 }
 
+/// Prints how often the host, the input and the output of a run failed, if one did.
+fn print_faults(rt: &HostRuntime, ran: &Ran) -> io::Result<()> {
+    let (host, input, out) = (ran.host, ran.input, ran.out.faults());
+    if host == 0 && input == 0 && out == 0 {
+        return Ok(());
+    }
+    println!(rt; "failed: host {host} input {input} output {out}")
+}
+
 /// Runs the tool on a capture, and prints how that ended.
 fn print_case(
     rt: &HostRuntime,
@@ -44,15 +54,15 @@ fn print_case(
     capture: &[u8],
 ) -> io::Result<()> {
     match run_case(rt, words, faults, capture) {
-        Ok((status, out)) => {
-            print_output(rt, out.as_bytes())?;
-            let number = status.number();
+        Ok(ran) => {
+            print_output(rt, ran.out.as_bytes())?;
+            let number = ran.status.number();
             println!(rt; "\n= {number}")?;
             let mut told = StdSink::new(io::writer(rt));
-            if finish(rt.alloc(), status, &mut told) != ExitCode::from(number) {
+            if finish(rt.alloc(), ran.status, &mut told) != ExitCode::from(number) {
                 println!(rt; "another exit status")?;
             }
-            Ok(())
+            print_faults(rt, &ran)
         }
         Err(_) => println!(rt; "no memory"),
     }

@@ -61,34 +61,51 @@ fn failing_host(rt: &HostRuntime, faults: Faults) -> Result<MemHost, NoMemory> {
     Ok(MemHost::new(List::from_vec(files), only(alloc, faults.opening)?))
 }
 
-/// Runs the tool over a host on a capture, and returns how that ended and what was written.
+/// How a run ended, what it wrote, and how often what it was given failed.
+#[derive(Drop)]
+pub(crate) struct Ran {
+    pub(crate) status: Status,
+    pub(crate) out: MemSink,
+    /// How often the host in memory failed, or took back a file that had failed.
+    pub(crate) host: u64,
+    pub(crate) input: u64,
+}
+
+/// Runs the tool over a host on a capture.
 fn run_over<H: Host>(
     alloc: Global,
     words: &[String],
     host: &mut H,
     faults: Faults,
     capture: &[u8],
-) -> Result<(Status, MemSink), NoMemory> {
+) -> Result<Ran, NoMemory> {
     let bytes = Blob::copy(alloc, capture)?;
     let most = at_a_time(capture.len());
     let mut input = MemSource::in_pieces(bytes, only(alloc, faults.read)?, most);
     let mut out = MemSink::new(Vec::new(alloc), only(alloc, faults.write)?);
     let status = run_tool(alloc, words, host, &mut input, &mut out);
-    Ok((status, out))
+    Ok(Ran {
+        status,
+        out,
+        host: 0,
+        input: input.faults(),
+    })
 }
 
-/// Runs the tool on a capture, and returns how that ended and what was written.
+/// Runs the tool on a capture.
 pub(crate) fn run_case(
     rt: &HostRuntime,
     words: &[String],
     faults: Faults,
     capture: &[u8],
-) -> Result<(Status, MemSink), NoMemory> {
+) -> Result<Ran, NoMemory> {
     let alloc = rt.alloc();
     if faults.opening == 0 && faults.config == 0 {
         let mut host = DirHost::new(rt);
         return run_over(alloc, words, &mut host, faults, capture);
     }
     let mut host = failing_host(rt, faults)?;
-    run_over(alloc, words, &mut host, faults, capture)
+    let mut ran = run_over(alloc, words, &mut host, faults, capture)?;
+    ran.host = host.faults();
+    Ok(ran)
 }

@@ -11,7 +11,7 @@ use etp_outside::ReadOutcome;
 /// How long a file is.
 #[derive(Clone, Copy, Debug, PartialEq, Eq)]
 pub enum Length {
-    /// So many bytes.
+    /// In bytes.
     Known(u64),
     /// The disk failed.
     Failed,
@@ -35,21 +35,21 @@ pub enum Synced {
     Failed,
 }
 
-/// A file on a disk, which a crash may cut short in its writes. It can cross threads.
+/// A file on a disk, which may crash during a write. It can be sent to other threads.
 ///
-/// A crash may leave any bytes where a write since the last sync was to put some, whether that write is done or has failed, and past the end
-/// that the file had then. All other bytes are as the last sync left them.
+/// A crash may leave any bytes in the range of each write since the last sync, whether that write was done or failed, and past the end
+/// that the file had at that sync. All other bytes are as the last sync left them.
 pub trait Disk: Drop + Send {
-    /// The bytes that a read gives, where the disk tells them.
+    /// The bytes that a read gives, if the disk reveals them.
     ghost seen: { Self → Option (List ℕ) };
 
     /// What a crash at this moment may leave.
     ghost may_leave: { Self → List ℕ → Type 0 };
 
-    /// The moment, as a number that does not fall.
+    /// The present moment, as a number that never falls.
     ghost moment: { Self → ℕ };
 
-    /// What a crash at some moment from that one on might have left, during a call or between two.
+    /// What a crash at any moment since that one might have left, during a call or between two.
     ghost left_since: { Self → ℕ → List ℕ → Type 0 };
 
     /// How often it failed. The count stops at `u64::MAX`.
@@ -84,7 +84,7 @@ pub trait Disk: Drop + Send {
         ensures kept { faults self.old ≤ faults self.new }
         ensures cause { result ≡ Wrote.Failed → Rose (faults self.old) (faults self.new) };
 
-    /// Brings all that was written to the disk.
+    /// Writes all data through to the disk.
     fn sync(&mut self) -> Synced
         ensures durable { result ≡ Synced.Done → IfSome (seen self.old) (λ f. Only f (may_leave self.new)) }
         ensures seen { seen self.new ≡ seen self.old }

@@ -1,4 +1,4 @@
-//! A file of the system as a disk. It is the trusted edge: no clause says what the file contains.
+//! A file of the system as a disk. What the system does is trusted: no clause says what the file contains.
 ghost use Rattle.std.specs.Prelude.{◌≡◌, ◌≤◌, IfOk, None, length};
 ghost use Rattle.etp_outside.specs.Faults.{next_count};
 ghost use Rattle.journal_disk.specs.Untold.{anything};
@@ -16,11 +16,10 @@ use std::rt::Files;
 /// How often a read that a signal interrupts is tried before the interruption counts as a fault.
 const TRIES: u32 = 64;
 
-/// A disk that opens a file of the system at its first call. A file that is not there counts as empty, and the first write makes it.
+/// A disk that opens a file of the system at its first call. A file that does not exist counts as empty, and the first write creates it.
 ///
-/// The file stays locked while it is open, so a file that another program holds is a fault. When it is opened, what it has is brought to
-/// the disk and the system's copies of its pages are dropped: a sync that failed in an earlier program may have left them other than
-/// what the disk has.
+/// The file is locked while it is open, so a file that another program has open is a fault. When it is opened, it is synced and the
+/// system's cached pages of it are dropped: after a sync that failed in an earlier program they may differ from what the disk has.
 #[derive(Drop)]
 pub struct FileDisk<'a, R> {
     rt: &'a R,
@@ -38,7 +37,7 @@ fn lock(file: &File) -> io::Result<()> {
     }
 }
 
-/// Brings to the disk what a file has, and drops the system's copies of its pages.
+/// Syncs a file, and drops the system's cached pages of it.
 fn settle(file: &File) -> io::Result<()> {
     file.sync_all()?;
     let advised = libc::posix_fadvise(file.as_raw_fd(), 0, 0, libc::POSIX_FADV_DONTNEED);
@@ -48,14 +47,14 @@ fn settle(file: &File) -> io::Result<()> {
     Ok(())
 }
 
-/// Locks and settles a file that was just opened.
+/// Locks and syncs a file that was just opened.
 fn taken(file: File) -> io::Result<File> {
     lock(&file)?;
     settle(&file)?;
     Ok(file)
 }
 
-/// The file of a name, unless there is none.
+/// The file of a name, if it exists.
 fn open_there<R: Files<File = File>>(rt: &R, name: &str) -> io::Result<Option<File>> {
     match OpenOptions::new().read(true).write(true).open(rt, name) {
         Ok(file) => Ok(Some(taken(file)?)),
@@ -82,7 +81,7 @@ fn folder_of(name: &str) -> &str {
     }
 }
 
-/// Makes the file of a name, and brings its folder to the disk.
+/// Creates the file of a name, and syncs its folder.
 fn make<R: Files<File = File>>(rt: &R, name: &str) -> io::Result<File> {
     let file = OpenOptions::new()
         .read(true)
@@ -95,7 +94,7 @@ fn make<R: Files<File = File>>(rt: &R, name: &str) -> io::Result<File> {
     Ok(file)
 }
 
-/// Reads once more where a signal interrupts.
+/// Reads again if a signal interrupts.
 fn read_again(file: &File, at: u64, buf: &mut [u8]) -> io::Result<usize>
     ensures { IfOk result (λ n. n ≤ length buf.new) }
 {
@@ -125,7 +124,7 @@ impl<'a, R: Files<File = File>> FileDisk<'a, R> {
         }
     }
 
-    /// Opens the file where it is there, unless that was done.
+    /// Opens the file if it exists, unless it is open already.
     fn reach(&mut self) -> io::Result<()>
         ensures { self.new.faults ≡ self.old.faults }
     {
@@ -135,7 +134,7 @@ impl<'a, R: Files<File = File>> FileDisk<'a, R> {
         Ok(())
     }
 
-    /// Opens the file, and makes it where it is not there.
+    /// Opens the file, and creates it if it does not exist.
     fn reach_made(&mut self) -> io::Result<()>
         ensures { self.new.faults ≡ self.old.faults }
     {

@@ -15,7 +15,7 @@ use std::marker::Model;
 /// A call of a disk in memory, as its record has it.
 #[derive(Debug, Drop)]
 pub enum DiskCall {
-    /// A write of which the first `kept` bytes of the piece came to be there: all of them, unless it failed.
+    /// A write of which the first `kept` bytes of the piece were written: all of them, unless it failed.
     Put { at: u64, piece: Blob, kept: usize },
     /// A sync that was done.
     Synced,
@@ -63,9 +63,9 @@ impl Calls {
     }
 }
 
-/// A disk that keeps its first bytes and a record of all calls, from which everything can be made that a crash may leave. It fails at
-/// the calls that a list names, all of them counted together, and of a write that fails a front of the piece comes to be there.
-/// Running out of memory is a fault too, and such a call does nothing and is not counted.
+/// A disk that keeps its first bytes and a record of all calls, which together determine what a crash may leave. It fails at
+/// the calls whose numbers a list names, counted over all kinds of calls, and writes the first part of a piece whose write fails.
+/// Running out of memory is a fault too; such a call does nothing and is not counted.
 #[derive(Debug, Drop)]
 pub struct MemDisk {
     alloc: Global,
@@ -153,7 +153,7 @@ fn one_more(faults: u64) -> u64
     faults.saturating_add(1)
 }
 
-/// What stands from a place on, after so many bytes.
+/// The bytes from a place on, without the first `count` of them.
 fn behind(bytes: &[u8], at: usize, count: usize) -> &[u8]
     ensures { result.now ≡ drop (at + count) bytes.now }
 {
@@ -167,7 +167,7 @@ fn behind(bytes: &[u8], at: usize, count: usize) -> &[u8]
     &rest[count..]
 }
 
-/// Bytes with a piece at a place, after zeros where the place lies past their end.
+/// Bytes with a piece written at a place, after zeros if the place is past their end.
 fn written(alloc: Global, bytes: &[u8], at: usize, piece: &[u8]) -> Result<Blob, NoMemory>
     ensures { IfOk result (λ b. b ≡ put_in bytes.now at piece.now) }
 {
@@ -179,7 +179,7 @@ fn written(alloc: Global, bytes: &[u8], at: usize, piece: &[u8]) -> Result<Blob,
     Blob::from_vec(next)
 }
 
-/// Notes a write of which so many bytes come to be there, and what is there then. Nothing is done where memory runs out.
+/// Records a write of which the first `kept` bytes are written, and writes them. If memory runs out nothing is done.
 fn put(
     alloc: Global,
     calls: &mut Calls,

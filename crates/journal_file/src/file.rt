@@ -15,10 +15,10 @@ use etp_values::{Blob, Id16, List};
 use journal_disk::{Disk, Wrote};
 use std::alloc::Global;
 
-/// The place past which no gate is written.
+/// The greatest place of a gate.
 const MAX_GATE: u64 = 1 << 62;
 
-/// A journal's file, and where its last gate stands.
+/// A journal's file, and the place of its last gate.
 #[derive(Drop)]
 pub struct JournalFile<D: Disk> {
     disk: D,
@@ -26,8 +26,8 @@ pub struct JournalFile<D: Disk> {
 }
 
 impl<D: Disk> JournalFile<D> {
-    /// Makes the file of an instance's journal, without an entry, on a disk that is empty. A refusal hands the disk back, and is a fault: the
-    /// file then has 25 bytes at most, as at each moment of the call.
+    /// Creates the file of an instance's journal, without an entry, on an empty disk. A refusal returns the disk, and is a fault: the
+    /// file then has at most 25 bytes, as at each moment of the call.
     pub fn create(disk: D, id: Id16) -> Result<JournalFile<D>, (D, JournalError)>
         ensures made { IfOk result (λ j. D.seen disk ≡ Some [] → AtRest D.seen D.may_leave id [] j) }
         ensures left { IfErr result (λ e. D.seen disk ≡ Some [] → Leaves D.seen e.0 IsShort) }
@@ -48,9 +48,9 @@ impl<D: Disk> JournalFile<D> {
         }
     }
 
-    /// Opens the file of an instance's journal, and gives its entries. It brings the file to the disk as it is before it reads, so that what it gives
-    /// is what a crash leaves. It reads one entry after the other, and tests each length against the file's
-    /// before it takes memory for an entry. A refusal hands the disk back.
+    /// Opens the file of an instance's journal, and returns its entries. It syncs the file before it reads, so that what it returns
+    /// is what a crash leaves. It reads one entry after another, and compares each length with the file's
+    /// before it allocates memory for an entry. A refusal returns the disk.
     pub fn open(
         alloc: Global,
         disk: D,
@@ -79,7 +79,7 @@ impl<D: Disk> JournalFile<D> {
         }
     }
 
-    /// Appends an entry. At `Ok` it is on the disk, and a crash before that leaves the file with it or without. It takes its memory first.
+    /// Appends an entry. After `Ok` it is on the disk; a crash before that leaves the file with it or without it. It allocates before it writes.
     pub fn append(&mut self, alloc: Global, spelling: &[u8]) -> Result<(), JournalError>
         ensures ok { OnOk result (Appends D.seen D.may_leave self.old (spelling.now ∷ []) self.new) }
         ensures left { Stays D.seen D.may_leave self.old (spelling.now ∷ []) self.new }
@@ -92,8 +92,8 @@ impl<D: Disk> JournalFile<D> {
         self.append_group(alloc, spelling, &[])
     }
 
-    /// Appends these entries with two syncs for all of them. At `Ok` they are on the disk, and a crash before that leaves the file with
-    /// all of them or with none. It takes its memory first.
+    /// Appends these entries with two syncs for all of them. After `Ok` they are on the disk; a crash before that leaves the file with
+    /// all of them or with none. It allocates before it writes.
     pub fn append_all(&mut self, alloc: Global, spellings: &[Blob]) -> Result<(), JournalError>
         ensures ok { OnOk result (Appends D.seen D.may_leave self.old spellings.now self.new) }
         ensures left { Stays D.seen D.may_leave self.old spellings.now self.new }
@@ -132,7 +132,7 @@ impl<D: Disk> JournalFile<D> {
         self.append_piece(piece.as_slice())
     }
 
-    /// Brings a piece behind the gate to the disk, and opens the gate.
+    /// Writes a piece after the gate and syncs it, and then opens the gate.
     fn append_piece(&mut self, piece: &[u8]) -> Result<(), JournalError>
         requires { self.old.gate + length piece.now ≤ 2 ^ 62 }
         ensures ok { OnOk result ((more : Items (Items ℕ)) → 1 ∷ piece.now ≡ blocks more ++ 0 ∷ [] → Appends D.seen D.may_leave self.old more self.new) }
@@ -152,7 +152,7 @@ impl<D: Disk> JournalFile<D> {
         }
     }
 
-    /// Hands the disk back.
+    /// Returns the disk.
     pub fn close(self) -> D
         ensures { result ≡ self.disk }
     {

@@ -6,13 +6,13 @@ ghost use Rattle.journal_file.specs.Layout.{block, blocks, head};
 use etp_values::{Blob, Id16, NoMemory};
 use std::alloc::Global;
 
-/// How many bytes stand before the first gate.
+/// How many bytes come before the first gate.
 pub(crate) const FIRST_GATE: u64 = 24;
 
 /// What a file begins with.
 pub(crate) const MAGIC: [u8; 8] = *b"ETPJRN01";
 
-/// What stands before the first gate of an instance's journal.
+/// The bytes before the first gate of an instance's journal.
 pub(crate) fn file_head(id: Id16) -> [u8; 24]
     ensures bytes { result ≡ head id }
     ensures size { length id ≡ 16 }
@@ -62,7 +62,7 @@ fn push_blocks(into: &mut Vec<u8>, spellings: &[Blob]) -> Result<(), NoMemory>
     Ok(())
 }
 
-/// The blocks of these spellings and a gate that is shut, but for the first gate.
+/// The blocks of these spellings and a closed gate, without the first gate.
 pub(crate) fn behind_gate(alloc: Global, first: &[u8], rest: &[Blob]) -> Result<Vec<u8>, NoMemory>
     ensures { IfOk result (λ v. 1 ∷ v.items ≡ blocks (first.now ∷ rest.now) ++ 0 ∷ []) }
 {

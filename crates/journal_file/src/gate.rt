@@ -6,7 +6,7 @@ ghost use Rattle.journal_file.specs.Gates.{IsKept, IsShutOrOpen, Leaves};
 
 use journal_disk::{Disk, Synced, Wrote};
 
-/// Brings all that was written to the disk.
+/// Syncs all that was written.
 fn bring<D: Disk>(disk: &mut D) -> Wrote
     ensures durable { result ≡ Wrote.Done → IfSome (D.seen disk.old) (λ f. Only f (D.may_leave disk.new)) }
     ensures seen { D.seen disk.new ≡ D.seen disk.old }
@@ -21,7 +21,7 @@ fn bring<D: Disk>(disk: &mut D) -> Wrote
     }
 }
 
-/// Writes a piece, and brings it to the disk. After `Failed` the file has to be opened again.
+/// Writes a piece, and syncs. After `Failed` the file has to be opened again.
 pub(crate) fn settle<D: Disk>(disk: &mut D, at: u64, piece: &[u8]) -> Wrote
     ensures done { result ≡ Wrote.Done → (f : List ℕ) → D.seen disk.old ≡ Some f
         → (h : List ℕ) × Holds at piece.now f h × IsKept D.seen D.may_leave disk.new h }
@@ -37,7 +37,7 @@ pub(crate) fn settle<D: Disk>(disk: &mut D, at: u64, piece: &[u8]) -> Wrote
     }
 }
 
-/// Brings a piece to the disk behind the gate at a place, and then the gate, open.
+/// Writes a piece after the gate at a place and syncs, and then opens the gate and syncs.
 pub(crate) fn open_gate<D: Disk>(disk: &mut D, gate: u64, piece: &[u8]) -> Wrote
     requires { gate < 2 ^ 64 - 1 }
     ensures done { result ≡ Wrote.Done → (front : List ℕ) (g : ℕ) (junk : List ℕ) → length front ≡ gate → D.seen disk.old ≡ Some (front ++ g ∷ junk)

@@ -13,20 +13,20 @@ use etp_values::{Blob, Id16, List, NoMemory};
 use journal_disk::{Disk, Length, Synced};
 use std::alloc::Global;
 
-/// How many bytes a journal's file has at least: those before the first gate, and that gate.
+/// The least size of a journal's file: the bytes before the first gate, and that gate.
 const SHORTEST: u64 = 25;
 
-/// What was read of a file so far, and the gate behind it.
+/// What was read of a file so far, and the gate after it.
 #[derive(Drop)]
 pub(crate) struct Walk {
     pub(crate) spellings: Vec<Blob>,
-    /// Where the gate stands.
+    /// The gate's place.
     pub(crate) gate: u64,
     /// The gate's byte.
     pub(crate) byte: u8,
 }
 
-/// Takes in a record, and the gate behind it.
+/// Adds a record, and the gate after it.
 fn take_in(walk: &mut Walk, found: Record) -> Result<(), NoMemory>
     requires { walk.old.gate + 9 + length found.spelling < 2 ^ 64 }
     ensures spellings { OnOk result (walk.new.spellings.items ≡ walk.old.spellings.items ++ found.spelling ∷ []) }
@@ -41,7 +41,7 @@ fn take_in(walk: &mut Walk, found: Record) -> Result<(), NoMemory>
     Ok(())
 }
 
-/// Reads the record behind an open gate, in a file of so many bytes.
+/// Reads the record after an open gate, in a file of this size.
 #[tactic(auto, using(crate::proofs::OpeningLemmas::rested_trans))]
 fn step<D: Disk>(alloc: Global, disk: &mut D, walk: &mut Walk, end: u64) -> Result<(), JournalError>
     requires inside { walk.old.gate < end }
@@ -63,7 +63,7 @@ fn step<D: Disk>(alloc: Global, disk: &mut D, walk: &mut Walk, end: u64) -> Resu
     }
 }
 
-/// Reads from the first gate on to the first that is not open, in a file of so many bytes.
+/// Reads from the first gate on to the first one that is not open, in a file of this size.
 fn read_blocks<D: Disk>(
     alloc: Global,
     disk: &mut D,
@@ -90,7 +90,7 @@ fn read_blocks<D: Disk>(
     Ok(walk)
 }
 
-/// The byte of the first gate of an instance's journal, in a file of so many bytes.
+/// The byte of the first gate of an instance's journal, in a file of this size.
 #[tactic(auto, using(crate::proofs::OpeningLemmas::rested_trans))]
 fn read_head<D: Disk>(disk: &mut D, id: Id16, end: u64) -> Result<u8, JournalError>
     ensures read { IfOk result (λ g. (f : Items ℕ) → D.seen disk.old ≡ Some f → IsBegun id f g) }
@@ -111,7 +111,7 @@ fn read_head<D: Disk>(disk: &mut D, id: Id16, end: u64) -> Result<u8, JournalErr
     }
 }
 
-/// Reads the journal of an instance from a file of so many bytes.
+/// Reads the journal of an instance from a file of this size.
 #[tactic(auto, using(crate::proofs::OpeningLemmas::rested_trans))]
 fn read_file<D: Disk>(alloc: Global, disk: &mut D, id: Id16, end: u64) -> Result<Walk, JournalError>
     ensures read { IfOk result (λ w. (f : Items ℕ) → D.seen disk.old ≡ Some f → IsFile id w.spellings.items f) }
@@ -125,7 +125,7 @@ fn read_file<D: Disk>(alloc: Global, disk: &mut D, id: Id16, end: u64) -> Result
     read_blocks(alloc, disk, byte, end)
 }
 
-/// Brings to the disk what a read gives, and tells how many bytes that is.
+/// Syncs the file, and returns its size.
 #[tactic(auto, using(crate::proofs::OpeningLemmas::rested_trans, crate::proofs::OpeningLemmas::rested_call))]
 fn settled_length<D: Disk>(disk: &mut D) -> Result<u64, JournalError>
     ensures length { IfOk result (λ n. (f : Items ℕ) → D.seen disk.old ≡ Some f → n ≡ length f) }
@@ -145,7 +145,7 @@ fn settled_length<D: Disk>(disk: &mut D) -> Result<u64, JournalError>
     }
 }
 
-/// Brings a journal's file to the disk as it is, and reads it.
+/// Syncs a journal's file, and reads it.
 #[tactic(auto, using(crate::proofs::OpeningLemmas::rested_trans))]
 pub(crate) fn read_settled<D: Disk>(
     alloc: Global,

@@ -15,15 +15,15 @@ use std::alloc::Global;
 /// Whether a buffer was filled.
 #[derive(Clone, Copy, Debug, PartialEq, Eq)]
 pub(crate) enum Filled {
-    /// It was.
+    /// It was filled.
     Whole,
-    /// The file ends before.
+    /// The file ends before that.
     Short,
     /// The disk failed.
     Failed,
 }
 
-/// Fills a buffer with what stands from a place on.
+/// Fills a buffer with the bytes from a place on.
 pub(crate) fn fill_at<D: Disk>(disk: &mut D, at: u64, buf: &mut [u8]) -> Filled
     requires { at + length buf.old < 2 ^ 64 }
     ensures whole { result ≡ Filled.Whole → (f : Items ℕ) → D.seen disk.old ≡ Some f → StandsAt f at buf.new }
@@ -44,7 +44,7 @@ pub(crate) fn fill_at<D: Disk>(disk: &mut D, at: u64, buf: &mut [u8]) -> Filled
     Filled::Whole
 }
 
-/// The number that 8 bytes tell, the highest first.
+/// The number in 8 bytes, the highest first.
 fn number_told(told: &[u8]) -> u64
     requires { length told.now ≡ 8 }
     ensures value { result ≡ from_be_bytes w64 told.now }
@@ -55,7 +55,7 @@ fn number_told(told: &[u8]) -> u64
     ])
 }
 
-/// The length that 8 bytes tell, where it is below a limit.
+/// The length in 8 bytes, if it is below a limit.
 fn length_below(told: &[u8], limit: u64) -> Option<u64>
     requires { length told.now ≡ 8 }
     ensures told { IfSome result (λ n. to_be_bytes w64 n ≡ told.now) }
@@ -69,7 +69,7 @@ fn length_below(told: &[u8], limit: u64) -> Option<u64>
     Some(size)
 }
 
-/// The length that is told from a place on, where a spelling of it and one more byte fit into a file of so many bytes.
+/// The length at a place, if a spelling of that length and one more byte fit into a file of this size.
 #[tactic(auto, using(crate::proofs::OpeningLemmas::rested_trans))]
 fn read_length<D: Disk>(disk: &mut D, at: u64, end: u64) -> Result<Option<u64>, JournalError>
     requires { at ≤ end }
@@ -96,11 +96,11 @@ fn read_length<D: Disk>(disk: &mut D, at: u64, end: u64) -> Result<Option<u64>, 
 #[derive(Drop)]
 pub(crate) struct Record {
     pub(crate) spelling: Blob,
-    /// The byte of the gate behind it.
+    /// The byte of the gate after it.
     pub(crate) next: u8,
 }
 
-/// All bytes but the last one, and that one.
+/// All bytes but the last one, and the last one.
 fn parted(bytes: Vec<u8>) -> Result<Record, NoMemory>
     requires { 0 < length bytes.items }
     ensures { IfOk result (λ r. bytes.items ≡ r.spelling ++ r.next ∷ []) }
@@ -115,7 +115,7 @@ fn parted(bytes: Vec<u8>) -> Result<Record, NoMemory>
     }
 }
 
-/// So many zeros.
+/// This many zeros.
 fn zeros(alloc: Global, size: usize) -> Result<Vec<u8>, NoMemory>
     ensures { IfOk result (λ v. length v.items ≡ size) }
 {
@@ -124,7 +124,7 @@ fn zeros(alloc: Global, size: usize) -> Result<Vec<u8>, NoMemory>
     Ok(bytes)
 }
 
-/// A spelling of so many bytes from a place on, and the byte behind it. There is none where the file ends before.
+/// The spelling of this length at a place, and the byte after it. There is none if the file ends before that.
 #[tactic(auto, using(crate::proofs::OpeningLemmas::rested_trans))]
 fn read_spelling<D: Disk>(
     alloc: Global,
@@ -149,7 +149,7 @@ fn read_spelling<D: Disk>(
     }
 }
 
-/// The record behind an open gate, from a place on in a file of so many bytes. There is none where it does not fit.
+/// The record after an open gate, from a place on in a file of this size. There is none if it does not fit.
 #[tactic(auto, using(crate::proofs::OpeningLemmas::rested_trans))]
 pub(crate) fn read_record<D: Disk>(
     alloc: Global,
@@ -172,7 +172,7 @@ pub(crate) fn read_record<D: Disk>(
     }
 }
 
-/// The byte of the first gate, where the bytes before it are those of an instance's journal.
+/// The byte of the first gate, if the bytes before it are those of an instance's journal.
 pub(crate) fn gate_after(head: &[u8], id: Id16) -> Result<u8, JournalError>
     requires { length head.now ≡ 25 }
     ensures ok { IfOk result (λ g. (head.now ≡ head_of id ++ g ∷ []) × (length id ≡ 16)) }

@@ -30,7 +30,6 @@ use Rattle.msg_channel.specs.declared.channel_subscribe_messages.ChannelSubscrib
 use Rattle.store_machine.specs.Starts.{begun, from_index, is_start, room_behind, start_of, started}
 use Rattle.store_machine.specs.Reads.{room_with}
 use Rattle.store_machine.specs.declared.call.Start.{Start}
-use Rattle.store_machine.specs.declared.call.Start.TheVariants as start
 use Rattle.store_machine.specs.declared.call.StartAsk.{StartAsk}
 use Rattle.store_machine.specs.declared.call.StartReply.{StartReply}
 use Rattle.store_machine.specs.declared.call.StartReply.TheVariants as replied

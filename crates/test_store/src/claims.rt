@@ -1,4 +1,4 @@
-//! What tests claim. A call is proved faster than the macro behind it, each step of which belongs to the function that it is in.
+//! What tests claim. A call is proved faster than a macro, whose steps all become part of the function that uses it.
 use std::fmt::Debug;
 use std::process::Abort;
 

@@ -1,5 +1,5 @@
 -- What a session made before a part of its events, within it and after it.
-use Rattle.std.specs.Prelude.{ℕ, ℤ, Bool, true, false, List, [], ◌∷◌, ◌++◌, ◌≡◌, ◌+◌, Option, Some, None, IsSomeAnd, filter, length, slice_get, take, refl}
+use Rattle.std.specs.Prelude.{ℕ, ℤ, Bool, true, false, List, [], ◌∷◌, ◌++◌, ◌≡◌, Option, Some, None, IsSomeAnd, length, slice_get, take, refl}
 use Rattle.std.specs.Map.{values_of}
 use Rattle.std.proofs.Common.{ap, sym, ◌∙◌, subst, arith, append-nil, append_assoc, length-append}
 use Rattle.std.proofs.lemmas.List.Elements.{filter-append}
@@ -14,10 +14,10 @@ use Rattle.store_machine.specs.declared.journal.Entry.{Entry}
 use Rattle.session_core.specs.Arriving.{Event}
 use Rattle.session_core.specs.State.{State}
 use Rattle.session_core.specs.Run.{Course, answered_at, asked, at_place, first_course, happens, happens_unless, moment_of, own_number, run, run_from, takes}
-use Rattle.session_core.specs.Staged.{StaysUncommitted, UncommittedIsUnseen, changes_keys, key_entries}
+use Rattle.session_core.specs.Staged.{UncommittedIsUnseen, changes_keys, key_entries}
 use Rattle.tool_forms.specs.Play.{play}
 use Rattle.tool_forms.specs.TagRuns.{IsRun, IsSent, PlayIsRuns, TagRun, followed, payloads_to, run_of}
-use Rattle.tool_laws.specs.Unplayed.{IsUnplayed, UncommittedIsUnplayed, run_over}
+use Rattle.tool_laws.specs.Unplayed.{UncommittedIsUnplayed, run_over}
 
 -- ---- what a run made stays
 
