@@ -1,4 +1,5 @@
-use Rattle.std.proofs.Common.{arith, common_steps}
+use Rattle.std.proofs.Common.{arith}
+use Rattle.std.proofs.lemmas.Grind.{common_steps}
 use Rattle.std.proofs.lemmas.List.{nil_from_length}
 use Rattle.avro_bin.specs.Laws.{IsBytes}
 use Rattle.capture_text.proofs.FeedingLemmas.{begun, says_all}
