@@ -13,6 +13,7 @@ import join_samples
 import message_samples
 import part_samples
 import piece_samples
+import schema_places
 import value_cases
 
 
@@ -38,6 +39,8 @@ def main():
         (folder / "data" / file).write_bytes(content)
         lines.append(f"{part} {file}\n")
         answers.append(f"# {part} {file}\n{answer}")
+    lines.append("places\n")
+    answers.append("# places\n" + schema_places.answer())
     (folder / "stdin").write_text("".join(lines))
     (folder / "stdout").write_text("".join(answers))
 

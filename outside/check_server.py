@@ -1,6 +1,6 @@
 #!/usr/bin/env python3
-"""Runs of the server over links in memory, and sessions with few ids left, for the program `check_server`, and what is answered to them
-by the server of `sessions.py`.
+"""Runs of the server over links in memory, sessions with few ids left, and calls of the server with words of its own, for the program
+`check_server`, and what is answered to them by the server of `sessions.py`.
 
     python3 check_server.py ../crates/check_server
 
@@ -181,11 +181,36 @@ def runs():
     yield crowded, None
 
 
+# How the server is called, as it says where it is called in another way.
+USAGE = "usage\netpd CONFIG ADDRESS\netpd CONFIG ADDRESS SESSIONS\n= 1\n"
+# It was called as it should be, with an address at which nobody can listen: its store has the one entry that it makes itself.
+UNHEARD = """can't listen at nowhere: this is no address with a port, as 127.0.0.1:9002
+entries 1
+session 0 writes 0
+listen fault
+= 7
+"""
+
+
+def calls():
+    """Pairs of a call of the server, by its words, and what it writes and ends with."""
+    for words in "server.toml nowhere", "server.toml nowhere 1", "server.toml nowhere 1000000":
+        yield words, UNHEARD
+    yield "absent.toml nowhere 1", "read fault\n= 4\n"
+    yield "no_name.toml nowhere 1", "config refused: key 2 of channel 0\n= 2\n"
+    malformed = ["", " server.toml", " server.toml nowhere 1 1", " -x nowhere", " server.toml -x", " server.toml nowhere -1"]
+    malformed += [f" server.toml nowhere {count}" for count in ("0", "01", "+1", "1.0", "1000001", "18446744073709551617", "few")]
+    for words in malformed:
+        yield words.strip(), USAGE
+
+
 def main():
     folder = pathlib.Path(sys.argv[1])
     for name, (text, _) in CONFIGS.items():
         (folder / "data" / name).write_text(text)
+    (folder / "data" / "no_name.toml").write_text(f'instance = "{INSTANCE}"\n')
     made = [(run.line(), run.answer(order)) for run, order in runs()] + list(spent_ids.cases())
+    made += [(" ".join(["etpd", *words.split()]), answer) for words, answer in calls()]
     (folder / "stdin").write_text("".join(line + "\n" for line, _ in made))
     (folder / "stdout").write_text("".join(answer for _, answer in made))
 

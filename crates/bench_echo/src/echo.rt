@@ -1,6 +1,8 @@
 //! Links over which everything is sent back.
+ghost use Rattle.std.specs.Prelude.{◌≡◌, false};
+
 use etp_outside::{Link, Listener, Next, Recv, Sent};
-use outside_net::{ServerLink, TcpDoor};
+use outside_net::TcpDoor;
 use std::alloc::Global;
 use std::net::{Net, TcpListener, TcpStream};
 use std::sync::Wait;
@@ -26,7 +28,9 @@ where
 }
 
 /// Sends each message of a link back over it, until the peer has ended it or it fails.
-fn echo<R: Wait>(rt: &R, alloc: Global, link: ServerLink) {
+fn echo<L: Link, R: Wait>(rt: &R, alloc: Global, link: L)
+    requires usable { L.closed link ≡ false }
+{
     let mut link = link;
     for _ in rt.forever() {
         match link.recv(alloc) {

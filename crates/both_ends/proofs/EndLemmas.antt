@@ -262,57 +262,57 @@ module _ (law : NoticesAreChanges) (all : List Put) (rising : Rising 2 all) (mod
   exceptions_aside [] e = tt
   exceptions_aside (g ∷ gs) e = (refl, exceptions_aside gs e)
 
-  refused_carries : (told : ℤ → Told) (v w : Subbed) (h : Header) (asked : SubscribeChannels) (x : ChannelSubscribeInfo) (key : List ℕ) (code : ErrorCode) (changes : List ChannelChange) (sent : List Outgoing)
-      → IsSent (Begins h asked ((key, Refused code) ∷ []) changes) sent → OnlyGranted v w ((key, x) ∷ []) ((key, Refused code) ∷ []) → AllByRecursion (IsToldTo w) changes
+  refused_carries : (told : ℤ → Told) (v w : Subbed) (h : Header) (asked : SubscribeChannels) (before : List Entry) (x : ChannelSubscribeInfo) (key : List ℕ) (code : ErrorCode) (changes : List ChannelChange) (sent : List Outgoing)
+      → IsSent (Begins h asked before ((key, Refused code) ∷ []) changes) sent → OnlyGranted v w ((key, x) ∷ []) ((key, Refused code) ∷ []) → AllByRecursion (IsToldTo w) changes
       → Carries all told (all_sent sent) (standing v.subs) (standing w.subs)
-  refused_carries told v w h asked x key code changes sent y only are =
+  refused_carries told v w h asked before x key code changes sent y only are =
       let subs : ℤ → Bool = standing w.subs in
       let same : standing v.subs ≡ standing w.subs = λ i c. refused_standing v w key x code only c i in
       let m : Message = refused_message ((key, code) ∷ []) in
-      let ps : List Part = cut_all y.limit y.number y.blobs (first_in (Begins h asked ((key, Refused code) ∷ []) changes)) in
+      let ps : List Part = cut_all y.limit y.number y.blobs (first_in (Begins h asked before ((key, Refused code) ∷ []) changes)) in
       let quiet : AllByRecursion (λ (p : Part). speaks p.message ≡ false) ps =
       all-append (λ (p : Part). speaks p.message ≡ false) (ended to.Request (parts y.limit y.number y.blobs m)) []
       (all_ended (λ m. speaks m ≡ false) to.Request (parts y.limit y.number y.blobs m) (exceptions_aside (groups (entry_amount error_info_form) y.limit ((key, error_info code) ∷ [])) None)) tt in
       let a : List Sent = all_sent (numbered (request_of h) y.first ps) in
       subst (λ f. Carries all told (all_sent sent) f subs) (sym same)
-      (subst (λ l. Carries all told l subs subs) (sym (sent_is (Begins h asked ((key, Refused code) ∷ []) changes) sent y))
+      (subst (λ l. Carries all told l subs subs) (sym (sent_is (Begins h asked before ((key, Refused code) ∷ []) changes) sent y))
       (behind_receipts told y.receipts a (all_sent (numbered (request_of h) y.second (news_parts y.limit y.number y.more_blobs changes))) subs subs subs y.received
       (λ told. asides_carry all rising told a subs (quiet_sent (request_of h) y.first ps y.reaches quiet))
       (λ told. news_carry all rising law (request_of h) y.limit y.number subs changes told y.more_blobs y.second y.reaches_changes (told_to w changes are))))
 
-  granted_carries : (told : ℤ → Told) (v w : Subbed) (h : Header) (asked : SubscribeChannels) (channel start : ℤ) (t : Sub) (changes : List ChannelChange) (sent : List Outgoing) → IsSent (Begins h asked ((codes "c", Granted []) ∷ []) changes) sent
+  granted_carries : (told : ℤ → Told) (v w : Subbed) (h : Header) (asked : SubscribeChannels) (before : List Entry) (channel start : ℤ) (t : Sub) (changes : List ChannelChange) (sent : List Outgoing) → IsSent (Begins h asked before ((codes "c", Granted []) ∷ []) changes) sent
       → OnlyGranted v w (keyed (subscription_of channel start)) ((codes "c", Granted []) ∷ []) → AllByRecursion (IsToldTo w) changes → sub_of channel v.subs ≡ None → sub_of channel w.subs ≡ Some t
       → IsOf all h (subscribe.SubscribeChannels asked) → asked.channels ≡ keyed (subscription_of channel start)
       → Carries all told (all_sent sent) (standing v.subs) (standing w.subs)
-  granted_carries told v w h asked channel start t changes sent y only are none has of keys =
+  granted_carries told v w h asked before channel start t changes sent y only are none has of keys =
       let subs : ℤ → Bool = standing w.subs in
       let same : granted channel (standing v.subs) ≡ standing w.subs = λ i c. granted_standing v w (codes "c") (subscription_of channel start) t only has c i in
       let p : Part = record { to = to.Request; message = reply_of some_reply; last = true } in
       let header : Header = (outgoing (request_of h) y.first 0 p).header in
       let one : numbered (request_of h) y.first (p ∷ []) ≡ outgoing (request_of h) y.first 0 p ∷ [] = numbered_one (request_of h) y.first p [] y.reaches in
       let named : channel_named of.put.message ≡ Some channel = sym (ap channel_named of.same) ∙ ap (λ l. channel_named (message.ChannelSubscribe (subscribe.SubscribeChannels (record { channels = l })))) keys in
-      subst (λ l. Carries all told l (standing v.subs) subs) (sym (sent_is (Begins h asked ((codes "c", Granted []) ∷ []) changes) sent y))
+      subst (λ l. Carries all told l (standing v.subs) subs) (sym (sent_is (Begins h asked before ((codes "c", Granted []) ∷ []) changes) sent y))
       (behind_receipts told y.receipts (all_sent (numbered (request_of h) y.first (p ∷ []))) (all_sent (numbered (request_of h) y.second (news_parts y.limit y.number y.more_blobs changes))) (standing v.subs) subs subs y.received
       (λ told. subst (λ l. Carries all told (all_sent l) (standing v.subs) subs) (sym one)
       (subst (λ f. Carries all told ((header, reply_of some_reply) ∷ []) (standing v.subs) f) same
       (grant_carries all rising told (standing v.subs) of.front of.put of.back channel header of.split named refl refl (ap (λ k. k.id) of.header) refl (ap is_some none))))
       (λ told. news_carry all rising law (request_of h) y.limit y.number subs changes told y.more_blobs y.second y.reaches_changes (told_to w changes are)))
 
-  begins_carries : (told : ℤ → Told) (v w : Subbed) (h : Header) (asked : SubscribeChannels) (channel start : ℤ) → asked.channels ≡ keyed (subscription_of channel start) → IsOf all h (subscribe.SubscribeChannels asked)
-      → (decided : List (List ℕ × Decision (List ℕ))) (changes : List ChannelChange) (sent : List Outgoing) → IsSent (Begins h asked decided changes) sent
-      → AreDecided v w (keyed (subscription_of channel start)) decided → OnlyGranted v w (keyed (subscription_of channel start)) decided → AllByRecursion (IsToldTo w) changes
+  begins_carries : (told : ℤ → Told) (v w : Subbed) (h : Header) (asked : SubscribeChannels) (before : List Entry) (channel start : ℤ) → asked.channels ≡ keyed (subscription_of channel start) → IsOf all h (subscribe.SubscribeChannels asked)
+      → (decided : List (List ℕ × Decision (List ℕ))) (changes : List ChannelChange) (sent : List Outgoing) → IsSent (Begins h asked before decided changes) sent
+      → AreDecided before v w (keyed (subscription_of channel start)) decided → OnlyGranted v w (keyed (subscription_of channel start)) decided → AllByRecursion (IsToldTo w) changes
       → Carries all told (all_sent sent) (standing v.subs) (standing w.subs)
-  begins_carries told v w h asked channel start keys of [] changes sent y are only tells = absurd are
-  begins_carries told v w h asked channel start keys of ((key, Refused code) ∷ []) changes sent y are only tells =
-      refused_carries told v w h asked (subscription_of channel start) (codes "c") code changes sent
-      (subst (λ k. IsSent (Begins h asked ((k, Refused code) ∷ []) changes) sent) are.0 y)
+  begins_carries told v w h asked before channel start keys of [] changes sent y are only tells = absurd are
+  begins_carries told v w h asked before channel start keys of ((key, Refused code) ∷ []) changes sent y are only tells =
+      refused_carries told v w h asked before (subscription_of channel start) (codes "c") code changes sent
+      (subst (λ k. IsSent (Begins h asked before ((k, Refused code) ∷ []) changes) sent) are.0 y)
       (subst (λ k. OnlyGranted v w (keyed (subscription_of channel start)) ((k, Refused code) ∷ [])) are.0 only) tells
-  begins_carries told v w h asked channel start keys of ((key, Granted text) ∷ []) changes sent y are only tells =
+  begins_carries told v w h asked before channel start keys of ((key, Granted text) ∷ []) changes sent y are only tells =
       let is : (key, Granted text) ≡ (codes "c", Granted []) = λ i. (are.0 i, Granted (are.1.0 i)) in
-      granted_carries told v w h asked channel start are.1.2.0 changes sent
-      (subst (λ d. IsSent (Begins h asked (d ∷ []) changes) sent) is y)
+      granted_carries told v w h asked before channel start are.1.2.0 changes sent
+      (subst (λ d. IsSent (Begins h asked before (d ∷ []) changes) sent) is y)
       (subst (λ d. OnlyGranted v w (keyed (subscription_of channel start)) (d ∷ [])) is only) tells are.1.1 are.1.2.1 of keys
-  begins_carries told v w h asked channel start keys of (d ∷ e ∷ ds) changes sent y are only tells = absurd are.2
+  begins_carries told v w h asked before channel start keys of (d ∷ e ∷ ds) changes sent y are only tells = absurd are.2
 
   -- ---- whatever is sent
 
@@ -320,12 +320,12 @@ module _ (law : NoticesAreChanges) (all : List Put) (rising : Rising 2 all) (mod
       → (w.subs ≡ [] → (c : ℤ) → ((fold (hear_sent c) (told c) (all_sent sent)).part ≡ []) × ((fold (hear_sent c) (told c) (all_sent sent)).told ≡ []))
       → (matter : Matter) → IsSent matter sent → IsMatter e v w sent matter → Carries all told (all_sent sent) (standing v.subs) (standing w.subs)
   matter_carries told front ps e v w sent split heeds empty (Aside r sayings) x means = aside_carries told v w r sayings sent x means.0 means.2
-  matter_carries told front ps e v w sent split heeds empty (Begins h asked decided changes) x means =
+  matter_carries told front ps e v w sent split heeds empty (Begins h asked before decided changes) x means =
       let of : IsOf all h (subscribe.SubscribeChannels asked) = is_of all front ps e h (subscribe.SubscribeChannels asked) split heeds means.0 in
       let its : IsModest (message.ChannelSubscribe (subscribe.SubscribeChannels asked)) =
       subst IsModest (sym of.same) (all_at (λ (p : Put). IsModest p.message) of.front of.put of.back (subst AreModest of.split modest)) in
-      begins_carries told v w h asked its.0 its.1 its.2 of decided changes sent x
-      (subst (λ l. AreDecided v w l decided) its.2 means.1) (subst (λ l. OnlyGranted v w l decided) its.2 means.2) (all-weaker (IsFirstOf w asked.channels decided) (IsToldTo w) (λ c is. is.0) changes means.3)
+      begins_carries told v w h asked before its.0 its.1 its.2 of decided changes sent x
+      (subst (λ l. AreDecided before v w l decided) its.2 means.1) (subst (λ l. OnlyGranted v w l decided) its.2 means.2) (all-weaker (IsFirstOf w asked.channels decided) (IsToldTo w) (λ c is. is.0) changes means.3)
   matter_carries told front ps e v w sent split heeds empty (Ends h asked decided) x means =
       let of : IsOf all h (subscribe.UnsubscribeChannels asked) = is_of all front ps e h (subscribe.UnsubscribeChannels asked) split heeds means.0 in
       let its : IsModest (message.ChannelSubscribe (subscribe.UnsubscribeChannels asked)) =

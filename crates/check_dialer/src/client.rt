@@ -1,4 +1,6 @@
 //! A client of one message.
+ghost use Rattle.std.specs.Prelude.{◌≡◌, false};
+
 use etp_outside::{Dialed, Dialer, Link, Recv, Sent};
 use etp_values::Blob;
 use std::alloc::Global;
@@ -55,7 +57,9 @@ fn without_link(call: Call) -> Seen {
     }
 }
 
-fn talk(alloc: Global, link: &mut impl Link, message: &Blob, patient: bool) -> Seen {
+fn talk<L: Link>(alloc: Global, link: &mut L, message: &Blob, patient: bool) -> Seen
+    requires usable { L.closed link.old ≡ false }
+{
     let got = exchange(alloc, link, message);
     let ended = patient && ends(alloc, link);
     Seen {
@@ -66,7 +70,10 @@ fn talk(alloc: Global, link: &mut impl Link, message: &Blob, patient: bool) -> S
 }
 
 /// Sends a message, and takes one.
-fn exchange(alloc: Global, link: &mut impl Link, message: &Blob) -> Option<Blob> {
+fn exchange<L: Link>(alloc: Global, link: &mut L, message: &Blob) -> Option<Blob>
+    requires usable { L.closed link.old ≡ false }
+    ensures usable { L.closed link.new ≡ false }
+{
     match link.send(alloc, message) {
         Sent::Done => next_message(alloc, link),
         Sent::Failed | Sent::NoMemory => None,
@@ -74,7 +81,10 @@ fn exchange(alloc: Global, link: &mut impl Link, message: &Blob) -> Option<Blob>
 }
 
 /// The next item, if it is a message.
-pub(crate) fn next_message(alloc: Global, link: &mut impl Link) -> Option<Blob> {
+pub(crate) fn next_message<L: Link>(alloc: Global, link: &mut L) -> Option<Blob>
+    requires usable { L.closed link.old ≡ false }
+    ensures usable { L.closed link.new ≡ false }
+{
     match item(alloc, link) {
         Recv::Got(message) => Some(message),
         Recv::Idle | Recv::End | Recv::Failed | Recv::NoMemory => None,
@@ -82,7 +92,10 @@ pub(crate) fn next_message(alloc: Global, link: &mut impl Link) -> Option<Blob> 
 }
 
 /// Whether the next item is the end.
-pub(crate) fn ends(alloc: Global, link: &mut impl Link) -> bool {
+pub(crate) fn ends<L: Link>(alloc: Global, link: &mut L) -> bool
+    requires usable { L.closed link.old ≡ false }
+    ensures usable { L.closed link.new ≡ false }
+{
     match item(alloc, link) {
         Recv::End => true,
         Recv::Got(_) | Recv::Idle | Recv::Failed | Recv::NoMemory => false,
@@ -90,7 +103,10 @@ pub(crate) fn ends(alloc: Global, link: &mut impl Link) -> bool {
 }
 
 /// The next item that is not idle.
-fn item(alloc: Global, link: &mut impl Link) -> Recv {
+fn item<L: Link>(alloc: Global, link: &mut L) -> Recv
+    requires usable { L.closed link.old ≡ false }
+    ensures usable { L.closed link.new ≡ false }
+{
     for _ in 0..TURNS {
         match link.recv(alloc) {
             Recv::Idle => {}

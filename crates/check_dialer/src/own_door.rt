@@ -1,4 +1,6 @@
 //! Our own listener as the server.
+ghost use Rattle.std.specs.Prelude.{◌≡◌, false};
+
 use crate::client::{Call, Seen, ends, next_message, visit};
 use etp_outside::{Dialer, Link, Listened, Listener, Next, Sent};
 use etp_values::Blob;
@@ -31,7 +33,10 @@ fn echo<R: Net<Listener = TcpListener, Stream = TcpStream> + Clock>(
     }
 }
 
-fn send_back(alloc: Global, link: &mut impl Link) -> bool {
+fn send_back<L: Link>(alloc: Global, link: &mut L) -> bool
+    requires usable { L.closed link.old ≡ false }
+    ensures usable { L.closed link.new ≡ false }
+{
     match next_message(alloc, link) {
         Some(message) => link.send(alloc, &message) == Sent::Done,
         None => false,

@@ -1,6 +1,6 @@
 //! Runs messages and values through their layers, and prints what each gives.
 //!
-//! A line of the input is a part, and names the file that it is run on:
+//! A line of the input is a part, and names the file that it is run on, if it needs one:
 //!
 //! ```text
 //! messages CAPTURE                            reads, shows and writes messages
@@ -10,6 +10,7 @@
 //! pieces CAPTURE                              feeds readers the messages of a capture in pieces
 //! feeds LINES                                 feeds readers the pieces of a line
 //! values LINES                                reads and writes values
+//! places                                      the places of messages' bodies in the schema's table
 //! ```
 //!
 //! What a part prints follows its line. The files and the expected output were made outside of this product
@@ -24,6 +25,7 @@ mod joins;
 mod messages;
 mod parts;
 mod pieces;
+mod places;
 mod values;
 
 use captures::{Capture, read_capture};
@@ -33,6 +35,7 @@ use joins::join_all;
 use messages::print_all;
 use parts::cut_all;
 use pieces::feed_messages;
+use places::print_places;
 use std::io::{self, BufRead, BufReader};
 use values::print_values;
 
@@ -64,6 +67,7 @@ fn run_line(rt: &HostRuntime, line: &str) -> io::Result<()> {
     match words.as_slice() {
         ["feeds", file] => print_feeds(rt, file),
         ["values", file] => print_values(rt, file),
+        ["places"] => print_places(rt),
         ["hostile", file, words @ ..] => print_hostile(rt, read_capture(rt, file)?, words),
         [part, file] => run_on(rt, part, &read_capture(rt, file)?),
         _ => println!(rt; "no part"),

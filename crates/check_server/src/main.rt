@@ -9,24 +9,31 @@
 //!
 //! A line `ids FIRST MESSAGE ..` is a session alone: the first of its own ids, and the messages that it gets, each in hexadecimal.
 //!
+//! A line `etpd WORD ..` is the program, called with these words. What it writes to its output and to standard error is printed, and then its
+//! exit status.
+//!
 //! The lines and the expected output were made outside of this product (`outside/check_server.py`).
 #![tactic(auto)]
 
 mod gates;
 mod links;
+mod program;
 mod spent_ids;
 
 use etp_outside::{DirHost, MemDoor, MemLink, MemSink, StepClock};
 use etp_values::{List, NoMemory};
 use gates::{Turns, gate_of};
 use links::door_of;
+use program::call;
 use server_forms::run_server;
 use spent_ids::play_from;
 use std::alloc::{AllocError, Global};
 use std::io::{self, BufRead, BufReader, Write};
-use std::rt::Files;
+use std::net::{Net, TcpListener, TcpStream};
+use std::rt::{Env, Files};
 use std::sync::Wait;
 use std::thread::Threads;
+use std::time::Clock;
 
 /// No session of a run has a greater number.
 const LAST: u64 = 65;
@@ -116,16 +123,25 @@ fn run_case<R: AllocGlobal + Files + Print + Threads + Wait + Sync>(
     run(rt, command.as_slice(), rules, fails, links)
 }
 
-fn run_line<R: AllocGlobal + Files + Print + Threads + Wait + Sync>(
-    rt: &R,
-    line: &str,
-) -> io::Result<()> {
+fn run_line<R>(rt: &R, line: &str) -> io::Result<()>
+where
+    R: AllocGlobal
+        + Env
+        + Files
+        + Print
+        + Net<Listener = TcpListener, Stream = TcpStream>
+        + Clock
+        + Threads
+        + Wait
+        + Sync,
+{
     let words: Vec<&str> = line.split_whitespace().collect(rt.alloc())?;
     match words.as_slice() {
         ["serve", config, sessions, rules, links @ ..] => {
             run_case(rt, config, sessions, rules, links)
         }
         ["ids", first, messages @ ..] => play_from(rt, first, messages),
+        ["etpd", ..] => call(rt, words.as_slice()),
         _ => println!(rt; "no run"),
     }
 }

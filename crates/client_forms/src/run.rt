@@ -1,5 +1,5 @@
 //! The top call.
-ghost use Rattle.std.specs.Prelude.{◌≡◌, ◌≢◌, ◌⊎◌, ◌≤◌, ◌++◌, ◌∷◌, [], ℕ, ℤ, List, Err, IfErr, IfOk, IsSome, None, map, string_bytes};
+ghost use Rattle.std.specs.Prelude.{◌≡◌, ◌≢◌, ◌⊎◌, ◌≤◌, ◌++◌, ◌∷◌, [], ℕ, ℤ, List, Err, IfErr, IfOk, IsSome, None, false, map, string_bytes};
 ghost use Rattle.std.specs.declared.option.Option.{Option};
 ghost use Rattle.channel_store.specs.declared.copy.ChangeMsg.{ChangeMsg};
 ghost use Rattle.client_words.specs.Words.{form_in};
@@ -184,6 +184,7 @@ fn run_over<J: Job, D: Dialer, C: Clock, W: Sink, R: Source, T: Wait>(
     streams: Streams<R, W, C>,
     board: &mut Board,
 ) -> (Status, Streams<R, W, C>)
+    requires usable { D.Link.closed link ≡ false }
     ensures runs { let seen : List _ → List Seen = λ bs. seen_on (reading (λ s. s.channel) (λ s. (⟦<dyn View as View>⟧ s.view.vtable).held s.view.value)
         (λ s. (⟦<dyn View as View>⟧ s.view.vtable).step s.view.value) (λ s. (⟦<dyn View as View>⟧ s.view.vtable).shown s.view.value)) bs in
         (shown : ℤ → List ChangeMsg → List ℕ) (job : Job) (server : Address) (d : Dials) → CameFrom d (dials (D.backs dialer.old) (D.ended dialer.old) (D.faults dialer.old))

@@ -1,5 +1,5 @@
 //! What every command does over its link: it asks, sends what the client has to send, writes, and closes the session.
-ghost use Rattle.std.specs.Prelude.{◌≡◌, ◌≤◌, Err};
+ghost use Rattle.std.specs.Prelude.{◌≡◌, ◌≤◌, Err, false};
 ghost use Rattle.etp_outside.specs.declared.status.Status.TheVariants.{Done};
 ghost use Rattle.client_forms.specs.Ctl.{Stage, asks, closes, unclosed, writes};
 ghost use Rattle.client_forms.specs.Sending.{SendCause, SendsAll, closed_by, refused_by, sent_by, short_by, unclosed_by, unsent_by};
@@ -17,6 +17,8 @@ pub(crate) fn send_all<L: Link>(
     client: &mut Client,
     link: &mut L,
 ) -> Result<(), Cause>
+    requires usable { L.closed link.old ≡ false }
+    ensures usable { L.closed link.new ≡ false }
     ensures sent { SendsAll result client.old client.new (L.talk link.old) (L.talk link.new) }
     ensures kept { L.faults link.old ≤ L.faults link.new }
     ensures cause { SendCause result (L.faults link.old) (L.faults link.new) }

@@ -18,13 +18,14 @@ first_talk items = record { coming = items; taken = []; sent = []; to = None }
 
 -- the link before its first call
 abbrev pub renewed : Line → Line
-renewed l = record { talk = first_talk (l.talk.taken ++ l.talk.coming); ended = false; script = new_script l.script.fails }
+renewed l = record { talk = first_talk (l.talk.taken ++ l.talk.coming); ended = false; closed = false; script = new_script l.script.fails }
 
 -- the link before its first call, if it was dialed to this address
 abbrev pub dialed_to : Address → Line → Line
 dialed_to address l = record {
   talk = record { coming = l.talk.taken ++ l.talk.coming; taken = []; sent = []; to = Some address };
   ended = false;
+  closed = false;
   script = new_script l.script.fails;
 }
 

@@ -1,5 +1,5 @@
 //! Where a client's links come from.
-ghost use Rattle.std.specs.Prelude.{◌≡◌, ◌<◌, ◌≤◌, ◌||◌, ℕ, Bool, List, IsSome};
+ghost use Rattle.std.specs.Prelude.{◌≡◌, ◌<◌, ◌≤◌, ◌||◌, ℕ, Bool, false, List, IsSome};
 ghost use Rattle.std.specs.declared.option.Option.{Option};
 ghost use Rattle.etp_outside.specs.Faults.{Rose};
 ghost use Rattle.etp_outside.specs.Told.{Told};
@@ -39,6 +39,7 @@ pub trait Dialer {
     fn dial(&mut self, alloc: Global, host: &str, port: u16, path: &str) -> Dialed<Self::Link>
         ensures link { IfDialed result (λ l. IsDialed (address_of host.now port path.now) (Self.Link.talk l) (Self.Link.faults l) (Self.Link.ended l)) }
         ensures tells { IfDialed result (λ l. IsSome (backs self.new) → IsSome (Self.Link.talk l)) }
+        ensures usable { IfDialed result (λ l. Self.Link.closed l ≡ false) }
         ensures ended { ended self.new ≡ ended self.old }
         ensures backs { backs self.new ≡ backs self.old }
         ensures kept { faults self.old ≤ faults self.new }

@@ -1,5 +1,5 @@
 //! Messages that come and go.
-ghost use Rattle.std.specs.Prelude.{◌≡◌, ◌≤◌, ◌||◌, ℕ, Bool};
+ghost use Rattle.std.specs.Prelude.{◌≡◌, ◌≤◌, ◌||◌, ℕ, Bool, true, false};
 ghost use Rattle.std.specs.declared.option.Option.{Option};
 ghost use Rattle.etp_outside.specs.Faults.{Rose};
 ghost use Rattle.etp_outside.specs.Told.{Told};
@@ -62,23 +62,31 @@ pub trait Link: Drop + Send {
     /// Whether it has reported that the peer ended it.
     ghost ended: { Self → Bool };
 
+    /// Whether this side has closed it. Then nothing more is received or sent.
+    ghost closed: { Self → Bool };
+
     /// Takes the next item: a message, or the report that none has come yet.
     fn recv(&mut self, alloc: Global) -> Recv
+        requires usable { closed self.old ≡ false }
         ensures talk { Told (talk self.old) (talk self.new) (Received result) }
         ensures kept { faults self.old ≤ faults self.new }
         ensures cause { result ≡ Recv.Failed → Rose (faults self.old) (faults self.new) }
-        ensures ended { ended self.new ≡ (ended self.old || is_end result) };
+        ensures ended { ended self.new ≡ (ended self.old || is_end result) }
+        ensures closed { closed self.new ≡ closed self.old };
 
     /// Sends a whole message.
     fn send(&mut self, alloc: Global, message: &Blob) -> Sent
+        requires usable { closed self.old ≡ false }
         ensures talk { Told (talk self.old) (talk self.new) (Sends result message.now) }
         ensures kept { faults self.old ≤ faults self.new }
         ensures cause { result ≡ Sent.Failed → Rose (faults self.old) (faults self.new) }
-        ensures ended { ended self.new ≡ ended self.old };
+        ensures ended { ended self.new ≡ ended self.old }
+        ensures closed { closed self.new ≡ closed self.old };
 
     /// Says goodbye to the peer: this side is done.
     fn close(&mut self)
         ensures talk { talk self.new ≡ talk self.old }
         ensures faults { faults self.new ≡ faults self.old }
-        ensures ended { ended self.new ≡ ended self.old };
+        ensures ended { ended self.new ≡ ended self.old }
+        ensures closed { closed self.new ≡ true };
 }

@@ -1,5 +1,5 @@
 //! Where links come from.
-ghost use Rattle.std.specs.Prelude.{◌≡◌, ◌+◌, ◌≤◌, ◌||◌, ℕ, Bool, List, IfSome, IsSome, length};
+ghost use Rattle.std.specs.Prelude.{◌≡◌, ◌+◌, ◌≤◌, ◌||◌, ℕ, Bool, true, false, List, IfSome, IsSome, length};
 ghost use Rattle.std.specs.declared.option.Option.{Option};
 ghost use Rattle.etp_outside.specs.Faults.{Rose};
 ghost use Rattle.etp_outside.specs.Told.{Told};
@@ -47,8 +47,12 @@ pub trait Listener {
     /// The links that it took back, if it reveals them.
     ghost backs: { Self → Option (List Back) };
 
+    /// The address at which it last began to listen, if it reveals that.
+    ghost at: { Self → Option (List ℕ) };
+
     /// Begins to listen at an address.
     fn listen(&mut self, address: &str) -> Listened
+        ensures at { result ≡ Listened.Done → Told (at self.old) (at self.new) (λ before place. place ≡ address.now) }
         ensures given { given self.new ≡ given self.old }
         ensures stopped { stopped self.new ≡ stopped self.old }
         ensures backs { backs self.new ≡ backs self.old }
@@ -59,15 +63,19 @@ pub trait Listener {
     fn next(&mut self, alloc: Global) -> Next<Self::Link>
         ensures link { IfLink result (λ l. IsAccepted (Self.Link.talk l) (Self.Link.faults l) (Self.Link.ended l)) }
         ensures tells { IfLink result (λ l. IsSome (backs self.new) → IsSome (Self.Link.talk l)) }
+        ensures usable { IfLink result (λ l. Self.Link.closed l ≡ false) }
+        ensures at { at self.new ≡ at self.old }
         ensures given { given self.new ≡ given self.old + links result }
         ensures stopped { stopped self.new ≡ (stopped self.old || is_stop result) }
         ensures backs { backs self.new ≡ backs self.old }
         ensures kept { faults self.old ≤ faults self.new }
         ensures cause { result ≡ Next.Failed → Rose (faults self.old) (faults self.new) };
 
-    /// Takes a link back, with the number of its session and how that ended. Once as many came back as were given out, a further one is not
-    /// one of its own.
+    /// Takes a link back that was closed, with the number of its session and how that ended. Once as many came back as were given out, a
+    /// further one is not one of its own.
     fn back(&mut self, link: Self::Link, number: u64, end: u8)
+        requires closed { Self.Link.closed link ≡ true }
+        ensures at { at self.new ≡ at self.old }
         ensures back { Told (backs self.old) (backs self.new) (TakesBack (given self.old)
             (back_of number end (Self.Link.faults link) (Self.Link.ended link) (Self.Link.talk link))) }
         ensures given { given self.new ≡ given self.old }

@@ -1,5 +1,5 @@
 //! A dialer in memory.
-ghost use Rattle.std.specs.Prelude.{◌≡◌, ◌<◌, ◌≤◌, ◌||◌, Some, IfOk, IsSome, vec_capacity, take};
+ghost use Rattle.std.specs.Prelude.{◌≡◌, ◌<◌, ◌≤◌, ◌||◌, Some, IfOk, IsSome, vec_capacity, take, false};
 ghost use Rattle.etp_outside.specs.Faults.{Rose};
 ghost use Rattle.etp_outside.specs.Dials.{HangsUp, IfDialed, IsDialed, address_of};
 ghost use Rattle.etp_outside.specs.MemDials.{IsDialAnswer, after_dial, after_hang_up, all_told, new_dialer, kept_within};
@@ -107,6 +107,7 @@ impl Dialer for MemDial {
         ensures after { self.new ≡ after_dial self.old result }
         ensures link { IfDialed result (λ l. IsDialed (address_of host.now port path.now) (Some l.talk) l.script.faults l.ended) }
         ensures tells { IfDialed result (λ l. IsSome (Some (all_told self.new.back)) → IsSome (Some l.talk)) }
+        ensures usable { IfDialed result (λ l. l.closed ≡ false) }
         ensures ended { self.new.ended ≡ self.old.ended }
         ensures backs { Some (all_told self.new.back) ≡ Some (all_told self.old.back) }
         ensures kept { self.old.script.faults ≤ self.new.script.faults }

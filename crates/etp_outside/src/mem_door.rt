@@ -1,5 +1,5 @@
 //! A listener in memory.
-ghost use Rattle.std.specs.Prelude.{◌≡◌, ◌+◌, ◌≤◌, ◌||◌, Some, IfOk, IsSome, length};
+ghost use Rattle.std.specs.Prelude.{◌≡◌, ◌+◌, ◌≤◌, ◌||◌, None, Some, IfOk, IsSome, length, true, false};
 ghost use Rattle.etp_outside.specs.Faults.{Rose};
 ghost use Rattle.etp_outside.specs.Doors.{IfLink, IsAccepted, TakesBack, back_of, is_stop, links};
 ghost use Rattle.etp_outside.specs.MemDoors.{IsListenAnswer, IsNextAnswer, after_back, after_listen, after_next, all_back, first_porch, given_by};
@@ -90,6 +90,8 @@ impl Listener for MemDoor {
 
     ghost backs = { λ d. Some (all_back d.back) };
 
+    ghost at = { λ d. None };
+
     ghost few = { few_back };
 
     fn listen(&mut self, _address: &str) -> Listened
@@ -114,6 +116,7 @@ impl Listener for MemDoor {
         ensures after { self.new ≡ after_next self.old result }
         ensures link { IfLink result (λ l. IsAccepted (Some l.talk) l.script.faults l.ended) }
         ensures tells { IfLink result (λ l. IsSome (Some (all_back self.new.back)) → IsSome (Some l.talk)) }
+        ensures usable { IfLink result (λ l. l.closed ≡ false) }
         ensures given { given_by self.new ≡ given_by self.old + links result }
         ensures stopped { self.new.stopped ≡ (self.old.stopped || is_stop result) }
         ensures backs { Some (all_back self.new.back) ≡ Some (all_back self.old.back) }
@@ -135,6 +138,7 @@ impl Listener for MemDoor {
     }
 
     fn back(&mut self, link: MemLink, number: u64, end: u8)
+        requires closed { link.closed ≡ true }
         ensures after { self.new ≡ after_back self.old link number end }
         ensures back { TakesBack (given_by self.old) (back_of number end link.script.faults link.ended (Some link.talk))
             (all_back self.old.back) (all_back self.new.back) }

@@ -1,5 +1,5 @@
 //! A link in memory.
-ghost use Rattle.std.specs.Prelude.{◌≡◌, ◌≤◌, ◌||◌, Some, false};
+ghost use Rattle.std.specs.Prelude.{◌≡◌, ◌≤◌, ◌||◌, Some, false, true};
 ghost use Rattle.etp_outside.specs.Calls.{after_call, new_script};
 ghost use Rattle.etp_outside.specs.Faults.{Rose};
 ghost use Rattle.etp_outside.specs.Talk.{Received, Sends, is_end};
@@ -21,6 +21,7 @@ pub struct MemLink {
     sent: Vec<Blob>,
     to: Option<Address>,
     ended: bool,
+    closed: bool,
     script: Script,
 }
 
@@ -33,6 +34,7 @@ impl Model for MemLink {
     ghost view = { λ l. record {
       talk = record { coming = drop l.at l.items; taken = take l.at l.items; sent = l.sent.items; to = l.to };
       ended = l.ended;
+      closed = l.closed;
       script = l.script;
     } };
 
@@ -42,7 +44,7 @@ impl Model for MemLink {
 impl MemLink {
     /// A link over which these items come. The calls whose numbers are in `fails` fail; the first call is number 1.
     pub fn new(alloc: Global, coming: List<Item>, fails: List<u64>) -> MemLink
-        ensures { result ≡ record { talk = first_talk coming; ended = false; script = new_script fails } }
+        ensures { result ≡ record { talk = first_talk coming; ended = false; closed = false; script = new_script fails } }
     {
         MemLink {
             items: coming,
@@ -50,6 +52,7 @@ impl MemLink {
             sent: Vec::new(alloc),
             to: None,
             ended: false,
+            closed: false,
             script: Script::new(fails),
         }
     }
@@ -90,6 +93,7 @@ impl MemLink {
         self.sent.clear();
         self.to = None;
         self.ended = false;
+        self.closed = false;
         self.script.renew();
     }
 
@@ -123,13 +127,17 @@ impl Link for MemLink {
 
     ghost ended = { λ l. l.ended };
 
+    ghost closed = { λ l. l.closed };
+
     fn recv(&mut self, _alloc: Global) -> Recv
+        requires usable { self.old.closed ≡ false }
         ensures answer { IsRecvAnswer self.old result }
         ensures script { self.new.script ≡ after_call self.old.script (recv_failed result) }
         ensures talk { Received result self.old.talk self.new.talk }
         ensures kept { self.old.script.faults ≤ self.new.script.faults }
         ensures cause { result ≡ Recv.Failed → Rose self.old.script.faults self.new.script.faults }
         ensures ended { self.new.ended ≡ (self.old.ended || is_end result) }
+        ensures closed { self.new.closed ≡ self.old.closed }
     {
         if self.script.fails_next() {
             self.script.failed();
@@ -155,12 +163,14 @@ impl Link for MemLink {
     }
 
     fn send(&mut self, _alloc: Global, message: &Blob) -> Sent
+        requires usable { self.old.closed ≡ false }
         ensures answer { IsSendAnswer self.old result }
         ensures script { self.new.script ≡ after_call self.old.script (send_failed result) }
         ensures talk { Sends result message.now self.old.talk self.new.talk }
         ensures kept { self.old.script.faults ≤ self.new.script.faults }
         ensures cause { result ≡ Sent.Failed → Rose self.old.script.faults self.new.script.faults }
         ensures ended { self.new.ended ≡ self.old.ended }
+        ensures closed { self.new.closed ≡ self.old.closed }
     {
         if self.script.fails_next() {
             self.script.failed();
@@ -177,9 +187,12 @@ impl Link for MemLink {
     }
 
     fn close(&mut self)
-        ensures same { self.new ≡ self.old }
+        ensures same { self.new ≡ record self.old { closed = true } }
         ensures talk { Some self.new.talk ≡ Some self.old.talk }
         ensures faults { self.new.script.faults ≡ self.old.script.faults }
         ensures ended { self.new.ended ≡ self.old.ended }
-    {}
+        ensures closed { self.new.closed ≡ true }
+    {
+        self.closed = true;
+    }
 }

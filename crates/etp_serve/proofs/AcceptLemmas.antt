@@ -1,12 +1,13 @@
 -- Links that were served so far, and one more.
 use Rattle.std.proofs.Common.{◌≡◌, ◌≤◌, ◌<◌, ◌+◌, ◌-◌, ℕ, suc, ℤ, Bool, true, false, List, [], ◌∷◌, ◌++◌, length, map, None, Some, refl, ap, sym, ◌∙◌, subst, inl, inr, arith, append_assoc, length-append}
 use Rattle.std.proofs.lemmas.List.{append-nil}
-use Rattle.std.specs.Prelude.{IfSome, IsSome}
+use Rattle.std.proofs.lemmas.Bool.Decides.{nat_tests}
+use Rattle.std.specs.Prelude.{IfSome, IsSome, cond, leb}
 use Rattle.std.specs.List.{AllByRecursion}
 use Rattle.std.specs.declared.option.Option.{Option}
 use mathlib.Core.List.{IsPrefix}
 use Rattle.etp_values.proofs.EachLemmas.{all-append}
-use Rattle.etp_values.proofs.PrefixLemmas.{prefix_self, prefix_trans, prefix_length}
+use Rattle.etp_values.proofs.PrefixLemmas.{prefix_self, prefix_trans, prefix_length, prefix_shorter}
 use Rattle.etp_values.proofs.RisingLemmas.{rises_wider}
 use Rattle.server_config.specs.declared.config.Config.{Config}
 use Rattle.store_machine.specs.declared.journal.Act.TheVariants.{Enter}
@@ -20,19 +21,23 @@ use Rattle.etp_outside.specs.Talk.{Talk}
 use Rattle.etp_outside.specs.declared.link.Item.{Item}
 use Rattle.etp_outside.proofs.ToldLemmas.{told_self}
 use Rattle.etp_values.specs.Rising.{Rises}
-use Rattle.turn_book.specs.Lists.{Each, own}
-use Rattle.turn_book.specs.Rules.{IsSettled}
-use Rattle.turn_book.specs.Steps.{met_of}
+use Rattle.turn_book.specs.Lists.{Each, longer, own}
+use Rattle.turn_book.specs.Rules.{IsMine, IsSettled, Sound}
+use Rattle.turn_book.specs.Steps.{hearing, joined, met_of}
 use Rattle.turn_book.specs.declared.view.Met.{Met}
 use Rattle.turn_book.proofs.ListLemmas.{each_right}
+use Rattle.turn_book.proofs.OwnLemmas.{own_between}
 use Rattle.store_hub.specs.declared.hub.Hub.{Hub}
 use Rattle.store_hub.specs.Notes.{Meets, SeesMore}
 use Rattle.store_hub.specs.Words.{Known, by_of, enters_of}
+use Rattle.store_hub.specs.Passes.{known}
+use Rattle.store_hub.specs.declared.pass.Pass.{Pass}
+use Rattle.store_hub.proofs.CountLemmas.{number_below}
 use Rattle.session_core.specs.Arriving.{Event}
 use Rattle.session_core.specs.Run.{AllWithin, Course, Heeds, run}
 use Rattle.session_core.specs.Session.{bytes_of, end_of}
 use Rattle.session_core.specs.declared.state.Outgoing.{Outgoing}
-use Rattle.etp_serve.specs.Accepted.{Accepts, AsSession, Backs, Came, HadMemory, HadMemoryBut, IsBack, IsBegun, IsCame, IsDone, IsLeft, IsOfItsOwn, IsOneLess, IsReached, IsSettledIn, OnFull, OnLack, ServesAll, Session, WasServed, end_number, mets}
+use Rattle.etp_serve.specs.Accepted.{Accepts, AsSession, Backs, Came, HadMemory, HadMemoryBut, IsBack, IsBegun, IsCame, IsDone, IsLeft, IsOfItsOwn, IsOneLess, IsReached, IsSettledIn, IsSilent, OnFull, OnLack, ServesAll, Session, WasServed, end_number, lacks, mets}
 use Rattle.etp_serve.specs.Ends.{EndsAs, HasCause}
 use Rattle.etp_serve.specs.Events.{AllOpen, events}
 use Rattle.etp_serve.specs.Laws.{Laws}
@@ -130,15 +135,33 @@ backs_length [] (x ∷ bs) all = absurd all
 backs_length (d ∷ cs) [] all = absurd all
 backs_length (d ∷ cs) (x ∷ bs) all = ap suc (backs_length cs bs all.1)
 
+lacks_append : (cs ds : List Came) → lacks (cs ++ ds) ≡ lacks cs + lacks ds
+lacks_append [] ds = omega arith
+lacks_append (AsSession s ∷ cs) ds = lacks_append cs ds
+lacks_append (OnFull ∷ cs) ds = lacks_append cs ds
+lacks_append (OnLack ∷ cs) ds = let more = lacks_append cs ds in omega (arith, more)
+
+lacks_none : (cs : List Came) → AllByRecursion HadMemory cs → lacks cs ≡ 0
+lacks_none [] all = refl
+lacks_none (AsSession s ∷ cs) all = lacks_none cs all.1
+lacks_none (OnFull ∷ cs) all = lacks_none cs all.1
+lacks_none (OnLack ∷ cs) all = absurd all.0
+
+had_none : (c : Came) → HadMemory c → lacks (c ∷ []) ≡ 0
+had_none c had = lacks_none (c ∷ []) (had, tt)
+
 memory_more : (end : Served) (cs : List Came) (c : Came) → HadMemory c → HadMemoryBut end cs → HadMemoryBut end (cs ++ c ∷ [])
 memory_more Stopped cs c had all = all-append HadMemory cs (c ∷ []) all (had, tt)
 memory_more ListenFault cs c had all = all-append HadMemory cs (c ∷ []) all (had, tt)
-memory_more NoMemory cs c had all = tt
+memory_more NoMemory cs c had few = let sum = lacks_append cs (c ∷ []) in let none = had_none c had in omega (arith, sum, none, few)
+
+memory_lacks : (cs : List Came) → HadMemoryBut Stopped cs → HadMemoryBut NoMemory (cs ++ OnLack ∷ [])
+memory_lacks cs all = let sum : lacks (cs ++ OnLack ∷ []) ≡ lacks cs + 1 = lacks_append cs (OnLack ∷ []) in let none = lacks_none cs all in omega (arith, sum, none)
 
 memory_still : (end : Served) (cs : List Came) → HadMemoryBut Stopped cs → HadMemoryBut end cs
 memory_still Stopped cs all = all
 memory_still ListenFault cs all = all
-memory_still NoMemory cs all = tt
+memory_still NoMemory cs all = let none = lacks_none cs all in omega (arith, none)
 
 -- one more link came back
 links_more : (cs : List Came) (c : Came) (back : Back) (b0 b b' : Option (List Back)) (given0 given left : ℕ) → given ≡ given0 + (length cs + suc left) → IfSome b0 (λ bs. length bs ≤ given0) → (IsSome b0 → IsBack c back)
@@ -177,6 +200,58 @@ settled_now config h (AsSession s ∷ cs) full each = let one = each 0 s.met ref
 settled_now config h (OnFull ∷ cs) full each = (full.0, settled_now config h cs full.1 each)
 settled_now config h (OnLack ∷ cs) full each = (tt, settled_now config h cs full.1 each)
 
+-- ---- the accepting pass makes no entry
+
+-- a pass has seen the entry that let it in
+pub begins : (p : Pass) → IfSome (known p).number (λ n. n < length (known p).seen)
+begins p = subst (λ (o : Option ℕ). IfSome o (λ n. n < length (known p).seen)) (sym p.kept.0) (number_below p.number (known p).seen p.kept.3)
+
+below_before : (o : Option ℕ) (xs ys : List Entry) → IsPrefix xs ys → IfSome o (λ n. n < length xs) → IfSome o (λ n. n < length ys)
+below_before None xs ys pre below = tt
+below_before (Some n) xs ys pre below = let more = prefix_length xs ys pre in omega (arith, below, more)
+
+pub own_chain : (o : Option ℕ) (xs ys zs : List Entry) → IfSome o (λ n. own by_of n zs ≡ own by_of n ys) → IfSome o (λ n. own by_of n ys ≡ own by_of n xs) → IfSome o (λ n. own by_of n zs ≡ own by_of n xs)
+own_chain None xs ys zs later first = tt
+own_chain (Some n) xs ys zs later first = later ∙ first
+
+pub own_still : (o : Option ℕ) (xs : List Entry) → IfSome o (λ n. own by_of n xs ≡ own by_of n xs)
+own_still None xs = tt
+own_still (Some n) xs = refl
+
+-- what was joined has no entry under the pass's number
+mine_joined : (o : Option ℕ) (xs ys : List Entry) → IfSome o (λ n. n < length xs) → IfSome o (λ n. IsMine by_of n (xs ∷ ys ∷ [])) → IfSome o (λ n. own by_of n (longer xs ys) ≡ own by_of n xs)
+mine_joined None xs ys below mine = tt
+mine_joined (Some n) xs ys below mine = mine below
+
+silent_more : (v0 v u : Known) → IsSilent v0 v → u.number ≡ v.number → IfSome v.number (λ n. own by_of n u.seen ≡ own by_of n v.seen) → IsSilent v0 u
+silent_more v0 v u s number own_same = record {
+  number = number ∙ s.number;
+  own = own_chain v0.number v0.seen v.seen u.seen (subst (λ (o : Option ℕ). IfSome o (λ n. own by_of n u.seen ≡ own by_of n v.seen)) s.number own_same) s.own;
+}
+
+silent_met : (v0 v w u : Known) → IfSome v0.number (λ n. n < length v0.seen) → IsPrefix v0.seen v.seen → IsSilent v0 v → Meets v w u → IsSilent v0 u
+silent_met v0 v w u begun before s m =
+    let sound : Sound by_of enters_of (hearing m.front (joined v w)) = subst (λ (x : Known). Sound by_of enters_of x) m.view m.sound in
+    let below : IfSome v.number (λ n. n < length v.seen) = subst (λ (o : Option ℕ). IfSome o (λ n. n < length v.seen)) (sym s.number) (below_before v0.number v0.seen v.seen before begun) in
+    let same : IfSome v.number (λ n. own by_of n (longer v.seen w.seen) ≡ own by_of n v.seen) = mine_joined v.number v.seen w.seen below sound.fits.mine in
+    silent_more v0 v u s (ap (λ (x : Known). x.number) m.view) (subst (λ (x : Known). IfSome v.number (λ n. own by_of n x.seen ≡ own by_of n v.seen)) (sym m.view) same)
+
+-- a journal that goes on from what was seen has no more under the pass's number
+mine_whole : (o : Option ℕ) (xs ys : List Entry) → IsPrefix xs ys → IfSome o (λ n. n < length xs) → IfSome o (λ n. IsMine by_of n (xs ∷ ys ∷ [])) → IfSome o (λ n. own by_of n ys ≡ own by_of n xs)
+mine_whole None xs ys pre below mine = tt
+mine_whole (Some n) xs ys pre below mine = by (leb (length ys) (length xs)) refl
+  where
+    by : (b : Bool) → leb (length ys) (length xs) ≡ b → own by_of n ys ≡ own by_of n xs
+    by true is = let short : length ys ≤ length xs = grind (arith, nat_tests, is) in own_between by_of n ys xs ys (prefix_shorter ys xs ys (prefix_self ys) pre short) pre refl
+    by false is = subst (λ (t : Bool). own by_of n (cond t xs ys) ≡ own by_of n xs) is (mine below)
+
+silent_away : (v0 v u : Known) (log : List Entry) → IfSome v0.number (λ n. n < length v0.seen) → IsPrefix v0.seen v.seen → IsSilent v0 v → SeesMore log v u → IsSilent v0 u
+silent_away v0 v u log begun before s more =
+    let sound : Sound by_of enters_of (hearing more.front (record v { seen = log; olds = v.seen ∷ log ∷ [] })) = subst (λ (x : Known). Sound by_of enters_of x) more.view more.sound in
+    let below : IfSome v.number (λ n. n < length v.seen) = subst (λ (o : Option ℕ). IfSome o (λ n. n < length v.seen)) (sym s.number) (below_before v0.number v0.seen v.seen before begun) in
+    let same : IfSome v.number (λ n. own by_of n log ≡ own by_of n v.seen) = mine_whole v.number v.seen log more.before below sound.fits.mine in
+    silent_more v0 v u s (ap (λ (x : Known). x.number) more.view) (subst (λ (x : Known). IfSome v.number (λ n. own by_of n x.seen ≡ own by_of n v.seen)) (sym more.view) same)
+
 -- ---- a session
 
 -- what a new link was sent, and what it reveals of it
@@ -196,9 +271,9 @@ module _ (room : FullStaysFull) (test : List ℤ → Bool) (config : Config) (v0
   -- what came, and one that came back
   came_back : (end now : Served) (v u : Known) (given left : ℕ) (b b' : Option (List Back)) (c : Came) (back : Back)
       → (a : Accepts end test config v0 v given0 given (suc left) b0 b) → IsPrefix v.seen u.seen → u.met ≡ v.met ++ mets (c ∷ []) → Each (IsMetIn u.seen) u.met
-      → IsOfItsOwn test config (length v0.seen) c → IsStillFull config u.seen c → (IsSome b0 → IsBack c back) → Told b b' (TakesBack given back) → HadMemoryBut now (a.came ++ c ∷ [])
+      → IsOfItsOwn test config (length v0.seen) c → IsStillFull config u.seen c → (IsSome b0 → IsBack c back) → Told b b' (TakesBack given back) → HadMemoryBut now (a.came ++ c ∷ []) → IsSilent v0 u
       → Accepts now test config v0 u given0 given left b0 b'
-  came_back end now v u given left b b' c back a pre met sound mine full is took memory =
+  came_back end now v u given left b b' c back a pre met sound mine full is took memory silent =
       let all : List Came = a.came ++ c ∷ [] in
       let met_all : u.met ≡ v0.met ++ mets all =
       met ∙ (ap (λ (l : List (Met Entry)). l ++ mets (c ∷ [])) a.met ∙ (append_assoc v0.met (mets a.came) (mets (c ∷ [])) ∙ ap (λ (l : List (Met Entry)). v0.met ++ l) (sym (mets_snoc a.came c)))) in
@@ -208,6 +283,8 @@ module _ (room : FullStaysFull) (test : List ℤ → Bool) (config : Config) (v0
         came = all;
         met = met_all;
         before = prefix_trans v0.seen v.seen u.seen a.before pre;
+        begun = a.begun;
+        silent = silent;
         each = all-append (IsOfItsOwn test config (length v0.seen)) a.came (c ∷ []) a.each (mine, tt);
         settled = settled_now config u.seen all fulls (each_right (IsMetIn u.seen) v0.met (mets all) (subst (Each (IsMetIn u.seen)) met_all sound));
         count = omega (arith, a.count, long);
@@ -235,7 +312,7 @@ module _ (room : FullStaysFull) (test : List ℤ → Bool) (config : Config) (v0
         told = t.1;
         taken_is = t.2;
         sent_is = t.3;
-      }) took (memory_more end acc.came (AsSession s) tt acc.memory)
+      }) took (memory_more end acc.came (AsSession s) tt acc.memory) (silent_met v0 v w u acc.begun acc.before acc.silent m)
 
   module _ (v u : Known) (log : List Entry) (given left : ℕ) (b b' : Option (List Back)) (a0 : Option Talk) (f0 : ℕ) (e0 : Bool) (acc : Accepts Stopped test config v0 v given0 given (suc left) b0 b)
       (more : SeesMore log v u) (fresh : IsAccepted a0 f0 e0) (tells : IsSome b0 → IsSome a0) where
@@ -258,21 +335,23 @@ module _ (room : FullStaysFull) (test : List ℤ → Bool) (config : Config) (v0
         came_back Stopped Stopped v u given left b b' OnFull (back_of 0 5 f0 e0 a0) acc away_before away_met more.sound.fits.met tt
         (subst (λ (h : List Entry). has_room_for config h Enter ≡ false) (sym away_seen) full)
         (λ is. let t = talk_of a0 (tells is) fresh.fresh.taken fresh.fresh.sent in record { number_is = refl; end_is = refl; talk = t.0; told = t.1; taken_is = t.2; sent_is = t.3 })
-        took (memory_more Stopped acc.came OnFull tt acc.memory)
+        took (memory_more Stopped acc.came OnFull tt acc.memory) (silent_away v0 v u log acc.begun acc.before acc.silent more)
 
     -- memory ran out
     pub accepts_lack : Told b b' (TakesBack given (back_of 0 7 f0 e0 a0)) → Accepts NoMemory test config v0 u given0 given left b0 b'
     accepts_lack took =
         came_back Stopped NoMemory v u given left b b' OnLack (back_of 0 7 f0 e0 a0) acc away_before away_met more.sound.fits.met tt tt
         (λ is. let t = talk_of a0 (tells is) fresh.fresh.taken fresh.fresh.sent in record { number_is = refl; end_is = refl; talk = t.0; told = t.1; taken_is = t.2; sent_is = t.3 })
-        took tt
+        took (memory_lacks acc.came acc.memory) (silent_away v0 v u log acc.begun acc.before acc.silent more)
 
 module _ (test : List ℤ → Bool) (config : Config) (v0 : Known) (given0 : ℕ) (b0 : Option (List Back)) where
-  pub accepts_start : IfSome b0 (λ bs. length bs ≤ given0) → Accepts Stopped test config v0 v0 given0 given0 0 b0 b0
-  accepts_start few = record {
+  pub accepts_start : IfSome v0.number (λ n. n < length v0.seen) → IfSome b0 (λ bs. length bs ≤ given0) → Accepts Stopped test config v0 v0 given0 given0 0 b0 b0
+  accepts_start begun few = record {
     came = [];
     met = sym (append-nil v0.met);
     before = prefix_self v0.seen;
+    begun = begun;
+    silent = record { number = refl; own = own_still v0.number v0.seen };
     each = tt;
     settled = tt;
     count = omega arith;
@@ -287,6 +366,8 @@ module _ (test : List ℤ → Bool) (config : Config) (v0 : Known) (given0 : ℕ
     came = a.came;
     met = a.met;
     before = a.before;
+    begun = a.begun;
+    silent = a.silent;
     each = a.each;
     settled = a.settled;
     count = a.count;
@@ -301,6 +382,7 @@ module _ (test : List ℤ → Bool) (config : Config) (v0 : Known) (given0 : ℕ
     came = a.came;
     met = a.met;
     before = a.before;
+    silent = a.silent;
     each = came_all laws test config (length v0.seen) v.seen a.came a.each a.settled;
     count = omega (arith, a.count);
     links = a.links;

@@ -1,6 +1,7 @@
 -- What became of links, over the journal in the end.
-use Rattle.std.proofs.Common.{◌≡◌, ◌≤◌, ℕ, suc, ℤ, Bool, false, List, [], ◌∷◌, ◌++◌, length, map, ap, ◌∙◌, subst, refl, arith}
+use Rattle.std.proofs.Common.{◌≡◌, ◌≤◌, ℕ, suc, ℤ, Bool, false, List, [], ◌∷◌, ◌++◌, length, map, None, Some, ap, ◌∙◌, subst, refl, arith}
 use Rattle.std.specs.List.{AllByRecursion}
+use Rattle.std.specs.Prelude.{IfSome}
 use Rattle.std.specs.declared.option.Option.{Option}
 use mathlib.Core.List.{IsPrefix}
 use Rattle.server_config.specs.declared.config.Config.{Config}
@@ -15,11 +16,11 @@ use Rattle.turn_book.specs.declared.view.Met.{Met}
 use Rattle.turn_book.proofs.ListLemmas.{occurrences_append}
 use Rattle.turn_book.proofs.OwnLemmas.{own_between}
 use Rattle.store_hub.specs.Words.{Known, by_of, enters_of}
-use Rattle.etp_serve.specs.Accepted.{AsSession, Came, IsCame, OnFull, OnLack, ServesAll, mets}
-use Rattle.etp_serve.specs.Closing.{ServedOver}
+use Rattle.etp_serve.specs.Accepted.{AsSession, Came, IsCame, IsSilent, OnFull, OnLack, ServesAll, mets}
+use Rattle.etp_serve.specs.Closing.{HasNoMoreOf, ServedOver}
 use Rattle.etp_serve.specs.Laws.{Laws}
 use Rattle.etp_serve.specs.declared.served.Served.{Served}
-use Rattle.etp_serve.proofs.AcceptLemmas.{was_served}
+use Rattle.etp_serve.proofs.AcceptLemmas.{own_chain, was_served}
 
 -- what was met is settled in the journal and had seen a front of what the pass has
 abbrev pub IsMetBelow : List Entry → List Entry → Met Entry → Type 0
@@ -36,19 +37,29 @@ came_longer laws room test config low old new pre (OnFull ∷ cs) met each =
     (subst (λ (h : List Entry). has_room_for config h Enter ≡ false) pre.1 (room config old pre.0 each.0), came_longer laws room test config low old new pre cs met each.1)
 came_longer laws room test config low old new pre (OnLack ∷ cs) met each = (tt, came_longer laws room test config low old new pre cs met each.1)
 
+-- what a pass is settled by in the journal has no further entry under its number
+settled_own : (o : Option ℕ) (h seen : List Entry) → IfSome o (λ n. IsSettled by_of enters_of h n seen) → IfSome o (λ n. own by_of n h ≡ own by_of n seen)
+settled_own None h seen is = tt
+settled_own (Some n) h seen is = is.own
+
+no_more_of : (v0 v : Known) (h : List Entry) → Knows by_of enters_of h v → IsSilent v0 v → HasNoMoreOf v0 h
+no_more_of v0 v h knows s =
+    own_chain v0.number v0.seen v.seen h (subst (λ (o : Option ℕ). IfSome o (λ n. own by_of n h ≡ own by_of n v.seen)) s.number (settled_own v.number h v.seen knows.fits.number)) s.own
+
 -- the numbers that were met are among the pass's own
 numbers_apart : (o : Option ℕ) (met : List (Met Entry)) (n : ℕ) → occurrences n (own_number o ++ map (λ m. m.number) met) ≤ 1 → occurrences n (map (λ m. m.number) met) ≤ 1
 numbers_apart o met n few = let sum = occurrences_append n (own_number o) (map (λ m. m.number) met) in omega (arith, sum, few)
 
 pub served_over : Laws → FullStaysFull → (end : Served) (test : List ℤ → Bool) (config : Config) (v0 v : Known) (given0 given : ℕ) (b0 b : Option (List Back)) (h : List Entry)
-    → v0.met ≡ [] → Knows by_of enters_of h v → ServesAll end test config v0 v given0 given b0 b → ServedOver end test config (length v0.seen) h given0 given b0 b
+    → v0.met ≡ [] → Knows by_of enters_of h v → ServesAll end test config v0 v given0 given b0 b → ServedOver end test config (length v0.seen) h given0 given b0 b × HasNoMoreOf v0 h
 served_over laws room end test config v0 v given0 given b0 b h alone knows s =
     let met : v.met ≡ mets s.came = s.met ∙ ap (λ (l : List (Met Entry)). l ++ mets s.came) alone in
-    record {
+    let over : ServedOver end test config (length v0.seen) h given0 given b0 b = record {
       came = s.came;
       each = came_longer laws room test config (length v0.seen) v.seen h knows.fits.seen s.came (subst (Each (IsMetBelow v.seen h)) met knows.fits.met) s.each;
       apart = λ n. subst (λ (l : List (Met Entry)). occurrences n (map (λ m. m.number) l) ≤ 1) met (numbers_apart v.number v.met n (knows.apart n));
       count = s.count;
       links = s.links;
       memory = s.memory;
-    }
+    } in
+    (over, no_more_of v0 v h knows s.silent)

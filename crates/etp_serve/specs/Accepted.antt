@@ -131,19 +131,32 @@ HadMemory (AsSession s) = Unit {0}
 HadMemory OnFull = Unit {0}
 HadMemory OnLack = ⊥
 
--- memory to let a session in ran out only if the serving ended for that reason
+-- for how many links memory to let a session in ran out
+abbrev pub lacks : List Came → ℕ
+lacks [] = 0
+lacks (AsSession s ∷ cs) = lacks cs
+lacks (OnFull ∷ cs) = lacks cs
+lacks (OnLack ∷ cs) = 1 + lacks cs
+
+-- memory to let a session in ran out only if the serving ended for that reason, and then for one link at most
 abbrev pub HadMemoryBut : Served → List Came → Type 0
 HadMemoryBut all_ended.Stopped cs = AllByRecursion HadMemory cs
 HadMemoryBut all_ended.ListenFault cs = AllByRecursion HadMemory cs
-HadMemoryBut all_ended.NoMemory cs = Unit {0}
+HadMemoryBut all_ended.NoMemory cs = lacks cs ≤ 1
+
+-- the accepting pass made no entry: it has the number that it had, and has seen no further entry under it
+pub record IsSilent (v0 v : Known) : Type 0 where
+  pub number : v.number ≡ v0.number
+  pub own : IfSome v0.number (λ n. own by_of n v.seen ≡ own by_of n v0.seen)
 
 -- Links were served until this end, with what the accepting pass knew before and after, and how many links the listener gave out and which
 -- it took back. There is an answer for each link that was given out: the sessions among them were met, in this order, each was served over
--- the one history that the pass has seen in the end, and each link came back
+-- the one history that the pass has seen in the end, and each link came back. The pass itself made no entry
 pub record ServesAll (end : Served) (test : List ℤ → Bool) (config : Config) (v0 v : Known) (given0 given : ℕ) (b0 b : Option (List Back)) : Type 0 where
   pub came : List Came
   pub met : v.met ≡ v0.met ++ mets came
   pub before : IsPrefix v0.seen v.seen
+  pub silent : IsSilent v0 v
   pub each : AllByRecursion (IsCame test config (length v0.seen) v.seen) came
   pub count : given ≡ given0 + length came
   pub links : Told b0 b (λ x y. (new : List Back) × (y ≡ x ++ new) × Backs came new)
@@ -168,11 +181,13 @@ IsSettledIn config h (AsSession s) = IsPrefix s.met.seen h × (own by_of s.met.n
 IsSettledIn config h OnFull = has_room_for config h Enter ≡ false
 IsSettledIn config h OnLack = Unit {0}
 
--- links were served so far, and this many that were given out have no answer yet
+-- links were served so far, and this many that were given out have no answer yet; the accepting pass had seen its own first entry before
 pub record Accepts (end : Served) (test : List ℤ → Bool) (config : Config) (v0 v : Known) (given0 given left : ℕ) (b0 b : Option (List Back)) : Type 0 where
   pub came : List Came
   pub met : v.met ≡ v0.met ++ mets came
   pub before : IsPrefix v0.seen v.seen
+  pub begun : IfSome v0.number (λ n. n < length v0.seen)
+  pub silent : IsSilent v0 v
   pub each : AllByRecursion (IsOfItsOwn test config (length v0.seen)) came
   pub settled : AllByRecursion (IsSettledIn config v.seen) came
   pub count : given ≡ given0 + (length came + left)

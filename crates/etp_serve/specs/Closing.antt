@@ -1,5 +1,5 @@
 -- What became of the links that a listener gave out, over the journal that the store had in the end.
-use Rattle.std.specs.Prelude.{◌≡◌, ◌≤◌, ◌⊎◌, ◌+◌, ℕ, ℤ, Bool, false, List, [], ◌∷◌, ◌++◌, drop, length, map, Option, if◌then◌else◌}
+use Rattle.std.specs.Prelude.{◌≡◌, ◌≤◌, ◌⊎◌, ◌+◌, ℕ, ℤ, Bool, false, List, [], ◌∷◌, ◌++◌, drop, length, map, Option, IfSome, if◌then◌else◌}
 use Rattle.std.specs.List.{AllByRecursion}
 use Rattle.server_config.specs.declared.config.Config.{Config}
 use Rattle.store_machine.specs.declared.journal.Act.TheVariants.{Enter}
@@ -7,7 +7,7 @@ use Rattle.store_machine.specs.declared.journal.Entry.{Entry}
 use Rattle.store_machine.specs.Answers.{has_room_for}
 use Rattle.etp_outside.specs.Doors.{Back}
 use Rattle.etp_outside.specs.Told.{Told}
-use Rattle.turn_book.specs.Lists.{occurrences}
+use Rattle.turn_book.specs.Lists.{occurrences, own}
 use Rattle.turn_book.specs.Rules.{Knows}
 use Rattle.store_hub.specs.Words.{Known, by_of, enters_of}
 use Rattle.etp_serve.specs.Accepted.{Backs, Came, HadMemoryBut, IsCame, ServesAll, mets}
@@ -28,10 +28,16 @@ pub record ServedOver (end : Served) (test : List ℤ → Bool) (config : Config
   pub links : Told b0 b (λ x y. (new : List Back) × (y ≡ x ++ new) × Backs came new)
   pub memory : HadMemoryBut end came
 
--- what became of links holds over each journal that agrees with what the accepting pass knows, which had met nobody before
+-- under the number that a pass had, this journal has no entry but those that the pass had seen
+abbrev pub HasNoMoreOf : Known → List Entry → Type 0
+HasNoMoreOf v0 h = IfSome v0.number (λ n. own by_of n h ≡ own by_of n v0.seen)
+
+-- what became of links holds over each journal that agrees with what the accepting pass knows, which had met nobody before; and that has no
+-- further entry of the pass itself
 abbrev pub ServedInTheEnd : Type 0
 ServedInTheEnd = (end : Served) (test : List ℤ → Bool) (config : Config) (v0 v : Known) (given0 given : ℕ) (b0 b : Option (List Back)) (h : List Entry)
-    → v0.met ≡ [] → Knows by_of enters_of h v → ServesAll end test config v0 v given0 given b0 b → ServedOver end test config (length v0.seen) h given0 given b0 b
+    → v0.met ≡ [] → Knows by_of enters_of h v → ServesAll end test config v0 v given0 given b0 b
+    → ServedOver end test config (length v0.seen) h given0 given b0 b × HasNoMoreOf v0 h
 
 -- how many of these entries let a session in
 abbrev pub entered : List Entry → ℕ

@@ -1,5 +1,5 @@
 //! Links that come, each served in a thread of its own.
-ghost use Rattle.std.specs.Prelude.{◌≡◌, ◌≤◌, ◌+◌, ◌⊎◌, ◌<◌, [], suc, true, None, Some, length, IfNone, IfSome, IsSome};
+ghost use Rattle.std.specs.Prelude.{◌≡◌, ◌≤◌, ◌+◌, ◌⊎◌, ◌<◌, [], suc, true, false, None, Some, length, IfNone, IfSome, IsSome};
 ghost use Rattle.std.specs.VecDeque.{deque_capacity, deque_len};
 ghost use Rattle.etp_outside.specs.Doors.{IsAccepted, TakesBack, back_of};
 ghost use Rattle.etp_outside.specs.Faults.{Rose};
@@ -65,7 +65,7 @@ pub(crate) trait Keeps {
     ghost way: { Self → Served → Pass → Self.Door → ℕ → Type 0 };
 
     /// The pass keeps its number, and there is room for as many children as before, of which there are at most so many more. The listener gave
-    /// out no link and did not stop. It may have failed.
+    /// out no link, did not stop, and listens where it did. It may have failed.
     ghost keeps: { Self → Pass → Pass → Self.Door → Self.Door → Self.Children → Self.Children → ℕ → Type 0 };
 }
 
@@ -89,7 +89,7 @@ impl<'s, 'e, A: Listener, C: Clock, G, R> Keeps for Accepting<'s, 'e, A, C, G, R
 
     ghost keeps = { λ on pass0 pass door0 door children0 children more. (pass.number ≡ pass0.number)
         × (deque_len children ≤ deque_len children0 + more) × (deque_capacity children ≡ deque_capacity children0)
-        × (A.given door ≡ A.given door0) × (A.stopped door ≡ A.stopped door0) × (A.faults door0 ≤ A.faults door) };
+        × (A.given door ≡ A.given door0) × (A.stopped door ≡ A.stopped door0) × (A.faults door0 ≤ A.faults door) × (A.at door ≡ A.at door0) };
 }
 
 /// A bit that none of the children has, or 0 if all are taken.
@@ -121,6 +121,7 @@ fn refuse_link<A: Listener>(door: &mut A, link: A::Link, end: u8)
         (back_of 0 end (A.Link.faults link) (A.Link.ended link) (A.Link.talk link))) }
     ensures given { A.given door.new ≡ A.given door.old }
     ensures stopped { A.stopped door.new ≡ A.stopped door.old }
+    ensures at { A.at door.new ≡ A.at door.old }
     ensures kept { A.faults door.old ≤ A.faults door.new }
 {
     let mut link = link;
@@ -166,6 +167,7 @@ where
         requires alone { (known entered).met ≡ [] }
         requires late { length (known self.now.first.value).seen ≤ entered.number }
         requires link { IsAccepted (A.Link.talk link) (A.Link.faults link) (A.Link.ended link) }
+        requires usable { A.Link.closed link ≡ false }
         requires tells { IsSome (A.backs self.now.opened.value) → IsSome (A.Link.talk link) }
         ensures holds { ⟦<Self as Keeps>⟧.holds self.now pass.new children.new }
         ensures way { ⟦<Self as Keeps>⟧.way self.now Stopped pass.new door.new (length children.new.items) }
@@ -184,6 +186,8 @@ where
             requires fresh { IsFresh entered }
             requires alone { (known entered).met ≡ [] }
             requires anew { IfSome (C.told own) (λ moments. moments ≡ []) }
+            requires usable { A.Link.closed link ≡ false }
+            ensures closed { A.Link.closed result.link ≡ true }
             ensures own { IsPassOf hub.entry.now result.pass × (result.pass.number ≡ entered.number) }
             ensures done { IsDone (C.passes own) (config_of hub.entry.now) entered.number (known result.pass) result.end
                 (A.Link.talk link) (A.Link.talk result.link) (A.Link.faults link) (A.Link.faults result.link) (A.Link.ended result.link) }
@@ -210,6 +214,7 @@ where
         requires conf { self.now.conf.now ≡ config_of self.now.hub.now }
         requires room { deque_len children.old < deque_capacity children.old }
         requires link { IsAccepted (A.Link.talk link) (A.Link.faults link) (A.Link.ended link) }
+        requires usable { A.Link.closed link ≡ false }
         requires tells { IsSome (A.backs self.now.opened.value) → IsSome (A.Link.talk link) }
         ensures holds { ⟦<Self as Keeps>⟧.holds self.now pass.new children.new }
         ensures goes { IfNone result (⟦<Self as Keeps>⟧.way self.now Stopped pass.new door.new (length children.new.items)) }
@@ -258,6 +263,7 @@ where
         ensures one { IfNone result (A.given door.new ≡ A.given door.old + 1) }
         ensures given { A.given door.new ≤ A.given door.old + 1 }
         ensures stopped { result ≡ Some Served.Stopped → A.stopped door.new ≡ true }
+        ensures at { A.at door.new ≡ A.at door.old }
         ensures kept { A.faults door.old ≤ A.faults door.new }
         ensures cause { result ≡ Some Served.ListenFault → Rose (A.faults door.old) (A.faults door.new) }
     {
@@ -309,6 +315,7 @@ where
         ensures most { IfSome most (λ m. A.given door.new ≤ A.given door.old + m) }
         ensures stop { result ≡ Served.Stopped
             → (A.stopped door.new ≡ true) ⊎ IsReached most (A.given door.old) (A.given door.new) }
+        ensures at { A.at door.new ≡ A.at door.old }
         ensures kept { A.faults door.old ≤ A.faults door.new }
         ensures cause { result ≡ Served.ListenFault → Rose (A.faults door.old) (A.faults door.new) }
     {
@@ -338,6 +345,7 @@ where
         ensures most { IfSome most (λ m. A.given door.new ≤ A.given door.old + m) }
         ensures stop { result ≡ Served.Stopped
             → (A.stopped door.new ≡ true) ⊎ IsReached most (A.given door.old) (A.given door.new) }
+        ensures at { A.at door.new ≡ A.at door.old }
         ensures kept { A.faults door.old ≤ A.faults door.new }
         ensures cause { result ≡ Served.ListenFault → Rose (A.faults door.old) (A.faults door.new) }
     {
@@ -383,6 +391,7 @@ pub fn serve_all<A: Listener, C: Clock, G: Gate, R: Threads + Wait + Sync>(
     ensures most { IfSome most (λ m. A.given door.new ≤ A.given door.old + m) }
     ensures stop { result ≡ Served.Stopped
         → (A.stopped door.new ≡ true) ⊎ IsReached most (A.given door.old) (A.given door.new) }
+    ensures at { A.at door.new ≡ A.at door.old }
     ensures kept { A.faults door.old ≤ A.faults door.new }
     ensures cause { result ≡ Served.ListenFault → Rose (A.faults door.old) (A.faults door.new) }
 {
@@ -402,6 +411,7 @@ pub fn serve_all<A: Listener, C: Clock, G: Gate, R: Threads + Wait + Sync>(
             ensures most { IfSome most (λ m. A.given result.0.now ≤ A.given door.entry.now + m) }
             ensures stop { result.2 ≡ Served.Stopped
                 → (A.stopped result.0.now ≡ true) ⊎ IsReached most (A.given door.entry.now) (A.given result.0.now) }
+            ensures at { A.at result.0.now ≡ A.at door.entry.now }
             ensures kept { A.faults door.entry.now ≤ A.faults result.0.now }
             ensures cause { result.2 ≡ Served.ListenFault → Rose (A.faults door.entry.now) (A.faults result.0.now) }
         {

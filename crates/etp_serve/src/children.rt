@@ -1,5 +1,5 @@
 //! Sessions that are served in threads of their own, until they are taken in.
-ghost use Rattle.std.specs.Prelude.{◌≡◌, ◌≤◌, ◌<◌, ◌+◌, ◌++◌, ◌∷◌, [], ℕ, suc, List, ℤ, Bool, Option, length};
+ghost use Rattle.std.specs.Prelude.{◌≡◌, ◌≤◌, ◌<◌, ◌+◌, ◌++◌, ◌∷◌, [], ℕ, suc, List, ℤ, Bool, true, Option, length};
 ghost use Rattle.std.specs.VecDeque.{deque_capacity, deque_len};
 ghost use Rattle.etp_outside.specs.Doors.{Back, TakesBack, back_of};
 ghost use Rattle.etp_outside.specs.Told.{Told};
@@ -56,6 +56,7 @@ pub(crate) fn take_in<A: Listener>(
 )
     requires own { IsPassOf hub.now pass.old }
     requires ended { IsPassOf hub.now finished.pass }
+    requires closed { A.Link.closed finished.link ≡ true }
     ensures own { IsPassOf hub.now pass.new × (pass.new.number ≡ pass.old.number) }
     ensures met { Meets (known pass.old) (known finished.pass) (known pass.new) }
     ensures back { Told (A.backs door.old) (A.backs door.new) (TakesBack (A.given door.old)
@@ -63,6 +64,7 @@ pub(crate) fn take_in<A: Listener>(
         (A.Link.talk finished.link))) }
     ensures given { A.given door.new ≡ A.given door.old }
     ensures stopped { A.stopped door.new ≡ A.stopped door.old }
+    ensures at { A.at door.new ≡ A.at door.old }
     ensures kept { A.faults door.old ≤ A.faults door.new }
 {
     let Finished {
@@ -92,6 +94,7 @@ pub(crate) fn join_child<A: Listener, C: Clock, R: Threads>(
         → Accepts end test (config_of hub.now) v0 (known pass.new) given0 (A.given door.new) left b0 (A.backs door.new) }
     ensures given { A.given door.new ≡ A.given door.old }
     ensures stopped { A.stopped door.new ≡ A.stopped door.old }
+    ensures at { A.at door.new ≡ A.at door.old }
     ensures kept { A.faults door.old ≤ A.faults door.new }
 {
     // For the proof only: a full journal stays full.
@@ -171,6 +174,7 @@ impl<'s, 'e, A: Listener, C: Clock, G: Gate, R: Threads + Wait + Sync> Accepting
             → ⟦<Self as Keeps>⟧.way self.now end pass.new door.new 0 }
         ensures given { A.given door.new ≡ A.given door.old }
         ensures stopped { A.stopped door.new ≡ A.stopped door.old }
+        ensures at { A.at door.new ≡ A.at door.old }
         ensures kept { A.faults door.old ≤ A.faults door.new }
     {
         for child in children {

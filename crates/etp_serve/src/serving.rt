@@ -1,5 +1,5 @@
 //! A session, turn by turn.
-ghost use Rattle.std.specs.Prelude.{◌≡◌, ◌≤◌, ◌<◌, ◌^◌, ℤ, List, Option, length, IfNone, IfOk, IfSome, Some, true, pos};
+ghost use Rattle.std.specs.Prelude.{◌≡◌, ◌≤◌, ◌<◌, ◌^◌, ℤ, List, Option, length, IfNone, IfOk, IfSome, Some, true, false, pos};
 ghost use Rattle.etp_outside.specs.Faults.{Rose};
 ghost use Rattle.etp_outside.specs.Talk.{Talk};
 ghost use Rattle.session_core.specs.State.{first_state};
@@ -29,6 +29,8 @@ fn receive<L: Link, C: Clock, R: Wait>(
     session: &mut Session,
 ) -> Option<Ended>
     requires own { IsPassOf hub.now pass.old }
+    requires usable { L.closed link.old ≡ false }
+    ensures usable { L.closed link.new ≡ false }
     ensures own { IsPassOf hub.now pass.new × (pass.new.number ≡ pass.old.number) }
     ensures met { (known pass.new).met ≡ (known pass.old).met }
     ensures goes { IfNone result ((a0 : Option Talk) (c0 : Option (List ℤ))
@@ -68,6 +70,8 @@ fn poll<L: Link, R: Wait>(
     session: &mut Session,
 ) -> Option<Ended>
     requires own { IsPassOf hub.now pass.old }
+    requires usable { L.closed link.old ≡ false }
+    ensures usable { L.closed link.new ≡ false }
     ensures own { IsPassOf hub.now pass.new × (pass.new.number ≡ pass.old.number) }
     ensures met { (known pass.new).met ≡ (known pass.old).met }
     ensures goes { IfNone result ((a0 : Option Talk) (c0 c : Option (List ℤ))
@@ -117,6 +121,8 @@ pub fn serve_session<L: Link, C: Clock, G: Gate, R: Wait>(
     requires own { IsPassOf hub.now pass.old }
     requires conf { conf.now ≡ config_of hub.now }
     requires fresh { IsFresh pass.old }
+    requires usable { L.closed link.old ≡ false }
+    ensures usable { L.closed link.new ≡ false }
     ensures own { IsPassOf hub.now pass.new × (pass.new.number ≡ pass.old.number) }
     ensures met { (known pass.new).met ≡ (known pass.old).met }
     ensures serves { Serves result (config_of hub.now) pass.old.number (known pass.new)

@@ -1,5 +1,5 @@
 //! One event of a session: its call to the store, and what it sends.
-ghost use Rattle.std.specs.Prelude.{◌≡◌, ◌≤◌, IfNone, IfSome, OnErr, OnOk, Some, None};
+ghost use Rattle.std.specs.Prelude.{◌≡◌, ◌≤◌, IfNone, IfSome, OnErr, OnOk, Some, None, false};
 ghost use Rattle.etp_outside.specs.Faults.{Rose};
 ghost use Rattle.session_core.specs.Session.{end_of};
 ghost use Rattle.store_machine.specs.Laws.{IsCallAt};
@@ -52,6 +52,8 @@ fn ask_store<R: Wait>(
 
 /// Sends what the session has to send.
 fn drain<L: Link>(alloc: Global, link: &mut L, session: &mut Session) -> Sent
+    requires usable { L.closed link.old ≡ false }
+    ensures usable { L.closed link.new ≡ false }
     ensures talk { Drains result session.old session.new (L.talk link.old) (L.talk link.new) }
     ensures kept { L.faults link.old ≤ L.faults link.new }
     ensures cause { result ≡ Sent.Failed → Rose (L.faults link.old) (L.faults link.new) }
@@ -82,6 +84,8 @@ pub(crate) fn carry_out<L: Link, R: Wait>(
 ) -> Option<Ended>
     requires own { IsPassOf hub.now pass.old }
     requires call { IfSome asked.call (IsCallAt (known pass.old).seen) }
+    requires usable { L.closed link.old ≡ false }
+    ensures usable { L.closed link.new ≡ false }
     ensures own { IsPassOf hub.now pass.new × (pass.new.number ≡ pass.old.number) }
     ensures met { (known pass.new).met ≡ (known pass.old).met }
     ensures does { IfNone result (Does (config_of hub.now) pass.old.number pass.old.entries asked

@@ -1,5 +1,5 @@
 //! A session in a thread of its own.
-ghost use Rattle.std.specs.Prelude.{◌≡◌, [], IfSome};
+ghost use Rattle.std.specs.Prelude.{◌≡◌, [], IfSome, true, false};
 ghost use Rattle.etp_outside.specs.Moments.{Tests};
 ghost use Rattle.store_hub.specs.Passes.{IsFresh, IsPassOf, config_of, known};
 ghost use Rattle.etp_serve.specs.Accepted.{IsDone};
@@ -50,13 +50,14 @@ impl<L: Link, C: Clock> Started<L, C> {
 }
 
 impl<L: Link, C: Clock> Promise<Finished<L>> for Started<L, C> {
-    ghost use Rattle.std.specs.Prelude.{◌≡◌};
+    ghost use Rattle.std.specs.Prelude.{◌≡◌, true};
     ghost use Rattle.store_hub.specs.Passes.{IsPassOf, config_of, known};
     ghost use Rattle.etp_serve.specs.Accepted.{IsDone};
 
     ghost kept_by = { λ p r. IsPassOf p.hub.value r.pass × (r.pass.number ≡ p.number)
         × IsDone (C.passes p.clock.value) (config_of p.hub.value) p.number (known r.pass) r.end
-        (L.talk p.link.value) (L.talk r.link) (L.faults p.link.value) (L.faults r.link) (L.ended r.link) };
+        (L.talk p.link.value) (L.talk r.link) (L.faults p.link.value) (L.faults r.link) (L.ended r.link)
+        × (L.closed r.link ≡ true) };
 }
 
 /// For proofs only: the moments that a clock returned pass its test.
@@ -84,6 +85,8 @@ pub(crate) fn serve_one<L: Link, C: Clock, G: Gate, R: Wait>(
     requires fresh { IsFresh pass }
     requires alone { (known pass).met ≡ [] }
     requires anew { IfSome (C.told clock) (λ moments. moments ≡ []) }
+    requires usable { L.closed link ≡ false }
+    ensures closed { L.closed result.link ≡ true }
     ensures own { IsPassOf hub.now result.pass × (result.pass.number ≡ pass.number) }
     ensures done { IsDone (C.passes clock) (config_of hub.now) pass.number (known result.pass) result.end
         (L.talk link) (L.talk result.link) (L.faults link) (L.faults result.link) (L.ended result.link) }

@@ -88,6 +88,7 @@ impl<'a, R: Net<Listener = TcpListener, Stream = TcpStream> + RandomSource> TcpD
     ) -> Result<ClientLink<'a, R>, Missed>
         ensures faults { IfOk result (λ l. l.faults ≡ 0) }
         ensures ended { IfOk result (λ l. l.ended ≡ false) }
+        ensures closed { IfOk result (λ l. l.closed ≡ false) }
     {
         let url = url_of(alloc, host, port, path)?;
         let Some(stream) = self.connect(host, port) else {

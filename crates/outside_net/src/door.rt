@@ -142,6 +142,7 @@ impl<'a, R: Net<Listener = TcpListener, Stream = TcpStream> + Clock> TcpDoor<'a,
         log: &mut L,
     ) -> Option<ServerLink>
         ensures link { IfSome result (λ l. IsAccepted (⟦<ServerLink as Link>⟧.talk l) (⟦<ServerLink as Link>⟧.faults l) (⟦<ServerLink as Link>⟧.ended l)) }
+        ensures usable { IfSome result (λ l. ⟦<ServerLink as Link>⟧.closed l ≡ false) }
         ensures faults { self.new.faults ≡ self.old.faults }
         ensures given { self.new.given ≡ self.old.given }
         ensures stopped { self.new.stopped ≡ self.old.stopped }
@@ -232,6 +233,7 @@ impl<'a, R: Net<Listener = TcpListener, Stream = TcpStream> + Clock> TcpDoor<'a,
     /// The next link.
     fn next_link<L: DoorLog>(&mut self, alloc: Global, log: &mut L) -> Next<ServerLink>
         ensures link { IfLink result (λ l. IsAccepted (⟦<ServerLink as Link>⟧.talk l) (⟦<ServerLink as Link>⟧.faults l) (⟦<ServerLink as Link>⟧.ended l)) }
+        ensures usable { IfLink result (λ l. ⟦<ServerLink as Link>⟧.closed l ≡ false) }
         ensures faults { self.new.faults ≡ self.old.faults }
         ensures given { self.new.given ≡ self.old.given }
         ensures stopped { self.new.stopped ≡ self.old.stopped }
@@ -262,6 +264,7 @@ impl<'a, R: Net<Listener = TcpListener, Stream = TcpStream> + Clock> TcpDoor<'a,
     /// The next link, as [`next`](Listener::next) returns it. The connections that are turned away meanwhile are reported to the log.
     pub fn next_told<L: DoorLog>(&mut self, alloc: Global, log: &mut L) -> Next<ServerLink>
         ensures link { IfLink result (λ l. IsAccepted (⟦<ServerLink as Link>⟧.talk l) (⟦<ServerLink as Link>⟧.faults l) (⟦<ServerLink as Link>⟧.ended l)) }
+        ensures usable { IfLink result (λ l. ⟦<ServerLink as Link>⟧.closed l ≡ false) }
         ensures given { ⟦<TcpDoor<'a, R> as Listener>⟧.given self.new ≡ ⟦<TcpDoor<'a, R> as Listener>⟧.given self.old + links result }
         ensures stopped { ⟦<TcpDoor<'a, R> as Listener>⟧.stopped self.new ≡ (⟦<TcpDoor<'a, R> as Listener>⟧.stopped self.old || is_stop result) }
         ensures kept { ⟦<TcpDoor<'a, R> as Listener>⟧.faults self.old ≤ ⟦<TcpDoor<'a, R> as Listener>⟧.faults self.new }
@@ -329,7 +332,8 @@ fn accept(alloc: Global, caller: &mut Caller, upgrade: &Upgrade) -> Result<(), R
 
 /// The link over a connection that was accepted. The post is given back if the system refuses what the link needs.
 fn link_of(alloc: Global, caller: Caller, post: Post) -> Result<ServerLink, Post>
-    ensures { IfOk result (λ l. IsAccepted (⟦<ServerLink as Link>⟧.talk l) (⟦<ServerLink as Link>⟧.faults l) (⟦<ServerLink as Link>⟧.ended l)) }
+    ensures link { IfOk result (λ l. IsAccepted (⟦<ServerLink as Link>⟧.talk l) (⟦<ServerLink as Link>⟧.faults l) (⟦<ServerLink as Link>⟧.ended l)) }
+    ensures usable { IfOk result (λ l. ⟦<ServerLink as Link>⟧.closed l ≡ false) }
 {
     WsLink::new(
         alloc,
@@ -351,6 +355,8 @@ impl<'a, R: Net<Listener = TcpListener, Stream = TcpStream> + Clock> Listener fo
     ghost stopped = { λ d. d.stopped };
 
     ghost backs = { λ d. None };
+
+    ghost at = { λ d. None };
 
     ghost few = { λ d. tt };
 

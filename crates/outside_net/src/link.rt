@@ -81,7 +81,10 @@ pub struct WsLink<S, K> {
     broken: bool,
     /// Whether the peer was sent a Close frame for a breach. It is given time to read it.
     refused: bool,
+    /// Whether its user closed it.
     closed: bool,
+    /// Whether it said goodbye: on closing, or as the server stops.
+    gone: bool,
     /// Whether the socket may hold more than what was read: it is read before the link waits.
     unread: bool,
     /// How many messages were handed on since the others' bells were rung.
@@ -108,6 +111,7 @@ impl<S: Read + Write + OpenStream + AsRawFd + Drop, K: MaskKeys + Drop> WsLink<S
     ) -> Result<WsLink<S, K>, Post>
         ensures faults { IfOk result (λ l. l.faults ≡ 0) }
         ensures ended { IfOk result (λ l. l.ended ≡ false) }
+        ensures closed { IfOk result (λ l. l.closed ≡ false) }
     {
         let mut post = post;
         if stream.set_nonblocking(true).is_err() || !post.watch(stream.as_raw_fd()) {
@@ -126,6 +130,7 @@ impl<S: Read + Write + OpenStream + AsRawFd + Drop, K: MaskKeys + Drop> WsLink<S
             broken: false,
             refused: false,
             closed: false,
+            gone: false,
             unread: true,
             handed: 0,
             asked: false,
@@ -164,6 +169,7 @@ impl<S: Read + Write + OpenStream + Drop, K: MaskKeys + Drop> WsLink<S, K> {
         ensures rose { Rose self.old.faults self.new.faults }
         ensures kept { self.old.faults ≤ self.new.faults }
         ensures ended { self.new.ended ≡ self.old.ended }
+        ensures closed { self.new.closed ≡ self.old.closed }
     {
         self.broken = true;
         self.faults = self.faults.saturating_add(1);
@@ -173,6 +179,7 @@ impl<S: Read + Write + OpenStream + Drop, K: MaskKeys + Drop> WsLink<S, K> {
     fn flush(&mut self) -> bool
         ensures faults { self.new.faults ≡ self.old.faults }
         ensures ended { self.new.ended ≡ self.old.ended }
+        ensures closed { self.new.closed ≡ self.old.closed }
     {
         if self.output.is_empty() {
             return true;
@@ -193,6 +200,7 @@ impl<S: Read + Write + OpenStream + Drop, K: MaskKeys + Drop> WsLink<S, K> {
     fn ring(&mut self)
         ensures faults { self.new.faults ≡ self.old.faults }
         ensures ended { self.new.ended ≡ self.old.ended }
+        ensures closed { self.new.closed ≡ self.old.closed }
     {
         if self.handed > 0 {
             self.handed = 0;
@@ -204,6 +212,7 @@ impl<S: Read + Write + OpenStream + Drop, K: MaskKeys + Drop> WsLink<S, K> {
     fn next(&mut self) -> Arrival
         ensures faults { self.new.faults ≡ self.old.faults }
         ensures ended { self.new.ended ≡ self.old.ended }
+        ensures closed { self.new.closed ≡ self.old.closed }
     {
         self.frames.next(&mut self.output, &mut self.keys)
     }
@@ -214,6 +223,7 @@ impl<S: Read + Write + OpenStream + Drop, K: MaskKeys + Drop> WsLink<S, K> {
         ensures kept { self.old.faults ≤ self.new.faults }
         ensures cause { result ≡ Recv.Failed → Rose self.old.faults self.new.faults }
         ensures ended { self.new.ended ≡ (self.old.ended || is_end result) }
+        ensures closed { self.new.closed ≡ self.old.closed }
     {
         match arrival {
             Arrival::Message(message) => {
@@ -240,6 +250,7 @@ impl<S: Read + Write + OpenStream + Drop, K: MaskKeys + Drop> WsLink<S, K> {
         ensures kept { self.old.faults ≤ self.new.faults }
         ensures cause { result ≡ Recv.Failed → Rose self.old.faults self.new.faults }
         ensures ended { self.new.ended ≡ (self.old.ended || is_end result) }
+        ensures closed { self.new.closed ≡ self.old.closed }
     {
         self.say_close(CloseCode::Error);
         self.broken = true;
@@ -252,6 +263,7 @@ impl<S: Read + Write + OpenStream + Drop, K: MaskKeys + Drop> WsLink<S, K> {
         ensures kept { self.old.faults ≤ self.new.faults }
         ensures cause { result ≡ Recv.Failed → Rose self.old.faults self.new.faults }
         ensures ended { self.new.ended ≡ (self.old.ended || is_end result) }
+        ensures closed { self.new.closed ≡ self.old.closed }
     {
         self.say_close(code);
         self.fault();
@@ -262,6 +274,7 @@ impl<S: Read + Write + OpenStream + Drop, K: MaskKeys + Drop> WsLink<S, K> {
     fn say_close(&mut self, code: CloseCode)
         ensures faults { self.new.faults ≡ self.old.faults }
         ensures ended { self.new.ended ≡ self.old.ended }
+        ensures closed { self.new.closed ≡ self.old.closed }
     {
         let put = self.frames.close(code, &mut self.output, &mut self.keys);
         if put.is_ok() && self.flush() {
@@ -273,6 +286,7 @@ impl<S: Read + Write + OpenStream + Drop, K: MaskKeys + Drop> WsLink<S, K> {
     fn waited_enough(&mut self, more: u64) -> bool
         ensures faults { self.new.faults ≡ self.old.faults }
         ensures ended { self.new.ended ≡ self.old.ended }
+        ensures closed { self.new.closed ≡ self.old.closed }
     {
         if self.asked || self.role == Role::Client {
             return false;
@@ -291,6 +305,7 @@ impl<S: Read + Write + OpenStream + Drop, K: MaskKeys + Drop> WsLink<S, K> {
         ensures kept { self.old.faults ≤ self.new.faults }
         ensures cause { result ≡ Recv.Failed → Rose self.old.faults self.new.faults }
         ensures ended { self.new.ended ≡ (self.old.ended || is_end result) }
+        ensures closed { self.new.closed ≡ self.old.closed }
     {
         if !self.flush() {
             self.fault();
@@ -312,6 +327,7 @@ impl<S: Read + Write + OpenStream + Drop, K: MaskKeys + Drop> WsLink<S, K> {
         ensures kept { self.old.faults ≤ self.new.faults }
         ensures cause { result ≡ Recv.Failed → Rose self.old.faults self.new.faults }
         ensures ended { self.new.ended ≡ (self.old.ended || is_end result) }
+        ensures closed { self.new.closed ≡ self.old.closed }
     {
         let limit = self.pace.hushed();
         match self.post.wait_for_socket(limit) {
@@ -327,6 +343,7 @@ impl<S: Read + Write + OpenStream + Drop, K: MaskKeys + Drop> WsLink<S, K> {
         ensures kept { self.old.faults ≤ self.new.faults }
         ensures cause { result ≡ Recv.Failed → Rose self.old.faults self.new.faults }
         ensures ended { self.new.ended ≡ (self.old.ended || is_end result) }
+        ensures closed { self.new.closed ≡ self.old.closed }
     {
         let wait = self.pace.next();
         match self.post.wait(wait.rest, wait.limit) {
@@ -347,6 +364,7 @@ impl<S: Read + Write + OpenStream + Drop, K: MaskKeys + Drop> WsLink<S, K> {
         ensures kept { self.old.faults ≤ self.new.faults }
         ensures cause { result ≡ Recv.Failed → Rose self.old.faults self.new.faults }
         ensures ended { self.new.ended ≡ (self.old.ended || is_end result) }
+        ensures closed { self.new.closed ≡ self.old.closed }
     {
         if self.waited_enough(lasted) {
             return self.refuse(CloseCode::Policy);
@@ -370,6 +388,7 @@ impl<S: Read + Write + OpenStream + Drop, K: MaskKeys + Drop> WsLink<S, K> {
         ensures kept { self.old.faults ≤ self.new.faults }
         ensures cause { result ≡ Recv.Failed → Rose self.old.faults self.new.faults }
         ensures ended { self.new.ended ≡ (self.old.ended || is_end result) }
+        ensures closed { self.new.closed ≡ self.old.closed }
     {
         match self.frames.fill(&mut self.stream) {
             Filled::Bytes { count, all } => {
@@ -401,6 +420,7 @@ impl<S: Read + Write + OpenStream + Drop, K: MaskKeys + Drop> WsLink<S, K> {
         ensures kept { self.old.faults ≤ self.new.faults }
         ensures cause { result ≡ Recv.Failed → Rose self.old.faults self.new.faults }
         ensures ended { self.new.ended ≡ (self.old.ended || is_end result) }
+        ensures closed { self.new.closed ≡ self.old.closed }
     {
         self.came = self.came.saturating_add(count as u64);
         let counts = if count < DROP {
@@ -420,6 +440,7 @@ impl<S: Read + Write + OpenStream + Drop, K: MaskKeys + Drop> WsLink<S, K> {
         ensures kept { self.old.faults ≤ self.new.faults }
         ensures cause { result ≡ Sent.Failed → Rose self.old.faults self.new.faults }
         ensures ended { self.new.ended ≡ self.old.ended }
+        ensures closed { self.new.closed ≡ self.old.closed }
     {
         match self.frames.write(message, &mut self.output, &mut self.keys) {
             Ok(()) => {}
@@ -437,6 +458,7 @@ impl<S: Read + Write + OpenStream + Drop, K: MaskKeys + Drop> WsLink<S, K> {
         ensures kept { self.old.faults ≤ self.new.faults }
         ensures cause { result ≡ Sent.Failed → Rose self.old.faults self.new.faults }
         ensures ended { self.new.ended ≡ self.old.ended }
+        ensures closed { self.new.closed ≡ self.old.closed }
     {
         let message = Message::Binary(message);
         let rest = match self
@@ -458,6 +480,7 @@ impl<S: Read + Write + OpenStream + Drop, K: MaskKeys + Drop> WsLink<S, K> {
         ensures kept { self.old.faults ≤ self.new.faults }
         ensures cause { result ≡ Sent.Failed → Rose self.old.faults self.new.faults }
         ensures ended { self.new.ended ≡ self.old.ended }
+        ensures closed { self.new.closed ≡ self.old.closed }
     {
         match error {
             Error::OutOfMemory => Sent::NoMemory,
@@ -473,6 +496,7 @@ impl<S: Read + Write + OpenStream + Drop, K: MaskKeys + Drop> WsLink<S, K> {
     fn say_goodbye(&mut self)
         ensures faults { self.new.faults ≡ self.old.faults }
         ensures ended { self.new.ended ≡ self.old.ended }
+        ensures closed { self.new.closed ≡ self.old.closed }
     {
         let served = self.asked || self.role == Role::Client;
         let code = if self.post.is_stopping() {
@@ -507,6 +531,7 @@ impl<S: Read + Write + OpenStream + Drop, K: MaskKeys + Drop> WsLink<S, K> {
     fn drain(&mut self)
         ensures faults { self.new.faults ≡ self.old.faults }
         ensures ended { self.new.ended ≡ self.old.ended }
+        ensures closed { self.new.closed ≡ self.old.closed }
     {
         let mut left = GOODBYE;
         let mut counted = 0;
@@ -525,6 +550,7 @@ impl<S: Read + Write + OpenStream + Drop, K: MaskKeys + Drop> WsLink<S, K> {
     fn refill(&mut self, before: u64) -> u64
         ensures faults { self.new.faults ≡ self.old.faults }
         ensures ended { self.new.ended ≡ self.old.ended }
+        ensures closed { self.new.closed ≡ self.old.closed }
     {
         if before == GOODBYE_READ {
             self.post.pause(GOODBYE_READ);
@@ -545,6 +571,7 @@ impl<S: Read + Write + OpenStream + Drop, K: MaskKeys + Drop> WsLink<S, K> {
         ensures faults { self.new.faults ≡ self.old.faults }
         ensures end { result ≡ Recv.End }
         ensures ended { self.new.ended ≡ true }
+        ensures closed { self.new.closed ≡ self.old.closed }
     {
         self.end();
         self.ended = true;
@@ -555,11 +582,12 @@ impl<S: Read + Write + OpenStream + Drop, K: MaskKeys + Drop> WsLink<S, K> {
     pub(crate) fn end(&mut self)
         ensures faults { self.new.faults ≡ self.old.faults }
         ensures ended { self.new.ended ≡ self.old.ended }
+        ensures closed { self.new.closed ≡ self.old.closed }
     {
-        if self.closed {
+        if self.gone {
             return;
         }
-        self.closed = true;
+        self.gone = true;
         // What a session does as it ends may concern the others too.
         self.handed = 0;
         self.post.ring();
@@ -578,6 +606,8 @@ impl<S: Read + Write + OpenStream + Drop + Send, K: MaskKeys + Drop + Send> Link
     ghost faults = { λ l. l.faults };
 
     ghost ended = { λ l. l.ended };
+
+    ghost closed = { λ l. l.closed };
 
     fn recv(&mut self, _alloc: Global) -> Recv {
         if self.ended {
@@ -617,5 +647,6 @@ impl<S: Read + Write + OpenStream + Drop + Send, K: MaskKeys + Drop + Send> Link
 
     fn close(&mut self) {
         self.end();
+        self.closed = true;
     }
 }

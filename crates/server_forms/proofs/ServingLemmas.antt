@@ -23,11 +23,12 @@ use Rattle.turn_book.specs.Rules.{Knows}
 use Rattle.turn_book.specs.Steps.{first_view}
 use Rattle.store_hub.specs.Words.{Known, by_of, enters_of}
 use Rattle.etp_serve.specs.Accepted.{Backs, IsReached, ServesAll}
-use Rattle.etp_serve.specs.Closing.{EachEntered, ServedInTheEnd, ServedOver}
+use Rattle.etp_serve.specs.Closing.{EachEntered, HasNoMoreOf, ServedInTheEnd, ServedOver}
 use Rattle.etp_serve.specs.declared.served.Served.{Served}
 use Rattle.etp_serve.specs.declared.served.Served.TheVariants as why
+use Rattle.etp_serve.proofs.AcceptLemmas.{own_still}
 use Rattle.server_forms.specs.Report.{report}
-use Rattle.server_forms.specs.Top.{Answers, AtMost, Door, Fulfils, HasEntered, Output, ServesWith, Tries, Untouched, door_of, output_of, status_of}
+use Rattle.server_forms.specs.Top.{Answers, AtMost, Door, Fulfils, HasEntered, ListensThere, Output, ServesWith, Tries, Untouched, door_of, output_of, status_of}
 use Rattle.server_forms.specs.Words.{Command}
 
 -- ---- links
@@ -38,6 +39,7 @@ served_none test config v given now b0 b same is = record {
   came = [];
   met = sym (append-nil v.met);
   before = prefix_self v.seen;
+  silent = record { number = refl; own = own_still v.number v.seen };
   each = tt;
   count = omega (arith, same);
   links = subst (λ (z : Option (List Back)). Told b0 z (λ x y. (new : List Back) × (y ≡ x ++ new) × Backs [] new)) (sym is)
@@ -117,16 +119,18 @@ entered_of entering end reported status test config journal given0 given b0 b st
 pub serves_with : ServedInTheEnd → EachEntered → (end : Served) (reported : Wrote) (status : Status) (test : List ℤ → Bool) (config hubs stores : Config) (v0 v : Known) (given0 given : ℕ) (b0 b : Option (List Back)) (journal : List Entry) (h k : Option (List ℕ)) (f n : ℕ)
     → hubs ≡ config → stores ≡ hubs → v0 ≡ first_view (door ∷ []) config → Legal stores journal → Knows by_of enters_of journal v → ServesAll end test hubs v0 v given0 given b0 b
     → status ≡ status_of end reported → Writes reported (report journal) h k → (reported ≡ WriteFault → Rose f n) → ServesWith status config test (door_of given0 given b0 b) (output_of h k f n)
-serves_with closing entering end reported status test config hubs stores v0 v given0 given b0 b journal h k f n same kept view legal knows served status_is written cause = let links : ServedOver end test config 1 journal given0 given b0 b =
-    subst (λ (n : ℕ). ServedOver end test config n journal given0 given b0 b) (ap (λ (x : Known). length x.seen) view)
-    (subst (λ (c : Config). ServedOver end test c (length v0.seen) journal given0 given b0 b) same
-    (closing end test hubs v0 v given0 given b0 b journal (ap (λ (x : Known). x.met) view) knows served)) in record {
+serves_with closing entering end reported status test config hubs stores v0 v given0 given b0 b journal h k f n same kept view legal knows served status_is written cause =
+    let closed : ServedOver end test hubs (length v0.seen) journal given0 given b0 b × HasNoMoreOf v0 journal = closing end test hubs v0 v given0 given b0 b journal (ap (λ (x : Known). x.met) view) knows served in
+    let links : ServedOver end test config 1 journal given0 given b0 b = subst (λ (n : ℕ). ServedOver end test config n journal given0 given b0 b) (ap (λ (x : Known). length x.seen) view)
+    (subst (λ (c : Config). ServedOver end test c (length v0.seen) journal given0 given b0 b) same closed.0) in
+    record {
       end = end;
       reported = reported;
       journal = journal;
       legal = subst (λ (c : Config). Legal c journal) same (subst (λ (c : Config). Legal c journal) kept legal);
       links = links;
       let_in = entered_of entering end reported status test config journal given0 given b0 b status_is links;
+      silent = subst (λ (x : Known). HasNoMoreOf x journal) view closed.1;
       status_is = status_is;
       written = written;
       cause = cause;
@@ -146,6 +150,10 @@ fulfils_of status command files test listener output config read (inr s) = inr r
 pub no_memory : (c : Option Command) (files : List ℕ → Option (List ℕ)) (test : List ℤ → Bool) (door : Door) (output : Output) → Untouched door output → Answers outcome.NoMemory c files test door output
 no_memory None files test listener output same = (inr refl, same)
 no_memory (Some command) files test listener output same = inr (refl, same)
+
+pub there_same : (c : Option Command) (given now : ℕ) (before place : Option (List ℕ)) → now ≡ given → ListensThere c given now before place
+there_same None given now before place same = same
+there_same (Some command) given now before place same = inl same
 
 pub at_most_same : (c : Option Command) (given now : ℕ) → now ≡ given → AtMost c given now
 at_most_same None given now same = same

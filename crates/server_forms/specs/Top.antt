@@ -1,11 +1,12 @@
 -- What the top call answers, by all that it was given and left.
-use Rattle.std.specs.Prelude.{◌≡◌, ◌⊎◌, ◌+◌, ◌≤◌, ℕ, ℤ, Bool, true, false, List, drop, Option, None, Some, IfSome, Ok}
+use Rattle.std.specs.Prelude.{◌≡◌, ◌⊎◌, ◌+◌, ◌≤◌, ℕ, ℤ, Bool, true, false, List, [], ◌∷◌, drop, Option, None, Some, IfSome, Ok}
 use Rattle.std.specs.Io.KnownBytes.{Keeps}
 use Rattle.chan_defs.specs.Config.{defs}
 use Rattle.server_config.specs.declared.config.Config.{Config as Settings}
 use Rattle.config_file.specs.Settings.{IsNoConfig}
 use Rattle.etp_outside.specs.Doors.{Back}
 use Rattle.etp_outside.specs.Faults.{Rose}
+use Rattle.etp_outside.specs.Told.{Told}
 use Rattle.etp_outside.specs.declared.status.Status.{Status}
 use Rattle.etp_outside.specs.declared.status.Status.TheVariants as outcome
 use Rattle.etp_serve.specs.Accepted.{IsReached}
@@ -16,9 +17,11 @@ use Rattle.gathered_text.specs.Writing.{Writes}
 use Rattle.gathered_text.specs.declared.writing.Wrote.{Wrote}
 use Rattle.gathered_text.specs.declared.writing.Wrote.TheVariants.{Whole, WriteFault, NoMemory}
 use Rattle.store_machine.specs.Answers.{has_room_for}
-use Rattle.store_machine.specs.Legal.{Legal}
+use Rattle.store_hub.specs.Words.{by_of}
+use Rattle.store_machine.specs.Legal.{Legal, door as entry_of_door}
 use Rattle.store_machine.specs.declared.journal.Act.TheVariants.{Enter}
 use Rattle.store_machine.specs.declared.journal.Entry.{Entry}
+use Rattle.turn_book.specs.Lists.{own}
 use Rattle.server_forms.specs.Report.{report}
 use Rattle.server_forms.specs.Words.{Command}
 
@@ -32,6 +35,15 @@ pub record Door : Type 0 where
 -- a listener that reveals this before a call and after it
 abbrev pub door_of : ℕ → ℕ → Option (List Back) → Option (List Back) → Door
 door_of given now backs taken = record { given = given; now = now; backs = backs; taken = taken }
+
+-- links were given out only by a listener that was told to listen at this address, and at no other since, if it reveals where it listens
+abbrev pub ListensAt : List ℕ → ℕ → ℕ → Option (List ℕ) → Option (List ℕ) → Type 0
+ListensAt address given now before place = (now ≡ given) ⊎ Told before place (λ old new. new ≡ address)
+
+-- the same for the address of a command
+abbrev pub ListensThere : Option Command → ℕ → ℕ → Option (List ℕ) → Option (List ℕ) → Type 0
+ListensThere None given now before place = now ≡ given
+ListensThere (Some command) given now before place = ListensAt command.address given now before place
 
 -- what an output holds before a call and after it, and how often it had failed before and has after it
 pub record Output : Type 0 where
@@ -63,7 +75,8 @@ abbrev pub HasEntered : Settings → List Entry → ℕ → ℕ → Type 0
 HasEntered config journal given now = (now ≤ given + entered (drop 1 journal)) ⊎ (has_room_for config journal Enter ≡ false)
 
 -- Links were served from one new store. There is an answer for each link that was given out, over the journal that the store had in the
--- end, which is legal; and of the report of that journal all was written, or a front: if the output failed, or memory ran out
+-- end, which is legal, and in which the server itself has no entry but its first; and of the report of that journal all was written, or a
+-- front: if the output failed, or memory ran out
 pub record ServesWith (status : Status) (config : Settings) (test : List ℤ → Bool) (door : Door) (output : Output) : Type 0 where
   pub end : Served
   pub reported : Wrote
@@ -71,6 +84,7 @@ pub record ServesWith (status : Status) (config : Settings) (test : List ℤ →
   pub legal : Legal config journal
   pub links : ServedOver end test config 1 journal door.given door.now door.backs door.taken
   pub let_in : status ≡ outcome.Done → HasEntered config journal door.given door.now
+  pub silent : own by_of 0 journal ≡ (0, entry_of_door) ∷ []
   pub status_is : status ≡ status_of end reported
   pub written : Writes reported (report journal) output.before output.after
   pub cause : reported ≡ WriteFault → Rose output.faults output.count

@@ -72,6 +72,8 @@ impl<'a, R: Net<Listener = TcpListener, Stream = TcpStream> + Clock, W: Sink> Li
 
     ghost backs = { λ d. None };
 
+    ghost at = { λ d. ⟦<TcpDoor<'a, R> as Listener>⟧.at d.door };
+
     ghost few = { λ d. tt };
 
     fn listen(&mut self, address: &str) -> Listened {

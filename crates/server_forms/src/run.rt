@@ -8,7 +8,7 @@ ghost use Rattle.store_hub.specs.Passes.{IsPassOf, config_of, known};
 ghost use Rattle.store_machine.specs.Legal.{door};
 ghost use Rattle.turn_book.specs.Steps.{first_view};
 ghost use Rattle.server_forms.specs.Commands.{as_command};
-ghost use Rattle.server_forms.specs.Top.{Answers, AtMost, Fulfils, IsOver, Tries, door_of, output_of, status_of};
+ghost use Rattle.server_forms.specs.Top.{Answers, AtMost, Fulfils, IsOver, ListensAt, ListensThere, Tries, door_of, output_of, status_of};
 ghost use Rattle.server_forms.specs.Words.{command_in};
 
 use crate::command::{Command, command_of};
@@ -30,7 +30,7 @@ use store_machine::Store;
 /// that name is read, and links that come at that address are served, until the listener stops, or for that many links, 1 to 1,000,000.
 /// Then the report is written to the output; it also follows a listener's failure and running out of memory, as far as there is memory for
 /// it. The first cause counts: if the listener failed, a report that could not be written changes nothing.
-#[tactic(auto, using(crate::proofs::ServingLemmas::at_most_same, crate::proofs::ServingLemmas::no_memory, crate::proofs::ServingLemmas::untouched))]
+#[tactic(auto, using(crate::proofs::ServingLemmas::at_most_same, crate::proofs::ServingLemmas::no_memory, crate::proofs::ServingLemmas::there_same, crate::proofs::ServingLemmas::untouched))]
 pub fn run_server<H: Host, A: Listener, W: Sink, C: Clock, G: Gate, R: Threads + Wait + Sync>(
     rt: &R,
     alloc: Global,
@@ -46,6 +46,7 @@ pub fn run_server<H: Host, A: Listener, W: Sink, C: Clock, G: Gate, R: Threads +
     ensures answers { Answers result (command_in (map string_bytes words.now)) (H.content host.old) (C.passes clock.now)
         (door_of (A.given door.old) (A.given door.new) (A.backs door.old) (A.backs door.new)) (output_of (W.held out.old) (W.held out.new) (W.faults out.old) (W.faults out.new)) }
     ensures most { AtMost (command_in (map string_bytes words.now)) (A.given door.old) (A.given door.new) }
+    ensures there { ListensThere (command_in (map string_bytes words.now)) (A.given door.old) (A.given door.new) (A.at door.old) (A.at door.new) }
     ensures over { result ≡ Done → IsOver (command_in (map string_bytes words.now)) (A.stopped door.new) (A.given door.old) (A.given door.new) }
     ensures read_cause { result ≡ ReadFault → Rose (H.faults host.old) (H.faults host.new) }
     ensures write_cause { result ≡ WriteFault → Rose (W.faults out.old) (W.faults out.new) }
@@ -77,6 +78,7 @@ fn run<H: Host, A: Listener, W: Sink, C: Clock, G: Gate, R: Threads + Wait + Syn
     ensures fulfils { Fulfils result (as_command command.entry) (H.content host.old) (C.passes clock.now)
         (door_of (A.given door.old) (A.given door.new) (A.backs door.old) (A.backs door.new)) (output_of (W.held out.old) (W.held out.new) (W.faults out.old) (W.faults out.new)) }
     ensures most { AtMost (Some (as_command command.entry)) (A.given door.old) (A.given door.new) }
+    ensures there { ListensThere (Some (as_command command.entry)) (A.given door.old) (A.given door.new) (A.at door.old) (A.at door.new) }
     ensures over { result ≡ Done → IsOver (Some (as_command command.entry)) (A.stopped door.new) (A.given door.old) (A.given door.new) }
     ensures read_cause { result ≡ ReadFault → Rose (H.faults host.old) (H.faults host.new) }
     ensures write_cause { result ≡ WriteFault → Rose (W.faults out.old) (W.faults out.new) }
@@ -113,6 +115,7 @@ fn serve<A: Listener, W: Sink, C: Clock, G: Gate, R: Threads + Wait + Sync>(
     ensures tries { Tries result config.now (C.passes clock.now)
         (door_of (A.given door.old) (A.given door.new) (A.backs door.old) (A.backs door.new)) (output_of (W.held out.old) (W.held out.new) (W.faults out.old) (W.faults out.new)) }
     ensures most { IfSome most (λ m. A.given door.new ≤ A.given door.old + m) }
+    ensures there { ListensAt address.now (A.given door.old) (A.given door.new) (A.at door.old) (A.at door.new) }
     ensures over { result ≡ Done → (A.stopped door.new ≡ true) ⊎ IsReached most (A.given door.old) (A.given door.new) }
     ensures write_cause { result ≡ WriteFault → Rose (W.faults out.old) (W.faults out.new) }
     ensures listen_cause { result ≡ ListenFault → Rose (A.faults door.old) (A.faults door.new) }
@@ -162,6 +165,7 @@ fn serve_at<A: Listener, C: Clock, G: Gate, R: Threads + Wait + Sync>(
     ensures all { ServesAll result (C.passes clock.now) (config_of hub.now) (known pass.old) (known pass.new)
         (A.given door.old) (A.given door.new) (A.backs door.old) (A.backs door.new) }
     ensures most { IfSome most (λ m. A.given door.new ≤ A.given door.old + m) }
+    ensures there { ListensAt address.now (A.given door.old) (A.given door.new) (A.at door.old) (A.at door.new) }
     ensures over { result ≡ why.Stopped
         → (A.stopped door.new ≡ true) ⊎ IsReached most (A.given door.old) (A.given door.new) }
     ensures kept { A.faults door.old ≤ A.faults door.new }

@@ -110,7 +110,7 @@ number_of h n (d ∷ ds) (suc k) c e =
     let rest : (k < length ds) × (c.points ≡ channel_points (pos (suc n + k)) h) = number_of h (suc n) ds k c e in
     (omega (arith, rest.0), rest.1 ∙ ap (λ j. channel_points (pos j) h) (omega arith))
 
-channel_is : (config : Config) (h : List Entry) (id : ℤ) (c : Channel) → channel_at (channels_of config h) id ≡ Some c → IsChannel config id × (c.points ≡ channel_points id h)
+pub channel_is : (config : Config) (h : List Entry) (id : ℤ) (c : Channel) → channel_at (channels_of config h) id ≡ Some c → IsChannel config id × (c.points ≡ channel_points id h)
 unfolding channels_of
 channel_is config h (pos k) c e =
     let f : (k < length config.channels) × (c.points ≡ channel_points (pos (0 + k)) h) = number_of h 0 config.channels k c e in

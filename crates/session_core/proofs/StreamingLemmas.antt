@@ -205,7 +205,7 @@ module _ (config : Config) (n : ℕ) (h : List Entry) (small : HasIds config) (s
     };
   }
 
-  kept_run : (places : List ℕ) (es : List Event) → Rises 0 places (length h) → Kept (run config n h places es)
+  pub kept_run : (places : List ℕ) (es : List Event) → Rises 0 places (length h) → Kept (run config n h places es)
   kept_run places es rises = kept_from (first_course config n places) es (kept_first places rises)
 
   -- a session that has ids left had them before, and is between two events with nothing left to send

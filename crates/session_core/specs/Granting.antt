@@ -1,6 +1,7 @@
 -- What an event adds to what a session sends: where its subscriptions begin, and with which reply, what they are sent, and where they end.
 use Rattle.std.specs.Prelude.{ℕ, ℤ, ◌≡◌, ◌⊎◌, Bool, true, false, List, [], ◌∷◌, ◌++◌, Option, Some, None, Ok, length, map}
 use Rattle.std.specs.List.{AllByRecursion}
+use mathlib.Core.List.{IsPrefix}
 use Rattle.server_config.specs.declared.config.Config.{Config}
 use Rattle.channel_rows.specs.Notices.{notice, stop_response}
 use Rattle.channel_rows.specs.Subscriptions.{start_at, stop_one, subscribe_response}
@@ -22,8 +23,10 @@ use Rattle.msg_channel.specs.declared.channel_subscribe_messages.ChannelSubscrib
 use Rattle.msg_channel.specs.declared.channel_subscribe_messages.ChannelSubscribeMessage.TheVariants as subscribe
 use Rattle.msg_channel.specs.declared.channel_subscribe_messages.SubscribeChannels.{SubscribeChannels}
 use Rattle.msg_channel.specs.declared.channel_subscribe_messages.UnsubscribeChannels.{UnsubscribeChannels}
+use Rattle.etp_values.specs.declared.point.Point.{Point}
+use Rattle.store_machine.specs.Channels.{channel_points}
+use Rattle.store_machine.specs.Starts.{start_of}
 use Rattle.store_machine.specs.declared.call.Start.{Start}
-use Rattle.store_machine.specs.declared.call.Start.TheVariants.{At}
 use Rattle.store_machine.specs.declared.journal.Entry.{Entry}
 use Rattle.subscribe_core.specs.Subscriptions.{Subbed, has_sub}
 use Rattle.subscribe_core.specs.Views.{sub_of}
@@ -87,8 +90,9 @@ IsPoll (Polls front) = Unit {0}
 pub data Matter : Type 0 where
   -- nothing about subscriptions
   Aside : (request : Request) (sayings : List Saying) → Matter
-  -- keys of a request for subscriptions are granted or refused, and the points are sent that the subscriptions start with
-  Begins : (header : Header) (asked : SubscribeChannels) (decided : List (List ℕ × Decision (List ℕ))) (changes : List ChannelChange) → Matter
+  -- keys of a request for subscriptions are granted or refused by what these entries left, and the points are sent that the subscriptions
+  -- start with
+  Begins : (header : Header) (asked : SubscribeChannels) (before : List Entry) (decided : List (List ℕ × Decision (List ℕ))) (changes : List ChannelChange) → Matter
   -- the client ends subscriptions
   Ends : (header : Header) (asked : UnsubscribeChannels) (decided : List (List ℕ × Decision ℤ)) → Matter
   -- subscriptions are sent changes
@@ -99,7 +103,7 @@ pub data Matter : Type 0 where
 -- the request that is answered
 abbrev pub request_in : Matter → Request
 request_in (Aside r sayings) = r
-request_in (Begins h asked decided changes) = request_of h
+request_in (Begins h asked before decided changes) = request_of h
 request_in (Ends h asked decided) = request_of h
 request_in (Tells changes) = unread
 request_in (Stops lag ids) = unread
@@ -107,14 +111,14 @@ request_in (Stops lag ids) = unread
 -- what is sent first
 abbrev pub first_in : Matter → List Saying
 first_in (Aside r sayings) = sayings
-first_in (Begins h asked decided changes) = sayings_of message.ChannelSubscribe (request_reply subscribe_response decided)
+first_in (Begins h asked before decided changes) = sayings_of message.ChannelSubscribe (request_reply subscribe_response decided)
 first_in (Ends h asked decided) = sayings_of message.ChannelSubscribe (request_reply (stop_response Unsubscribed) decided)
 first_in (Tells changes) = []
 first_in (Stops lag ids) = sayings_of message.ChannelSubscribe (Notice (stop_response (Lagged lag) ids) ∷ [])
 
 -- the changes that are sent after that
 abbrev pub changes_in : Matter → List ChannelChange
-changes_in (Begins h asked decided changes) = changes
+changes_in (Begins h asked before decided changes) = changes
 changes_in (Tells changes) = changes
 changes_in _ = []
 
@@ -136,26 +140,29 @@ pub record IsSent (matter : Matter) (sent : List Outgoing) : Type 0 where
 
 -- ---- what it means
 
--- a subscription starts at the index that was requested, if one was
-abbrev pub IsStartOf : Option Start → ℤ → Type 0
-IsStartOf (Some (At z)) start = start ≡ z
-IsStartOf _ start = Unit {0}
+-- a subscription starts at the index that was requested, at that of the k-th of these points from the end, or past the last of them
+abbrev pub IsStartOf : List Point → Option Start → ℤ → Type 0
+IsStartOf points None start = ⊥
+IsStartOf points (Some ask) start = start ≡ start_of points ask
 
--- a subscription is as a key asks
-abbrev pub IsAskedBy : ChannelSubscribeInfo → Sub → Type 0
-IsAskedBy x s = (s.channel ≡ x.channel_id) × (s.all ≡ x.data_changes) × IsStartOf (start_at x.start_index x.request_latest_index_count) s.start
+-- a subscription is as a key asks of a store that has these entries: it is from the place after them on, and starts where the key asks
+-- among the points that the channel has there
+abbrev pub IsAskedBy : List Entry → ChannelSubscribeInfo → Sub → Type 0
+IsAskedBy before x s =
+    (s.channel ≡ x.channel_id) × (s.all ≡ x.data_changes) × (s.from ≡ length before)
+    × IsStartOf (channel_points x.channel_id before) (start_at x.start_index x.request_latest_index_count) s.start
 
 -- a key is granted if its channel had no subscription, and then has the one that was requested
-abbrev pub IsKeyDecided : Subbed → Subbed → ChannelSubscribeInfo → Decision (List ℕ) → Type 0
-IsKeyDecided v w x (Granted text) = (text ≡ []) × (sub_of x.channel_id v.subs ≡ None) × ((s : Sub) × (sub_of x.channel_id w.subs ≡ Some s) × IsAskedBy x s)
-IsKeyDecided v w x (Refused code) = Unit {0}
+abbrev pub IsKeyDecided : List Entry → Subbed → Subbed → ChannelSubscribeInfo → Decision (List ℕ) → Type 0
+IsKeyDecided before v w x (Granted text) = (text ≡ []) × (sub_of x.channel_id v.subs ≡ None) × ((s : Sub) × (sub_of x.channel_id w.subs ≡ Some s) × IsAskedBy before x s)
+IsKeyDecided before v w x (Refused code) = Unit {0}
 
 -- the same for each key, in their order
-abbrev pub AreDecided : Subbed → Subbed → List (List ℕ × ChannelSubscribeInfo) → List (List ℕ × Decision (List ℕ)) → Type 0
-AreDecided v w [] [] = Unit {0}
-AreDecided v w [] (d ∷ ds) = ⊥
-AreDecided v w (x ∷ xs) [] = ⊥
-AreDecided v w (x ∷ xs) (d ∷ ds) = (d.0 ≡ x.0) × IsKeyDecided v w x.1 d.1 × AreDecided v w xs ds
+abbrev pub AreDecided : List Entry → Subbed → Subbed → List (List ℕ × ChannelSubscribeInfo) → List (List ℕ × Decision (List ℕ)) → Type 0
+AreDecided before v w [] [] = Unit {0}
+AreDecided before v w [] (d ∷ ds) = ⊥
+AreDecided before v w (x ∷ xs) [] = ⊥
+AreDecided before v w (x ∷ xs) (d ∷ ds) = (d.0 ≡ x.0) × IsKeyDecided before v w x.1 d.1 × AreDecided before v w xs ds
 
 abbrev pub IsGrantOf : ℤ → ChannelSubscribeInfo → Decision (List ℕ) → Type 0
 IsGrantOf channel x (Granted text) = x.channel_id ≡ channel
@@ -193,14 +200,22 @@ NoneBegins v w = (channel : ℤ) → sub_of channel v.subs ≡ None → sub_of c
 -- the subscriptions before an event and after it, and what it sends, if this is the matter
 abbrev pub IsMatter : Event → Subbed → Subbed → List Outgoing → Matter → Type 0
 IsMatter e v w sent (Aside r sayings) = (w ≡ v) × AllByRecursion IsAside sayings × AllByRecursion (λ (o : Outgoing). speaks o.message ≡ false) sent
-IsMatter e v w sent (Begins h asked decided changes) =
-    IsRead e h (message.ChannelSubscribe (subscribe.SubscribeChannels asked)) × AreDecided v w asked.channels decided × OnlyGranted v w asked.channels decided × AllByRecursion (IsFirstOf w asked.channels decided) changes
+IsMatter e v w sent (Begins h asked before decided changes) =
+    IsRead e h (message.ChannelSubscribe (subscribe.SubscribeChannels asked)) × AreDecided before v w asked.channels decided × OnlyGranted v w asked.channels decided × AllByRecursion (IsFirstOf w asked.channels decided) changes
 IsMatter e v w sent (Ends h asked decided) =
     IsRead e h (message.ChannelSubscribe (subscribe.UnsubscribeChannels asked)) × (decided ≡ checked stop_one v asked.channel_ids) × (w ≡ checked_state stop_one v asked.channel_ids) × NoneBegins v w
 IsMatter e v w sent (Tells changes) = IsPoll e × (w.subs ≡ v.subs) × AllByRecursion (IsToldTo v) changes
 IsMatter e v w sent (Stops lag ids) = IsPoll e × (w.subs ≡ [])
 
 -- ---- the law
+
+-- the store answered by the first entries of the history, up to the first of the places that are left
+abbrev pub IsAnsweredAfter : List Entry → List ℕ → Matter → Type 0
+IsAnsweredAfter h places (Begins header asked before decided changes) = IsPrefix before h × ((left : List ℕ) × (places ≡ length before ∷ left))
+IsAnsweredAfter h places (Aside request sayings) = Unit {0}
+IsAnsweredAfter h places (Ends header asked decided) = Unit {0}
+IsAnsweredAfter h places (Tells changes) = Unit {0}
+IsAnsweredAfter h places (Stops lag ids) = Unit {0}
 
 -- an event that follows these adds this to what was sent
 pub record IsReplied (config : Config) (n : ℕ) (h : List Entry) (places : List ℕ) (es : List Event) (e : Event) : Type 0 where
@@ -209,9 +224,11 @@ pub record IsReplied (config : Config) (n : ℕ) (h : List Entry) (places : List
   pub adds : (run config n h places (es ++ e ∷ [])).sent ≡ (run config n h places es).sent ++ sent
   pub parts : IsSent matter sent
   pub means : IsMatter e (run config n h places es).state.subs (run config n h places (es ++ e ∷ [])).state.subs sent matter
+  pub answered : IsAnsweredAfter h (run config n h places es).places matter
 
 -- If an event makes a subscription, it is a request that names the channel under a key, and the reply to that request, which is sent before
--- anything about the channel, grants that key. No other message grants a key.
+-- anything about the channel, grants that key. The subscription is from the place on at which the store answered, and starts where the key
+-- asks among the points that the channel had there. No other message grants a key.
 abbrev pub SubscriptionsAreReplied : Type 0
 SubscriptionsAreReplied = (config : Config) (n : ℕ) (h : List Entry) (places : List ℕ) (es : List Event) (e : Event) → HasIds config → Rises 0 places (length h)
     → is_spent_course (run config n h places (es ++ e ∷ [])) ≡ false → IsReplied config n h places es e

@@ -15,6 +15,9 @@ use Rattle.channel_rows.specs.declared.subscribing.Naming.{Naming}
 use Rattle.channel_store.specs.Channels.{Channel}
 use Rattle.channel_store.specs.Points.{past}
 use Rattle.channel_store.specs.Refusals.{channel_at}
+use Rattle.server_config.specs.declared.config.Config.{Config}
+use Rattle.store_machine.specs.Channels.{channel_points, channels_of}
+use Rattle.store_machine.specs.declared.journal.Entry.{Entry}
 use Rattle.channel_store.specs.declared.change.ChannelChange.{ChannelChange}
 use Rattle.channel_store.specs.declared.subscription.Sub.{Sub}
 use Rattle.etp_values.specs.declared.code.ErrorCode.{ErrorCode}
@@ -35,44 +38,45 @@ use Rattle.subscribe_core.specs.Subscriptions.{Subbed, cursor_after, has_sub}
 use Rattle.subscribe_core.specs.Views.{sub_of}
 use Rattle.session_core.specs.Granting.{AreDecided, IsFirstOf, IsGranted, IsStartOf}
 use Rattle.subscribe_core.proofs.SubLemmas.{absent-has, found-push, has-absent, other_way}
-use Rattle.session_core.proofs.StandingLemmas.{absent-push}
+use Rattle.session_core.proofs.StandingLemmas.{absent-push, channel_is}
 use Rattle.session_core.proofs.StartingLemmas.{any_push, first_change, first_told, told_as}
 
 -- ---- if the store lets a subscription start
 
-abbrev IsFairStart : Start → StartReply → Type 0
-IsFairStart s (replied.Refused code) = Unit {0}
-IsFairStart s (replied.From start ps) = IsStartOf (Some s) start
+-- an accepted subscription starts where it asks among the points that its channel has after these entries
+abbrev IsFairStart : List Entry → StartAsk → StartReply → Type 0
+IsFairStart before a (replied.Refused code) = Unit {0}
+IsFairStart before a (replied.From start ps) = start ≡ start_of (channel_points a.channel before) a.start
 
-abbrev pub AreFair : List (List ℕ × StartAsk) → List (List ℕ × StartReply) → Type 0
-AreFair [] rs = Unit {0}
-AreFair (a ∷ as_) [] = ⊥
-AreFair (a ∷ as_) (r ∷ rs) = IsFairStart a.1.start r.1 × AreFair as_ rs
+abbrev pub AreFair : List Entry → List (List ℕ × StartAsk) → List (List ℕ × StartReply) → Type 0
+AreFair before [] rs = Unit {0}
+AreFair before (a ∷ as_) [] = ⊥
+AreFair before (a ∷ as_) (r ∷ rs) = IsFairStart before a.1 r.1 × AreFair before as_ rs
 
-own_start : (xs : List Point) (s : Start) → IsStartOf (Some s) (start_of xs s)
-own_start xs (start.At i) = refl
-own_start xs (start.Latest k) = tt
-own_start xs start.Live = tt
+module _ (config : Config) (before : List Entry) where
+  fair_from : (a : StartAsk) (xs : List Point) (ps : List Point) (left : _) → xs ≡ channel_points a.channel before → IsFairStart before a (from_index (start_of xs a.start) ps left)
+  fair_from a xs ps None is = tt
+  fair_from a xs ps (Some left) is = ap (λ l. start_of l a.start) is
 
-fair_from : (xs : List Point) (s : Start) (ps : List Point) (left : _) → IsFairStart s (from_index (start_of xs s) ps left)
-fair_from xs s ps None = tt
-fair_from xs s ps (Some left) = own_start xs s
+  fair_begun : (a : StartAsk) (room : _) (o : Option Channel) → channel_at (channels_of config before) a.channel ≡ o → IsFairStart before a (begun o room a.start)
+  fair_begun a room None e = tt
+  fair_begun a room (Some c) e = by (is_start a.start)
+    where
+      by : (b : Bool)
+          → IsFairStart before a (if b then from_index (start_of c.points a.start) (past (start_of c.points a.start) c.points) (room_with room (past (start_of c.points a.start) c.points)) else replied.Refused InvalidArgument)
+      by true = fair_from a c.points (past (start_of c.points a.start) c.points) (room_with room (past (start_of c.points a.start) c.points)) (channel_is config before a.channel c e).1
+      by false = tt
 
-fair_begun : (o : Option Channel) (room : _) (s : Start) → IsFairStart s (begun o room s)
-fair_begun None room s = tt
-fair_begun (Some c) room s = by (is_start s)
-  where
-    by : (b : Bool) → IsFairStart s (if b then from_index (start_of c.points s) (past (start_of c.points s) c.points) (room_with room (past (start_of c.points s) c.points)) else replied.Refused InvalidArgument)
-    by true = fair_from c.points s (past (start_of c.points s) c.points) (room_with room (past (start_of c.points s) c.points))
-    by false = tt
-
-pub are_fair : (cs : List Channel) (room : _) (asks : List (List ℕ × StartAsk)) → AreFair asks (started cs room asks)
-are_fair cs room [] = tt
-are_fair cs room (a ∷ asks) = (fair_begun (channel_at cs a.1.channel) room a.1.start, are_fair cs (room_behind room (begun (channel_at cs a.1.channel) room a.1.start)) asks)
+  pub are_fair : (room : _) (asks : List (List ℕ × StartAsk)) → AreFair before asks (started (channels_of config before) room asks)
+  are_fair room [] = tt
+  are_fair room (a ∷ asks) = (
+    fair_begun a.1 room (channel_at (channels_of config before) a.1.channel) refl,
+    are_fair (room_behind room (begun (channel_at (channels_of config before) a.1.channel) room a.1.start)) asks,
+  )
 
 -- ---- one key after the other
 
-module _ (p : ℕ) (first : Subbed) where
+module _ (before : List Entry) (first : Subbed) where
   -- only what was named has begun
   pub record IsFresh (n : Naming) (b : Beginning) : Type 0 where
     pub fresh : (c : ℤ) → list_any (int_eq c) n.named ≡ false → has_sub c first.subs ≡ false → has_sub c b.subs.subs ≡ false
@@ -80,7 +84,7 @@ module _ (p : ℕ) (first : Subbed) where
 
   -- what keys make of a beginning
   pub record Decides (b w : Beginning) (items : List (List ℕ × ChannelSubscribeInfo)) (ds : List (List ℕ × Decision (List ℕ))) : Type 0 where
-    pub each : AreDecided first w.subs items ds
+    pub each : AreDecided before first w.subs items ds
     pub only : (c : ℤ) (s : Sub) → sub_of c b.subs.subs ≡ None → sub_of c w.subs.subs ≡ Some s → IsGranted c items ds
     pub stays : (c : ℤ) (s : Sub) → sub_of c b.subs.subs ≡ Some s → sub_of c w.subs.subs ≡ Some s
     pub new : List ChannelChange
@@ -91,17 +95,17 @@ module _ (p : ℕ) (first : Subbed) where
   asked_of n items = checked (subscribe_one first.subs) n items
 
   abbrev ends : Beginning → List (List ℕ × Decision StartAsk) → List (List ℕ × StartReply) → Beginning
-  ends b asked rs = finished_state (begin_one p) 1 b (kept (λ a. a) asked) rs
+  ends b asked rs = finished_state (begin_one (length before)) 1 b (kept (λ a. a) asked) rs
 
   abbrev decides : Beginning → List (List ℕ × Decision StartAsk) → List (List ℕ × StartReply) → List (List ℕ × Decision (List ℕ))
-  decides b asked rs = finished (begin_one p) 1 b (kept (λ a. a) asked) rs
+  decides b asked rs = finished (begin_one (length before)) 1 b (kept (λ a. a) asked) rs
 
   -- what is to be shown of keys
   abbrev Shows : Beginning → List (List ℕ × ChannelSubscribeInfo) → List (List ℕ × Decision StartAsk) → List (List ℕ × StartReply) → Type 0
   Shows b items asked rs = Decides b (ends b asked rs) items (decides b asked rs)
 
   abbrev AllDecide : List (List ℕ × ChannelSubscribeInfo) → Type 0
-  AllDecide items = (n : Naming) (b : Beginning) (rs : List (List ℕ × StartReply)) → AreFair (sent (λ a. a) (asked_of n items)) rs → IsFresh n b → Shows b items (asked_of n items) rs
+  AllDecide items = (n : Naming) (b : Beginning) (rs : List (List ℕ × StartReply)) → AreFair before (sent (λ a. a) (asked_of n items)) rs → IsFresh n b → Shows b items (asked_of n items) rs
 
   module _ (x : List ℕ × ChannelSubscribeInfo) (items : List (List ℕ × ChannelSubscribeInfo)) (rest : AllDecide items) (n : Naming) (b : Beginning) (is : IsFresh n b) where
     abbrev with_key : Naming × Decision StartAsk → List (List ℕ × Decision StartAsk)
@@ -130,14 +134,14 @@ module _ (p : ℕ) (first : Subbed) where
     named_going : IsFresh going_on b
     named_going = record { fresh = λ c e g. is.fresh c (any_push c x.1.channel_id n.named e).0 g; few = let f = is.few in omega (arith, f) }
 
-    key_refused : (code : ErrorCode) (rs : List (List ℕ × StartReply)) → AreFair (sent (λ a. a) (with_key (names n x.1.channel_id, Refused code))) rs → Shows b (x ∷ items) (with_key (names n x.1.channel_id, Refused code)) rs
+    key_refused : (code : ErrorCode) (rs : List (List ℕ × StartReply)) → AreFair before (sent (λ a. a) (with_key (names n x.1.channel_id, Refused code))) rs → Shows b (x ∷ items) (with_key (names n x.1.channel_id, Refused code)) rs
     key_refused code rs fair =
         refused_on code (ends b (asked_of (names n x.1.channel_id) items) rs) (decides b (asked_of (names n x.1.channel_id) items) rs) (rest (names n x.1.channel_id) b rs fair named_more)
 
     -- ---- a key that is granted, by the store's answer
 
     abbrev new_sub : ℤ → Sub
-    new_sub at = record { channel = x.1.channel_id; start = at; from = p; all = x.1.data_changes }
+    new_sub at = record { channel = x.1.channel_id; start = at; from = length before; all = x.1.data_changes }
 
     abbrev grown : ℤ → List Point → Subbed → Beginning
     grown at ps v = record { subs = v; notices = b.notices ++ first_notices x.1.channel_id ps }
@@ -163,7 +167,7 @@ module _ (p : ℕ) (first : Subbed) where
     first_news w ds (q ∷ qs) has = (((tt, has), inl refl), tt)
 
     module _ (at : ℤ) (ps : List Point) (rs : List (List ℕ × StartReply)) (none : sub_of x.1.channel_id first.subs ≡ None) (absent : sub_of x.1.channel_id b.subs.subs ≡ None)
-        (asked : IsStartOf (start_at x.1.start_index x.1.request_latest_index_count) at) where
+        (asked : IsStartOf (channel_points x.1.channel_id before) (start_at x.1.start_index x.1.request_latest_index_count) at) where
       abbrev b1 : Beginning
       b1 = grown at ps (more at)
 
@@ -179,7 +183,7 @@ module _ (p : ℕ) (first : Subbed) where
       granted_on w ds later =
           let stands : sub_of x.1.channel_id w.subs.subs ≡ Some (new_sub at) = later.stays x.1.channel_id (new_sub at) found in
           record {
-            each = (refl, (refl, none, (new_sub at, stands, (refl, refl, asked))), later.each);
+            each = (refl, (refl, none, (new_sub at, stands, (refl, refl, refl, asked))), later.each);
             only = λ c s e f. only_so w ds later c s e f (int_eq x.1.channel_id c) refl;
             stays = λ c s e. later.stays c s (found-push c b.subs.subs (new_sub at) s e);
             new = first_change x.1.channel_id ps ++ later.new;
@@ -189,9 +193,9 @@ module _ (p : ℕ) (first : Subbed) where
                 (all-weaker (IsFirstOf w.subs items ds) (IsFirstOf w.subs (x ∷ items) ((x.0, Granted []) ∷ ds)) (λ c f. (f.0, inr f.1)) later.new later.news);
           }
 
-    answered : (s : Start) (rs : List (List ℕ × StartReply)) (r : StartReply) → IsFairStart s r → AreFair (sent (λ a. a) (asked_of going_on items)) rs
+    answered : (s : Start) (rs : List (List ℕ × StartReply)) (r : StartReply) → IsFairStart before (new_ask s) r → AreFair before (sent (λ a. a) (asked_of going_on items)) rs
         → start_at x.1.start_index x.1.request_latest_index_count ≡ Some s → sub_of x.1.channel_id first.subs ≡ None → has_sub x.1.channel_id b.subs.subs ≡ false → nat_le 256 (length b.subs.subs) ≡ false
-        → Decides b (ends (begins p b (new_ask s) r).0 (asked_of going_on items) rs) (x ∷ items) ((x.0, (begins p b (new_ask s) r).1) ∷ decides (begins p b (new_ask s) r).0 (asked_of going_on items) rs)
+        → Decides b (ends (begins (length before) b (new_ask s) r).0 (asked_of going_on items) rs) (x ∷ items) ((x.0, (begins (length before) b (new_ask s) r).1) ∷ decides (begins (length before) b (new_ask s) r).0 (asked_of going_on items) rs)
     answered s rs (replied.Refused code) fair later from none has full =
         refused_on code (ends b (asked_of going_on items) rs) (decides b (asked_of going_on items) rs) (rest going_on b rs later named_going)
     answered s rs (replied.From at ps) fair later from none has full =
@@ -199,11 +203,11 @@ module _ (p : ℕ) (first : Subbed) where
         let absent : sub_of x.1.channel_id b.subs.subs ≡ None = absent-has x.1.channel_id b.subs.subs has in
         let b1 : Beginning = grown at ps (more at) in
         subst (λ (t : Bool). ShowsFrom (grown at ps (if t then b.subs else more at)) rs []) (sym both)
-        (granted_on at ps rs none absent (subst (λ (o : Option Start). IsStartOf o at) (sym from) fair) (ends b1 (asked_of going_on items) rs) (decides b1 (asked_of going_on items) rs)
+        (granted_on at ps rs none absent (subst (λ (o : Option Start). IsStartOf (channel_points x.1.channel_id before) o at) (sym from) fair) (ends b1 (asked_of going_on items) rs) (decides b1 (asked_of going_on items) rs)
         (rest going_on b1 rs later (named_grown at ps has)))
 
     key_granted : (s : Start) (rs : List (List ℕ × StartReply)) → start_at x.1.start_index x.1.request_latest_index_count ≡ Some s → is_taken first.subs n.named x.1.channel_id ≡ false → is_full first.subs n.going ≡ false
-        → AreFair (sent (λ a. a) (with_key (going_on, Granted (new_ask s)))) rs → Shows b (x ∷ items) (with_key (going_on, Granted (new_ask s))) rs
+        → AreFair before (sent (λ a. a) (with_key (going_on, Granted (new_ask s)))) rs → Shows b (x ∷ items) (with_key (going_on, Granted (new_ask s))) rs
     key_granted s [] from untaken unfull fair = absurd fair
     key_granted s (r ∷ rs) from untaken unfull fair =
         let apart = or_parts (has_sub x.1.channel_id first.subs) (list_any (int_eq x.1.channel_id) n.named) untaken in
@@ -214,19 +218,19 @@ module _ (p : ℕ) (first : Subbed) where
         answered s rs r.1 fair.0 fair.1 from (absent-has x.1.channel_id first.subs apart.0) (is.fresh x.1.channel_id apart.1 apart.0) full
 
     key_by_full : (s : Start) (rs : List (List ℕ × StartReply)) (f : Bool) → start_at x.1.start_index x.1.request_latest_index_count ≡ Some s → is_taken first.subs n.named x.1.channel_id ≡ false → is_full first.subs n.going ≡ f
-        → AreFair (sent (λ a. a) (with_key (if f then (names n x.1.channel_id, Refused LimitExceeded) else (going_on, Granted (new_ask s))))) rs
+        → AreFair before (sent (λ a. a) (with_key (if f then (names n x.1.channel_id, Refused LimitExceeded) else (going_on, Granted (new_ask s))))) rs
         → Shows b (x ∷ items) (with_key (if f then (names n x.1.channel_id, Refused LimitExceeded) else (going_on, Granted (new_ask s)))) rs
     key_by_full s rs true from untaken e fair = key_refused LimitExceeded rs fair
     key_by_full s rs false from untaken e fair = key_granted s rs from untaken e fair
 
     key_by_taken : (s : Start) (rs : List (List ℕ × StartReply)) (d : Bool) → start_at x.1.start_index x.1.request_latest_index_count ≡ Some s → is_taken first.subs n.named x.1.channel_id ≡ d
-        → AreFair (sent (λ a. a) (with_key (subscribe_with first.subs d (names n x.1.channel_id) x.1 (Some s)))) rs
+        → AreFair before (sent (λ a. a) (with_key (subscribe_with first.subs d (names n x.1.channel_id) x.1 (Some s)))) rs
         → Shows b (x ∷ items) (with_key (subscribe_with first.subs d (names n x.1.channel_id) x.1 (Some s))) rs
     key_by_taken s rs true from e fair = key_refused InvalidState rs fair
     key_by_taken s rs false from e fair = key_by_full s rs (is_full first.subs n.going) from e refl fair
 
     key_by_start : (rs : List (List ℕ × StartReply)) (o : Option Start) → start_at x.1.start_index x.1.request_latest_index_count ≡ o
-        → AreFair (sent (λ a. a) (with_key (subscribe_with first.subs (is_taken first.subs n.named x.1.channel_id) (names n x.1.channel_id) x.1 o))) rs
+        → AreFair before (sent (λ a. a) (with_key (subscribe_with first.subs (is_taken first.subs n.named x.1.channel_id) (names n x.1.channel_id) x.1 o))) rs
         → Shows b (x ∷ items) (with_key (subscribe_with first.subs (is_taken first.subs n.named x.1.channel_id) (names n x.1.channel_id) x.1 o)) rs
     key_by_start rs None from fair = key_refused InvalidIndexKind rs fair
     key_by_start rs (Some s) from fair = key_by_taken s rs (is_taken first.subs n.named x.1.channel_id) from refl fair

@@ -1,5 +1,5 @@
 -- What each event sends, by what it is.
-use Rattle.std.specs.Prelude.{ℕ, ℤ, Bool, true, false, List, [], ◌∷◌, ◌++◌, ◌≡◌, ◌&&◌, is_some, map, nat_le, nat_lt, Option, Some, None, Result, Ok, Err, if◌then◌else◌, refl}
+use Rattle.std.specs.Prelude.{ℕ, ℤ, Bool, true, false, List, [], ◌∷◌, ◌++◌, ◌≡◌, ◌&&◌, is_some, length, map, nat_le, nat_lt, Option, Some, None, Result, Ok, Err, if◌then◌else◌, refl}
 use Rattle.std.specs.List.{flat_map, AllByRecursion}
 use Rattle.std.proofs.Common.{ap, sym, ◌∙◌, subst, append-nil, arith}
 use Rattle.array_rows.specs.Arrays.{ArrayOutcome, ArraysAnswered, array_outcome, array_reply}
@@ -56,6 +56,7 @@ use Rattle.store_machine.specs.declared.call.StartAsk.{StartAsk}
 use Rattle.store_machine.specs.declared.call.StartReply.{StartReply}
 use Rattle.store_machine.specs.declared.call.StoreCall.{StoreCall}
 use Rattle.store_machine.specs.declared.call.StoreCall.TheVariants as call
+use Rattle.store_machine.specs.declared.journal.Entry.{Entry}
 use Rattle.subscribe_core.specs.Subscriptions.{Subbed, cursor_with, has_sub}
 use Rattle.subscribe_core.specs.Views.{sub_of, told, told_to}
 use Rattle.subscribe_core.specs.declared.stop.StopCause.{StopCause}
@@ -102,11 +103,20 @@ pub record IsQuiet (v : Subbed) (m : State) : Type 0 where
   pub subs : m.subs ≡ v
   pub out : AllByRecursion IsReceipt m.out
 
--- what was sent so far, and what it means
-pub record Says (e : Event) (v : Subbed) (t : State) : Type 0 where
+-- keys are decided only by an answer of the store, and that by these entries
+abbrev pub IsBy : Option (List Entry) → Matter → Type 0
+IsBy known (Begins h asked before decided changes) = known ≡ Some before
+IsBy known (Aside r sayings) = Unit {0}
+IsBy known (Ends h asked decided) = Unit {0}
+IsBy known (Tells changes) = Unit {0}
+IsBy known (Stops lag ids) = Unit {0}
+
+-- what was sent so far, and what it means, if the store answers by these entries
+pub record Says (e : Event) (v : Subbed) (known : Option (List Entry)) (t : State) : Type 0 where
   pub matter : Matter
   pub parts : IsSent matter t.out
   pub means : IsMatter e v t.subs t.out matter
+  pub by : IsBy known matter
 
 abbrev notices_of : List ChannelChange → List Saying
 notices_of cs = sayings_of message.ChannelSubscribe (map notice cs)
@@ -157,8 +167,8 @@ sent_both matter m received reaches =
 receipts_silent : (os : List Outgoing) → AllByRecursion IsReceipt os → AllByRecursion (λ (o : Outgoing). speaks o.message ≡ false) os
 receipts_silent os all = all-weaker IsReceipt (λ (o : Outgoing). speaks o.message ≡ false) (λ o f. ap speaks f) os all
 
-module _ (e : Event) (v : Subbed) where
-  pub silent_says : (t : State) → IsQuiet v t → Says e v t
+module _ (e : Event) (v : Subbed) (known : Option (List Entry)) where
+  pub silent_says : (t : State) → IsQuiet v t → Says e v known t
   silent_says t q = record {
     matter = Aside unread [];
     parts = record {
@@ -175,9 +185,10 @@ module _ (e : Event) (v : Subbed) where
       is = sym (append-nil t.out);
     };
     means = (q.subs, tt, receipts_silent t.out q.out);
+    by = tt;
   }
 
-  aside_says : (r : Request) (xs : List Saying) (m : State) → AllByRecursion IsAside xs → IsQuiet v m → LiveState (said r xs m) → Says e v (said r xs m)
+  aside_says : (r : Request) (xs : List Saying) (m : State) → AllByRecursion IsAside xs → IsQuiet v m → LiveState (said r xs m) → Says e v known (said r xs m)
   aside_says r xs m aside q live = record {
     matter = Aside r xs;
     parts = sent_first (Aside r xs) m q.out refl (unspent (is_spent m.next_id (parts_in m xs)) m.phase live);
@@ -186,6 +197,7 @@ module _ (e : Event) (v : Subbed) where
       aside,
       all-append (λ (o : Outgoing). speaks o.message ≡ false) m.out (numbered r m.next_id (parts_in m xs)) (receipts_silent m.out q.out) (numbered_silent r m.next_id m.limit m.number m.blobs xs aside),
     );
+    by = tt;
   }
 
 -- messages of a protocol that do not concern subscriptions
@@ -198,55 +210,59 @@ aside_sayings wrap silent (Notice m ∷ xs) = ((silent m, refl), aside_sayings w
 
 -- ---- what a call is answered
 
--- a subscription that is accepted starts where the call says
-abbrev FairReply : List (List ℕ × StartAsk) → StoreReply → Type 0
-FairReply asks (answer.Started rs) = AreFair asks rs
-FairReply asks _ = Unit {0}
+-- a subscription that is accepted starts where the call says, after these entries
+abbrev FairReply : List Entry → List (List ℕ × StartAsk) → StoreReply → Type 0
+FairReply before asks (answer.Started rs) = AreFair before asks rs
+FairReply before asks _ = Unit {0}
 
-abbrev pub IsFair : StoreCall → Answer → Type 0
-IsFair (call.Subscribe asks) a = FairReply asks a.reply
-IsFair _ a = Unit {0}
+abbrev FairAt : Option (List Entry) → ℕ → List (List ℕ × StartAsk) → StoreReply → Type 0
+FairAt None mark asks a = ⊥
+FairAt (Some before) mark asks a = (mark ≡ length before) × FairReply before asks a
+
+abbrev pub IsFair : Option (List Entry) → StoreCall → Answer → Type 0
+IsFair known (call.Subscribe asks) a = FairAt known a.mark asks a.reply
+IsFair known _ a = Unit {0}
 
 -- ---- one event
 
-module _ (e : Event) (v : Subbed) where
+module _ (e : Event) (v : Subbed) (known : Option (List Entry)) where
   -- what the event leads to
   abbrev pub Leads : State → Option StoreCall → Type 0
-  Leads t None = LiveState t → Says e v t
-  Leads t (Some call) = IsQuiet v t × ((a : Answer) → IsFair call a → LiveState (given t a) → Says e v (given t a))
+  Leads t None = LiveState t → Says e v known t
+  Leads t (Some call) = IsQuiet v t × ((a : Answer) → IsFair known call a → LiveState (given t a) → Says e v known (given t a))
 
   abbrev pub LeadsTo : Taken → Type 0
   LeadsTo t = Leads t.state t.call
 
   quiet_leads : (t : State) → IsQuiet v t → LeadsTo (no_call t)
-  quiet_leads t q live = silent_says e v t q
+  quiet_leads t q live = silent_says e v known t q
 
   aside_leads : (r : Request) (xs : List Saying) (m : State) → AllByRecursion IsAside xs → IsQuiet v m → LeadsTo (no_call (said r xs m))
-  aside_leads r xs m aside q live = aside_says e v r xs m aside q live
+  aside_leads r xs m aside q live = aside_says e v known r xs m aside q live
 
   refuses_lead : (r : Request) (c : ErrorCode) (m : State) → IsQuiet v m → LeadsTo (no_call (refuses r c m))
   refuses_lead r c m q = aside_leads r (to_request (refusal c) ∷ []) m ((refl, refl), tt) q
 
   -- ---- the protocols without subscriptions
 
-  objects_say : (r : Request) (x : ObjectsAnswered) (m : State) → IsQuiet v m → LiveState (on_objects_answered r x m) → Says e v (on_objects_answered r x m)
-  objects_say r x m q live = aside_says e v r (sayings_of message.Store x.sendings) (record m { stage = x.stage }) (aside_sayings message.Store (λ y. refl) x.sendings) (record { subs = q.subs; out = q.out }) live
+  objects_say : (r : Request) (x : ObjectsAnswered) (m : State) → IsQuiet v m → LiveState (on_objects_answered r x m) → Says e v known (on_objects_answered r x m)
+  objects_say r x m q live = aside_says e v known r (sayings_of message.Store x.sendings) (record m { stage = x.stage }) (aside_sayings message.Store (λ y. refl) x.sendings) (record { subs = q.subs; out = q.out }) live
 
-  arrays_say : (r : Request) (x : ArraysAnswered) (m : State) → IsQuiet v m → LiveState (on_arrays_answered r x m) → Says e v (on_arrays_answered r x m)
-  arrays_say r x m q live = aside_says e v r (sayings_of message.DataArray x.sendings) (record m { stage = x.stage }) (aside_sayings message.DataArray (λ y. refl) x.sendings) (record { subs = q.subs; out = q.out }) live
+  arrays_say : (r : Request) (x : ArraysAnswered) (m : State) → IsQuiet v m → LiveState (on_arrays_answered r x m) → Says e v known (on_arrays_answered r x m)
+  arrays_say r x m q live = aside_says e v known r (sayings_of message.DataArray x.sendings) (record m { stage = x.stage }) (aside_sayings message.DataArray (λ y. refl) x.sendings) (record { subs = q.subs; out = q.out }) live
 
-  away_says : (p : Pending) → IsAway p → (a : Answer) (m : State) → IsQuiet v m → LiveState (given_to (Some p) a m) → Says e v (given_to (Some p) a m)
-  away_says (pending.Dataspaces r p) is a m q live = aside_says e v r (sayings_of message.Dataspace (dataspace_reply p a.reply)) m (aside_sayings message.Dataspace (λ y. refl) (dataspace_reply p a.reply)) q live
+  away_says : (p : Pending) → IsAway p → (a : Answer) (m : State) → IsQuiet v m → LiveState (given_to (Some p) a m) → Says e v known (given_to (Some p) a m)
+  away_says (pending.Dataspaces r p) is a m q live = aside_says e v known r (sayings_of message.Dataspace (dataspace_reply p a.reply)) m (aside_sayings message.Dataspace (λ y. refl) (dataspace_reply p a.reply)) q live
   away_says (pending.Objects r p) is a m q live = objects_say r (object_reply m.stage p a.reply) m q live
   away_says (pending.Arrays r p) is a m q live = arrays_say r (array_reply m.limit m.stage p a.reply) m q live
   away_says (pending.Staged r keys (staged.Objects p)) is a m q live =
       objects_say r (object_reply (noting a.mark keys m.stage) p (reply_noted a.mark keys m.stage a.reply)) (record m { stage = noting a.mark keys m.stage }) (record { subs = q.subs; out = q.out }) live
   away_says (pending.Staged r keys (staged.Arrays p)) is a m q live =
       arrays_say r (array_reply m.limit (noting a.mark keys m.stage) p (reply_noted a.mark keys m.stage a.reply)) (record m { stage = noting a.mark keys m.stage }) (record { subs = q.subs; out = q.out }) live
-  away_says (pending.Transactions r p) is a m q live = aside_says e v r (sayings_of message.Transaction (transaction_reply p a.reply)) m (aside_sayings message.Transaction (λ y. refl) (transaction_reply p a.reply)) q live
+  away_says (pending.Transactions r p) is a m q live = aside_says e v known r (sayings_of message.Transaction (transaction_reply p a.reply)) m (aside_sayings message.Transaction (λ y. refl) (transaction_reply p a.reply)) q live
   away_says (pending.Loads r p) is a m q live =
       let x : Loaded = load_reply m.config.channels m.opens p a.reply in
-      aside_says e v r (sayings_of message.ChannelDataLoad x.sendings) (record m { opens = x.opens }) (aside_sayings message.ChannelDataLoad (λ y. refl) x.sendings) (record { subs = q.subs; out = q.out }) live
+      aside_says e v known r (sayings_of message.ChannelDataLoad x.sendings) (record m { opens = x.opens }) (aside_sayings message.ChannelDataLoad (λ y. refl) x.sendings) (record { subs = q.subs; out = q.out }) live
   away_says (pending.Subscriptions r p) is a m q live = absurd is
 
   asks_lead : (p : Pending) → IsAway p → (c : StoreCall) (m : State) → IsQuiet v m → LeadsTo (asks p c m)
@@ -333,11 +349,11 @@ module _ (e : Event) (v : Subbed) where
   replies_lead : (r : Request) (sendings : List (Sending ChannelSubscribeMessage)) (m : State) → AllByRecursion IsAside (sayings_of message.ChannelSubscribe sendings) → IsQuiet v m → LeadsTo (on_outcome message.ChannelSubscribe pending.Subscriptions r (Replies sendings) m)
   replies_lead r sendings m aside q = aside_leads r (sayings_of message.ChannelSubscribe sendings) m aside q
 
-  told_aside : (r : Request) (t : Told) (m : State) → t.subs ≡ v → AllByRecursion IsAside (sayings_of message.ChannelSubscribe t.sendings) → IsQuiet v m → LiveState (on_subscriptions_answered r t m) → Says e v (on_subscriptions_answered r t m)
-  told_aside r t m same aside q live = aside_says e v r (sayings_of message.ChannelSubscribe t.sendings) (record m { subs = t.subs }) aside (record { subs = same; out = q.out }) live
+  told_aside : (r : Request) (t : Told) (m : State) → t.subs ≡ v → AllByRecursion IsAside (sayings_of message.ChannelSubscribe t.sendings) → IsQuiet v m → LiveState (on_subscriptions_answered r t m) → Says e v known (on_subscriptions_answered r t m)
+  told_aside r t m same aside q live = aside_says e v known r (sayings_of message.ChannelSubscribe t.sendings) (record m { subs = t.subs }) aside (record { subs = same; out = q.out }) live
 
   metadata_says : (defs : List ChannelDef) (limit : ℕ) (r : Request) (items : List (List ℕ × Decision (Unit {0}))) (mark : ℕ) (a : StoreReply) (m : State) → IsQuiet v m
-      → LiveState (on_subscriptions_answered r (replied defs limit mark m.subs (keeps_subscription.Metadata items) a) m) → Says e v (on_subscriptions_answered r (replied defs limit mark m.subs (keeps_subscription.Metadata items) a) m)
+      → LiveState (on_subscriptions_answered r (replied defs limit mark m.subs (keeps_subscription.Metadata items) a) m) → Says e v known (on_subscriptions_answered r (replied defs limit mark m.subs (keeps_subscription.Metadata items) a) m)
   metadata_says defs limit r items mark (answer.Metas metas) m q live = told_aside r (replied defs limit mark m.subs (keeps_subscription.Metadata items) (answer.Metas metas)) m q.subs (aside_replies metadata_response (λ g. refl) _ _) q live
   metadata_says defs limit r items mark (answer.Points points) m q live = told_aside r (replied defs limit mark m.subs (keeps_subscription.Metadata items) (answer.Points points)) m q.subs tt q live
   metadata_says defs limit r items mark (answer.Started started) m q live = told_aside r (replied defs limit mark m.subs (keeps_subscription.Metadata items) (answer.Started started)) m q.subs tt q live
@@ -346,7 +362,7 @@ module _ (e : Event) (v : Subbed) where
   metadata_says defs limit r items mark a m q live = told_aside r (replied defs limit mark m.subs (keeps_subscription.Metadata items) a) m q.subs tt q live
 
   ranges_says : (defs : List ChannelDef) (limit : ℕ) (r : Request) (mark : ℕ) (a : StoreReply) (m : State) → IsQuiet v m
-      → LiveState (on_subscriptions_answered r (replied defs limit mark m.subs keeps_subscription.Ranges a) m) → Says e v (on_subscriptions_answered r (replied defs limit mark m.subs keeps_subscription.Ranges a) m)
+      → LiveState (on_subscriptions_answered r (replied defs limit mark m.subs keeps_subscription.Ranges a) m) → Says e v known (on_subscriptions_answered r (replied defs limit mark m.subs keeps_subscription.Ranges a) m)
   ranges_says defs limit r mark (answer.Metas metas) m q live = told_aside r (replied defs limit mark m.subs keeps_subscription.Ranges (answer.Metas metas)) m q.subs tt q live
   ranges_says defs limit r mark (answer.Points points) m q live = told_aside r (replied defs limit mark m.subs keeps_subscription.Ranges (answer.Points points)) m q.subs ((refl, refl), tt) q live
   ranges_says defs limit r mark (answer.Started started) m q live = told_aside r (replied defs limit mark m.subs keeps_subscription.Ranges (answer.Started started)) m q.subs tt q live
@@ -389,6 +405,7 @@ module _ (e : Event) (v : Subbed) where
           ap (λ (y : Subbed). checked_state stop_one y x.channel_ids) is,
           λ c f. kept_after (λ (l : List Sub). sub_of c l ≡ None) (λ d l g. absent-others c d l g) w x.channel_ids (ap (λ (y : Subbed). sub_of c y.subs) is ∙ f),
         );
+        by = tt;
       }
 
   leaving_leads : (hd : Header) (x : UnsubscribeChannels) (why : Option ErrorCode) (w : Subbed) (m : State) → IsUnsubscribe hd x → w ≡ v → IsQuiet v m
@@ -417,15 +434,15 @@ module _ (e : Event) (v : Subbed) where
   abbrev told_started : ℕ → Subbed → SubscribeChannels → List (List ℕ × StartReply) → Told
   told_started mark w x rs = started_reply mark w (keeps_subscription.Subscribe (kept (λ a. a) (asked_of w x))) rs
 
-  begun_say : (hd : Header) (x : SubscribeChannels) (m : State) (mark : ℕ) (rs : List (List ℕ × StartReply)) → IsSubscribe hd x → AllByRecursion IsReceipt m.out → AreFair (sent_keys (λ a. a) (asked_of v x)) rs
-      → LiveState (on_subscriptions_answered (request_of hd) (told_started mark v x rs) m) → Says e v (on_subscriptions_answered (request_of hd) (told_started mark v x rs) m)
-  begun_say hd x m mark rs read received fair live =
+  begun_say : (hd : Header) (x : SubscribeChannels) (m : State) (before : List Entry) (rs : List (List ℕ × StartReply)) → IsSubscribe hd x → AllByRecursion IsReceipt m.out → known ≡ Some before → AreFair before (sent_keys (λ a. a) (asked_of v x)) rs
+      → LiveState (on_subscriptions_answered (request_of hd) (told_started (length before) v x rs) m) → Says e v known (on_subscriptions_answered (request_of hd) (told_started (length before) v x rs) m)
+  begun_say hd x m before rs read received by fair live =
       let ds : List (List ℕ × Decision StartAsk) = kept (λ a. a) (asked_of v x) in
-      let b : Beginning = finished_state (begin_one mark) 1 (beginning v) ds rs in
-      let decided : List (List ℕ × Decision (List ℕ)) = finished (begin_one mark) 1 (beginning v) ds rs in
+      let b : Beginning = finished_state (begin_one (length before)) 1 (beginning v) ds rs in
+      let decided : List (List ℕ × Decision (List ℕ)) = finished (begin_one (length before)) 1 (beginning v) ds rs in
       let reply : List (Sending ChannelSubscribeMessage) = request_reply subscribe_response decided in
-      let d : Decides mark v (beginning v) b x.channels decided = all_decide mark v x.channels none_named (beginning v) rs fair (record { fresh = λ c f g. g; few = omega arith }) in
-      let matter : Matter = Begins hd x decided d.new in
+      let d : Decides before v (beginning v) b x.channels decided = all_decide before v x.channels none_named (beginning v) rs fair (record { fresh = λ c f g. g; few = omega arith }) in
+      let matter : Matter = Begins hd x before decided d.new in
       let split : sayings_of message.ChannelSubscribe (reply ++ map Notice b.notices) ≡ sayings_of message.ChannelSubscribe reply ++ notices_of d.new =
       sayings_append reply (map Notice b.notices)
       ∙ ap (λ l. sayings_of message.ChannelSubscribe reply ++ l) (ap (λ l. sayings_of message.ChannelSubscribe (map Notice l)) d.notes ∙ ap (sayings_of message.ChannelSubscribe) (notice_each d.new)) in
@@ -433,22 +450,25 @@ module _ (e : Event) (v : Subbed) where
         matter = matter;
         parts = says_both matter (record m { subs = b.subs }) (sayings_of message.ChannelSubscribe (reply ++ map Notice b.notices)) split received live;
         means = (read, d.each, (d.only, d.stays), d.news);
+        by = by;
       }
 
-  begins_say : (hd : Header) (x : SubscribeChannels) (w : Subbed) (m : State) (mark : ℕ) (rs : List (List ℕ × StartReply)) → IsSubscribe hd x → w ≡ v → IsQuiet v m → AreFair (sent_keys (λ a. a) (asked_of w x)) rs
-      → LiveState (on_subscriptions_answered (request_of hd) (told_started mark w x rs) m) → Says e v (on_subscriptions_answered (request_of hd) (told_started mark w x rs) m)
-  begins_say hd x w m mark rs read is q =
-      subst (λ (y : Subbed). AreFair (sent_keys (λ a. a) (asked_of y x)) rs → LiveState (on_subscriptions_answered (request_of hd) (told_started mark y x rs) m) → Says e v (on_subscriptions_answered (request_of hd) (told_started mark y x rs) m)) (sym is)
-      (begun_say hd x m mark rs read q.out)
+  begins_say : (hd : Header) (x : SubscribeChannels) (w : Subbed) (m : State) (mark : ℕ) (rs : List (List ℕ × StartReply)) (o : Option (List Entry)) → IsSubscribe hd x → w ≡ v → IsQuiet v m → known ≡ o → FairAt o mark (sent_keys (λ a. a) (asked_of w x)) (answer.Started rs)
+      → LiveState (on_subscriptions_answered (request_of hd) (told_started mark w x rs) m) → Says e v known (on_subscriptions_answered (request_of hd) (told_started mark w x rs) m)
+  begins_say hd x w m mark rs None read is q by fair = absurd fair
+  begins_say hd x w m mark rs (Some before) read is q by fair =
+      subst (λ (n : ℕ). LiveState (on_subscriptions_answered (request_of hd) (told_started n w x rs) m) → Says e v known (on_subscriptions_answered (request_of hd) (told_started n w x rs) m)) (sym fair.0)
+      (subst (λ (y : Subbed). AreFair before (sent_keys (λ a. a) (asked_of y x)) rs → LiveState (on_subscriptions_answered (request_of hd) (told_started (length before) y x rs) m)
+      → Says e v known (on_subscriptions_answered (request_of hd) (told_started (length before) y x rs) m)) (sym is) (begun_say hd x m before rs read q.out by) fair.1)
 
   abbrev told_by : List ChannelDef → ℕ → ℕ → State → SubscribeChannels → StoreReply → Told
   told_by defs limit mark m x a = replied defs limit mark m.subs (keeps_subscription.Subscribe (kept (λ a. a) (asked_of m.subs x))) a
 
-  subscribed_says : (defs : List ChannelDef) (limit : ℕ) (hd : Header) (x : SubscribeChannels) (mark : ℕ) (a : StoreReply) (m : State) → IsSubscribe hd x → IsQuiet v m → FairReply (sent_keys (λ a. a) (asked_of m.subs x)) a
-      → LiveState (on_subscriptions_answered (request_of hd) (told_by defs limit mark m x a) m) → Says e v (on_subscriptions_answered (request_of hd) (told_by defs limit mark m x a) m)
+  subscribed_says : (defs : List ChannelDef) (limit : ℕ) (hd : Header) (x : SubscribeChannels) (mark : ℕ) (a : StoreReply) (m : State) → IsSubscribe hd x → IsQuiet v m → FairAt known mark (sent_keys (λ a. a) (asked_of m.subs x)) a
+      → LiveState (on_subscriptions_answered (request_of hd) (told_by defs limit mark m x a) m) → Says e v known (on_subscriptions_answered (request_of hd) (told_by defs limit mark m x a) m)
   subscribed_says defs limit hd x mark (answer.Metas metas) m read q fair live = told_aside (request_of hd) (told_by defs limit mark m x (answer.Metas metas)) m q.subs tt q live
   subscribed_says defs limit hd x mark (answer.Points points) m read q fair live = told_aside (request_of hd) (told_by defs limit mark m x (answer.Points points)) m q.subs tt q live
-  subscribed_says defs limit hd x mark (answer.Started rs) m read q fair live = begins_say hd x m.subs m mark rs read q.subs q fair live
+  subscribed_says defs limit hd x mark (answer.Started rs) m read q fair live = begins_say hd x m.subs m mark rs known read q.subs q refl fair live
   subscribed_says defs limit hd x mark (answer.News upto lag changes) m read q fair live = told_aside (request_of hd) (told_by defs limit mark m x (answer.News upto lag changes)) m q.subs tt q live
   subscribed_says defs limit hd x mark (answer.Refused code) m read q fair live = told_aside (request_of hd) (told_by defs limit mark m x (answer.Refused code)) m q.subs ((refl, refl), tt) q live
   subscribed_says defs limit hd x mark a m read q fair live = told_aside (request_of hd) (told_by defs limit mark m x a) m q.subs tt q live
@@ -461,7 +481,7 @@ module _ (e : Event) (v : Subbed) where
       by [] f = replies_lead (request_of hd) (unasked subscribe_response (kept (λ a. a) (asked_of m.subs x))) m (unasked_aside (refused_keys (kept (λ a. a) (asked_of m.subs x)))) q
       by (y ∷ ys) f = (
         record { subs = q.subs; out = q.out },
-        λ a fair live. subscribed_says m.config.channels m.config.lag hd x a.mark a.reply (record m { pending = None }) read (record { subs = q.subs; out = q.out }) (subst (λ l. FairReply l a.reply) (sym f) fair) live,
+        λ a fair live. subscribed_says m.config.channels m.config.lag hd x a.mark a.reply (record m { pending = None }) read (record { subs = q.subs; out = q.out }) (subst (λ l. FairAt known a.mark l a.reply) (sym f) fair) live,
       )
 
   -- ---- a message
@@ -540,69 +560,71 @@ told_both w (x ∷ xs) solid has = ((solid.0, has.0), told_both w xs solid.1 has
 told_all : (w : Subbed) (xs : List ChannelChange) → AllByRecursion (IsToldTo w) (flat_map (told w.subs) xs)
 told_all w xs = told_both w (flat_map (told w.subs) xs) (solid_told w.subs xs) (has_told w xs)
 
-module _ (e : Event) (v : Subbed) (poll : IsPoll e) (none : v.pending ≡ []) where
+module _ (e : Event) (v : Subbed) (known : Option (List Entry)) (poll : IsPoll e) (none : v.pending ≡ []) where
   abbrev News : List ChannelDef → ℕ → ℕ → State → StoreReply → State
   News defs limit mark m a = on_subscriptions_answered unread (replied defs limit mark m.subs keeps_subscription.News a) m
 
   abbrev told_news : Option StopCause → ℕ → List ChannelChange → State → State
   told_news cause upto changes m = on_subscriptions_answered unread (news_told cause upto changes m.subs) m
 
-  stops_say : (lag upto : ℕ) (changes : List ChannelChange) (m : State) → IsQuiet v m → LiveState (told_news (Some (Lagged lag)) upto changes m) → Says e v (told_news (Some (Lagged lag)) upto changes m)
+  stops_say : (lag upto : ℕ) (changes : List ChannelChange) (m : State) → IsQuiet v m → LiveState (told_news (Some (Lagged lag)) upto changes m) → Says e v known (told_news (Some (Lagged lag)) upto changes m)
   stops_say lag upto changes m q live =
       let matter : Matter = Stops lag (ids_of m.subs.subs) in
       record {
         matter = matter;
         parts = sent_first matter (record m { subs = record m.subs { subs = [] } }) q.out refl (unspent (is_spent m.next_id (parts_in m (first_in matter))) m.phase live);
         means = (poll, refl);
+        by = tt;
       }
 
-  tells_say : (upto : ℕ) (changes : List ChannelChange) (m : State) → IsQuiet v m → LiveState (told_news None upto changes m) → Says e v (told_news None upto changes m)
+  tells_say : (upto : ℕ) (changes : List ChannelChange) (m : State) → IsQuiet v m → LiveState (told_news None upto changes m) → Says e v known (told_news None upto changes m)
   tells_say upto changes m q live =
       let cs : List ChannelChange = flat_map (told m.subs.subs) changes in
       let matter : Matter = Tells cs in
       record {
         matter = matter;
-        parts = says_both e v matter (record m { subs = record m.subs { cursor = upto; pending = [] } }) (notices_of (m.subs.pending ++ cs)) (ap (λ l. notices_of (l ++ cs)) (ap (λ (y : Subbed). y.pending) q.subs ∙ none)) q.out live;
+        parts = says_both e v known matter (record m { subs = record m.subs { cursor = upto; pending = [] } }) (notices_of (m.subs.pending ++ cs)) (ap (λ l. notices_of (l ++ cs)) (ap (λ (y : Subbed). y.pending) q.subs ∙ none)) q.out live;
         means = (poll, ap (λ (y : Subbed). y.subs) q.subs, subst (λ (y : Subbed). AllByRecursion (IsToldTo y) cs) q.subs (told_all m.subs changes));
+        by = tt;
       }
 
   changes_say : (b : Bool) (lag upto : ℕ) (changes : List ChannelChange) (m : State) → IsQuiet v m → LiveState (told_news (if b then Some (Lagged lag) else None) upto changes m)
-      → Says e v (told_news (if b then Some (Lagged lag) else None) upto changes m)
+      → Says e v known (told_news (if b then Some (Lagged lag) else None) upto changes m)
   changes_say true lag upto changes m q live = stops_say lag upto changes m q live
   changes_say false lag upto changes m q live = tells_say upto changes m q live
 
-  news_say : (defs : List ChannelDef) (limit mark : ℕ) (a : StoreReply) (m : State) → IsQuiet v m → LiveState (News defs limit mark m a) → Says e v (News defs limit mark m a)
-  news_say defs limit mark (answer.Metas metas) m q live = told_aside e v unread (replied defs limit mark m.subs keeps_subscription.News (answer.Metas metas)) m q.subs tt q live
-  news_say defs limit mark (answer.Points points) m q live = told_aside e v unread (replied defs limit mark m.subs keeps_subscription.News (answer.Points points)) m q.subs tt q live
-  news_say defs limit mark (answer.Started started) m q live = told_aside e v unread (replied defs limit mark m.subs keeps_subscription.News (answer.Started started)) m q.subs tt q live
+  news_say : (defs : List ChannelDef) (limit mark : ℕ) (a : StoreReply) (m : State) → IsQuiet v m → LiveState (News defs limit mark m a) → Says e v known (News defs limit mark m a)
+  news_say defs limit mark (answer.Metas metas) m q live = told_aside e v known unread (replied defs limit mark m.subs keeps_subscription.News (answer.Metas metas)) m q.subs tt q live
+  news_say defs limit mark (answer.Points points) m q live = told_aside e v known unread (replied defs limit mark m.subs keeps_subscription.News (answer.Points points)) m q.subs tt q live
+  news_say defs limit mark (answer.Started started) m q live = told_aside e v known unread (replied defs limit mark m.subs keeps_subscription.News (answer.Started started)) m q.subs tt q live
   news_say defs limit mark (answer.News upto lag changes) m q live = changes_say (nat_lt limit lag) lag upto changes m q live
-  news_say defs limit mark (answer.Refused code) m q live = told_aside e v unread (replied defs limit mark m.subs keeps_subscription.News (answer.Refused code)) m q.subs ((refl, refl), tt) q live
-  news_say defs limit mark a m q live = told_aside e v unread (replied defs limit mark m.subs keeps_subscription.News a) m q.subs tt q live
+  news_say defs limit mark (answer.Refused code) m q live = told_aside e v known unread (replied defs limit mark m.subs keeps_subscription.News (answer.Refused code)) m q.subs ((refl, refl), tt) q live
+  news_say defs limit mark a m q live = told_aside e v known unread (replied defs limit mark m.subs keeps_subscription.News a) m q.subs tt q live
 
-  poll_leads : (front : ℕ) (m : State) → IsQuiet v m → LeadsTo e v (on_poll (news_call m.subs front) m)
+  poll_leads : (front : ℕ) (m : State) → IsQuiet v m → LeadsTo e v known (on_poll (news_call m.subs front) m)
   poll_leads front m q = by_subs m.subs.subs
     where
-      by_front : (b : Bool) → LeadsTo e v (on_poll (if b then Some (call.News m.subs.cursor m.subs.subs) else None) m)
+      by_front : (b : Bool) → LeadsTo e v known (on_poll (if b then Some (call.News m.subs.cursor m.subs.subs) else None) m)
       by_front true = (record { subs = q.subs; out = q.out }, λ a fair live. news_say m.config.channels m.config.lag a.mark a.reply (record m { pending = None }) (record { subs = q.subs; out = q.out }) live)
-      by_front false = quiet_leads e v m q
+      by_front false = quiet_leads e v known m q
 
-      by_subs : (xs : List Sub) → LeadsTo e v (on_poll (news_from m.subs.subs front (cursor_with xs m.subs.cursor)) m)
-      by_subs [] = quiet_leads e v m q
+      by_subs : (xs : List Sub) → LeadsTo e v known (on_poll (news_from m.subs.subs front (cursor_with xs m.subs.cursor)) m)
+      by_subs [] = quiet_leads e v known m q
       by_subs (x ∷ xs) = by_front (nat_lt m.subs.cursor front)
 
 -- ---- an event
 
-module _ (e : Event) (v : Subbed) (none : v.pending ≡ []) where
-  event_leads : (l : Live) (a : Arrived) (s : State) → IsArrival e a → IsQuiet v s → LeadsTo e v (by_event l a s)
-  event_leads l (arrives.Unreadable c) s is q = refuses_lead e v unread c s q
-  event_leads l (arrives.Stale r) s is q = refuses_lead e v r code.InvalidMessage s q
-  event_leads l (arrives.Refused r c) s is q = refuses_lead e v r c (accepting r s) (record { subs = q.subs; out = q.out })
+module _ (e : Event) (v : Subbed) (known : Option (List Entry)) (none : v.pending ≡ []) where
+  event_leads : (l : Live) (a : Arrived) (s : State) → IsArrival e a → IsQuiet v s → LeadsTo e v known (by_event l a s)
+  event_leads l (arrives.Unreadable c) s is q = refuses_lead e v known unread c s q
+  event_leads l (arrives.Stale r) s is q = refuses_lead e v known r code.InvalidMessage s q
+  event_leads l (arrives.Refused r c) s is q = refuses_lead e v known r c (accepting r s) (record { subs = q.subs; out = q.out })
   event_leads l (arrives.Fresh hd moment x) s is q =
       let m : State = acknowledged hd x (accepting (request_of hd) s) in
-      received_leads e v m.phase hd moment x m is
-      (receipt_quiet e v (has_flag hd.flags acknowledge && may_acknowledge x) hd (accepting (request_of hd) s) (record { subs = q.subs; out = q.out }))
-  event_leads l (arrives.Polled front) s is q = poll_leads e v is none front s q
+      received_leads e v known m.phase hd moment x m is
+      (receipt_quiet e v known (has_flag hd.flags acknowledge && may_acknowledge x) hd (accepting (request_of hd) s) (record { subs = q.subs; out = q.out }))
+  event_leads l (arrives.Polled front) s is q = poll_leads e v known is none front s q
 
-  pub phase_leads : (p : Phase) (a : Arrived) (s : State) → IsArrival e a → IsQuiet v s → LeadsTo e v (by_phase p a s)
+  pub phase_leads : (p : Phase) (a : Arrived) (s : State) → IsArrival e a → IsQuiet v s → LeadsTo e v known (by_phase p a s)
   phase_leads (phase.Live l) a s is q = event_leads l a s is q
-  phase_leads (phase.Ended end) a s is q = quiet_leads e v s q
+  phase_leads (phase.Ended end) a s is q = quiet_leads e v known s q

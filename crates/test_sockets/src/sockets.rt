@@ -1,5 +1,7 @@
 //! Clients over the loopback, with the bytes that they send and receive as literals. Requests, keys and frames are those of RFC 6455,
 //! sections 1.3 and 5.7, with binary frames instead of texts.
+ghost use Rattle.std.specs.Prelude.{◌≡◌, true, false, IfOk};
+
 use etp_outside::{Link, Listened, Listener, Next, Recv, Sent};
 use etp_values::Blob;
 use outside_net::{ServerLink, TcpDoor};
@@ -46,10 +48,10 @@ const BAD_TEXT: &[u8] = &[0x01, 0x82, 0, 0, 0, 0, 0xed, 0xa0];
 /// A goodbye.
 const GOODBYE: &[u8] = &[0x88, 0x80, 0, 0, 0, 0];
 
-/// What the link sends: "Hello", the pong, and its goodbye.
+/// What the link of `MESSAGES` sends: "Hello", the pong, and its goodbye.
 const SENT: &[u8] = b"\x82\x05Hello\x8a\x05Hello\x88\x00";
 
-/// What a client or the link does next, and what is to come of it.
+/// What a client or the link does next, and what is to come of it, until the link is closed.
 #[derive(Clone, Copy)]
 enum Step {
     /// The client sends these bytes.
@@ -64,16 +66,10 @@ enum Step {
     Fails,
     /// The link sends "Hello", with this answer.
     Sends(Sent),
-    /// The link is closed.
-    Closes,
-    /// The client reads these bytes.
-    Hears(&'static [u8]),
-    /// The client reads the end.
-    HearsEnd,
 }
 
 /// Messages whole and in parts, a text, a ping, and the client's goodbye.
-const MESSAGES: [Step; 16] = [
+const MESSAGES: [Step; 13] = [
     Step::Says(HELLO_FRONT),
     Step::Waits,
     Step::Says(HELLO_REST),
@@ -87,57 +83,37 @@ const MESSAGES: [Step; 16] = [
     Step::Says(GOODBYE),
     Step::Ends,
     Step::Ends,
-    Step::Closes,
-    Step::Hears(SENT),
-    Step::HearsEnd,
 ];
 
-/// A link that is closed twice says goodbye once: it has done its work, with the code 1000.
-const GOODBYES: [Step; 7] = [
+/// A link that has done its work says goodbye with the code 1000.
+const GOODBYES: [Step; 3] = [
     Step::Says(HELLO_PARTS),
     Step::Gets(b"Hello"),
     Step::Says(GOODBYE),
-    Step::Closes,
-    Step::Closes,
-    Step::Hears(b"\x88\x02\x03\xe8"),
-    Step::HearsEnd,
 ];
+
+const DONE: &[u8] = b"\x88\x02\x03\xe8";
 
 /// A link that is closed before a message came turns its client away: it may try again later, with the code 1013.
-const TURNED_AWAY: [Step; 3] = [
-    Step::Closes,
-    Step::Hears(b"\x88\x02\x03\xf5"),
-    Step::HearsEnd,
-];
+const AGAIN: &[u8] = b"\x88\x02\x03\xf5";
 
 /// A frame without a mask breaks the protocol, with the code 1002.
-const FAULTS: [Step; 7] = [
+const FAULTS: [Step; 4] = [
     Step::Says(UNMASKED),
     Step::Fails,
     Step::Fails,
     Step::Sends(Sent::Failed),
-    Step::Closes,
-    Step::Hears(b"\x88\x02\x03\xea"),
-    Step::HearsEnd,
 ];
 
 /// A ping that announces 126 bytes is refused before they come.
-const LONG_PINGS: [Step; 5] = [
-    Step::Says(LONG_PING),
-    Step::Fails,
-    Step::Closes,
-    Step::Hears(b"\x88\x02\x03\xea"),
-    Step::HearsEnd,
-];
+const LONG_PINGS: [Step; 2] = [Step::Says(LONG_PING), Step::Fails];
+
+const BREACH: &[u8] = b"\x88\x02\x03\xea";
 
 /// A text is refused at its first fragment that no text begins with, with the code 1007.
-const BAD_TEXTS: [Step; 5] = [
-    Step::Says(BAD_TEXT),
-    Step::Fails,
-    Step::Closes,
-    Step::Hears(b"\x88\x02\x03\xef"),
-    Step::HearsEnd,
-];
+const BAD_TEXTS: [Step; 2] = [Step::Says(BAD_TEXT), Step::Fails];
+
+const NO_TEXT: &[u8] = b"\x88\x02\x03\xef";
 
 /// A door at a port that the system picks.
 fn open_door<'a, R: Abort + Net<Listener = TcpListener, Stream = TcpStream> + Clock>(
@@ -164,7 +140,9 @@ fn client<R: Net<Listener = TcpListener, Stream = TcpStream> + Clock>(
 fn welcomed<R: Net<Listener = TcpListener, Stream = TcpStream> + Clock>(
     alloc: Global,
     door: &mut TcpDoor<R>,
-) -> Result<ServerLink, &'static str> {
+) -> Result<ServerLink, &'static str>
+    ensures { IfOk result (λ l. ⟦<ServerLink as Link>⟧.closed l ≡ false) }
+{
     match door.next(alloc) {
         Next::Link(link) => Ok(link),
         Next::Stop | Next::Failed | Next::NoMemory => Err("no link"),
@@ -172,7 +150,10 @@ fn welcomed<R: Net<Listener = TcpListener, Stream = TcpStream> + Clock>(
 }
 
 /// The next item that is not idle, within enough turns for any wait to be over.
-fn item(alloc: Global, link: &mut ServerLink) -> Recv {
+fn item<L: Link>(alloc: Global, link: &mut L) -> Recv
+    requires usable { L.closed link.old ≡ false }
+    ensures usable { L.closed link.new ≡ false }
+{
     for _ in 0..1000 {
         match link.recv(alloc) {
             Recv::Idle => {}
@@ -183,7 +164,10 @@ fn item(alloc: Global, link: &mut ServerLink) -> Recv {
 }
 
 /// That the next message has these bytes.
-fn gets(rt: &impl Abort, alloc: Global, link: &mut ServerLink, expected: &[u8]) {
+fn gets<L: Link>(rt: &impl Abort, alloc: Global, link: &mut L, expected: &[u8])
+    requires usable { L.closed link.old ≡ false }
+    ensures usable { L.closed link.new ≡ false }
+{
     match item(alloc, link) {
         Recv::Got(message) => assert!(rt; message.as_bytes() == expected),
         other => assert!(rt; false, "{other:?}"),
@@ -225,7 +209,10 @@ fn is_answered(rt: &impl Abort, alloc: Global, client: &mut TcpStream) -> Result
 }
 
 /// That the link reports the end.
-fn ends(rt: &impl Abort, alloc: Global, link: &mut ServerLink) {
+fn ends<L: Link>(rt: &impl Abort, alloc: Global, link: &mut L)
+    requires usable { L.closed link.old ≡ false }
+    ensures usable { L.closed link.new ≡ false }
+{
     match item(alloc, link) {
         Recv::End => {}
         other => assert!(rt; false, "{other:?}"),
@@ -233,7 +220,10 @@ fn ends(rt: &impl Abort, alloc: Global, link: &mut ServerLink) {
 }
 
 /// That the link reports a fault.
-fn fails(rt: &impl Abort, alloc: Global, link: &mut ServerLink) {
+fn fails<L: Link>(rt: &impl Abort, alloc: Global, link: &mut L)
+    requires usable { L.closed link.old ≡ false }
+    ensures usable { L.closed link.new ≡ false }
+{
     match item(alloc, link) {
         Recv::Failed => {}
         other => assert!(rt; false, "{other:?}"),
@@ -241,66 +231,95 @@ fn fails(rt: &impl Abort, alloc: Global, link: &mut ServerLink) {
 }
 
 /// That "Hello" is sent with this answer.
-fn sends(
-    rt: &impl Abort,
-    alloc: Global,
-    link: &mut ServerLink,
-    expected: Sent,
-) -> Result<(), Fail> {
+fn sends<L: Link>(rt: &impl Abort, alloc: Global, link: &mut L, expected: Sent) -> Result<(), Fail>
+    requires usable { L.closed link.old ≡ false }
+    ensures usable { L.closed link.new ≡ false }
+{
     let hello = Blob::copy(alloc, b"Hello")?;
     assert!(rt; link.send(alloc, &hello) == expected);
     Ok(())
 }
 
 /// What the link does in a step.
-fn step_link(
-    rt: &impl Abort,
-    alloc: Global,
-    link: &mut ServerLink,
-    step: Step,
-) -> Result<(), Fail> {
+fn step_link<L: Link>(rt: &impl Abort, alloc: Global, link: &mut L, step: Step) -> Result<(), Fail>
+    requires usable { L.closed link.old ≡ false }
+    ensures usable { L.closed link.new ≡ false }
+{
     match step {
         Step::Waits => assert!(rt; matches!(link.recv(alloc), Recv::Idle)),
         Step::Gets(message) => gets(rt, alloc, link, message),
         Step::Ends => ends(rt, alloc, link),
         Step::Fails => fails(rt, alloc, link),
         Step::Sends(answer) => sends(rt, alloc, link, answer)?,
-        Step::Closes => link.close(),
-        Step::Says(_) | Step::Hears(_) | Step::HearsEnd => {}
+        Step::Says(_) => {}
     }
     Ok(())
 }
 
 /// What the client does in a step.
-fn step_client(rt: &impl Abort, peer: &mut TcpStream, step: Step) -> io::Result<()> {
+fn step_client(peer: &mut TcpStream, step: Step) -> io::Result<()> {
     match step {
         Step::Says(bytes) => peer.write_all(bytes),
-        Step::Hears(bytes) => hears(rt, peer, bytes),
-        Step::HearsEnd => hears_end(rt, peer),
         _ => Ok(()),
     }
 }
 
-/// A client of the door, and its link, which go through these steps once the client is answered. The client then leaves.
+/// A client and its link go through these steps.
+fn go_through<L: Link>(
+    rt: &impl Abort,
+    alloc: Global,
+    peer: &mut TcpStream,
+    link: &mut L,
+    steps: &[Step],
+) -> Result<(), Fail>
+    requires usable { L.closed link.old ≡ false }
+    ensures usable { L.closed link.new ≡ false }
+{
+    for step in steps {
+        step_client(peer, *step)?;
+        step_link(rt, alloc, link, *step)?;
+    }
+    Ok(())
+}
+
+/// A client of the door, and its link, which go through these steps once the client is answered. Then the link is closed, and the client
+/// reads these bytes and the end. A second close says nothing more.
 fn meet<R: AllocGlobal + Abort + Net<Listener = TcpListener, Stream = TcpStream> + Clock>(
     rt: &R,
     door: &mut TcpDoor<R>,
     steps: &[Step],
-) -> Result<ServerLink, Fail> {
+    last: &[u8],
+) -> Result<ServerLink, Fail>
+    ensures { IfOk result (λ l. ⟦<ServerLink as Link>⟧.closed l ≡ true) }
+{
     let mut peer = client(rt, door, REQUEST)?;
     let mut link = welcomed(rt.alloc(), door)?;
     is_answered(rt, rt.alloc(), &mut peer)?;
-    for step in steps {
-        step_client(rt, &mut peer, *step)?;
-        step_link(rt, rt.alloc(), &mut link, *step)?;
-    }
+    go_through(rt, rt.alloc(), &mut peer, &mut link, steps)?;
+    link.close();
+    link.close();
+    hears(rt, &mut peer, last)?;
+    hears_end(rt, &mut peer)?;
     Ok(link)
+}
+
+/// A client that has read all goes without a goodbye.
+fn leave<R: AllocGlobal + Abort + Net<Listener = TcpListener, Stream = TcpStream> + Clock>(
+    rt: &R,
+    door: &mut TcpDoor<R>,
+) -> Result<(), Fail> {
+    let mut peer = client(rt, door, REQUEST)?;
+    let mut link = welcomed(rt.alloc(), door)?;
+    is_answered(rt, rt.alloc(), &mut peer)?;
+    drop(peer);
+    ends(rt, rt.alloc(), &mut link);
+    Ok(())
 }
 
 #[test]
 fn a_link_carries_messages(rt: HostRuntime) -> Result<(), Fail> {
     let mut door = open_door(&rt);
-    let link = meet(&rt, &mut door, &MESSAGES)?;
+    let link = meet(&rt, &mut door, &MESSAGES, SENT)?;
     door.back(link, 1, 4);
     Ok(())
 }
@@ -310,20 +329,18 @@ fn a_door_passes_over_what_is_no_client(rt: HostRuntime) -> Result<(), Fail> {
     let mut door = open_door(&rt);
     let _silent = client(&rt, &door, b"")?;
     let _browser = client(&rt, &door, b"GET / HTTP/1.1\r\nHost: a\r\n\r\n")?;
-    meet(&rt, &mut door, &GOODBYES)?;
+    meet(&rt, &mut door, &GOODBYES, DONE)?;
     Ok(())
 }
 
 #[test]
 fn a_link_tells_an_end_from_a_fault(rt: HostRuntime) -> Result<(), Fail> {
     let mut door = open_door(&rt);
-    meet(&rt, &mut door, &TURNED_AWAY)?;
-    meet(&rt, &mut door, &FAULTS)?;
-    meet(&rt, &mut door, &LONG_PINGS)?;
-    meet(&rt, &mut door, &BAD_TEXTS)?;
-    // A client that has read all goes without a goodbye.
-    let mut link = meet(&rt, &mut door, &[])?;
-    ends(&rt, rt.alloc(), &mut link);
+    meet(&rt, &mut door, &[], AGAIN)?;
+    meet(&rt, &mut door, &FAULTS, BREACH)?;
+    meet(&rt, &mut door, &LONG_PINGS, BREACH)?;
+    meet(&rt, &mut door, &BAD_TEXTS, NO_TEXT)?;
+    leave(&rt, &mut door)?;
     assert!(rt; door.listen("127.0.0.1:no") == Listened::Failed);
     Ok(())
 }

@@ -39,7 +39,7 @@ pub touches-push : (es : List (Key × ℕ)) (key : Key) (mark : ℕ) → touches
 touches-push es key mark = map-push touch_of es (key, mark)
 
 pub length-touches : (es : List (Key × ℕ)) → length (touches es) ≡ length es
-length-touches es = length-map touch_of es
+length-touches es = length-map es touch_of
 
 -- ---- noting a key
 

@@ -1,5 +1,5 @@
 -- Operations: which keys they alter, and what they leave there.
-use Rattle.std.specs.Prelude.{ℤ, Bool, true, false, ◌&&◌, ◌||◌, List, Option, Some, None, is_none, nat_le}
+use Rattle.std.specs.Prelude.{ℤ, Bool, true, false, ◌&&◌, ◌||◌, List, Option, Some, None, is_none}
 use Rattle.std.specs.Option.{option_map}
 use Rattle.etp_values.specs.declared.data.AnyArray.{AnyArray}
 use Rattle.etp_values.specs.SameUri.{same_uri}
@@ -16,19 +16,18 @@ use Rattle.tx_stage.specs.Keys.{same_key, is_array_of}
 
 -- ---- which keys an operation alters
 
--- what is done suits the key: an object's record says its key and is active or not, and an array's is one that a put accepts, whose elements
--- mean one of the 21 logical types
+-- what is done suits the key: an object's record says its key, and an array's is one that a put accepts
 abbrev pub suits : Key → OpWhat → Bool
 suits (Space p) (SetObject r) = false
 suits (Space p) (SetArray r) = false
 suits (Space p) (Patch ss cs vs) = false
 suits (Space p) Gone = false
-suits (Object u) (SetObject r) = same_uri u r.uri && nat_le r.active 1
+suits (Object u) (SetObject r) = same_uri u r.uri
 suits (Object u) (SetArray r) = false
 suits (Object u) (Patch ss cs vs) = false
 suits (Object u) Gone = true
 suits (Array k) (SetObject r) = false
-suits (Array k) (SetArray r) = is_none (record_refusal r) && nat_le r.logical 20
+suits (Array k) (SetArray r) = is_none (record_refusal r)
 suits (Array k) (Patch ss cs vs) = true
 suits (Array k) Gone = false
 

@@ -9,12 +9,6 @@ use etp_values::{AnyArray, Copied, List, NoMemory};
 use object_store::ObjectRecord;
 use std::alloc::Global;
 
-/// An object is active, 0, or inactive, 1.
-const LAST_STATUS: u32 = 1;
-
-/// The place of the last logical type of an array.
-const LAST_MEANING: u32 = 20;
-
 /// What an operation does. The times of writing and creation in a record are ignored.
 #[derive(Debug, Drop, PartialEq, Eq)]
 pub enum OpWhat {
@@ -48,13 +42,13 @@ impl Op {
         match &self.what {
             OpWhat::SetObject(object) => match &self.key {
                 Key::Space(_) => false,
-                Key::Object(uri) => uri.same(&object.uri) && object.active <= LAST_STATUS,
+                Key::Object(uri) => uri.same(&object.uri),
                 Key::Array(_) => false,
             },
             OpWhat::SetArray(array) => match &self.key {
                 Key::Space(_) => false,
                 Key::Object(_) => false,
-                Key::Array(_) => record_refusal(array).is_none() && array.logical <= LAST_MEANING,
+                Key::Array(_) => record_refusal(array).is_none(),
             },
             OpWhat::Patch { .. } => match &self.key {
                 Key::Space(_) => false,

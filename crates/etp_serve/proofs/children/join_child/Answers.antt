@@ -8,6 +8,9 @@ use Rattle.etp_serve.proofs.children.join_child.Goals as goal
 pub take_in-requires-clause-ended : goal.take_in-requires-clause-ended
 take_in-requires-clause-ended g c = λ κs w. subst (λ (h : Hub). IsPassOf h c.join-finished.result.pass) c.requires.hub c.join-finished.ensures.0
 
+pub take_in-requires-clause-closed : goal.take_in-requires-clause-closed
+take_in-requires-clause-closed g c = λ κs w. c.join-finished.ensures.3
+
 pub returns-clause-settles : goal.returns-clause-settles
 returns-clause-settles g c = λ end test v0 given0 left b0 begun acc.
     let p = c.args.child.handle.promise in

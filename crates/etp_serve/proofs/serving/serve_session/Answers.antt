@@ -39,6 +39,7 @@ loop-init g c =
       met = refl;
       run = subst (λ (s : State). IsBeforeTurn config pass.number a told (known pass) s a told) (sym new)
           (run_start c.laws.ensures config pass.number ids (known pass) entered.0 a told c.requires.fresh.0 c.requires.fresh.1 entered.1 entered.2);
+      usable = c.requires.usable;
       kept = omega arith;
       test = refl;
     }
@@ -110,6 +111,7 @@ loop-preserved g c =
           (subst (λ (k : ℕ). IsWithinTurn config k a told (known c.receive.new.pass) c.receive.new.session (g.L.Link.talk c.receive.new.link) (g.C.Clock.told c.receive.new.clock)) (sym m)
           (c.in_default-receive.ensures.goes a told
           (subst (λ (k : ℕ). IsBeforeTurn config k a told (known c.loop.pass) c.loop.session (g.L.Link.talk c.loop.link) (g.C.Clock.told c.loop.clock)) (sym n) c.loop.invariant.run))));
+      usable = c.poll.ensures.usable;
       kept = omega (arith, c.loop.invariant.kept, c.receive.ensures.kept, c.poll.ensures.kept);
       test = c.receive.ensures.test ∙ c.loop.invariant.test;
     }

@@ -6,6 +6,7 @@ use Rattle.etp_serve.proofs.steps.drain.Goals as goal
 pub loop-message-init : goal.loop-message-init
 loop-message-init g c = record {
   talk = drain_start c.args.session.now (g.L.Link.talk c.args.link.now);
+  usable = c.requires.usable;
   kept = omega arith;
   ended = refl;
 }
@@ -14,6 +15,7 @@ pub loop-message-preserved : goal.loop-message-preserved
 loop-message-preserved g c = record {
   talk = drain_step c.args.session.now c.loop-message.session c.next_out.new.self (g.L.Link.talk c.args.link.now) (g.L.Link.talk c.loop-message.link) (g.L.Link.talk c.send.new.self) c.in-Ok-Some.message c.loop-message.invariant.talk
       (sym c.in-Ok-Some.field-0-is ∙ c.in-Ok-Some.ensures.bytes) c.in-Ok-Some.ensures.state c.in-Done.ensures.talk;
+  usable = c.send.ensures.closed ∙ c.loop-message.invariant.usable;
   kept = omega (arith, c.loop-message.invariant.kept, c.send.ensures.kept);
   ended = c.send.ensures.ended ∙ c.loop-message.invariant.ended;
 }

@@ -20,6 +20,9 @@ returns-in-Ok-clause-fulfils g c =
 pub returns-in-Ok-clause-most : goal.returns-in-Ok-clause-most
 returns-in-Ok-clause-most g c = c.serve.ensures.most
 
+pub returns-in-Ok-clause-there : goal.returns-in-Ok-clause-there
+returns-in-Ok-clause-there g c = c.serve.ensures.there
+
 pub returns-in-Ok-clause-over : goal.returns-in-Ok-clause-over
 returns-in-Ok-clause-over g c = c.serve.ensures.over
 
@@ -45,6 +48,9 @@ returns-in-Err-clause-fulfils g c =
 
 pub returns-in-Err-clause-most : goal.returns-in-Err-clause-most
 returns-in-Err-clause-most g c = most_same c.args.command.sessions (g.A.Listener.given c.args.door.now) (g.A.Listener.given c.args.door.now) refl
+
+pub returns-in-Err-clause-there : goal.returns-in-Err-clause-there
+returns-in-Err-clause-there g c = inl refl
 
 pub returns-in-Err-clause-over : goal.returns-in-Err-clause-over
 returns-in-Err-clause-over g c = λ is. absurd (never c.in-Err.status Done (g.H.Host.content c.args.host.now c.args.command.config.now) (λ x. x) c.in-Err.ensures.config is)

@@ -24,6 +24,12 @@ returns-clause-tries g c =
 pub returns-clause-most : goal.returns-clause-most
 returns-clause-most g c = c.serve_at-served.ensures.most
 
+pub returns-in_default-clause-there : goal.returns-in_default-clause-there
+returns-in_default-clause-there g c = inl refl
+
+pub returns-clause-there : goal.returns-clause-there
+returns-clause-there g c = c.serve_at-served.ensures.there
+
 pub returns-clause-over : goal.returns-clause-over
 returns-clause-over g c = λ is. c.serve_at-served.ensures.over (done_is c.serve_at-served.result c.write_report-reported.result (sym c.status_of.ensures ∙ is))
 

@@ -1,4 +1,5 @@
-use Rattle.std.proofs.Common.{◌≡◌, true, refl, arith}
+use Rattle.std.proofs.Common.{◌≡◌, ℕ, List, Option, true, refl, sym, subst, inl, inr, arith}
+use Rattle.etp_outside.specs.Told.{Told}
 use Rattle.etp_outside.proofs.FaultLemmas.{rose_later}
 use Rattle.store_hub.specs.Passes.{known, config_of}
 use Rattle.server_forms.proofs.ServingLemmas.{most_from, most_same, reached_from, served_from, served_none}
@@ -14,6 +15,11 @@ pub returns-in-Done-clause-most : goal.returns-in-Done-clause-most
 returns-in-Done-clause-most g c =
     let L = g.A.Listener in
     most_from c.args.most (L.given c.listen.new.self) (L.given c.args.door.now) (L.given c.serve_all.new.door) c.listen.ensures.given c.serve_all.ensures.most
+
+pub returns-in-Done-clause-there : goal.returns-in-Done-clause-there
+returns-in-Done-clause-there g c =
+    let at = g.A.Listener.at in
+    inr (subst (λ (place : Option (List ℕ)). Told (at c.args.door.now) place (λ old new. new ≡ c.args.address.now)) (sym c.serve_all.ensures.at) (c.in-Done.ensures.at refl))
 
 pub returns-in-Done-clause-over : goal.returns-in-Done-clause-over
 returns-in-Done-clause-over g c = λ is.
@@ -35,6 +41,9 @@ returns-in-Failed-clause-all g c =
 
 pub returns-in-Failed-clause-most : goal.returns-in-Failed-clause-most
 returns-in-Failed-clause-most g c = most_same c.args.most (g.A.Listener.given c.args.door.now) (g.A.Listener.given c.listen.new.self) c.listen.ensures.given
+
+pub returns-in-Failed-clause-there : goal.returns-in-Failed-clause-there
+returns-in-Failed-clause-there g c = inl c.listen.ensures.given
 
 pub returns-in-Failed-clause-over : goal.returns-in-Failed-clause-over
 returns-in-Failed-clause-over g c = λ is. absurd (cc is)

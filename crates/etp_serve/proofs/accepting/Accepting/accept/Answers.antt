@@ -1,7 +1,7 @@
 use Rattle.std.proofs.Common.{length, refl, ap, sym}
 use Rattle.store_hub.specs.Passes.{known, config_of}
 use Rattle.etp_serve.specs.declared.served.Served.TheVariants.{Stopped, NoMemory}
-use Rattle.etp_serve.proofs.AcceptLemmas.{accepts_all, accepts_at, accepts_start, accepts_until}
+use Rattle.etp_serve.proofs.AcceptLemmas.{accepts_all, accepts_at, accepts_start, accepts_until, begins}
 use Rattle.etp_serve.proofs.accepting.Accepting.accept.Goals as goal
 
 pub returns-in_default-clause-all : goal.returns-in_default-clause-all
@@ -13,7 +13,7 @@ returns-in_default-clause-all g c =
     let given0 = L.given c.args.door.now in
     let b0 = L.backs c.args.door.now in
     accepts_all test config v0 given0 b0 c.laws.ensures NoMemory v0 given0 b0
-    (accepts_until test config v0 given0 b0 NoMemory v0 given0 0 b0 (accepts_start test config v0 given0 b0 (g.met.A.Listener.few c.args.door.now)))
+    (accepts_until test config v0 given0 b0 NoMemory v0 given0 0 b0 (accepts_start test config v0 given0 b0 (begins c.args.pass.now) (g.met.A.Listener.few c.args.door.now)))
 
 pub serve_links-end-requires-clause-way : goal.serve_links-end-requires-clause-way
 serve_links-end-requires-clause-way g c = λ κs w.
@@ -25,7 +25,7 @@ serve_links-end-requires-clause-way g c = λ κs w.
     let b0 = L.backs c.args.door.now in
     accepts_at Stopped test config v0 (known c.args.self.now.first.value) v0 given0 (L.given c.args.self.now.opened.value) given0 0 (length c.in-Ok.children.items) b0 (L.backs c.args.self.now.opened.value) b0
     (ap known c.requires.first) (ap L.given c.requires.opened) (ap length c.in-Ok.ensures.items) (ap L.backs c.requires.opened)
-    (accepts_start test config v0 given0 b0 (g.met.A.Listener.few c.args.door.now))
+    (accepts_start test config v0 given0 b0 (begins c.args.pass.now) (g.met.A.Listener.few c.args.door.now))
 
 pub returns-clause-all : goal.returns-clause-all
 returns-clause-all g c =

@@ -53,4 +53,4 @@ returns-in-Ok-clause-holds g c =
     )
 
 pub returns-in-Ok-clause-keeps : goal.returns-in-Ok-clause-keeps
-returns-in-Ok-clause-keeps g c = (refl, omega (arith, c.put_last.ensures.more), c.put_last.ensures.capacity, refl, refl, omega arith)
+returns-in-Ok-clause-keeps g c = (refl, omega (arith, c.put_last.ensures.more), c.put_last.ensures.capacity, refl, refl, omega arith, refl)

@@ -5,4 +5,4 @@ pub returns-then-len-lt-MOST-clause-keeps : goal.returns-then-len-lt-MOST-clause
 returns-then-len-lt-MOST-clause-keeps g c =
     let now = c.settle_ended.ensures.keeps in
     let before = c.loop.invariant in
-    (now.0 ∙ before.number, omega (arith, now.1, before.fewer), now.2 ∙ before.capacity, now.3 ∙ before.given, now.4 ∙ before.stopped, omega (arith, now.5, before.kept))
+    (now.0 ∙ before.number, omega (arith, now.1, before.fewer), now.2 ∙ before.capacity, now.3 ∙ before.given, now.4 ∙ before.stopped, omega (arith, now.5, before.kept), now.6 ∙ before.at)

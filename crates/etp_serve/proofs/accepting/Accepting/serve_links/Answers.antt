@@ -12,6 +12,7 @@ loop-init g c = record {
   few = c.requires.few;
   room = c.requires.room;
   left = left_start c.args.most (g.A.Listener.given c.args.door.now);
+  at = refl;
   kept = omega arith;
 }
 
@@ -29,6 +30,9 @@ returns-in_default-clause-holds g c = (c.loop.invariant.own, c.loop.invariant.al
 
 pub returns-in_default-clause-number : goal.returns-in_default-clause-number
 returns-in_default-clause-number g c = c.loop.invariant.number
+
+pub returns-in_default-clause-at : goal.returns-in_default-clause-at
+returns-in_default-clause-at g c = c.loop.invariant.at
 
 pub returns-in_default-clause-kept : goal.returns-in_default-clause-kept
 returns-in_default-clause-kept g c = c.loop.invariant.kept
@@ -56,6 +60,9 @@ returns-in-Some-welcome-clause-most g c =
 pub returns-in-Some-welcome-clause-stop : goal.returns-in-Some-welcome-clause-stop
 returns-in-Some-welcome-clause-stop g c = λ is. inl (c.in-Some-welcome.ensures.stopped (ap Some is))
 
+pub returns-in-Some-welcome-clause-at : goal.returns-in-Some-welcome-clause-at
+returns-in-Some-welcome-clause-at g c = c.welcome.ensures.at ∙ (c.make_room.ensures.keeps.6 ∙ c.loop.invariant.at)
+
 pub returns-in-Some-welcome-clause-kept : goal.returns-in-Some-welcome-clause-kept
 returns-in-Some-welcome-clause-kept g c = omega (arith, c.loop.invariant.kept, c.make_room.ensures.keeps.5, c.welcome.ensures.kept)
 
@@ -73,5 +80,6 @@ loop-preserved g c = record {
   room = omega (arith, c.make_room.ensures.keeps.2, c.welcome.ensures.capacity, c.loop.invariant.room);
   left = left_next c.args.most c.loop.left c.in-Some-one_less.after (g.A.Listener.given c.args.door.now) (g.A.Listener.given c.loop.door) (g.A.Listener.given c.welcome.new.door) c.loop.invariant.left c.in-Some-one_less.ensures.some
       (c.in_default-welcome.ensures.one ∙ ap (λ (k : ℕ). k + 1) c.make_room.ensures.keeps.3);
+  at = c.welcome.ensures.at ∙ (c.make_room.ensures.keeps.6 ∙ c.loop.invariant.at);
   kept = omega (arith, c.loop.invariant.kept, c.make_room.ensures.keeps.5, c.welcome.ensures.kept);
 }

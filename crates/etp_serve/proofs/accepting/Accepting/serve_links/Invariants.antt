@@ -15,5 +15,6 @@ invariant-loop g l = record {
   few : deque_len l.children ≤ 64;
   room : 64 ≤ deque_capacity l.children;
   left : IsLeft l.fn.most l.left (g.A.Listener.given l.fn.door) (g.A.Listener.given l.door);
+  at : g.A.Listener.at l.door ≡ g.A.Listener.at l.fn.door;
   kept : g.A.Listener.faults l.fn.door ≤ g.A.Listener.faults l.door;
 }

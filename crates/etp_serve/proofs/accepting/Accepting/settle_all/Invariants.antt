@@ -14,5 +14,6 @@ invariant-loop-child g l = record {
       → Accepts end (g.C.Clock.passes l.self.clock.now) (config_of l.self.hub.now) (known l.self.first.value) (known l.pass) (g.A.Listener.given l.self.opened.value) (g.A.Listener.given l.door) (length l.child-iterator.rest.items) (g.A.Listener.backs l.self.opened.value) (g.A.Listener.backs l.door);
   given : g.A.Listener.given l.door ≡ g.A.Listener.given l.fn.door;
   stopped : g.A.Listener.stopped l.door ≡ g.A.Listener.stopped l.fn.door;
+  at : g.A.Listener.at l.door ≡ g.A.Listener.at l.fn.door;
   kept : g.A.Listener.faults l.fn.door ≤ g.A.Listener.faults l.door;
 }

@@ -16,5 +16,6 @@ invariant-loop g l = record {
   capacity : deque_capacity l.children ≡ deque_capacity l.fn.children;
   given : g.A.Listener.given l.door ≡ g.A.Listener.given l.fn.door;
   stopped : g.A.Listener.stopped l.door ≡ g.A.Listener.stopped l.fn.door;
+  at : g.A.Listener.at l.door ≡ g.A.Listener.at l.fn.door;
   kept : g.A.Listener.faults l.fn.door ≤ g.A.Listener.faults l.door;
 }
