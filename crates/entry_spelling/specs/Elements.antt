@@ -4,13 +4,11 @@ use Rattle.std.proofs.lemmas.List.{append-nil, length-append}
 use Rattle.std.specs.Prelude.{◌≡◌, refl, Bool, true, false, ℕ, zero, suc, ℤ, pos, nat_lt, ◌+◌, ◌%◌, ◌/◌, if◌then◌else◌, ◌<◌, ◌≤◌, List, [], ◌∷◌, ◌++◌, map, length, Option, Some, None, Ok, Err}
 use Rattle.std.specs.Option.{option_map}
 use Rattle.std.specs.List.{AllByRecursion}
-use Rattle.avro_bin.specs.Value.{Value, row, nodes}
+use Rattle.avro_bin.specs.Value.{row, nodes}
 use Rattle.avro_bin.specs.Number.{plain_number, shortest, unsigned}
 use Rattle.avro_bin.specs.Plain.{plain, plain_all, plain_blob}
 use Rattle.avro_bin.specs.Shape.{FitsTree}
 use Rattle.avro_bin.specs.Reading.{Read}
-use Rattle.etp_values.specs.declared.bits.Bits32.{Bits32}
-use Rattle.etp_values.specs.declared.bits.Bits64.{Bits64}
 use Rattle.etp_values.specs.declared.data.AnyArray.{AnyArray}
 use Rattle.etp_values.specs.declared.data.AnyArray.TheVariants.{ArrayOfBoolean, ArrayOfInt, ArrayOfLong, ArrayOfFloat, ArrayOfDouble, ArrayOfString, Bytes}
 use Rattle.etp_schema.specs.Form.{Form, Holds, boolean_form, int_form, long_form, float_form, double_form, bytes_form, text_form}
@@ -48,8 +46,8 @@ elements_at f bytes = all_at f [] bytes (length bytes)
 
 -- each value takes one node and some bytes
 pub record IsElement {A : Type 0} (f : Form A) : Type 0 where
-  pub one : (x : A) → nodes (f.as_value x) ≡ 1
-  pub some : (x : A) → 0 < length (plain (f.as_value x))
+  pub single : (x : A) → nodes (f.as_value x) ≡ 1
+  pub filled : (x : A) → 0 < length (plain (f.as_value x))
 
 module _ {A : Type 0} (f : Form A) (is : IsElement f) where
   next_is : (before : List A) (bytes rest : List ℕ) (bound : ℕ) (x : A) → 0 < length bytes → f.at 1 bytes ≡ Ok ((x, 0), rest) → all_at f before bytes (suc bound) ≡ all_at f (before ++ x ∷ []) rest bound
@@ -58,12 +56,12 @@ module _ {A : Type 0} (f : Form A) (is : IsElement f) where
 
   all_again : (xs before : List A) (bound : ℕ) → length (spelled_all f xs) ≤ bound → AreElements f xs → all_at f before (spelled_all f xs) bound ≡ Some (before ++ xs)
   all_again [] before bound few h = ap Some (sym (append-nil before))
-  all_again (x ∷ xs) before zero few h = absurd (omega (arith, is.some x, length-append (plain (f.as_value x)) (spelled_all f xs)))
+  all_again (x ∷ xs) before zero few h = absurd (omega (arith, is.filled x, length-append (plain (f.as_value x)) (spelled_all f xs)))
   all_again (x ∷ xs) before (suc bound) few h =
       let front : List ℕ = plain (f.as_value x) in
       let back : List ℕ = spelled_all f xs in
-      next_is before (front ++ back) back bound x (omega (arith, is.some x, length-append front back)) (formed_again f x 1 0 back (omega (arith, is.one x)) h.0)
-      ∙ all_again xs (before ++ x ∷ []) bound (omega (arith, is.some x, length-append front back)) h.1
+      next_is before (front ++ back) back bound x (omega (arith, is.filled x, length-append front back)) (formed_again f x 1 0 back (omega (arith, is.single x)) h.0)
+      ∙ all_again xs (before ++ x ∷ []) bound (omega (arith, is.filled x, length-append front back)) h.1
       ∙ ap Some (append_assoc before (x ∷ []) xs)
 
   pub elements_again : (xs : List A) → AreElements f xs → elements_at f (spelled_all f xs) ≡ Some xs
@@ -126,14 +124,14 @@ array_in (suc (suc (suc (suc (suc (suc zero)))))) b = Some (Bytes b)
 array_in (suc (suc (suc (suc (suc (suc (suc p))))))) b = None
 
 pub array_again : (a : AnyArray) → HasElements a → array_in (place_of a) (content_of a) ≡ Some a
-array_again (ArrayOfBoolean xs) h = ap (option_map ArrayOfBoolean) (elements_again boolean_form (record { one = λ x. refl; some = λ x. omega arith }) xs h)
-array_again (ArrayOfInt xs) h = ap (option_map ArrayOfInt) (elements_again int_form (record { one = λ x. refl; some = λ x. number_some x }) xs h)
-array_again (ArrayOfLong xs) h = ap (option_map ArrayOfLong) (elements_again long_form (record { one = λ x. refl; some = λ x. number_some x }) xs h)
-array_again (ArrayOfFloat xs) h = ap (option_map ArrayOfFloat) (elements_again float_form (record { one = λ x. refl; some = λ x. omega arith }) xs h)
-array_again (ArrayOfDouble xs) h = ap (option_map ArrayOfDouble) (elements_again double_form (record { one = λ x. refl; some = λ x. omega arith }) xs h)
-array_again (ArrayOfString xs) h = ap (option_map ArrayOfString) (elements_again text_form (record { one = λ x. refl; some = λ x. blob_some x }) xs h)
+array_again (ArrayOfBoolean xs) h = ap (option_map ArrayOfBoolean) (elements_again boolean_form (record { single = λ x. refl; filled = λ x. omega arith }) xs h)
+array_again (ArrayOfInt xs) h = ap (option_map ArrayOfInt) (elements_again int_form (record { single = λ x. refl; filled = λ x. number_some x }) xs h)
+array_again (ArrayOfLong xs) h = ap (option_map ArrayOfLong) (elements_again long_form (record { single = λ x. refl; filled = λ x. number_some x }) xs h)
+array_again (ArrayOfFloat xs) h = ap (option_map ArrayOfFloat) (elements_again float_form (record { single = λ x. refl; filled = λ x. omega arith }) xs h)
+array_again (ArrayOfDouble xs) h = ap (option_map ArrayOfDouble) (elements_again double_form (record { single = λ x. refl; filled = λ x. omega arith }) xs h)
+array_again (ArrayOfString xs) h = ap (option_map ArrayOfString) (elements_again text_form (record { single = λ x. refl; filled = λ x. blob_some x }) xs h)
 array_again (Bytes b) h = refl
 
 -- elements by their kind and their bytes
-abbrev pub elements : Spelling AnyArray
-elements = tried (all_of (kind_of 7 & formed bytes_form & done)) (λ a. (place_of a, (content_of a, tt))) (λ p. array_in p.0 p.1.0) HasElements array_again
+abbrev pub elements_spelling : Spelling AnyArray
+elements_spelling = tried (all_of (kind_of 7 & formed bytes_form & done)) (λ a. (place_of a, (content_of a, tt))) (λ p. array_in p.0 p.1.0) HasElements array_again

@@ -2,11 +2,10 @@
 use Rattle.std.proofs.Common.{◌∙◌, ap, sym, subst, inl, inr, arith, append_assoc, w64, of_z, to_z}
 use Rattle.std.proofs.lemmas.Int.{of_z-to_z}
 use Rattle.std.proofs.lemmas.List.{append-nil}
-use Rattle.std.specs.Prelude.{◌≡◌, refl, ℕ, zero, suc, ℤ, pos, ◌+◌, ◌<◌, ◌≤◌, ◌^◌, List, [], ◌∷◌, ◌++◌, map, length, Option, Some, None, Ok, Err, ◌⊎◌, if◌then◌else◌}
+use Rattle.std.specs.Prelude.{◌≡◌, refl, ℕ, zero, suc, pos, ◌+◌, ◌<◌, ◌≤◌, ◌^◌, List, [], ◌∷◌, ◌++◌, map, length, Option, Some, None, Ok, Err, ◌⊎◌}
 use Rattle.std.specs.List.{AllByRecursion}
 use Rattle.std.specs.declared.result.Result.{Result}
-use Rattle.avro_bin.specs.Value.{Value, Values, VNull, VInt, VEnum, VArray, VUnion, VFields, row, list, nodes, nodes_in}
-use Rattle.avro_bin.specs.Value as v
+use Rattle.avro_bin.specs.Value.{Value, VInt, VEnum, VArray, VUnion, VFields, row, list, nodes, nodes_in}
 use Rattle.avro_bin.specs.Number.{plain_number}
 use Rattle.avro_bin.specs.Plain.{plain, plain_all, plain_block}
 use Rattle.avro_bin.specs.Schema.{Schema, Schemas, SInt, SEnum, SArray, SUnion, SFields}

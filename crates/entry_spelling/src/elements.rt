@@ -79,7 +79,7 @@ fn take_elements<T: OnWire>(alloc: Global, content: &[u8]) -> Result<Option<List
     ensures { IfOk result (λ r. r ≡ elements_at T.form content.now) }
 {
     let mut rest = content;
-    let mut items = Vec::new(alloc);
+    let mut items: Vec<T> = Vec::new(alloc);
     for _ in 0..content.len() {
         if rest.is_empty() {
             return Ok(Some(List::from_vec(items)));
@@ -221,9 +221,9 @@ fn measure_array<T: OnWire>(alloc: Global, kind: u32, items: &List<T>) -> Result
 }
 
 impl Spelled for AnyArray {
-    ghost use Rattle.entry_spelling.specs.Elements.{elements};
+    ghost use Rattle.entry_spelling.specs.Elements.{elements_spelling};
 
-    ghost spelling = { elements };
+    ghost spelling = { elements_spelling };
 
     fn take_spelled(from: &mut Reader<'_>) -> Result<AnyArray, Fault> {
         let start = from.rest().len();

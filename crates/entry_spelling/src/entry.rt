@@ -1,10 +1,10 @@
 //! Entries from and to bytes.
-ghost use Rattle.std.specs.Prelude.{◌≡◌, ◌++◌, ◌×◌, IfOk, OnErr, OnOk, length, min};
+ghost use Rattle.std.specs.Prelude.{◌≡◌, ◌++◌, IfOk, OnErr, OnOk, None, Some, length, min, if◌then◌else◌};
 ghost use Rattle.std.specs.Bool.{MatchBool};
 ghost use Rattle.etp_schema.specs.Measure.{most};
 ghost use Rattle.store_machine.specs.declared.journal.Entry.{Entry as AnEntry};
 ghost use Rattle.entry_spelling.specs.Spelling.{IsFitting};
-ghost use Rattle.entry_spelling.specs.Entries.{entry_nodes, entry_spelling, spelled, HasSpelling, IsEntryIn, IsForemost, IsSpelling};
+ghost use Rattle.entry_spelling.specs.Entries.{entry_nodes, journal_entry, spelled, HasSpelling, IsEntryIn, IsForemost, IsSpelling};
 
 use crate::spelled::Spelled;
 use crate::unspelled::Unspelled;
@@ -26,6 +26,7 @@ pub fn read_entry(alloc: Global, bytes: &[u8]) -> Result<Option<Entry>, NoMemory
 }
 
 /// The only entry whose spelling these bytes may be.
+#[tactic(auto, using(crate::proofs::EntryLemmas::only_read, crate::proofs::EntryLemmas::none_read))]
 fn entry_at_front(alloc: Global, bytes: &[u8]) -> Result<Option<Entry>, NoMemory>
     ensures { IfOk result (λ r. IsForemost bytes.now r) }
 {
@@ -38,17 +39,31 @@ fn entry_at_front(alloc: Global, bytes: &[u8]) -> Result<Option<Entry>, NoMemory
 }
 
 /// The entry, if the bytes are its spelling.
+#[tactic(auto, using(crate::proofs::EntryLemmas::entry_if))]
 fn checked(alloc: Global, entry: Entry, bytes: &[u8]) -> Result<Option<Entry>, NoMemory>
     requires { (d : AnEntry) → IsSpelling bytes.now d → d ≡ entry }
     ensures { IfOk result (λ r. IsEntryIn bytes.now r) }
 {
     match is_spelling(alloc, &entry, bytes) {
-        Ok(true) => Ok(Some(entry)),
-        Ok(false) => Ok(None),
-        Err(NoMemory) => Err(NoMemory),
+        Ok(same) => Ok(if_same(entry, same)),
+        Err(error) => {
+            drop(entry);
+            Err(error)
+        }
     }
 }
 
+fn if_same(entry: Entry, same: bool) -> Option<Entry>
+    ensures { result ≡ (if same then Some entry else None) }
+{
+    if same {
+        return Some(entry);
+    }
+    drop(entry);
+    None
+}
+
+#[tactic(auto, using(crate::proofs::EntryLemmas::is_same, crate::proofs::EntryLemmas::not_spelled))]
 fn is_spelling(alloc: Global, entry: &Entry, bytes: &[u8]) -> Result<bool, NoMemory>
     ensures { IfOk result (λ b. MatchBool b (IsSpelling bytes.now entry.now) (IsSpelling bytes.now entry.now → ⊥)) }
 {
@@ -79,7 +94,7 @@ pub fn write_entry(alloc: Global, entry: &Entry, into: &mut Vec<u8>) -> Result<(
 fn append(alloc: Global, entry: &Entry, into: &mut Vec<u8>) -> Result<(), Unspelled>
     ensures written { OnOk result (into.new.items ≡ into.old.items ++ spelled entry.now) }
     ensures kept { OnErr result (into.new.items ≡ into.old.items) }
-    ensures fits { IsFitting result (entry_spelling.Fits entry.now) }
+    ensures fits { IsFitting result (journal_entry.Fits entry.now) }
 {
     let start = into.len();
     match entry.spell(alloc, into) {

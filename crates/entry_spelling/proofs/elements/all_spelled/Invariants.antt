@@ -1,7 +1,4 @@
-use Rattle.std.proofs.Common.{◌≡◌, ◌++◌, map, drop}
-use Rattle.std.specs.List.{AllByRecursion}
-use Rattle.avro_bin.specs.Plain.{plain_all}
-use Rattle.avro_bin.specs.Value.{row}
+use Rattle.std.proofs.Common.{◌≡◌, ◌++◌, drop}
 use Rattle.entry_spelling.specs.Elements.{AreElements, spelled_all}
 use Rattle.entry_spelling.proofs.elements.all_spelled.Given as goal
 
