@@ -70,7 +70,11 @@ fn make_room<T>(items: &mut Vec<T>, count: u32, bytes: usize) -> Result<(), NoMe
 }
 
 /// `count` items, after those already read.
-fn take_items<T: Spelled>(from: &mut Reader<'_>, count: u32, items: &mut Vec<T>) -> Result<(), Fault>
+fn take_items<T: Spelled>(
+    from: &mut Reader<'_>,
+    count: u32,
+    items: &mut Vec<T>,
+) -> Result<(), Fault>
     ensures { ReadsOn (items_at (push_at T.spelling.at) count (items.old.items, from.old.left) from.old.rest.now) (items.new.items, from.new.left) from.new result }
 {
     make_room(items, count, from.rest().len())?;
@@ -158,7 +162,12 @@ impl<T: Spelled> Spelled for Option<T> {
 }
 
 /// Appends the spelling of a union's branch.
-pub(crate) fn spell_branch<T: Spelled>(alloc: Global, place: u32, value: &T, into: &mut Vec<u8>) -> Result<(), Unspelled>
+pub(crate) fn spell_branch<T: Spelled>(
+    alloc: Global,
+    place: u32,
+    value: &T,
+    into: &mut Vec<u8>,
+) -> Result<(), Unspelled>
     ensures written { Writes (plain (VUnion place (T.spelling.as_value value.now))) into.old.items into.new.items result }
     ensures fits { IsFitting result (T.spelling.Fits value.now) }
 {
@@ -168,7 +177,11 @@ pub(crate) fn spell_branch<T: Spelled>(alloc: Global, place: u32, value: &T, int
 }
 
 /// How much the spelling of a union's branch takes.
-pub(crate) fn measure_branch<T: Spelled>(alloc: Global, place: u32, value: &T) -> Result<Measure, NoMemory>
+pub(crate) fn measure_branch<T: Spelled>(
+    alloc: Global,
+    place: u32,
+    value: &T,
+) -> Result<Measure, NoMemory>
     ensures { IfOk result (λ m. m ≡ measured (VUnion place (T.spelling.as_value value.now))) }
 {
     let measure = value.measure_spelled(alloc)?;

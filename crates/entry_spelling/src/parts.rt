@@ -100,7 +100,11 @@ pub fn take_record<R: TakeParts>(from: &mut Reader<'_>) -> Result<R, Fault>
 }
 
 /// Appends the spelling of a record of these fields.
-pub fn spell_record<W: SpellParts>(alloc: Global, fields: W, into: &mut Vec<u8>) -> Result<(), Unspelled>
+pub fn spell_record<W: SpellParts>(
+    alloc: Global,
+    fields: W,
+    into: &mut Vec<u8>,
+) -> Result<(), Unspelled>
     ensures written { Writes (plain (VFields (row (W.values fields)))) into.old.items into.new.items result }
     ensures fits { IsFitting result (W.fits fields) }
 {
@@ -130,7 +134,11 @@ pub fn spell_variant<W: SpellParts>(
 }
 
 /// How much that spelling takes.
-pub fn measure_variant<W: SpellParts>(alloc: Global, place: u32, fields: W) -> Result<Measure, NoMemory>
+pub fn measure_variant<W: SpellParts>(
+    alloc: Global,
+    place: u32,
+    fields: W,
+) -> Result<Measure, NoMemory>
     ensures { IfOk result (λ m. m ≡ measured (VUnion place (VFields (row (W.values fields))))) }
 {
     let measure = fields.measure_parts(alloc, Measure::of_record())?;
