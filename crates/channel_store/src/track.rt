@@ -21,13 +21,29 @@ use server_config::{ChannelDef, ValueKind};
 use std::alloc::Global;
 use std::marker::Model;
 
-#[derive(Drop)]
 pub struct Track {
     uri: StoreUri,
     kind: ValueKind,
     points: Vec<Point>,
     changes: Rows<ChannelChange>,
     draft: Option<Draft>,
+}
+
+/// Written out, so that whatever holds one drops it by a single call.
+impl Drop for Track {
+    fn drop(self) {
+        let Track {
+            uri,
+            kind: _,
+            points,
+            changes,
+            draft,
+        } = self;
+        drop(uri);
+        drop(points);
+        drop(changes);
+        drop(draft);
+    }
 }
 
 impl Model for Track {
