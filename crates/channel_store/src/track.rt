@@ -237,11 +237,11 @@ impl Track {
     }
 
     /// The points of what is about to happen.
-    pub fn told(&self, alloc: Global) -> Result<Option<Points>, NoMemory>
+    pub fn staged_points(&self, alloc: Global) -> Result<Option<Points>, NoMemory>
         ensures { IfOk result (λ r. r ≡ option_map told_by self.now.staged) }
     {
         match &self.draft {
-            Some(draft) => Ok(Some(draft.what.told(alloc)?)),
+            Some(draft) => Ok(Some(draft.what.points(alloc)?)),
             None => Ok(None),
         }
     }

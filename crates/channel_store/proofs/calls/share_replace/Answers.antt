@@ -7,7 +7,7 @@ use Rattle.channel_store.specs.Sweeps.{shown_of, staged_by, outcome}
 use Rattle.channel_store.specs.Told.{ending}
 use Rattle.channel_store.proofs.EndedLemmas.{outcome-ok}
 use Rattle.channel_store.proofs.GivenLemmas.{tells-replaced}
-use Rattle.channel_store.proofs.calls.ready_replace.Goals as goal
+use Rattle.channel_store.proofs.calls.share_replace.Goals as goal
 
 pub returns-in-Err-clause-answer : goal.returns-in-Err-clause-answer
 returns-in-Err-clause-answer c =
@@ -23,7 +23,7 @@ hand_out-requires c =
     let items = c.args.items.now in
     let ids = c.args.channels.now in
     let cs = shown_of c.args.tracks.now.items in
-    let mid = c.prepare_replace.new.tracks.items in
+    let mid = c.stage_replace.new.tracks.items in
     let from = to_z w64 (of_z w64 c.args.from) in
     let to = to_z w64 (of_z w64 c.args.to) in
     tells-replaced cs ids from to items mid (outcome-ok (replace_refusal cs ids from to items) (staged_by (replaced ids from to items) cs) mid c.in_default.ensures.answer).1
@@ -33,7 +33,7 @@ returns-clause-answer c =
     let items = c.args.items.now in
     let ids = c.args.channels.now in
     let cs = shown_of c.args.tracks.now.items in
-    let mid = c.prepare_replace.new.tracks.items in
+    let mid = c.stage_replace.new.tracks.items in
     let from : to_z w64 (of_z w64 c.args.from) ≡ c.args.from = to_z-of_z w64 c.args.from c.ranges.from in
     let to : to_z w64 (of_z w64 c.args.to) ≡ c.args.to = to_z-of_z w64 c.args.to c.ranges.to in
     let ready : outcome (replace_refusal cs ids c.args.from c.args.to items) (staged_by (replaced ids c.args.from c.args.to items) cs) ≡ Ok mid =
@@ -41,4 +41,4 @@ returns-clause-answer c =
     subst (Becomes (ending c.hand_out.result) c.hand_out.new.tracks.items) (sym ready) c.hand_out.ensures.answer
 
 pub returns-clause-kept : goal.returns-clause-kept
-returns-clause-kept c = c.hand_out.ensures.kept ∙ c.prepare_replace.ensures.kept
+returns-clause-kept c = c.hand_out.ensures.kept ∙ c.stage_replace.ensures.kept

@@ -7,7 +7,7 @@ use Rattle.channel_store.specs.Store.{replaced}
 use Rattle.channel_store.specs.Sweeps.{shown_of, outcome, staged_by, steps, open_channel, add_item, inside_refusal_in, unless_refused}
 use Rattle.std.proofs.Common.{[]}
 use Rattle.channel_store.proofs.EndedLemmas.{outcome-err, outcome-ok, open-outcome, fill-outcome}
-use Rattle.channel_store.proofs.calls.prepare_replace.Goals as goal
+use Rattle.channel_store.proofs.calls.stage_replace.Goals as goal
 
 pub returns-in-Err-clause-answer : goal.returns-in-Err-clause-answer
 returns-in-Err-clause-answer c =
