@@ -1,5 +1,5 @@
 -- What is said of the pieces of a message is said of the whole.
-use Rattle.std.proofs.Common.{◌≡◌, List, ℕ, [], ◌++◌, Ok, Err, refl, sym, ap, subst, ◌∙◌, append-nil}
+use Rattle.std.proofs.Common.{◌≡◌, List, ℕ, [], ◌++◌, Ok, Err, refl, sym, ap, subst, ◌∙◌}
 use Rattle.std.proofs.lemmas.List.{append_assoc}
 use Rattle.avro_bin.specs.Laws.{IsBytes}
 use Rattle.etp_schema.specs.declared.body.Side.{Side}
@@ -10,7 +10,7 @@ use Rattle.etp_frame.specs.declared.stage.Reading.{Reading}
 use Rattle.etp_frame.specs.declared.stage.Reading.TheVariants as p
 use Rattle.etp_frame.proofs.FeedingLemmas.{no_bytes, said_refused, said_whole, refused_stays_is, tree_read}
 use Rattle.etp_frame.proofs.ReadingLemmas.{refused_alike}
-use Rattle.capture_text.specs.Feeding.{IsFed, IsRight, HasSaid, IsCause, ChecksBytes}
+use Rattle.capture_text.specs.Feeding.{IsFed, HasSaid, IsCause, ChecksBytes}
 
 -- a reader that was fed nothing
 pub begun : (side : Side) (whole : List ℕ) (reader : Hearing) → reader ≡ record { sender = side; heard = Fed [] } → HasSaid side whole whole reader p.More
@@ -46,12 +46,6 @@ refuses_whole side whole bytes piece left old e fed fits cut says =
     let parts = regrouped whole fed.front bytes piece left fed.parts cut in
     let here = said_refused (read_of side (fed.front ++ piece)) e (says ∙ ap (λ (s : Side). said (read_of s (fed.front ++ piece))) fed.sent) in
     ap (read_of side) parts ∙ refused_stays_is side (fed.front ++ piece) left e (subst IsBytes parts fits) here.1 here.0
-
--- nothing is left
-pub says_all : (side : Side) (whole left : List ℕ) (reader : Hearing) (answer : Reading) → HasSaid side whole left reader answer → left ≡ [] → IsRight side whole answer
-says_all side whole left reader answer h none =
-    let all : whole ≡ h.before.front = h.before.parts ∙ ap (λ (b : List ℕ). h.before.front ++ b) none ∙ append-nil h.before.front in
-    subst (λ (b : List ℕ). IsRight side b answer) (sym all) h.right
 
 pub checks_whole : (side : Side) (bytes : List ℕ) → p.Whole ≡ said (read_of side bytes) → ChecksBytes (tree_of side bytes) (Ok tt)
 checks_whole side bytes h = let w = said_whole (read_of side bytes) h in tree_read side bytes w.0 w.1
