@@ -1,4 +1,4 @@
-//! Steps into a value, one after the other.
+//! Steps into a value, one after another.
 ghost use Rattle.std.specs.Prelude.{◌≡◌, ◌<◌, length, IfOk, IfErr};
 ghost use Rattle.avro_bin.specs.Schema.{IsTable};
 ghost use Rattle.avro_pieces.specs.Passage.{IsGoing, MovesTo, Stops, GoingFails};
@@ -107,6 +107,6 @@ pub(crate) fn run<'a>(
             Moved::Stop(last, is_whole) => return Ok((last, is_whole)),
         }
     }
-    // Unreachable: each step skips bytes, or opens one of at most 8,388,608 nodes, or goes to a part that the bytes so far have counted.
+    // Unreachable: each step skips bytes, or opens one of at most 8,388,608 nodes, or goes on to a part for which the bytes so far stated a count.
     Err(Fault::Memory)
 }

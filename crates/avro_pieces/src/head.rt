@@ -32,7 +32,7 @@ fn head(all: usize, bytes: &[u8]) -> Result<(u64, Option<Block>, &[u8]), Fault>
     Ok(((-(count + 1)) as u64 + 1, Some(block), items))
 }
 
-/// Whether the items of a block, which end where so many bytes are left, fill the size that it states.
+/// Whether the items of a block fill the size that it states, if this many bytes are left after them.
 fn filled(block: Option<Block>, all: usize, left: usize) -> Result<(), Fault>
     ensures fills { IfOk result (λ _. fills all left block ≡ true) }
     ensures not { IfErr result (λ e. (fills all left block ≡ false) × (e ≡ At BlockSize (size_left all block))) }

@@ -2,7 +2,7 @@
 use etp_values::Text;
 use std::collections::BTreeMap;
 
-/// The size that a block of items or entries states: the offset at which the size stands, the size, and the offset of the first item.
+/// The size that a block of items or entries states: the offset of the size, the size itself, and the offset of the first item.
 #[derive(Clone, Copy, Debug)]
 pub(crate) struct Block {
     pub(crate) size_at: usize,
@@ -17,7 +17,7 @@ pub(crate) struct Fields {
     pub(crate) next: usize,
 }
 
-/// So many entries of a block of a map, with the size that the block states, and the blocks that follow; and the names so far.
+/// The remaining entries of a block of a map (how many), with the size that the block states, and the blocks that follow; and the names so far.
 #[derive(Drop)]
 pub(crate) struct Entries {
     pub(crate) child: u32,
@@ -33,7 +33,7 @@ pub(crate) enum Level {
     Node(u32),
     /// The last fields of a record.
     Fields(Fields),
-    /// So many items of a block of an array, with the size that the block states, and the blocks that follow.
+    /// The remaining items of a block of an array (how many), with the size that the block states, and the blocks that follow.
     Items(u32, u64, Option<Block>),
     /// The last entries of a map.
     Entries(Entries),

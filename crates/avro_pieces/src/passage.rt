@@ -20,16 +20,16 @@ pub struct Passage {
     at: usize,
 }
 
-/// What a passage says of the bytes that have come.
+/// What a passage says about the bytes that have come.
 #[derive(Clone, Copy, Debug, PartialEq, Eq)]
 pub enum Passed {
     /// The value does not end in them.
     More,
-    /// The value ends after so many bytes.
+    /// The value ends after this number of bytes.
     Whole(usize),
 }
 
-/// The passage that has come so far, and how many bytes it has passed.
+/// What is still to come of the value, and how many bytes have been passed.
 fn stand(id: u32, bytes: &[u8], going: Going) -> (Passage, usize)
     ensures at { result.1 ≡ length bytes.now - length going.entry.rest.now }
     ensures same { (result.0.id ≡ id) × (result.0.levels ≡ going.entry.levels) × (result.0.allowed ≡ going.entry.allowed) × (result.0.at ≡ result.1) }
@@ -50,7 +50,7 @@ fn stand(id: u32, bytes: &[u8], going: Going) -> (Passage, usize)
 }
 
 impl Passage {
-    /// A passage at the front of a value of the node at this place of a table.
+    /// A passage at the start of a value of the node at this place of a table.
     pub fn new(alloc: Global, id: u32) -> Result<Passage, NoMemory>
         ensures place { IfOk result (λ p. p.id ≡ id) }
         ensures stands { IfOk result (λ p. (nodes : List Node) → id < length nodes → (bytes : List ℕ) → StandsAt nodes bytes p) }
@@ -65,8 +65,8 @@ impl Passage {
         })
     }
 
-    /// Goes on as far as the bytes reach: they are all bytes so far, those of earlier calls at their front. It says of them what reading
-    /// the value from them says. A refusal is final: no further bytes would be read otherwise.
+    /// Continues as far as the bytes reach. They are all bytes so far, beginning with those of earlier calls. The answer is what reading
+    /// the value from them would say. A refusal is final: it stays the same whatever bytes follow.
     pub fn go_on(
         self,
         alloc: Global,
@@ -107,7 +107,7 @@ impl Passage {
     }
 }
 
-/// For proofs only: a passage stands where it is when more bytes come behind those that it was told.
+/// For proofs only: a passage is still where it was when more bytes follow those that it was given.
 pub fn stands_longer()
     ensures { StandsLonger }
 {}

@@ -30,7 +30,7 @@ pub(crate) enum Turn<'a> {
     Inside(Level, Level, u32, &'a [u8]),
 }
 
-/// A part whose reading fails stays as it is where the bytes end inside it, and is refused otherwise.
+/// A part that can't be read is left as it is if the bytes end inside it, and refused otherwise.
 fn refused<'a>(
     table: &Table,
     level: Level,
@@ -97,7 +97,7 @@ fn open<'a>(
     }
 }
 
-/// Skips a node, or opens it where the bytes end inside it.
+/// Skips a node, or opens it if the bytes end inside it.
 #[tactic(auto, using(crate::proofs::OpenLemmas::node_over))]
 fn node<'a>(
     alloc: Global,
