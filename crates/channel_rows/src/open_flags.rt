@@ -8,9 +8,16 @@ use std::alloc::Global;
 use std::marker::Model;
 
 /// A flag for each channel, at the index that is its id, up to the last that was opened. A contract sees the flags.
-#[derive(Drop)]
 pub struct Opens {
     flags: Vec<bool>,
+}
+
+/// Written out, so that whatever holds one drops it by a single call.
+impl Drop for Opens {
+    fn drop(self) {
+        let Opens { flags } = self;
+        drop(flags);
+    }
 }
 
 impl Model for Opens {

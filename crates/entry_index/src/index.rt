@@ -15,12 +15,24 @@ use std::marker::Model;
 
 /// The places of the entries at which each key was noted. A contract sees these, as `past` a place past all of them, and as `spare` how
 /// many keys can be noted without allocating.
-#[derive(Drop)]
 pub struct EntryIndex<K: Eq + Hash> {
     /// The number of each key's latest chain.
     latest: IndexMap<K, usize>,
     chains: Chains,
     past: u64,
+}
+
+/// Written out, so that whatever holds one drops it by a single call.
+impl<K: Eq + Hash + Drop> Drop for EntryIndex<K> {
+    fn drop(self) {
+        let EntryIndex {
+            latest,
+            chains,
+            past: _,
+        } = self;
+        drop(latest);
+        drop(chains);
+    }
 }
 
 impl<K: Eq + Hash> Model for EntryIndex<K> {

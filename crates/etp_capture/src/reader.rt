@@ -49,10 +49,18 @@ pub enum CaptureError {
 }
 
 /// Reads a capture. After an error it returns that error again at each further call, and reads no more.
-#[derive(Debug, Drop)]
+#[derive(Debug)]
 pub struct CaptureReader {
     at: u64,
     failed: Option<CaptureError>,
+}
+
+/// Written out, so that whatever holds one drops it by a single call.
+impl Drop for CaptureReader {
+    fn drop(self) {
+        let CaptureReader { at: _, failed } = self;
+        drop(failed);
+    }
 }
 
 impl Model for CaptureReader {

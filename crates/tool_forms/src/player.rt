@@ -17,11 +17,24 @@ use store_machine::{Store, number_laws};
 
 /// A store and the sessions of a capture, by their tags. The tags are kept in order, so that a look-up takes few steps
 /// however many a capture has.
-#[derive(Drop)]
 pub struct Player {
     config: Config,
     store: Store,
     tags: BTreeMap<u32, TagState>,
+}
+
+/// Written out, so that whatever holds one drops it by a single call.
+impl Drop for Player {
+    fn drop(self) {
+        let Player {
+            config,
+            store,
+            tags,
+        } = self;
+        drop(config);
+        drop(store);
+        drop(tags);
+    }
 }
 
 impl Model for Player {

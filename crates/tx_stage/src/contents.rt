@@ -30,10 +30,18 @@ use object_store::{ObjectRecord, ObjectStore, SpaceRecord};
 use std::alloc::Global;
 
 /// Dataspaces, objects and arrays.
-#[derive(Drop)]
 pub struct Contents {
     objects: ObjectStore,
     arrays: ArrayStore,
+}
+
+/// Written out, so that whatever holds one drops it by a single call.
+impl Drop for Contents {
+    fn drop(self) {
+        let Contents { objects, arrays } = self;
+        drop(objects);
+        drop(arrays);
+    }
 }
 
 impl Contents {
