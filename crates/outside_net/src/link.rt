@@ -229,7 +229,7 @@ impl<S: Read + Write + OpenStream + Drop, K: MaskKeys + Drop> WsLink<S, K> {
             Arrival::Message(message) => {
                 self.asked = true;
                 self.handed = self.handed.saturating_add(1);
-                self.pace.busy();
+                self.pace.on_message();
                 Recv::Got(message)
             }
             Arrival::Frame | Arrival::Nothing => Recv::Idle,
@@ -329,11 +329,11 @@ impl<S: Read + Write + OpenStream + Drop, K: MaskKeys + Drop> WsLink<S, K> {
         ensures ended { self.new.ended ≡ (self.old.ended || is_end result) }
         ensures closed { self.new.closed ≡ self.old.closed }
     {
-        let limit = self.pace.hushed();
+        let limit = self.pace.exact();
         match self.post.wait_for_socket(limit) {
             Woken::Socket => self.read(),
             Woken::Bell => Recv::Idle,
-            Woken::Time => self.silent(limit),
+            Woken::Time => self.on_silence(limit),
         }
     }
 
@@ -349,18 +349,18 @@ impl<S: Read + Write + OpenStream + Drop, K: MaskKeys + Drop> WsLink<S, K> {
         match self.post.wait(wait.rest, wait.limit) {
             Woken::Socket => self.read(),
             Woken::Bell => {
-                self.pace.belled();
-                self.silent(wait.whole())
+                self.pace.on_bell();
+                self.on_silence(wait.whole())
             }
             Woken::Time => {
-                self.pace.quiet(self.post.has_bell());
-                self.silent(wait.whole())
+                self.pace.on_silence(self.post.has_bell());
+                self.on_silence(wait.whole())
             }
         }
     }
 
     /// A turn in which nothing came for this many milliseconds.
-    fn silent(&mut self, lasted: u64) -> Recv
+    fn on_silence(&mut self, lasted: u64) -> Recv
         ensures kept { self.old.faults ≤ self.new.faults }
         ensures cause { result ≡ Recv.Failed → Rose self.old.faults self.new.faults }
         ensures ended { self.new.ended ≡ (self.old.ended || is_end result) }
@@ -393,7 +393,7 @@ impl<S: Read + Write + OpenStream + Drop, K: MaskKeys + Drop> WsLink<S, K> {
         match self.frames.fill(&mut self.stream) {
             Filled::Bytes { count, all } => {
                 self.unread = all || self.post.is_over();
-                self.heard(count)
+                self.on_bytes(count)
             }
             Filled::Nothing => {
                 self.unread = false;
@@ -416,7 +416,7 @@ impl<S: Read + Write + OpenStream + Drop, K: MaskKeys + Drop> WsLink<S, K> {
     }
 
     /// Hands on the first message out of this many bytes.
-    fn heard(&mut self, count: usize) -> Recv
+    fn on_bytes(&mut self, count: usize) -> Recv
         ensures kept { self.old.faults ≤ self.new.faults }
         ensures cause { result ≡ Recv.Failed → Rose self.old.faults self.new.faults }
         ensures ended { self.new.ended ≡ (self.old.ended || is_end result) }
@@ -636,7 +636,7 @@ impl<S: Read + Write + OpenStream + Drop + Send, K: MaskKeys + Drop + Send> Link
             self.fault();
             return Sent::Failed;
         }
-        self.pace.told();
+        self.pace.on_sent();
         let bytes = message.as_bytes();
         if bytes.len() > LONG_MESSAGE {
             self.put_long(bytes)

@@ -81,32 +81,32 @@ impl Pace {
     }
 
     /// A wait in which no bell is heard begins, so that it is counted exactly. Returns how long it lasts, in milliseconds.
-    pub(crate) fn hushed(&mut self) -> u64 {
+    pub(crate) fn exact(&mut self) -> u64 {
         self.sent = 0;
         self.belled = false;
         LONGEST_DEAF
     }
 
     /// A message came.
-    pub(crate) fn busy(&mut self) {
+    pub(crate) fn on_message(&mut self) {
         self.limit = SHORTEST;
     }
 
     /// Something was sent.
-    pub(crate) fn told(&mut self) {
+    pub(crate) fn on_sent(&mut self) {
         self.limit = SHORTEST;
         self.sent = self.sent.saturating_add(1);
     }
 
     /// The time was over. A link without a bell does not wait long: nothing tells it what the others did.
-    pub(crate) fn quiet(&mut self, has_bell: bool) {
+    pub(crate) fn on_silence(&mut self, has_bell: bool) {
         let longest = if has_bell { LONGEST } else { LONGEST_DEAF };
         self.limit = self.limit.saturating_mul(2).max(SHORTEST).min(longest);
         self.rest = 0;
     }
 
     /// The bell rang. The whole wait counts then, so the next are short again.
-    pub(crate) fn belled(&mut self) {
+    pub(crate) fn on_bell(&mut self) {
         self.belled = true;
         self.limit = self.limit.min(LONGEST_DEAF);
     }
