@@ -4,7 +4,6 @@ use Rattle.std.specs.Prelude.{◌==◌, IfOk}
 use Rattle.std.proofs.lemmas.Bool.Decides.{nat_tests}
 use Rattle.std.proofs.lemmas.Bool.{eq-eqb, eqb-false}
 use Rattle.std.proofs.lemmas.List.{length-append, length-drop, drop-append-le, take-append-drop}
-use Rattle.etp_values.specs.Gives.{Gives}
 use Rattle.etp_values.specs.declared.memory.NoMemory.{NoMemory}
 use Rattle.avro_bin.specs.Value.{Value}
 use Rattle.avro_bin.specs.Schema.{Schema, schema}
@@ -25,8 +24,8 @@ use Rattle.etp_schema.specs.declared.body.Side.{Side}
 use Rattle.etp_frame.specs.Header.{header_form}
 use Rattle.etp_frame.specs.Reading.{IsFault, shifted, as_header, header_in, admitted, known_place, as_body, body_in, tree_of, read_of}
 use Rattle.etp_frame.specs.Parts.{IsFront, offset_in, as_body_error}
-use Rattle.etp_frame.specs.Pieces.{Heard, Fed, Refused, Lost, Hearing, refused, said, Has, WasFed, heard_after, after, IsAgain, Finishes, RefusedStays}
-use Rattle.etp_frame.specs.Standing.{IsProfile, IsFrontOf, StandsIn, StoodIn, Stands, heard_at, kept, IsAnswer, Takes}
+use Rattle.etp_frame.specs.Pieces.{Heard, Fed, Refused, Lost, Hearing, refused, said, Has, WasFed, heard_after, after, RefusedStays}
+use Rattle.etp_frame.specs.Standing.{IsProfile, IsFrontOf, StandsIn, StoodIn, heard_at, kept, IsAnswer, Takes}
 use Rattle.etp_frame.specs.declared.header.Header.{Header}
 use Rattle.etp_frame.specs.declared.message.Message.{Message}
 use Rattle.etp_frame.specs.declared.error.FrameError.{FrameError}
@@ -335,17 +334,6 @@ takes_after side nodes (Refused e) piece (Err d) takes = refl
 takes_after side nodes Lost piece (Ok x) takes = absurd takes
 takes_after side nodes Lost piece (Err e) takes = refl
 
-pub takes_again : (side : Side) (nodes : List Node) (heard : Heard) (piece : List ℕ) (answer : Answer) → Takes side nodes heard piece answer → IsAgain heard (first answer)
-takes_again side nodes (Fed bytes) piece answer takes = tt
-takes_again side nodes (Refused e) piece answer takes = ap first takes
-takes_again side nodes Lost piece (Ok x) takes = absurd takes
-takes_again side nodes Lost piece (Err e) takes = tt
-
-pub takes_stands : (side : Side) (nodes : List Node) (heard : Heard) (piece : List ℕ) (x : Reading × Stage) → Takes side nodes heard piece (Ok x) → Stands side nodes x.1
-takes_stands side nodes (Fed bytes) piece x takes = takes.stands
-takes_stands side nodes (Refused e) piece x takes = subst (λ (a : Answer). Stands side nodes (left a)) (sym takes) tt
-takes_stands side nodes Lost piece x takes = absurd takes
-
 -- what is answered of all bytes, and of what a reader has then
 abbrev pub Hears : Side → List ℕ → Heard → List ℕ → Result Reading NoMemory → Type 0
 Hears side fed heard piece answer = IfOk answer (λ x. x ≡ said (read_of side (fed ++ piece))) × Has side (fed ++ piece) (heard_after heard piece answer)
@@ -365,11 +353,6 @@ takes_hears side nodes (Refused e) fed piece answer fits takes is =
     subst (λ (a : Answer). Hears side fed (Refused e) piece (first a)) (sym takes) (says, (stays, is.1))
 takes_hears side nodes Lost fed piece (Ok x) fits takes is = absurd takes
 takes_hears side nodes Lost fed piece (Err e) fits takes is = (tt, tt)
-
-pub finishes_read : (side : Side) (heard : Heard) (fed : List ℕ) (result : Result (Header × Message) FrameError) → Finishes side heard result → Has side fed heard → Gives f.NoMemory result (read_of side fed)
-finishes_read side (Fed bytes) fed result ends is = subst (λ (b : List ℕ). Gives f.NoMemory result (read_of side b)) is ends
-finishes_read side (Refused e) fed result ends is = subst (λ (x : Result (Header × Message) FrameError). Gives f.NoMemory x (read_of side fed)) (sym ends) (λ some. is.0)
-finishes_read side Lost fed result ends is = subst (λ (x : Result (Header × Message) FrameError). Gives f.NoMemory x (read_of side fed)) (sym ends) (λ some. absurd (some refl))
 
 -- a reader that was fed a piece
 pub fed_on : (reader : Hearing) (nodes : List Node) (piece : List ℕ) (answer : Reading) (stage : Stage) → IsBytes piece → Takes reader.sender nodes reader.heard piece (Ok (answer, stage)) → (fed : List ℕ) → WasFed reader fed
