@@ -566,7 +566,7 @@ impl<S: Read + Write + OpenStream + Drop, K: MaskKeys + Drop> WsLink<S, K> {
         }
     }
 
-    /// The server stops: buffered output is sent, the peer is told so, and nothing more comes.
+    /// The server stops: buffered output is sent, then a Close frame that says so, and nothing more comes.
     fn leave(&mut self) -> Recv
         ensures faults { self.new.faults ≡ self.old.faults }
         ensures end { result ≡ Recv.End }
