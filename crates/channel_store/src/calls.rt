@@ -3,13 +3,14 @@ ghost use Rattle.std.specs.Prelude.{◌≡◌, [], IfOk, length, zip};
 ghost use Rattle.channel_store.specs.Refusals.{Refuses, append_refusal, first_refusal, interval_refusal, replace_refusal, truncate_refusal};
 ghost use Rattle.channel_store.specs.Rows.{Becomes};
 ghost use Rattle.channel_store.specs.Store.{IsNewPlace, appended, changed, replaced, truncated};
-ghost use Rattle.channel_store.specs.Sweeps.{EndsAs, IsIdle, add_item, inside_refusal_in, outcome, shown_of, staged_by, steps, unless_refused};
+ghost use Rattle.channel_store.specs.Sweeps.{AllDue, AreReady, EndsAs, IsIdle, add_item, all_done, ids_ready, inside_refusal_in, open_cut, outcome, shown_of, staged_by, steps, unless_refused};
 ghost use Rattle.channel_store.specs.Told.{ending};
 
 use crate::checks::{check_all_inside, check_interval, check_items};
 use crate::draft::Way;
 use crate::error::ChannelError;
 use crate::given::hand_out;
+use crate::ready::{Ready, ready_channels};
 use crate::rows::{
     add_items, append_items, clear_all, commit_channels, commit_items, open_channels, open_cuts,
 };
@@ -176,7 +177,14 @@ pub fn test_replace(
     result
 }
 
-/// Begins a replacement in all channels or in none, and hands its items out for the journal.
+/// The items of a call for the journal, and the points that its channels will have.
+#[derive(Drop)]
+pub struct Prepared {
+    given: ChannelPoints,
+    readies: Vec<Ready>,
+}
+
+/// Begins a replacement in all channels or in none, hands its items out for the journal, and makes the points that the channels will have.
 fn ready_replace(
     alloc: Global,
     tracks: &mut Vec<Track>,
@@ -184,18 +192,35 @@ fn ready_replace(
     from: i64,
     to: i64,
     items: &[ChannelPoint],
-) -> Result<ChannelPoints, ChannelError>
+) -> Result<Prepared, ChannelError>
     requires { IsIdle tracks.old.items }
     ensures answer { Becomes (ending result) tracks.new.items
         (outcome (replace_refusal (shown_of tracks.old.items) channels.now from to items.now)
         (staged_by (replaced channels.now from to items.now) (shown_of tracks.old.items))) }
     ensures kept { shown_of tracks.new.items ≡ shown_of tracks.old.items }
-    ensures items { IfOk result (λ r. r ≡ items.now) }
+    ensures items { IfOk result (λ r. r.given ≡ items.now) }
+    ensures channels { IfOk result (λ r. ids_ready r.readies.items ≡ channels.now) }
+    ensures ready { IfOk result (λ r. AreReady tracks.new.items r.readies.items) }
 {
     if let Err(error) = prepare_replace(alloc, tracks, channels, from, to, items) {
         return Err(error);
     }
-    hand_out(alloc, tracks, items)
+    let given = hand_out(alloc, tracks, items)?;
+    let readies = ready_channels(alloc, tracks.as_slice(), channels)?;
+    Ok(Prepared { given, readies })
+}
+
+/// Does what is prepared.
+fn finish(tracks: &mut Vec<Track>, place: u64, at: i64, prepared: Prepared) -> ChannelPoints
+    requires due { AllDue place tracks.old.items }
+    requires ready { AreReady tracks.old.items prepared.readies.items }
+    ensures done { tracks.new.items
+        ≡ all_done place at (ids_ready prepared.readies.items) tracks.old.items }
+    ensures given { result ≡ prepared.given }
+{
+    let Prepared { given, readies } = prepared;
+    commit_channels(tracks, place, at, readies);
+    given
 }
 
 /// Replaces in all channels or in none.
@@ -221,11 +246,29 @@ pub fn replace_all(
             clear_all(tracks);
             Err(error)
         }
-        Ok(given) => {
-            commit_channels(tracks, place, at, channels);
-            Ok(given)
-        }
+        Ok(prepared) => Ok(finish(tracks, place, at, prepared)),
     }
+}
+
+/// Begins a truncation of all channels or of none, and makes the points that they will have.
+fn ready_truncate(
+    alloc: Global,
+    tracks: &mut Vec<Track>,
+    channels: &[i64],
+    ends: &[i64],
+) -> Result<Vec<Ready>, ChannelError>
+    requires { length channels.now ≡ length ends.now }
+    ensures answer { Becomes (ending result) tracks.new.items
+        (steps open_cut tracks.old.items (zip channels.now ends.now)) }
+    ensures kept { shown_of tracks.new.items ≡ shown_of tracks.old.items }
+    ensures channels { IfOk result (λ r. ids_ready r.items ≡ channels.now) }
+    ensures ready { IfOk result (λ r. AreReady tracks.new.items r.items) }
+{
+    if let Err(error) = open_cuts(alloc, tracks, channels, ends) {
+        return Err(error);
+    }
+    let readies = ready_channels(alloc, tracks.as_slice(), channels)?;
+    Ok(readies)
 }
 
 /// Truncates all channels or none.
@@ -244,10 +287,14 @@ pub fn truncate_all(
         (truncate_refusal (shown_of tracks.old.items) [] (zip channels.now ends.now))
         (changed place at (truncated (zip channels.now ends.now)) (shown_of tracks.old.items)) }
 {
-    if let Err(error) = open_cuts(alloc, tracks, channels, ends) {
-        clear_all(tracks);
-        return Err(error);
+    match ready_truncate(alloc, tracks, channels, ends) {
+        Err(error) => {
+            clear_all(tracks);
+            Err(error)
+        }
+        Ok(readies) => {
+            commit_channels(tracks, place, at, readies);
+            Ok(())
+        }
     }
-    commit_channels(tracks, place, at, channels);
-    Ok(())
 }
