@@ -1,8 +1,7 @@
 -- The points of a channel in chunks.
-use Rattle.std.proofs.Common.{refl, ℕ, zero, suc, ◌≡◌, ◌<◌, ◌≤◌, ◌+◌, ◌-◌, ◌*◌, List, [], ◌∷◌, ◌++◌, length, ap, sym, ◌∙◌, arith, subst, append-nil, append_assoc, length-append, Option, Some, None}
-use Rattle.std.specs.Prelude.{slice_get, get_or, option_to_list}
+use Rattle.std.proofs.Common.{refl, ℕ, suc, ◌≡◌, ◌<◌, ◌≤◌, ◌+◌, ◌-◌, List, [], ◌∷◌, ◌++◌, length, ap, sym, ◌∙◌, arith, subst, append-nil, append_assoc, length-append, Option, Some, None}
+use Rattle.std.specs.Prelude.{slice_get}
 use Rattle.std.specs.List.{AllByRecursion}
-use Rattle.std.proofs.lemmas.Option.{get_or_from_slice_get}
 use Rattle.etp_values.specs.declared.point.Point.{Point}
 use Rattle.etp_values.proofs.EachLemmas.{all-push}
 use Rattle.channel_points.specs.Blocks.{joined}

@@ -1,5 +1,5 @@
 -- A part of a run of points.
-use Rattle.std.proofs.Common.{refl, ℕ, ◌≡◌, ◌≤◌, ◌+◌, ◌-◌, List, length, take, drop, ap, sym, ◌∙◌, arith, length-drop}
+use Rattle.std.proofs.Common.{ℕ, ◌≡◌, ◌≤◌, ◌+◌, ◌-◌, List, length, take, drop, ap, sym, ◌∙◌, arith, length-drop}
 use Rattle.std.specs.Prelude.{min, slice_range}
 use Rattle.std.proofs.lemmas.List.{drop-drop, drop-take, length-take, take-take}
 

@@ -1,4 +1,7 @@
 //! The calls that change the channels: first the tests, then all allocation, and then the change, which can't fail.
+//!
+//! `stage_..` tests a call and stages it in the channels; `share_append` and `prepare_replace` also return the items for the journal. `.._all`
+//! does that and then the change; `test_..` stages and clears again.
 ghost use Rattle.std.specs.Prelude.{◌≡◌, [], IfOk, length, zip};
 ghost use Rattle.channel_store.specs.Refusals.{Refuses, append_refusal, first_refusal, interval_refusal, replace_refusal, truncate_refusal};
 ghost use Rattle.channel_store.specs.Rows.{Becomes};
@@ -20,7 +23,7 @@ use etp_values::ChannelPoint;
 use std::alloc::Global;
 
 /// Begins an append of all items or of none.
-fn prepare_append(
+fn stage_append(
     alloc: Global,
     tracks: &mut Vec<Track>,
     items: &[ChannelPoint],
@@ -47,13 +50,13 @@ pub fn test_append(
     ensures answer { Refuses result (append_refusal (shown_of tracks.old.items) items.now) }
     ensures same { tracks.new.items ≡ tracks.old.items }
 {
-    let result = prepare_append(alloc, tracks, items);
+    let result = stage_append(alloc, tracks, items);
     clear_all(tracks);
     result
 }
 
-/// Begins an append of all items or of none, and hands them out for the journal.
-fn ready_append(
+/// Begins an append of all items or of none, and returns the items for the journal, which share the memory of the change.
+fn share_append(
     alloc: Global,
     tracks: &mut Vec<Track>,
     items: &[ChannelPoint],
@@ -65,7 +68,7 @@ fn ready_append(
     ensures kept { shown_of tracks.new.items ≡ shown_of tracks.old.items }
     ensures items { IfOk result (λ r. r ≡ items.now) }
 {
-    if let Err(error) = prepare_append(alloc, tracks, items) {
+    if let Err(error) = stage_append(alloc, tracks, items) {
         return Err(error);
     }
     hand_out(alloc, tracks, items)
@@ -86,7 +89,7 @@ pub fn append_all(
         (changed place at (appended items.now) (shown_of tracks.old.items)) }
     ensures items { IfOk result (λ r. r ≡ items.now) }
 {
-    match ready_append(alloc, tracks, items) {
+    match share_append(alloc, tracks, items) {
         Err(error) => {
             clear_all(tracks);
             Err(error)
@@ -138,7 +141,7 @@ fn fill(
 }
 
 /// Begins a replacement in all channels or in none, with the points that it is to have.
-fn prepare_replace(
+fn stage_replace(
     alloc: Global,
     tracks: &mut Vec<Track>,
     channels: &[i64],
@@ -172,7 +175,7 @@ pub fn test_replace(
         (replace_refusal (shown_of tracks.old.items) channels.now from to items.now) }
     ensures same { tracks.new.items ≡ tracks.old.items }
 {
-    let result = prepare_replace(alloc, tracks, channels, from, to, items);
+    let result = stage_replace(alloc, tracks, channels, from, to, items);
     clear_all(tracks);
     result
 }
@@ -184,8 +187,8 @@ pub struct Prepared {
     readies: Vec<Ready>,
 }
 
-/// Begins a replacement in all channels or in none, hands its items out for the journal, and makes the points that the channels will have.
-fn ready_replace(
+/// Begins a replacement in all channels or in none, returns its items for the journal, and makes the points that the channels will have.
+fn prepare_replace(
     alloc: Global,
     tracks: &mut Vec<Track>,
     channels: &[i64],
@@ -202,7 +205,7 @@ fn ready_replace(
     ensures channels { IfOk result (λ r. ids_ready r.readies.items ≡ channels.now) }
     ensures ready { IfOk result (λ r. AreReady tracks.new.items r.readies.items) }
 {
-    if let Err(error) = prepare_replace(alloc, tracks, channels, from, to, items) {
+    if let Err(error) = stage_replace(alloc, tracks, channels, from, to, items) {
         return Err(error);
     }
     let given = hand_out(alloc, tracks, items)?;
@@ -241,7 +244,7 @@ pub fn replace_all(
         (changed place at (replaced channels.now from to items.now) (shown_of tracks.old.items)) }
     ensures items { IfOk result (λ r. r ≡ items.now) }
 {
-    match ready_replace(alloc, tracks, channels, from, to, items) {
+    match prepare_replace(alloc, tracks, channels, from, to, items) {
         Err(error) => {
             clear_all(tracks);
             Err(error)

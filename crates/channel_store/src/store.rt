@@ -27,11 +27,23 @@ use std::marker::Model;
 ///
 /// A contract sees the list of the channels. A call that changes the store takes effect completely or not at all: after any error the store
 /// is as before.
-#[derive(Drop)]
 pub struct ChannelStore {
     alloc: Global,
     tracks: Vec<Track>,
     ids: IndexMap<StoreUri, i64>,
+}
+
+/// Written out, so that whatever holds one drops it by a single call.
+impl Drop for ChannelStore {
+    fn drop(self) {
+        let ChannelStore {
+            alloc: _,
+            tracks,
+            ids,
+        } = self;
+        drop(tracks);
+        drop(ids);
+    }
 }
 
 impl Model for ChannelStore {

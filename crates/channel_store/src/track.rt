@@ -22,13 +22,29 @@ use std::alloc::Global;
 use std::marker::Model;
 use std::mem;
 
-#[derive(Drop)]
 pub struct Track {
     uri: StoreUri,
     kind: ValueKind,
     points: Chunks,
     changes: Rows<ChannelChange>,
     staged: Option<What>,
+}
+
+/// Written out, so that whatever holds one drops it by a single call.
+impl Drop for Track {
+    fn drop(self) {
+        let Track {
+            uri,
+            kind: _,
+            points,
+            changes,
+            staged,
+        } = self;
+        drop(uri);
+        drop(points);
+        drop(changes);
+        drop(staged);
+    }
 }
 
 impl Model for Track {
@@ -229,11 +245,11 @@ impl Track {
     }
 
     /// The points of what is about to happen.
-    pub fn told(&self, alloc: Global) -> Result<Option<Points>, NoMemory>
+    pub fn staged_points(&self, alloc: Global) -> Result<Option<Points>, NoMemory>
         ensures { IfOk result (λ r. r ≡ option_map told_by self.now.staged) }
     {
         match &self.staged {
-            Some(what) => Ok(Some(what.told(alloc)?)),
+            Some(what) => Ok(Some(what.points(alloc)?)),
             None => Ok(None),
         }
     }

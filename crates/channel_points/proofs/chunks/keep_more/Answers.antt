@@ -1,4 +1,4 @@
-use Rattle.std.proofs.Common.{◌≡◌, ◌<◌, ◌≤◌, ◌+◌, ◌++◌, [], length, ap, sym, subst, ◌∙◌, arith}
+use Rattle.std.proofs.Common.{◌≡◌, ◌<◌, ◌≤◌, ◌+◌, ◌++◌, length, ap, sym, subst, ◌∙◌, arith}
 use Rattle.channel_points.specs.Blocks.{joined}
 use Rattle.channel_points.specs.Chunks.{Stands}
 use Rattle.channel_points.proofs.BlockLemmas.{joined-append}

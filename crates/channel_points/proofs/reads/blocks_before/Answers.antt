@@ -1,4 +1,4 @@
-use Rattle.std.proofs.Common.{◌≡◌, ◌<◌, ◌≤◌, ◌+◌, ◌-◌, ◌/◌, true, length, sym, ◌∙◌, arith}
+use Rattle.std.proofs.Common.{◌<◌, ◌≤◌, ◌+◌, ◌-◌, ◌/◌, length, sym, ◌∙◌, arith}
 use Rattle.channel_points.proofs.ReadLemmas.{pass-more}
 use Rattle.channel_points.proofs.reads.blocks_before.Goals as goal
 

@@ -1,11 +1,10 @@
-use Rattle.std.proofs.Common.{◌≡◌, ◌+◌, ◌-◌, ◌++◌, length, take, drop, ap, sym, ◌∙◌, arith}
+use Rattle.std.proofs.Common.{◌≡◌, ◌+◌, ◌-◌, ◌++◌, length, take, drop, ap, ◌∙◌, arith}
 use Rattle.std.specs.Prelude.{min}
-use Rattle.std.proofs.lemmas.List.{drop_all}
 use Rattle.etp_values.specs.Weight.{capped, weigh}
 use Rattle.channel_points.specs.Blocks.{joined}
 use Rattle.channel_points.specs.Bytes.{point_bytes}
-use Rattle.channel_points.proofs.BetweenLemmas.{between-end, between-step, joined-from}
-use Rattle.channel_points.proofs.ReadLemmas.{bytes-last, bytes-next, weigh-append}
+use Rattle.channel_points.proofs.BetweenLemmas.{between-step, joined-from}
+use Rattle.channel_points.proofs.ReadLemmas.{bytes-next, weigh-append}
 use Rattle.channel_points.proofs.reads.bytes_between.Goals as goal
 
 pub loop-block-preserved : goal.loop-block-preserved

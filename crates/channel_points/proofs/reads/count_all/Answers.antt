@@ -1,5 +1,4 @@
-use Rattle.std.proofs.Common.{[], length, arith}
-use Rattle.channel_points.specs.Blocks.{joined}
+use Rattle.std.proofs.Common.{[], arith}
 use Rattle.channel_points.proofs.ReadLemmas.{count-next, size-at}
 use Rattle.channel_points.proofs.reads.count_all.Goals as goal
 

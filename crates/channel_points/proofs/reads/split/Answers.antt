@@ -1,4 +1,4 @@
-use Rattle.std.proofs.Common.{◌≡◌, ◌≤◌, ◌+◌, ◌-◌, ◌++◌, [], length, take, drop, ap, sym, subst, ◌∙◌, arith, length-append, w64, to_z, of_z}
+use Rattle.std.proofs.Common.{◌≡◌, ◌≤◌, ◌+◌, [], length, take, drop, ap, sym, subst, ◌∙◌, arith, length-append, w64, to_z, of_z}
 use Rattle.std.proofs.lemmas.Int.{to_z-of_z}
 use Rattle.channel_points.specs.Blocks.{joined}
 use Rattle.channel_points.specs.Chunks.{lies_before}

@@ -1,5 +1,5 @@
-use Rattle.std.proofs.Common.{◌≡◌, ◌≤◌, ◌+◌, length, take, drop, sym, ap, subst, ◌∙◌}
-use Rattle.std.specs.Prelude.{IfOk, slice_range}
+use Rattle.std.proofs.Common.{◌≡◌, take, drop, sym, ap, subst, ◌∙◌}
+use Rattle.std.specs.Prelude.{IfOk}
 use Rattle.channel_points.specs.Handles.{points_in, IsForm}
 use Rattle.channel_points.proofs.PartLemmas.{part-within}
 use Rattle.channel_points.proofs.points.Points.part.Goals as goal

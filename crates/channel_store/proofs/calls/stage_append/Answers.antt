@@ -4,7 +4,7 @@ use Rattle.channel_store.specs.Store.{appended}
 use Rattle.channel_store.specs.Sweeps.{shown_of, outcome, staged_by, item_refusal_in}
 use Rattle.channel_store.specs.Refusals.{first_refusal, verdict}
 use Rattle.channel_store.proofs.EndedLemmas.{append-refused, append-outcome, verdict-err, verdict-ok}
-use Rattle.channel_store.proofs.calls.prepare_append.Goals as goal
+use Rattle.channel_store.proofs.calls.stage_append.Goals as goal
 
 pub returns-in-Err-clause-answer : goal.returns-in-Err-clause-answer
 returns-in-Err-clause-answer c =
