@@ -1,8 +1,8 @@
 //! The calls that change the channels: first the tests, then all allocation, and then the change, which can't fail.
 //!
-//! `stage_..` tests a call and stages it in the channels; `share_append` and `prepare_replace` also return the items for the journal. `.._all`
-//! does that and then the change; `test_..` stages and clears again.
-ghost use Rattle.std.specs.Prelude.{◌≡◌, [], IfOk, length, zip};
+//! `stage_..` tests a call and stages it in the channels, and `share_..` returns its items for the journal too. `prepare_replace` and
+//! `ready_truncate` also make the points that the channels will have. `.._all` does that and then the change; `test_..` stages and clears again.
+ghost use Rattle.std.specs.Prelude.{◌≡◌, [], IfOk, Ok, length, zip};
 ghost use Rattle.channel_store.specs.Refusals.{Refuses, append_refusal, first_refusal, interval_refusal, replace_refusal, truncate_refusal};
 ghost use Rattle.channel_store.specs.Rows.{Becomes};
 ghost use Rattle.channel_store.specs.Store.{IsNewPlace, appended, changed, replaced, truncated};
@@ -180,11 +180,49 @@ pub fn test_replace(
     result
 }
 
+/// Begins a replacement in all channels or in none, and returns its items for the journal, which share the memory of the change.
+fn share_replace(
+    alloc: Global,
+    tracks: &mut Vec<Track>,
+    channels: &[i64],
+    from: i64,
+    to: i64,
+    items: &[ChannelPoint],
+) -> Result<ChannelPoints, ChannelError>
+    requires { IsIdle tracks.old.items }
+    ensures answer { Becomes (ending result) tracks.new.items
+        (outcome (replace_refusal (shown_of tracks.old.items) channels.now from to items.now)
+        (staged_by (replaced channels.now from to items.now) (shown_of tracks.old.items))) }
+    ensures kept { shown_of tracks.new.items ≡ shown_of tracks.old.items }
+    ensures items { IfOk result (λ r. r ≡ items.now) }
+{
+    if let Err(error) = stage_replace(alloc, tracks, channels, from, to, items) {
+        return Err(error);
+    }
+    hand_out(alloc, tracks, items)
+}
+
 /// The items of a call for the journal, and the points that its channels will have.
 #[derive(Drop)]
 pub struct Prepared {
     given: ChannelPoints,
     readies: Vec<Ready>,
+}
+
+/// These items, with the points that the channels will have.
+fn with_readies(
+    alloc: Global,
+    tracks: &[Track],
+    channels: &[i64],
+    given: ChannelPoints,
+) -> Result<Prepared, ChannelError>
+    ensures answer { Becomes (ending result) tracks.now (Ok tracks.now) }
+    ensures items { IfOk result (λ r. r.given ≡ given) }
+    ensures channels { IfOk result (λ r. ids_ready r.readies.items ≡ channels.now) }
+    ensures ready { IfOk result (λ r. AreReady tracks.now r.readies.items) }
+{
+    let readies = ready_channels(alloc, tracks, channels)?;
+    Ok(Prepared { given, readies })
 }
 
 /// Begins a replacement in all channels or in none, returns its items for the journal, and makes the points that the channels will have.
@@ -205,12 +243,10 @@ fn prepare_replace(
     ensures channels { IfOk result (λ r. ids_ready r.readies.items ≡ channels.now) }
     ensures ready { IfOk result (λ r. AreReady tracks.new.items r.readies.items) }
 {
-    if let Err(error) = stage_replace(alloc, tracks, channels, from, to, items) {
-        return Err(error);
+    match share_replace(alloc, tracks, channels, from, to, items) {
+        Err(error) => Err(error),
+        Ok(given) => with_readies(alloc, tracks.as_slice(), channels, given),
     }
-    let given = hand_out(alloc, tracks, items)?;
-    let readies = ready_channels(alloc, tracks.as_slice(), channels)?;
-    Ok(Prepared { given, readies })
 }
 
 /// Does what is prepared.

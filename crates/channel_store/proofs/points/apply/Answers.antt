@@ -8,5 +8,5 @@ use Rattle.channel_store.proofs.points.apply.Goals as goal
 pub returns-in-Append : goal.returns-in-Append
 returns-in-Append c =
     let xs = c.args.points.now.points in
-    let is = appended-is xs c.in-Append.more.now c.len.result c.len.ensures in
+    let is = appended-is xs c.in-Append.more c.len.result c.len.ensures in
     subst (λ l. IfOk c.splice.result (λ r. r ≡ settled l)) (is ∙ sym (ap (after xs) c.in-Append.is)) c.splice.ensures

@@ -1,6 +1,6 @@
 use Rattle.std.proofs.Common.{◌≡◌, ap, sym, subst, ◌∙◌, [], Some}
 use Rattle.channel_store.specs.Channels.{IsKept}
-use Rattle.channel_store.specs.Rows.{what_by}
+use Rattle.channel_store.specs.Rows.{Row, what_by}
 use Rattle.channel_store.specs.Tracks.{IsDrafted}
 use Rattle.channel_store.proofs.TrackLemmas.{ready-begun}
 use Rattle.channel_store.proofs.track.Track.begin.Goals as goal
@@ -29,7 +29,8 @@ returns-clause-ok c =
     let t = c.self.inside in
     let points : c.shed.new.self.points ≡ t.points.points = ap (λ h. h.points) c.shed.ensures in
     let staged : c.replace.new.self ≡ Some (what_by c.args.way []) = c.replace.ensures.after ∙ ap Some c.in_ok-what.ensures in
-    (λ j. record { shown = record { uri = t.uri; kind = t.kind; points = points j; changes = c.reserve.ensures.items j }; staged = staged j }) ∙ ap (λ r. record r { staged = Some (what_by c.args.way []) }) c.self.view_is
+    let begin : Row → Row = λ r. record r { staged = Some (what_by c.args.way []) } in
+    (λ j. record { shown = record { uri = t.uri; kind = t.kind; points = points j; changes = c.reserve.ensures.items j }; staged = staged j }) ∙ ap begin c.self.view_is
 
 pub returns-clause-kept : goal.returns-clause-kept
 returns-clause-kept c =
