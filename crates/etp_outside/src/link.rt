@@ -83,6 +83,16 @@ pub trait Link: Drop + Send {
         ensures ended { ended self.new ≡ ended self.old }
         ensures closed { closed self.new ≡ closed self.old };
 
+    /// Told, before it is closed, of which session it was the link, and how that ended. Nothing that it reveals changes.
+    fn leave(&mut self, number: u64, end: u8)
+        ensures talk { talk self.new ≡ talk self.old }
+        ensures faults { faults self.new ≡ faults self.old }
+        ensures ended { ended self.new ≡ ended self.old }
+        ensures closed { closed self.new ≡ closed self.old }
+    {
+        let _ = (number, end);
+    }
+
     /// Says goodbye to the peer: this side is done.
     fn close(&mut self)
         ensures talk { talk self.new ≡ talk self.old }

@@ -645,6 +645,10 @@ impl<S: Read + Write + OpenStream + Drop + Send, K: MaskKeys + Drop + Send> Link
         }
     }
 
+    fn leave(&mut self, number: u64, end: u8) {
+        self.post.leave(number, end);
+    }
+
     fn close(&mut self) {
         self.end();
         self.closed = true;
