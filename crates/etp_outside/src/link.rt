@@ -83,7 +83,9 @@ pub trait Link: Drop + Send {
         ensures ended { ended self.new ≡ ended self.old }
         ensures closed { closed self.new ≡ closed self.old };
 
-    /// Told, before it is closed, of which session it was the link, and how that ended. Nothing that it reveals changes.
+    /// Tells the link, before it is closed, the number of the session that it served and how that ended, both as they are handed over later
+    /// with the link ([`back`](crate::Listener::back)). It never waits, and changes nothing that the link reveals. Unless an implementation
+    /// passes it on, nothing is done with it.
     fn leave(&mut self, number: u64, end: u8)
         ensures talk { talk self.new ≡ talk self.old }
         ensures faults { faults self.new ≡ faults self.old }
