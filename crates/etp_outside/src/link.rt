@@ -84,8 +84,8 @@ pub trait Link: Drop + Send {
         ensures closed { closed self.new ≡ closed self.old };
 
     /// Tells the link, before it is closed, the number of the session that it served and how that ended, both as they are handed over later
-    /// with the link ([`back`](crate::Listener::back)). It never waits, and changes nothing that the link reveals. Unless an implementation
-    /// passes it on, nothing is done with it.
+    /// with the link ([`back`](crate::Listener::back)). It never waits, and nothing that the link reveals changes. A link that has nobody to
+    /// pass it on to does nothing.
     fn leave(&mut self, number: u64, end: u8)
         ensures talk { talk self.new ≡ talk self.old }
         ensures faults { faults self.new ≡ faults self.old }

@@ -1,4 +1,4 @@
-//! Bells, by which waiting links learn that the store may have changed, and a door that a session has ended.
+//! Bells, by which waiting links learn that the store may have changed, and a waiting door that a session has ended.
 use crate::log::DoorLog;
 use mio::unix::SourceFd;
 use mio::{Events, Interest, Poll, Token, Waker};
@@ -35,13 +35,13 @@ pub(crate) struct Bells {
     stopping: AtomicBool,
     /// The bits of the links whose sessions have ended since the door last looked.
     left: AtomicU64,
-    /// Of each place, the number of the session that ended there last, and how it ended.
+    /// Of each place, how the session that was last there ended.
     ends: Vec<Ending>,
     /// What wakes the door.
     door: OnceLock<Waker>,
 }
 
-/// How the session of a place ended.
+/// The number of a session that has ended, and how it ended.
 #[derive(Drop)]
 struct Ending {
     number: AtomicU64,
@@ -79,7 +79,7 @@ pub(crate) struct Post {
 pub(crate) struct Posts {
     free: Vec<Post>,
     bells: Arc<Bells, Global>,
-    /// The peers of the links at the posts that have a bell, by place.
+    /// Of each place, the peer of the link that waits there, or waited there last.
     peers: Vec<Option<SocketAddr>>,
     /// How many have a bell.
     made: u32,
@@ -114,7 +114,7 @@ impl Bells {
         })
     }
 
-    /// Notes how the session of a place ended, and wakes the door.
+    /// Notes the number of a place's session and how it ended, and wakes the door.
     fn leave(&self, place: usize, bit: u64, number: u64, end: u8) {
         if let Some(ending) = self.ends.get(place) {
             ending.set(number, end);
@@ -164,7 +164,7 @@ impl Ending {
         self.end.store(u64::from(end), Ordering::SeqCst);
     }
 
-    /// Reports it to the log.
+    /// Reports it to the log. The peer is that of the session's link.
     fn report<L: DoorLog>(&self, peer: &SocketAddr, log: &mut L) {
         let number = self.number.load(Ordering::SeqCst);
         let end = self.end.load(Ordering::SeqCst);
@@ -213,10 +213,14 @@ pub(crate) fn lone_post(net: &impl Net, alloc: Global) -> Option<Post> {
 impl Posts {
     /// No post yet. With `input` the end of the standard input ends the links of all posts.
     pub(crate) fn new(alloc: Global, input: bool) -> Result<Posts, AllocError> {
+        let mut peers = Vec::with_capacity(alloc, PLACES)?;
+        for _ in 0..PLACES {
+            peers.push(None)?;
+        }
         Ok(Posts {
             free: Vec::new(alloc),
             bells: Arc::new(alloc, Bells::new(alloc)?)?,
-            peers: Vec::with_capacity(alloc, PLACES)?,
+            peers,
             made: 0,
             input,
         })
@@ -244,7 +248,7 @@ impl Posts {
         }
     }
 
-    /// The door is woken by this from now on, when a session has ended.
+    /// From now on this wakes the door when a session has ended. Any later one is ignored.
     pub(crate) fn wake_door_by(&self, waker: Waker) {
         let _ = self.bells.door.try_set(waker);
     }
@@ -297,9 +301,6 @@ impl Posts {
         if self.input {
             post.watch_input();
         }
-        if self.peers.push(None).is_err() {
-            return None;
-        }
         self.made = place.saturating_add(1);
         post.bell = Some(Bell {
             bells,
@@ -351,7 +352,7 @@ impl Post {
         self.bell.is_some()
     }
 
-    /// Tells the door how the link's session ended, if the door can be woken for it.
+    /// Tells the door the number of the link's session and how that ended, if the link has a bell.
     pub(crate) fn leave(&mut self, number: u64, end: u8) {
         if let Some(bell) = &self.bell {
             bell.bells.leave(bell.place, bell.bit, number, end);
@@ -359,7 +360,7 @@ impl Post {
         }
     }
 
-    /// The peer of a link of which the door was told nothing.
+    /// The link's peer, if the door was not told how its session ended.
     pub(crate) fn untold(&self) -> Option<SocketAddr> {
         if self.told { None } else { self.peer }
     }

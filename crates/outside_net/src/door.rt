@@ -31,7 +31,7 @@ pub type ServerLink = WsLink<TcpStream, NoMask>;
 /// the one that has waited longest. A refused one is answered with an HTTP status and the cause. A connection is told that it is accepted when its link is handed out, so one for which there
 /// is no session yet waits for its answer.
 ///
-/// If the system has no descriptor or memory for a new connection, that one or the one that has waited longest is turned away, and the door
+/// If the system has no descriptor or memory for a new connection, that one or the one that has waited longest is refused, and the door
 /// continues after 50 milliseconds.
 #[derive(Drop)]
 pub struct TcpDoor<'a, R> {
@@ -182,7 +182,8 @@ impl<'a, R: Net<Listener = TcpListener, Stream = TcpStream> + Clock> TcpDoor<'a,
         }
     }
 
-    /// Opens the hall if that was not done. It fails if the door is not listening, the system refuses, or memory runs out.
+    /// Opens the hall if that was not done. It fails if the door is not listening, the system refuses, or memory runs out. The links' posts
+    /// stay those of the first hall, and wake that one only.
     fn open(&mut self, alloc: Global) -> io::Result<()>
         ensures faults { self.new.faults ≡ self.old.faults }
         ensures given { self.new.given ≡ self.old.given }
@@ -271,8 +272,9 @@ impl<'a, R: Net<Listener = TcpListener, Stream = TcpStream> + Clock> TcpDoor<'a,
         Next::Failed
     }
 
-    /// The next link, as [`next`](Listener::next) returns it. The connections that are turned away meanwhile are reported to the log, and the
-    /// sessions that end.
+    /// The next link, as [`next`](Listener::next) returns it. The connections that are refused meanwhile are reported to the log, and so are
+    /// the sessions whose links are told that they have ended, as soon as they are. If the door was told to listen more than once, these are
+    /// reported only when something else ends its wait.
     pub fn next_told<L: DoorLog>(&mut self, alloc: Global, log: &mut L) -> Next<ServerLink>
         ensures link { IfLink result (λ l. IsAccepted (⟦<ServerLink as Link>⟧.talk l) (⟦<ServerLink as Link>⟧.faults l) (⟦<ServerLink as Link>⟧.ended l)) }
         ensures usable { IfLink result (λ l. ⟦<ServerLink as Link>⟧.closed l ≡ false) }
@@ -302,7 +304,8 @@ impl<'a, R: Net<Listener = TcpListener, Stream = TcpStream> + Clock> TcpDoor<'a,
         }
     }
 
-    /// Takes a link back, as [`back`](Listener::back) does, and reports to the log how its session ended, if that was not done as it ended.
+    /// Takes a link back, as [`back`](Listener::back) does, and reports to the log how its session ended, unless that was reported as it
+    /// ended.
     pub fn back_told<L: DoorLog>(&mut self, link: ServerLink, number: u64, end: u8, log: &mut L)
         ensures given { ⟦<TcpDoor<'a, R> as Listener>⟧.given self.new ≡ ⟦<TcpDoor<'a, R> as Listener>⟧.given self.old }
         ensures stopped { ⟦<TcpDoor<'a, R> as Listener>⟧.stopped self.new ≡ ⟦<TcpDoor<'a, R> as Listener>⟧.stopped self.old }

@@ -13,7 +13,7 @@ use std::net::{Net, SocketAddr, TcpListener, TcpStream};
 use std::os::fd::AsRawFd;
 use std::time::{Clock, Duration};
 
-/// What ends a wait: a connection at the listener, the end of the standard input, or of a session. The other tokens are the room's.
+/// What ends a wait: a connection at the listener, the end of the standard input, or that of a session. The other tokens are the room's.
 const LISTENER: Token = Token(0);
 
 const INPUT: Token = Token(1);
@@ -104,7 +104,7 @@ impl Hall {
         self.input
     }
 
-    /// What ends a wait of the hall.
+    /// What ends the hall's wait from another thread.
     pub(crate) fn waker(&self) -> io::Result<Waker> {
         Waker::new(self.poll.registry(), ENDING)
     }
@@ -212,7 +212,7 @@ impl Hall {
                 log.unaccepted(error);
                 self.pause = true;
                 if !self.room.cut_least_needed(alloc, now, log) {
-                    self.turn_away(alloc, listener, now, log);
+                    self.refuse_one(alloc, listener, now, log);
                 }
             }
             Fate::Listener => {
@@ -224,7 +224,7 @@ impl Hall {
     }
 
     /// Accepts a connection by means of the spare descriptor, and refuses it.
-    fn turn_away<L: DoorLog>(
+    fn refuse_one<L: DoorLog>(
         &mut self,
         alloc: Global,
         listener: &TcpListener,

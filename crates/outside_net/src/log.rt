@@ -3,7 +3,7 @@ use crate::refusal::Refusal;
 use std::io;
 use std::net::SocketAddr;
 
-/// Receives reports of the connections that a door turns away, and of how the sessions of its links end, as they do.
+/// Receives reports of the connections that a door refuses, and of how the sessions of its links ended.
 pub trait DoorLog {
     /// The connection of this peer was given no link.
     fn refused(&mut self, peer: &SocketAddr, refusal: Refusal);
