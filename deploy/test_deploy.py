@@ -938,23 +938,27 @@ class Lines(Run):
         return said
 
     async def test_the_end_of_a_session_has_a_line(self):
-        # etpd writes it when the next client comes, or at the stop.
-        closes, leaves, resets, _ = [await self.client() for _ in range(4)]
+        # etpd writes it at once: nobody comes after these.
+        closes, leaves, resets, stays = [await self.client() for _ in range(4)]
         peer = self.peer(closes.socket.writer)
         await closes.send(0, 5, dict(reason=""))
         await self.goodbye(closes)
-        await self.client()
         self.assertRegex(await self.line(), rf"^session \d+ of {peer} ended: the client closed it$")
         peer = self.peer(leaves.socket.writer)
         leaves.close()
         await leaves.socket.writer.wait_closed()
-        await self.client()
         self.assertRegex(await self.line(), rf"^session \d+ of {peer} ended: the link ended$")
         peer = self.peer(resets.socket.writer)
         resets.socket.transport.get_extra_info("socket").setsockopt(socket.SOL_SOCKET, socket.SO_LINGER, struct.pack("ii", 1, 0))
         resets.socket.transport.abort()
-        await self.client()
         self.assertRegex(await self.line(), rf"^session \d+ of {peer} ended: the link failed$")
+        peer = self.peer(stays.socket.writer)
+        heard = asyncio.create_task(self.goodbye(stays))
+        _, lines = await self.stop()
+        self.assertEqual(await heard, 1001)
+        # None has a second line.
+        self.assertEqual(len(lines), 1, lines)
+        self.assertRegex(lines[0], rf" session \d+ of {peer} ended: the link ended$")
 
     async def test_a_refused_connection_has_a_line(self):
         for request, cause in (

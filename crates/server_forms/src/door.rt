@@ -10,8 +10,7 @@ use std::net::{Net, TcpListener, TcpStream};
 use std::time::Clock;
 
 /// A listener over TCP that stops once the standard input has ended, and writes lines: `listening at port PORT` once it listens, or why it
-/// can't, and then one for each connection that is refused and each session that ended, at most ten a second. A session's line is written
-/// when its link is taken back.
+/// can't, and then one for each connection that is refused and each session that ends, at most ten a second.
 #[derive(Drop)]
 pub(crate) struct ToldDoor<'a, R, W> {
     door: TcpDoor<'a, R>,
