@@ -863,7 +863,7 @@ class Stop(Run):
             ([wrong.name, "127.0.0.1:0"], 2, ["config refused: key 1 of channel 0"]), (["/nowhere.toml", "127.0.0.1:0"], 4, ["read fault"]),
             ([config, taken], 7, [f"can't listen at {taken}: the address is in use", "listen fault"]),
             ([config, "192.0.2.1:9002"], 7, ["can't listen at 192.0.2.1:9002: this machine has no such address", "listen fault"]),
-            ([config, "9002"], 7, ["can't listen at 9002: this is no address with a port, as 127.0.0.1:9002", "listen fault"]),
+            ([config, "9002"], 7, ["can't listen at 9002: this is not an address with a port, such as 127.0.0.1:9002", "listen fault"]),
         ):
             told = subprocess.run([DEPLOY / "etpd-run", PROGRAMS / "etpd", *words], stdout=subprocess.DEVNULL, stderr=subprocess.PIPE, text=True)
             self.assertEqual((told.returncode, told.stderr.splitlines()), (status, lines), words)

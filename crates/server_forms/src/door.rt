@@ -53,9 +53,9 @@ fn cause_words(kind: ErrorKind) -> &'static str {
         ErrorKind::AddrInUse => "the address is in use",
         ErrorKind::AddrNotAvailable => "this machine has no such address",
         ErrorKind::PermissionDenied => "permission denied",
-        ErrorKind::InvalidInput => "this is no address with a port, as 127.0.0.1:9002",
+        ErrorKind::InvalidInput => "this is not an address with a port, such as 127.0.0.1:9002",
         ErrorKind::OutOfMemory => "out of memory",
-        _ => "the name is not known, or the system refuses",
+        _ => "the name is unknown, or the system refuses",
     }
 }
 
