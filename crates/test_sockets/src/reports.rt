@@ -1,5 +1,5 @@
 //! What a door reports while it waits for its next client.
-ghost use Rattle.std.specs.Prelude.{◌≡◌, false};
+ghost use Rattle.std.specs.Prelude.{◌≡◌};
 
 use crate::sockets::{REQUEST, client, client_at, open_door, welcomed};
 use etp_outside::{Link, Next};
