@@ -863,7 +863,7 @@ class Stop(Run):
             ([wrong.name, "127.0.0.1:0"], 2, ["config refused: key 1 of channel 0"]), (["/nowhere.toml", "127.0.0.1:0"], 4, ["read fault"]),
             ([config, taken], 7, [f"can't listen at {taken}: the address is in use", "listen fault"]),
             ([config, "192.0.2.1:9002"], 7, ["can't listen at 192.0.2.1:9002: this machine has no such address", "listen fault"]),
-            ([config, "9002"], 7, ["can't listen at 9002: this is no address with a port, as 127.0.0.1:9002", "listen fault"]),
+            ([config, "9002"], 7, ["can't listen at 9002: this is not an address with a port, such as 127.0.0.1:9002", "listen fault"]),
         ):
             told = subprocess.run([DEPLOY / "etpd-run", PROGRAMS / "etpd", *words], stdout=subprocess.DEVNULL, stderr=subprocess.PIPE, text=True)
             self.assertEqual((told.returncode, told.stderr.splitlines()), (status, lines), words)
@@ -938,23 +938,27 @@ class Lines(Run):
         return said
 
     async def test_the_end_of_a_session_has_a_line(self):
-        # etpd writes it when the next client comes, or at the stop.
-        closes, leaves, resets, _ = [await self.client() for _ in range(4)]
+        # etpd writes it at once: nobody comes after these.
+        closes, leaves, resets, stays = [await self.client() for _ in range(4)]
         peer = self.peer(closes.socket.writer)
         await closes.send(0, 5, dict(reason=""))
         await self.goodbye(closes)
-        await self.client()
         self.assertRegex(await self.line(), rf"^session \d+ of {peer} ended: the client closed it$")
         peer = self.peer(leaves.socket.writer)
         leaves.close()
         await leaves.socket.writer.wait_closed()
-        await self.client()
         self.assertRegex(await self.line(), rf"^session \d+ of {peer} ended: the link ended$")
         peer = self.peer(resets.socket.writer)
         resets.socket.transport.get_extra_info("socket").setsockopt(socket.SOL_SOCKET, socket.SO_LINGER, struct.pack("ii", 1, 0))
         resets.socket.transport.abort()
-        await self.client()
         self.assertRegex(await self.line(), rf"^session \d+ of {peer} ended: the link failed$")
+        peer = self.peer(stays.socket.writer)
+        heard = asyncio.create_task(self.goodbye(stays))
+        _, lines = await self.stop()
+        self.assertEqual(await heard, 1001)
+        # None has a second line.
+        self.assertEqual(len(lines), 1, lines)
+        self.assertRegex(lines[0], rf" session \d+ of {peer} ended: the link ended$")
 
     async def test_a_refused_connection_has_a_line(self):
         for request, cause in (
