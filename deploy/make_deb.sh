@@ -2,20 +2,25 @@
 # Makes the Debian package from built programs: make_deb.sh PROGRAMS FOLDER
 #
 # PROGRAMS is a folder with etpd, etpctl and etptool. FOLDER gets colmjurr_VERSION_ARCH.deb, whose path is printed. The same programs and
-# the same commit make the same bytes; without a commit, SOURCE_DATE_EPOCH is the moment of the package. It needs dpkg-deb, gzip and strip
-# (Debian: dpkg-dev, gzip, binutils).
+# the same commit make the same bytes: the package has the moment of the commit, or without git that of the last entry of the changelog.
+# SOURCE_DATE_EPOCH gives another one, and make_deb.sh --moment prints it. It needs dpkg-deb, gzip and strip (Debian: dpkg-dev, gzip, binutils).
 set -euo pipefail
 umask 022
+
+deploy=$(dirname "$(realpath -- "$0")")
+root=$(dirname "$deploy")
+moment=${SOURCE_DATE_EPOCH:-$(git -C "$root" log -1 --format=%ct 2> /dev/null || date +%s --date "$(sed -n '0,/^ -- /s/^ -- .*>  //p' "$deploy/changelog")")}
+export SOURCE_DATE_EPOCH=$moment
+if [ "$1" = --moment ]; then
+  echo "$moment"
+  exit
+fi
 
 programs=$(realpath -- "$1")
 mkdir -p "$2"
 out=$(realpath -- "$2")
-deploy=$(dirname "$(realpath -- "$0")")
-root=$(dirname "$deploy")
 version=$(cat "$root/VERSION")
 arch=$(dpkg --print-architecture)
-moment=${SOURCE_DATE_EPOCH:-$(git -C "$root" log -1 --format=%ct)}
-export SOURCE_DATE_EPOCH=$moment
 
 tree=$(mktemp -d)
 trap 'rm -r "$tree"' EXIT

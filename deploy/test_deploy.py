@@ -833,7 +833,7 @@ class Stop(Run):
         for _ in range(600 * PATIENCE):
             now = int.from_bytes(fcntl.ioctl(link.fileno(), termios.FIONREAD, bytes(4)), sys.byteorder)
             waiting, same = now, same + 1 if now == waiting and now else 0
-            if same == 10:
+            if same == 10 * PATIENCE:
                 return
             await asyncio.sleep(0.1)
         self.fail(f"{waiting} bytes came to the client")

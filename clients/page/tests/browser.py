@@ -133,6 +133,10 @@ class Page:
             await asyncio.sleep(0.05)
         raise AssertionError(f"{expression} doesn't hold after {patience} s; {await self.evaluate('document.body.innerText')}")
 
+    async def drawn(self):
+        """Waits until what was asked for is drawn: a frame that is begun now comes after it, and the next one after that frame's end."""
+        await self.evaluate("new Promise(next => requestAnimationFrame(() => requestAnimationFrame(() => next())))")
+
     async def busy_time(self):
         """How long the page's thread has had the processor for tasks, in milliseconds."""
         told = await self.browser.ask("Performance.getMetrics", self.session)
