@@ -1,10 +1,11 @@
 -- The keys that operations alter are found, and if none is found nothing is done; for the crates above too.
-use Rattle.std.proofs.Common.{Bool, true, false, cond, ◌&&◌, ◌||◌, List, [], ◌∷◌, ◌++◌, ◌≡◌, Option, refl, sym, ap, ◌∙◌, filter, fold, true≢false}
+use Rattle.std.proofs.Common.{ℕ, Bool, true, false, cond, ◌&&◌, ◌||◌, List, [], ◌∷◌, ◌++◌, ◌≡◌, Option, refl, sym, ap, ◌∙◌, filter, fold, true≢false}
 use Rattle.std.specs.List.{list_any}
-use Rattle.std.proofs.lemmas.Bool.{or_parts}
+use Rattle.std.specs.Option.{option_map}
+use Rattle.std.specs.Prelude.{nat_eq}
+use Rattle.std.proofs.lemmas.Bool.{eq-eqb, eqb-true, or_parts}
 use Rattle.std.proofs.Math.Bool.{and-false}
 use Rattle.indexmap.specs.IndexSet.{insert_key}
-use Rattle.etp_values.specs.declared.uri.StoreUri.{StoreUri}
 use Rattle.etp_values.specs.SameUri.{same_uri, same_uri-equiv, same_uri-is}
 use Rattle.tx_stage.specs.declared.key.Key.{Key}
 use Rattle.tx_stage.specs.declared.key.Key.TheVariants.{Space, Object, Array}
@@ -12,7 +13,7 @@ use Rattle.tx_stage.specs.declared.op.Op.{Op}
 use Rattle.tx_stage.specs.declared.op.OpWhat.{OpWhat}
 use Rattle.tx_stage.specs.declared.op.OpWhat.TheVariants.{SetObject, SetArray, Patch, Gone}
 use Rattle.tx_stage.specs.declared.value.Value.{Value}
-use Rattle.tx_stage.specs.Altered.{Altered, FindsAltered, is_array_of_any, may_alter, removed, with_gone, with_op}
+use Rattle.tx_stage.specs.Altered.{Altered, FindsAltered, is_array_of_any, key_hash, may_alter, object_hash, removed, with_gone, with_op}
 use Rattle.tx_stage.specs.Keys.{same_key}
 use Rattle.tx_stage.specs.Ops.{suits, takes_along, op_alters, op_left}
 use Rattle.tx_stage.specs.Overlay.{overlay, there, leaves}
@@ -54,17 +55,22 @@ module _ {A : Type 0} (eq : A → A → Bool) (is : (x y : A) → eq x y ≡ tru
 
 -- ---- one more operation
 
+-- values with different hashes are different
+apart : {A : Type 0} (eq : A → A → Bool) (is : (x y : A) → eq x y ≡ true → x ≡ y) (hash : A → ℕ) (x y : A) (b : Bool) → eq x y ≡ b → nat_eq (hash x) (hash y) ≡ false → eq x y ≡ false
+apart eq is hash x y true same differ = absurd (true≢false (sym (eq-eqb (hash x) (hash y) (ap hash (is x y same))) ∙ differ))
+apart eq is hash x y false same differ = same
+
 -- what it removes
-along-removed : (gone : List StoreUri) (own key : Key) → is_array_of_any (with_gone gone (removed own Gone)) key ≡ false → (is_array_of_any gone key ≡ false) × (takes_along own Gone key ≡ false)
+along-removed : (gone : List ℕ) (own key : Key) → is_array_of_any (with_gone gone (option_map object_hash (removed own Gone))) key ≡ false → (is_array_of_any gone key ≡ false) × (takes_along own Gone key ≡ false)
 along-removed gone (Space p) key h = (h, refl)
 along-removed gone (Object u) (Space q) h = (refl, refl)
 along-removed gone (Object u) (Object v) h = (refl, refl)
 along-removed gone (Object u) (Array k) h =
-    let parts = inserted same_uri same_uri-is gone u k.uri h in
-    (parts.0, same_uri-equiv.symm u k.uri ∙ parts.1)
+    let parts = inserted nat_eq eqb-true gone (object_hash u) (object_hash k.uri) h in
+    (parts.0, same_uri-equiv.symm u k.uri ∙ apart same_uri same_uri-is object_hash k.uri u (same_uri k.uri u) refl parts.1)
 along-removed gone (Array l) key h = (h, refl)
 
-along : (gone : List StoreUri) (own : Key) (what : OpWhat) (key : Key) → is_array_of_any (with_gone gone (removed own what)) key ≡ false → (is_array_of_any gone key ≡ false) × (takes_along own what key ≡ false)
+along : (gone : List ℕ) (own : Key) (what : OpWhat) (key : Key) → is_array_of_any (with_gone gone (option_map object_hash (removed own what))) key ≡ false → (is_array_of_any gone key ≡ false) × (takes_along own what key ≡ false)
 along gone own (SetObject r) key h = (h, refl)
 along gone own (SetArray r) key h = (h, refl)
 along gone own (Patch ss cs vs) key h = (h, refl)
@@ -72,11 +78,12 @@ along gone own Gone key h = along-removed gone own key h
 
 pub finds-next : (a : Altered) (ops : List Op) (o : Op) → FindsAltered a ops → FindsAltered (with_op a o) (ops ++ o ∷ [])
 finds-next a ops o found key none =
-    let parts = or_parts (list_any (same_key key) (with_op a o).own) (is_array_of_any (with_op a o).gone key) none in
-    let own = inserted same_key same_key-is a.own o.key key parts.0 in
+    let parts = or_parts (list_any (nat_eq (key_hash key)) (with_op a o).own) (is_array_of_any (with_op a o).gone key) none in
+    let own = inserted nat_eq eqb-true a.own (key_hash o.key) (key_hash key) parts.0 in
+    let other = apart same_key same_key-is key_hash key o.key (same_key key o.key) refl own.1 in
     let gone = along a.gone o.key o.what key parts.1 in
     let before : may_alter a key ≡ false = ap (λ b. b || is_array_of_any a.gone key) own.0 ∙ gone.0 in
-    let last : op_alters o key ≡ false = (λ j. suits o.key o.what && (own.1 j || gone.1 j)) ∙ and-false (suits o.key o.what) in
+    let last : op_alters o key ≡ false = (λ j. suits o.key o.what && (other j || gone.1 j)) ∙ and-false (suits o.key o.what) in
     any-none (λ (o : Op). op_alters o key) ops o (found key before) last
 
 -- ---- if none is found

@@ -1,11 +1,12 @@
--- What a transaction keeps besides its operations and touched keys.
-use Rattle.std.proofs.Common.{ℕ, ◌+◌, Bool, true, false, cond, not, ◌||◌, Some, None, Ok, Err, length, List, [], ◌∷◌, ◌++◌, ◌≡◌, refl, sym, ap, ◌∙◌, map, arith}
-use Rattle.std.specs.Prelude.{nat_le}
-use Rattle.std.specs.List.{list_any}
+-- What a transaction keeps of its operations and touched keys.
+use Rattle.std.proofs.Common.{ℕ, ◌+◌, Bool, true, false, cond, not, ◌||◌, Option, Some, None, Ok, Err, length, List, [], ◌∷◌, ◌++◌, ◌≡◌, refl, sym, ap, ◌∙◌, map, arith}
+use Rattle.std.specs.Prelude.{nat_le, is_some}
+use Rattle.std.specs.Map.{lookup}
+use Rattle.std.proofs.lemmas.List.{length-map}
 use Rattle.etp_values.specs.Weight.{weigh}
 use Rattle.tx_stage.specs.declared.error.StageError.TheVariants.{Space, Keys}
 use Rattle.tx_stage.specs.declared.key.Key.{Key}
-use Rattle.tx_stage.specs.declared.touch.Touch.{Touch}
+use Rattle.tx_stage.specs.Kept.{touch_of, touches}
 use Rattle.tx_stage.specs.Keys.{same_key, space_of}
 use Rattle.tx_stage.specs.Staging.{Transaction, has_space, is_touched, note_refusal, noted, unless}
 
@@ -13,28 +14,32 @@ pub weigh-push : {X : Type 0} (w : X → ℕ) (xs : List X) (x : X) → weigh w 
 weigh-push w [] x = omega arith
 weigh-push w (y ∷ ys) x = omega (arith, weigh-push w ys x)
 
-any-map : {A B : Type 0} (test : B → Bool) (f : A → B) (xs : List A) → list_any test (map f xs) ≡ list_any (λ x. test (f x)) xs
-any-map test f [] = refl
-any-map test f (x ∷ xs) = ap (λ b. test (f x) || b) (any-map test f xs)
-
 -- a key is found exactly if it was touched
-pub found-touched : (key : Key) (keys : List Key) (touched : List Touch) → keys ≡ map (λ (t : Touch). t.key) touched → list_any (same_key key) keys ≡ is_touched touched key
-found-touched key keys touched listed = ap (list_any (same_key key)) listed ∙ any-map (same_key key) (λ (t : Touch). t.key) touched
+found-by : {X : Type 0} (b : Bool) (x : X) (rest : Option X) (among : Bool) → is_some rest ≡ among → is_some (cond b (Some x) rest) ≡ (b || among)
+found-by true x rest among h = refl
+found-by false x rest among h = h
+
+pub found-touched : (key : Key) (es : List (Key × ℕ)) → is_some (lookup (same_key key) es) ≡ is_touched (touches es) key
+found-touched key [] = refl
+found-touched key (e ∷ es) = found-by (same_key key e.0) e.1 (lookup (same_key key) es) (is_touched (touches es) key) (found-touched key es)
 
 -- one more key
-chosen : {A : Type 0} (b : Bool) (x y : A) → b ≡ false → cond b x y ≡ y
-chosen true x y h = absurd cc
-chosen false x y h = refl
+none-found : {X : Type 0} (o : Option X) → is_some o ≡ false → o ≡ None
+none-found None h = refl
+none-found (Some x) h = absurd cc
 
 map-push : {A B : Type 0} (f : A → B) (xs : List A) (x : A) → map f (xs ++ x ∷ []) ≡ map f xs ++ f x ∷ []
 map-push f [] x = refl
 map-push f (y ∷ ys) x = ap (λ l. f y ∷ l) (map-push f ys x)
 
-pub keys-push : (key : Key) (keys new : List Key) (touched : List Touch) (t : Touch) → keys ≡ map (λ (t : Touch). t.key) touched → t.key ≡ key
-    → is_touched touched key ≡ false → new ≡ cond (list_any (same_key key) keys) keys (keys ++ key ∷ []) → new ≡ map (λ (t : Touch). t.key) (touched ++ t ∷ [])
-keys-push key keys new touched t listed same fresh put =
-    put ∙ chosen (list_any (same_key key) keys) keys (keys ++ key ∷ []) (found-touched key keys touched listed ∙ fresh)
-    ∙ (λ j. listed j ++ sym same j ∷ []) ∙ sym (map-push (λ (t : Touch). t.key) touched t)
+pub absent : (key : Key) (es : List (Key × ℕ)) → is_touched (touches es) key ≡ false → lookup (same_key key) es ≡ None
+absent key es fresh = none-found (lookup (same_key key) es) (found-touched key es ∙ fresh)
+
+pub touches-push : (es : List (Key × ℕ)) (key : Key) (mark : ℕ) → touches (es ++ (key, mark) ∷ []) ≡ touches es ++ record { key = key; mark = mark } ∷ []
+touches-push es key mark = map-push touch_of es (key, mark)
+
+pub length-touches : (es : List (Key × ℕ)) → length (touches es) ≡ length es
+length-touches es = length-map touch_of es
 
 -- ---- noting a key
 
@@ -51,3 +56,12 @@ pub note-full : (x : Transaction) (key : Key) → has_space x.spaces (space_of k
     → unless (note_refusal x key) ≡ Err Keys
 note-full x key has fresh full =
     λ j. unless (cond (not (has j)) (Some (Space (space_of key))) (cond (fresh j) None (cond (full j) (Some Keys) None)))
+
+-- a new one
+pub note-new : (x : Transaction) (es new : List (Key × ℕ)) (key k : Key) (mark : ℕ) → x.touched ≡ touches es → is_touched x.touched key ≡ false → k ≡ key → new ≡ es ++ (k, mark) ∷ []
+    → record x { touched = touches new } ≡ noted mark x key
+note-new x es new key k mark seen fresh same put =
+    (λ j. record x { touched = touches (put j) })
+    ∙ (λ j. record x { touched = touches-push es k mark j })
+    ∙ (λ j. record x { touched = sym seen j ++ record { key = same j; mark = mark } ∷ [] })
+    ∙ sym (λ j. cond (fresh j) x (record x { touched = x.touched ++ record { key = key; mark = mark } ∷ [] }))

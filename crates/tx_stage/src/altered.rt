@@ -1,31 +1,52 @@
 //! The keys that operations alter, to be found.
-ghost use Rattle.std.specs.Prelude.{◌≡◌, ◌<◌, Some, None, OnOk, OnErr};
+ghost use Rattle.std.specs.Prelude.{◌≡◌, ◌<◌, Some, None, OnOk, OnErr, nat_eq};
 ghost use Rattle.std.specs.Option.{option_copied};
 ghost use Rattle.indexmap.specs.IndexSet.{insert_key, spare};
 ghost use Rattle.tx_stage.specs.Altered as altered;
-ghost use Rattle.tx_stage.specs.Keys.{same_key};
 
 use crate::key::Key;
 use crate::op::{Op, OpWhat};
-use etp_values::{Copied, NoMemory, StoreUri};
+use etp_values::{NoMemory, StoreUri};
 use indexmap::IndexSet;
 use std::alloc::Global;
+use std::hash::{FoldHasher, Hash, Hasher};
 use std::marker::Model;
 
-/// The keys that operations alter, to be found by hash: however many operations there are, it is known at once if none of them alters a
-/// key.
+/// The keys that operations alter, by their hashes, so that no key is kept a second time. However many operations there are, it is known at
+/// once that none of them alters a key whose hash is not there. Another key may have the hash of one that they alter.
 #[derive(Drop)]
 pub(crate) struct AlteredKeys {
-    /// The operations' own keys.
-    own: IndexSet<Key>,
-    /// The objects that an operation removes, each with its arrays.
-    gone: IndexSet<StoreUri>,
+    /// The hashes of the operations' own keys.
+    own: IndexSet<u64>,
+    /// Those of the objects that an operation removes, each with its arrays.
+    gone: IndexSet<u64>,
 }
 
 impl Model for AlteredKeys {
     ghost Value = { altered.Altered };
 
     ghost view = { λ s. record { own = s.own.keys; gone = s.gone.keys } };
+}
+
+#[tactic(auto, unfolding(crate::specs::Altered::hashed))]
+fn hash_of<T: Hash>(value: &T) -> u64
+    ensures { result ≡ altered.hashed (T.hash_input value.now) }
+{
+    let mut state = FoldHasher::default();
+    value.hash(&mut state);
+    state.finish()
+}
+
+fn key_hash(key: &Key) -> u64
+    ensures { result ≡ altered.key_hash key.now }
+{
+    hash_of(key)
+}
+
+fn object_hash(uri: &StoreUri) -> u64
+    ensures { result ≡ altered.object_hash uri.now }
+{
+    hash_of(uri)
 }
 
 /// The object that an operation removes.
@@ -51,12 +72,12 @@ fn removed_at(key: &Key) -> Option<&StoreUri>
     }
 }
 
-/// Adds a key to keys that have room for it.
-fn insert_reserved(own: &mut IndexSet<Key>, key: Key)
+/// Adds a hash to hashes that have room for it.
+fn insert_reserved(own: &mut IndexSet<u64>, hash: u64)
     requires { 0 < spare own.old }
-    ensures { own.new.keys ≡ insert_key same_key own.old.keys key }
+    ensures { own.new.keys ≡ insert_key nat_eq own.old.keys hash }
 {
-    let _ = own.insert(key);
+    let _ = own.insert(hash);
 }
 
 impl AlteredKeys {
@@ -74,49 +95,47 @@ impl AlteredKeys {
     pub(crate) fn has(&self, key: &Key) -> bool
         ensures { result ≡ altered.may_alter self.now key.now }
     {
-        self.own.contains(key) || self.takes_along(key)
+        self.own.contains(&key_hash(key)) || self.takes_along(key)
     }
 
-    /// Whether a key is an array of an object that an operation removes.
+    /// Whether a key may be an array of an object that an operation removes.
     fn takes_along(&self, key: &Key) -> bool
         ensures { result ≡ altered.is_array_of_any self.now.gone key.now }
     {
         match key {
             Key::Space(_) => false,
             Key::Object(_) => false,
-            Key::Array(array) => self.gone.contains(&array.uri),
+            Key::Array(array) => self.gone.contains(&object_hash(&array.uri)),
         }
     }
 
     /// Adds what one more operation alters.
-    pub(crate) fn add(&mut self, alloc: Global, op: &Op) -> Result<(), NoMemory>
+    pub(crate) fn add(&mut self, op: &Op) -> Result<(), NoMemory>
         ensures ok { OnOk result (self.new ≡ altered.with_op self.old op.now) }
         ensures err { OnErr result (self.new ≡ self.old) }
     {
+        let own = key_hash(&op.key);
         match removed(op) {
-            None => self.add_own(alloc, &op.key),
-            Some(uri) => self.add_gone(alloc, &op.key, uri),
+            None => self.add_own(own),
+            Some(uri) => self.add_gone(own, object_hash(uri)),
         }
     }
 
-    fn add_own(&mut self, alloc: Global, key: &Key) -> Result<(), NoMemory>
-        ensures ok { OnOk result (self.new ≡ altered.with_keys self.old key.now None) }
+    fn add_own(&mut self, own: u64) -> Result<(), NoMemory>
+        ensures ok { OnOk result (self.new ≡ altered.with_hashes self.old own None) }
         ensures err { OnErr result (self.new ≡ self.old) }
     {
-        let key = key.copy(alloc)?;
-        self.own.insert(key)?;
+        self.own.insert(own)?;
         Ok(())
     }
 
-    fn add_gone(&mut self, alloc: Global, key: &Key, uri: &StoreUri) -> Result<(), NoMemory>
-        ensures ok { OnOk result (self.new ≡ altered.with_keys self.old key.now (Some uri.now)) }
+    fn add_gone(&mut self, own: u64, gone: u64) -> Result<(), NoMemory>
+        ensures ok { OnOk result (self.new ≡ altered.with_hashes self.old own (Some gone)) }
         ensures err { OnErr result (self.new ≡ self.old) }
     {
-        let uri = uri.copy(alloc)?;
-        let key = key.copy(alloc)?;
         self.own.reserve(1)?;
-        self.gone.insert(uri)?;
-        insert_reserved(&mut self.own, key);
+        self.gone.insert(gone)?;
+        insert_reserved(&mut self.own, own);
         Ok(())
     }
 }

@@ -1,5 +1,7 @@
 //! A transaction in progress.
-ghost use Rattle.std.specs.Prelude.{◌≡◌, ◌≢◌, ◌+◌, ◌≤◌, [], IfOk, IfErr, OnOk, OnErr, Some, None, MatchResult, false};
+ghost use Rattle.std.specs.Prelude.{◌≡◌, ◌≢◌, ◌+◌, ◌≤◌, [], length, IfOk, IfErr, OnOk, OnErr, Some, None, MatchResult, false};
+ghost use Rattle.std.specs.Vec.{vec_capacity};
+ghost use Rattle.tx_stage.specs.Kept.{touches};
 
 use crate::altered::AlteredKeys;
 use crate::counted::op_bytes;
@@ -12,7 +14,7 @@ use crate::spaces::{has_space, no_space};
 use crate::touch::{Staged, Touch};
 use crate::value::Value;
 use etp_values::{Copied, Id16, List, NoMemory, Text};
-use indexmap::IndexSet;
+use indexmap::IndexMap;
 use std::alloc::Global;
 use std::marker::Model;
 
@@ -27,9 +29,10 @@ pub struct Stage {
     bytes: u64,
     /// The keys that the operations alter, to be found.
     altered: AlteredKeys,
-    touched: Vec<Touch>,
-    /// The touched keys, to be found.
-    noted: IndexSet<Key>,
+    /// The touched keys in order, each with its mark.
+    touched: IndexMap<Key, u64>,
+    /// Nothing, with room for all touched keys, so that a transaction can end without allocating.
+    room: Vec<Touch>,
 }
 
 /// Written out, so that whatever holds one drops it by a single call.
@@ -44,25 +47,26 @@ impl Drop for Stage {
             bytes: _,
             altered,
             touched,
-            noted,
+            room,
         } = self;
         drop(spaces);
         drop(ops);
         drop(altered);
         drop(touched);
-        drop(noted);
+        drop(room);
     }
 }
 
 impl Model for Stage {
     ghost use Rattle.tx_stage.specs.Staging.{Transaction};
-    ghost use Rattle.tx_stage.specs.Kept.{KeepsStage};
+    ghost use Rattle.std.specs.Vec.{vec_capacity};
+    ghost use Rattle.tx_stage.specs.Kept.{touches, KeepsStage};
 
     ghost Value = { Transaction };
 
-    ghost view = { λ s. record { id = s.id; read_only = s.read_only; spaces = s.spaces; ops = s.ops.items; touched = s.touched.items } };
+    ghost view = { λ s. record { id = s.id; read_only = s.read_only; spaces = s.spaces; ops = s.ops.items; touched = touches s.touched.entries } };
 
-    ghost invariant = { λ s. KeepsStage s.ops.items s.bytes s.altered s.touched.items s.noted.keys };
+    ghost invariant = { λ s. KeepsStage s.ops.items s.bytes s.altered s.touched.entries s.room.items (vec_capacity s.room) };
 }
 
 impl Stage {
@@ -84,8 +88,8 @@ impl Stage {
             ops: Vec::new(alloc),
             bytes: 0,
             altered: AlteredKeys::new(alloc),
-            touched: Vec::new(alloc),
-            noted: IndexSet::new(alloc),
+            touched: IndexMap::new(alloc),
+            room: Vec::new(alloc),
         }
     }
 
@@ -118,7 +122,7 @@ impl Stage {
         if !self.has_space(key.space()) {
             return Err(no_space(self.alloc, key.space()));
         }
-        if self.noted.contains(key) {
+        if self.touched.contains_key(key) {
             return Ok(());
         }
         if self.touched.len() >= MAX_TOUCHED {
@@ -136,14 +140,9 @@ impl Stage {
         ensures ok { OnOk result (self.new ≡ noted mark self.old key.now) }
         ensures err { OnErr result (self.new ≡ self.old) }
     {
-        let touch = Touch {
-            key: key.copy(self.alloc)?,
-            mark,
-        };
         let key = key.copy(self.alloc)?;
-        self.touched.reserve(1)?;
-        self.noted.insert(key)?;
-        let _ = self.touched.push(touch);
+        self.room.reserve(self.touched.len() + 1)?;
+        self.touched.insert(key, mark)?;
         Ok(())
     }
 
@@ -170,7 +169,7 @@ impl Stage {
         ensures err { OnErr result (self.new ≡ self.old) }
     {
         self.ops.reserve(1)?;
-        self.altered.add(self.alloc, &op)?;
+        self.altered.add(&op)?;
         let _ = self.ops.push(op);
         self.bytes = bytes;
         Ok(())
@@ -230,14 +229,26 @@ impl Stage {
             bytes: _,
             altered,
             touched,
-            noted,
+            room,
         } = self;
         drop(spaces);
         drop(altered);
-        drop(noted);
         Staged {
             ops: List::from_vec(ops),
-            touched: List::from_vec(touched),
+            touched: List::from_vec(listed(touched, room)),
         }
     }
+}
+
+/// The touched keys as a list, in room for them.
+fn listed(touched: IndexMap<Key, u64>, room: Vec<Touch>) -> Vec<Touch>
+    requires empty { room.items ≡ [] }
+    requires enough { length touched.entries ≤ vec_capacity room }
+    ensures { result.items ≡ touches touched.entries }
+{
+    let mut list = room;
+    for (key, mark) in touched {
+        list.push_reserved(Touch { key, mark });
+    }
+    list
 }

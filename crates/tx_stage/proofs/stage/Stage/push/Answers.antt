@@ -19,5 +19,6 @@ invariant_of-self-2 c =
       counted = c.requires.counted ∙ ap (λ (x : Transaction). weigh op_bytes x.ops + op_bytes op) (sym c.self.view_is) ∙ sym (weigh-push op_bytes s.ops.items op) ∙ ap (weigh op_bytes) (sym pushed);
       limit = c.requires.limit;
       found = subst (FindsAltered c.add.new.self) (sym pushed) (subst (λ a. FindsAltered a (s.ops.items ++ op ∷ [])) (sym altered) found);
-      listed = c.self.invariant.listed;
+      empty = c.self.invariant.empty;
+      enough = c.self.invariant.enough;
     }
