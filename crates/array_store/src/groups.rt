@@ -143,6 +143,40 @@ fn take(groups: &mut IndexMap<u64, Group>, number: u64)
     lose(groups, number);
 }
 
+/// Joins what comes before and after an entry in the list of its group.
+fn unlink(groups: &mut IndexMap<u64, Group>, links: &mut [Link], number: u64, link: Link)
+    ensures counts { SameCounts groups.old.entries groups.new.entries }
+    ensures room { spare groups.new ≡ spare groups.old }
+    ensures len { length links.new ≡ length links.old }
+{
+    set_after(links, link.before, link.after);
+    if link.after == NONE {
+        set_last(groups, number, link.before);
+        return;
+    }
+    set_before(links, link.after, link.before);
+}
+
+/// Tells the list of an entry's group where the entry is now.
+fn relink(
+    groups: &mut IndexMap<u64, Group>,
+    links: &mut [Link],
+    number: u64,
+    link: Link,
+    index: usize,
+)
+    ensures counts { SameCounts groups.old.entries groups.new.entries }
+    ensures room { spare groups.new ≡ spare groups.old }
+    ensures len { length links.new ≡ length links.old }
+{
+    set_after(links, link.before, index);
+    if link.after == NONE {
+        set_last(groups, number, index);
+        return;
+    }
+    set_before(links, link.after, index);
+}
+
 impl Groups {
     /// No groups.
     pub(crate) fn new(alloc: Global) -> Groups
@@ -206,32 +240,6 @@ impl Groups {
         add(&mut self.groups, number, index);
     }
 
-    /// Joins what comes before and after an entry in the list of its group.
-    fn unlink(&mut self, number: u64, link: Link)
-        ensures counts { SameCounts self.old.groups self.new.groups }
-        ensures room { self.new.spare ≡ self.old.spare }
-    {
-        set_after(&mut self.links, link.before, link.after);
-        if link.after == NONE {
-            set_last(&mut self.groups, number, link.before);
-            return;
-        }
-        set_before(&mut self.links, link.after, link.before);
-    }
-
-    /// Tells the list of an entry's group where the entry is now.
-    fn relink(&mut self, number: u64, link: Link, index: usize)
-        ensures counts { SameCounts self.old.groups self.new.groups }
-        ensures room { self.new.spare ≡ self.old.spare }
-    {
-        set_after(&mut self.links, link.before, index);
-        if link.after == NONE {
-            set_last(&mut self.groups, number, index);
-            return;
-        }
-        set_before(&mut self.links, link.after, index);
-    }
-
     /// Takes an entry out of its list, and tells the list of the table's last entry that this one moves to its index.
     fn take_link(&mut self, index: usize, number: u64, moved: u64)
         ensures counts { SameCounts self.old.groups self.new.groups }
@@ -241,13 +249,13 @@ impl Groups {
             return;
         }
         let link = self.links[index];
-        self.unlink(number, link);
+        unlink(&mut self.groups, &mut self.links, number, link);
         let _ = self.links.swap_remove(index);
         if index >= self.links.len() {
             return;
         }
         let link = self.links[index];
-        self.relink(moved, link, index);
+        relink(&mut self.groups, &mut self.links, moved, link, index);
     }
 
     /// Takes out the entry at an index, so that the table's last entry, which is of the group `moved`, is there.
