@@ -1,7 +1,8 @@
 -- Arrays that are taken out one after the other, and the groups that count them.
-use Rattle.std.proofs.Common.{ℕ, zero, suc, ◌+◌, ◌-◌, ◌≤◌, ◌<◌, Bool, true, false, cond, not, List, [], ◌∷◌, ◌++◌, length, take, filter, slice_get, Option, None, Some, ◌≡◌, ◌≢◌, get_or, refl, sym, ap, subst, ◌∙◌, arith}
-use Rattle.std.specs.Prelude.{IfSome, is_some, nat_eq, slice_set, slice_index_or, swap_remove}
+use Rattle.std.proofs.Common.{ℕ, zero, suc, ◌+◌, ◌-◌, ◌^◌, ◌≤◌, ◌<◌, Bool, true, false, cond, not, List, [], ◌∷◌, ◌++◌, length, take, filter, slice_get, Option, None, Some, Result, Ok, Err, ◌≡◌, ◌≢◌, get_or, refl, sym, ap, subst, ◌∙◌, arith}
+use Rattle.std.specs.Prelude.{IfSome, IsOk, OnOk, OnErr, is_some, min, nat_eq, slice_set, slice_index_or, swap_remove}
 use Rattle.std.specs.Map.{lookup, keys_of}
+use Rattle.std.proofs.Math.Nat.{min-le_left, min-le_right}
 use Rattle.std.proofs.lemmas.Bool.{false≢true, eq-eqb, eqb-true, eqb-false}
 use Rattle.std.proofs.lemmas.Slice.Eq.{bytes_eq-Decides}
 use Rattle.indexmap.specs.IndexMap.{IndexMap, Updates}
@@ -10,6 +11,7 @@ use Rattle.etp_values.specs.SameUri.{same_uri-is}
 use Rattle.std.proofs.lemmas.List.{get_or-take, get_or-set_same, get_or-set_other, length-take-le, length-set}
 use Rattle.std.proofs.lemmas.List.Sums.{length-filter, sum_by-swap_remove}
 use Rattle.std.proofs.lemmas.Option.{slice_get_past, slice_get_within, slice_get-get_or, get_or_from_slice_get}
+use Rattle.array_store.specs.declared.error.ArrayError.{ArrayError}
 use Rattle.array_store.specs.declared.groups.Group.{Group}
 use Rattle.array_store.specs.declared.key.ArrayKey.{ArrayKey}
 use Rattle.array_store.specs.declared.record.ArrayRecord.{ArrayRecord}
@@ -309,6 +311,32 @@ put-keeps old new key objects more_objects spaces more_spaces numbers kept sound
   by_object = counts-push object_of old new key objects more_objects kept.by_object keys (subst (λ (n : Numbers). Adds objects more_objects n.object) mine to_object);
   by_space = counts-push space_of old new key spaces more_spaces kept.by_space keys (subst (λ (n : Numbers). Adds spaces more_spaces n.space) mine to_space);
 }
+
+-- ---- what a put leaves
+
+-- a call that has a value has what it promises with one
+pub when-ok : {X P : Type 0} (result : Result X ArrayError) → IsOk result → OnOk result P → P
+when-ok (Ok x) ok holds = holds
+when-ok (Err e) ok holds = absurd (false≢true ok)
+
+-- an array in place of another leaves the keys, and so does a put that did nothing
+pub put-again-keys : {X : Type 0} (result : Result X ArrayError) (old new : List (ArrayKey × ArrayRecord)) → OnOk result (keys_of new ≡ keys_of old) → OnErr result (new ≡ old) → keys_of new ≡ keys_of old
+put-again-keys (Ok x) old new put same = put
+put-again-keys (Err e) old new put same = ap keys_of same
+
+-- room for one more in all three
+pub room-in : (arrays objects spaces : ℕ) → 1 ≤ min arrays (min objects spaces) → (0 < arrays) × (0 < objects) × (0 < spaces)
+room-in arrays objects spaces room =
+    let first = min-le_left arrays (min objects spaces) in
+    let rest = min-le_right arrays (min objects spaces) in
+    let second = min-le_left objects spaces in
+    let third = min-le_right objects spaces in
+    (omega (arith, room, first), omega (arith, room, rest, second), omega (arith, room, rest, third))
+
+-- a group has room to count one more
+pub counts-fit : (number : ArrayKey → ℕ) (es : List (ArrayKey × ArrayRecord)) (groups : List (ℕ × Group)) (n : ℕ) → CountsArrays number es groups → length es < 2 ^ 63
+    → count_among groups n < 2 ^ 64 - 1
+counts-fit number es groups n counts small = let few = counts-le number es groups n counts in omega (arith, few, small)
 
 -- an owner whose group counts nothing has no arrays
 pub none-of-object : (uri : StoreUri) (es : List (ArrayKey × ArrayRecord)) (groups : List (ℕ × Group)) → CountsArrays object_of es groups → count_among groups (object_number uri) ≡ 0

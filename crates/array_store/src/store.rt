@@ -143,6 +143,33 @@ impl ArrayStore {
         put_array(&mut self.arrays, key, value)
     }
 
+    /// Makes room for one more array.
+    fn make_room(&mut self) -> Result<(), NoMemory>
+        ensures same { self.new.arrays ≡ self.old.arrays }
+        ensures room { OnOk result (1 ≤ self.new.spare) }
+        ensures keeps { self.old.spare ≤ self.new.spare }
+        ensures succeeds { 1 ≤ self.old.spare → IsOk result }
+    {
+        self.arrays.reserve(1)?;
+        self.by_object.reserve(1)?;
+        self.by_space.reserve(1)
+    }
+
+    /// Puts an array that isn't refused at a key that has none, if there is room.
+    fn put_reserved(&mut self, key: ArrayKey, value: WeighedArray)
+        requires none { is_some (array_in self.old key) ≡ false }
+        requires sound { record_refusal value ≡ None }
+        requires room { 1 ≤ self.old.spare }
+        ensures each { Sets self.old self.new key (put_array (array_in self.old key) value) }
+        ensures room { self.old.spare ≤ self.new.spare + 1 }
+    {
+        let numbers = Numbers::of(&key);
+        let _count = self.arrays.len();
+        let _ = put_array(&mut self.arrays, key, value);
+        self.by_object.push(numbers.object);
+        self.by_space.push(numbers.space);
+    }
+
     /// Puts an array that isn't refused at a key that has none.
     fn put_new(&mut self, key: ArrayKey, value: WeighedArray) -> Result<(), ArrayError>
         requires none { is_some (array_in self.old key) ≡ false }
@@ -154,14 +181,13 @@ impl ArrayStore {
         ensures succeeds { 0 < self.old.spare → IsOk result }
         ensures room { self.old.spare ≤ self.new.spare + 1 }
     {
-        let numbers = Numbers::of(&key);
-        let _count = self.arrays.len();
-        self.by_object.reserve(1)?;
-        self.by_space.reserve(1)?;
-        put_array(&mut self.arrays, key, value)?;
-        self.by_object.push(numbers.object);
-        self.by_space.push(numbers.space);
-        Ok(())
+        match self.make_room() {
+            Ok(()) => {
+                self.put_reserved(key, value);
+                Ok(())
+            }
+            Err(_) => Err(ArrayError::NoMemory),
+        }
     }
 
     /// The elements of a region, in row-major order.
