@@ -1,0 +1,4 @@
+pub mod ElementLemmas
+pub mod EntryLemmas
+pub mod FittingLemmas
+pub mod PartLemmas
