@@ -29,9 +29,7 @@ module _ {A : Type 0} (f : Form A) where
   all_next count i before bytes x total lt some h so_far =
       let k : count - i ≡ suc (count - (i + 1)) = omega arith in
       let j : ℕ = count - (i + 1) in
-      let one : all_at f before bytes (count - i) ≡ all_at f (before ++ x.0 ∷ []) x.1 j =
-          ap (all_at f before bytes) k ∙ one_more before bytes j some ∙ ap (on_some (λ y. all_at f (before ++ y.0 ∷ []) y.1 j)) h in
-      sym one ∙ so_far
+      sym (ap (all_at f before bytes) k ∙ one_more before bytes j some ∙ ap (on_some (λ y. all_at f (before ++ y.0 ∷ []) y.1 j)) h) ∙ so_far
 
   -- no element follows
   pub all_none : (count i : ℕ) (before : List A) (bytes : List ℕ) (total : Option (List A)) → i < count → (length bytes ≡ 0 → ⊥) → element_at f bytes ≡ None → all_at f before bytes (count - i) ≡ total → total ≡ None

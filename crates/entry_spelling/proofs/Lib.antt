@@ -1,3 +1,4 @@
+pub mod ArrayLemmas
 pub mod ElementLemmas
 pub mod EntryLemmas
 pub mod FittingLemmas

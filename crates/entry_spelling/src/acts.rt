@@ -1,7 +1,5 @@
 //! Entries and their acts.
-use crate::parts::{
-    measure_record, measure_variant, spell_record, spell_variant, take_record,
-};
+use crate::parts::{measure_record, measure_variant, spell_record, spell_variant, take_record};
 use crate::spelled::Spelled;
 use crate::unspelled::Unspelled;
 use avro_bin::{Fault, Why};

@@ -234,7 +234,6 @@ impl Spelled for AnyArray {
         }
     }
 
-    #[tactic(auto, unfolding(etp_schema::specs::Form::Holds))]
     fn spell(&self, alloc: Global, into: &mut Vec<u8>) -> Result<(), Unspelled> {
         match self {
             AnyArray::ArrayOfBoolean(items) => spell_array(alloc, 0, items, into),

@@ -1,7 +1,8 @@
 //! Lists and optional values.
-ghost use Rattle.std.specs.Prelude.{◌≡◌, ◌≤◌, IfOk, length, map};
+ghost use Rattle.std.specs.Prelude.{◌≡◌, ◌≤◌, ◌++◌, IfOk, length, map, pos};
 ghost use Rattle.std.specs.List.{AllByRecursion};
 ghost use Rattle.avro_bin.specs.Along.{push_at};
+ghost use Rattle.avro_bin.specs.Number.{plain_number};
 ghost use Rattle.avro_bin.specs.Plain.{plain, plain_all, plain_block, Writes};
 ghost use Rattle.avro_bin.specs.Reading.{items_at};
 ghost use Rattle.avro_bin.specs.Value.{VUnion, row};
@@ -95,10 +96,29 @@ fn spell_list<T: Spelled>(alloc: Global, items: &[T], into: &mut Vec<u8>) -> Res
         return Err(Unspelled::NoSpelling);
     }
     if count == 0 {
-        put_number(into, 0)?;
-        return Ok(());
+        return spell_count(0, into);
     }
-    put_number(into, count as i64)?;
+    spell_block(alloc, items, into)
+}
+
+/// Appends the count of a block.
+fn spell_count(count: u32, into: &mut Vec<u8>) -> Result<(), Unspelled>
+    ensures written { Writes (plain_number (pos count)) into.old.items into.new.items result }
+    ensures fits { IsFitting result (Unit {0}) }
+{
+    match put_number(into, count as i64) {
+        Ok(()) => Ok(()),
+        Err(_) => Err(Unspelled::NoMemory),
+    }
+}
+
+/// Appends a block of items and the end.
+fn spell_block<T: Spelled>(alloc: Global, items: &[T], into: &mut Vec<u8>) -> Result<(), Unspelled>
+    requires { length items.now ≤ most_items }
+    ensures written { Writes (plain_number (pos (length items.now)) ++ plain_all (row (map T.spelling.as_value items.now)) ++ plain_number (pos 0)) into.old.items into.new.items result }
+    ensures fits { IsFitting result (AllByRecursion T.spelling.Fits items.now) }
+{
+    spell_count(items.len() as u32, into)?;
     spell_items(alloc, items, into)?;
     put_number(into, 0)?;
     Ok(())

@@ -1,9 +1,7 @@
 //! Keys, objects, arrays, and the operations on them.
 use crate::leaves::{Meaning, Status};
 use crate::many::{measure_branch, spell_branch};
-use crate::parts::{
-    measure_record, measure_variant, spell_record, spell_variant, take_record,
-};
+use crate::parts::{measure_record, measure_variant, spell_record, spell_variant, take_record};
 use crate::spelled::Spelled;
 use crate::unspelled::Unspelled;
 use array_store::{ArrayKey, ArrayRecord};
@@ -118,7 +116,10 @@ impl Spelled for ObjectRecord {
             uri,
             (
                 others,
-                (name, (changed, (active, (custom, (format, (payload, (written, (created, ())))))))),
+                (
+                    name,
+                    (changed, (active, (custom, (format, (payload, (written, (created, ()))))))),
+                ),
             ),
         ) = take_record(from)?;
         Ok(ObjectRecord {
@@ -137,7 +138,10 @@ impl Spelled for ObjectRecord {
 
     fn spell(&self, alloc: Global, into: &mut Vec<u8>) -> Result<(), Unspelled> {
         let active = Status::new(self.active);
-        let ends = (&self.format, (&self.payload, (&self.written, (&self.created, ()))));
+        let ends = (
+            &self.format,
+            (&self.payload, (&self.written, (&self.created, ()))),
+        );
         let middle = (&self.changed, (&active, (&self.custom, ends)));
         spell_record(
             alloc,
@@ -148,7 +152,10 @@ impl Spelled for ObjectRecord {
 
     fn measure_spelled(&self, alloc: Global) -> Result<Measure, NoMemory> {
         let active = Status::new(self.active);
-        let ends = (&self.format, (&self.payload, (&self.written, (&self.created, ()))));
+        let ends = (
+            &self.format,
+            (&self.payload, (&self.written, (&self.created, ()))),
+        );
         let middle = (&self.changed, (&active, (&self.custom, ends)));
         measure_record(alloc, (&self.uri, (&self.others, (&self.name, middle))))
     }

@@ -7,50 +7,87 @@ ghost use Rattle.entry_spelling.specs.Entries.{entry_place, journal_entry};
 use avro_bin::{Node, Table};
 
 const NULL: u32 = 0;
+
 const BOOLEAN: u32 = 1;
+
 const INT: u32 = 2;
+
 const LONG: u32 = 3;
+
 const FLOAT: u32 = 4;
+
 const DOUBLE: u32 = 5;
+
 const BYTES: u32 = 6;
+
 const STRING: u32 = 7;
+
 const ID: u32 = 8;
+
 const LIST_OF_BOOLEAN: u32 = 9;
+
 const ARRAY_OF_BOOLEAN: u32 = 10;
+
 const OPTIONAL_BOOLEAN: u32 = 11;
+
 const LIST_OF_OPTIONAL_BOOLEAN: u32 = 12;
+
 const ARRAY_OF_NULLABLE_BOOLEAN: u32 = 13;
+
 const LIST_OF_INT: u32 = 14;
+
 const ARRAY_OF_INT: u32 = 15;
+
 const OPTIONAL_INT: u32 = 16;
+
 const LIST_OF_OPTIONAL_INT: u32 = 17;
+
 const ARRAY_OF_NULLABLE_INT: u32 = 18;
+
 const LIST_OF_LONG: u32 = 19;
+
 const ARRAY_OF_LONG: u32 = 20;
+
 const OPTIONAL_LONG: u32 = 21;
+
 const LIST_OF_OPTIONAL_LONG: u32 = 22;
+
 const ARRAY_OF_NULLABLE_LONG: u32 = 23;
+
 const LIST_OF_FLOAT: u32 = 24;
+
 const ARRAY_OF_FLOAT: u32 = 25;
+
 const LIST_OF_DOUBLE: u32 = 26;
+
 const ARRAY_OF_DOUBLE: u32 = 27;
+
 const LIST_OF_STRING: u32 = 28;
+
 const ARRAY_OF_STRING: u32 = 29;
+
 const LIST_OF_BYTES: u32 = 30;
+
 const ARRAY_OF_BYTES: u32 = 31;
+
 const ANY_ARRAY_ITEM: u32 = 32;
 /// item: one of the kinds of array.
 const ANY_ARRAY: u32 = 33;
 /// start: long, slice: AnyArray.
 const ANY_SUBARRAY: u32 = 34;
+
 const LIST_OF_ANY_SUBARRAY: u32 = 35;
+
 const ANY_SPARSE_ARRAY: u32 = 36;
+
 const DATA_VALUE_ITEM: u32 = 37;
 /// item: one of the kinds of data value.
 const DATA_VALUE: u32 = 38;
+
 const CUSTOM: u32 = 39;
 /// domain: string, name: string, id: Id16.
 const OBJECT_NAME: u32 = 40;
+
 const OPTIONAL_OBJECT_NAME: u32 = 41;
 /// space: string, object: ObjectName?.
 const STORE_URI: u32 = 42;
@@ -80,35 +117,49 @@ const OP_WHAT: u32 = 52;
 const OP: u32 = 53;
 /// key: Key, mark: long.
 const TOUCH: u32 = 54;
+
 const LIST_OF_OP: u32 = 55;
+
 const LIST_OF_TOUCH: u32 = 56;
 /// ops: [Op], touched: [Touch].
 const STAGED: u32 = 57;
 /// path: string, custom: {DataValue}.
 const SPACE_PUT: u32 = 58;
+
 const LIST_OF_SPACE_PUT: u32 = 59;
 /// index: long, value: DataValue.
 const POINT: u32 = 60;
 /// channel: long, point: Point.
 const CHANNEL_POINT: u32 = 61;
+
 const LIST_OF_CHANNEL_POINT: u32 = 62;
 /// channel: long, end: long.
 const CUTTING: u32 = 63;
+
 const LIST_OF_CUTTING: u32 = 64;
 /// The kind of a channel's values: boolean, int, long, float, double, string, bytes.
 const VALUE_KIND: u32 = 65;
 /// uri: StoreUri, name: string, kind: ValueKind, uom: string.
 const CHANNEL_DEF: u32 = 66;
+
 const LIST_OF_CHANNEL_DEF: u32 = 67;
+
 const PUT_SPACES: u32 = 68;
+
 const DROP_SPACES: u32 = 69;
+
 const PUT: u32 = 70;
+
 const COMMIT: u32 = 71;
+
 const APPEND: u32 = 72;
 /// channels: [long], from: long, to: long, items: [ChannelPoint].
 const REPLACE: u32 = 73;
+
 const TRUNCATE: u32 = 74;
+
 const DEFINE: u32 = 75;
+
 const RETIRE: u32 = 76;
 /// The acts in their order. None has the last two places yet.
 const ACT: u32 = 77;
@@ -206,7 +257,15 @@ pub static JOURNAL_TABLE: Table = Table {
             LONG,
             LONG,
         ]),
-        Node::Fields(&[LIST_OF_LONG, LIST_OF_LONG, ELEMENTS, LOGICAL_TYPE, CUSTOM, LONG, LONG]),
+        Node::Fields(&[
+            LIST_OF_LONG,
+            LIST_OF_LONG,
+            ELEMENTS,
+            LOGICAL_TYPE,
+            CUSTOM,
+            LONG,
+            LONG,
+        ]),
         Node::Fields(&[LIST_OF_LONG, LIST_OF_LONG, ELEMENTS]),
         Node::Fields(&[]),
         Node::Union(&[OBJECT_RECORD, ARRAY_RECORD, ARRAY_PATCH, NOTHING]),
@@ -222,7 +281,9 @@ pub static JOURNAL_TABLE: Table = Table {
         Node::Array(CHANNEL_POINT),
         Node::Fields(&[LONG, LONG]),
         Node::Array(CUTTING),
-        Node::Union(&[NOTHING, NOTHING, NOTHING, NOTHING, NOTHING, NOTHING, NOTHING]),
+        Node::Union(&[
+            NOTHING, NOTHING, NOTHING, NOTHING, NOTHING, NOTHING, NOTHING,
+        ]),
         Node::Fields(&[STORE_URI, STRING, VALUE_KIND, STRING]),
         Node::Array(CHANNEL_DEF),
         Node::Fields(&[LIST_OF_SPACE_PUT]),
