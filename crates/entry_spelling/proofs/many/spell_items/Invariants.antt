@@ -10,5 +10,4 @@ invariant-loop-item g l = record {
   written : l.into.items ++ plain_all (row (map g.T.Spelled.spelling.as_value (drop l.item-index l.items))) ≡ l.fn.into.items ++ plain_all (row (map g.T.Spelled.spelling.as_value l.items));
   kept : StartsWith l.into.items l.fn.into.items;
   fits : AllByRecursion g.T.Spelled.spelling.Fits (drop l.item-index l.items) → AllByRecursion g.T.Spelled.spelling.Fits l.items;
-  needs : AllByRecursion g.T.Spelled.spelling.Fits l.items → AllByRecursion g.T.Spelled.spelling.Fits (drop l.item-index l.items);
 }

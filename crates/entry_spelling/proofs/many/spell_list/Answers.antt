@@ -1,5 +1,5 @@
 use Rattle.std.proofs.Common.{arith}
-use Rattle.entry_spelling.proofs.FittingLemmas.{empty_fits, empty_written, few_fit, some_written}
+use Rattle.entry_spelling.proofs.FittingLemmas.{empty_fits, empty_written, list_fits, some_written}
 use Rattle.entry_spelling.proofs.many.spell_list.Goals as goal
 
 pub returns-then-count-eq0-clause-written : goal.returns-then-count-eq0-clause-written
@@ -12,4 +12,4 @@ pub returns-clause-written : goal.returns-clause-written
 returns-clause-written g c = some_written _ _ _ _ _ c.if-count-eq0.false c.spell_block.ensures.written
 
 pub returns-clause-fits : goal.returns-clause-fits
-returns-clause-fits g c = few_fit g.T.Spelled.spelling.Fits c.args.items.now _ (omega arith) c.spell_block.ensures.fits
+returns-clause-fits g c = list_fits g.T.Spelled.spelling.Fits c.args.items.now _ (omega arith) c.spell_block.ensures.fits
