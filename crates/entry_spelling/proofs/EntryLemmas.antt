@@ -26,15 +26,17 @@ pub nodes_measured : (e : Entry) (m : Measure) → m ≡ measured (journal_entry
 unfolding entry_nodes
 nodes_measured e m h = ap (λ (k : Measure). k.nodes) (h ∙ measured_is (journal_entry.as_value e))
 
-pub too_many : (e : Entry) → node_limit < min (entry_nodes e) most → HasSpelling e → ⊥
+-- an entry that was measured to have too many nodes has no spelling
+pub too_many : (e : Entry) (count : ℕ) → count ≡ min (entry_nodes e) most → node_limit < count → HasSpelling e → ⊥
 unfolding HasSpelling
-too_many e h s = omega (arith, s.1)
+too_many e count is more s = omega (arith, is, more, s.1)
 
-pub few_enough : (e : Entry) (r : Result Unit Unspelled) → (node_limit < min (entry_nodes e) most → ⊥) → IsFitting r (journal_entry.Fits e) → IsFitting r (HasSpelling e)
+-- one that was measured to have no more than may be read has one if its parts have
+pub few_enough : (e : Entry) (count : ℕ) (r : Result (Unit {0}) Unspelled) → count ≡ min (entry_nodes e) most → (node_limit < count → ⊥) → IsFitting r (journal_entry.Fits e) → IsFitting r (HasSpelling e)
 unfolding HasSpelling
-few_enough e (Ok x) h s = (s, omega (arith, h))
-few_enough e (Err unspelled.NoSpelling) h s = λ t. s t.0
-few_enough e (Err unspelled.NoMemory) h s = tt
+few_enough e count (Ok x) is few s = (s, omega (arith, is, few))
+few_enough e count (Err unspelled.NoSpelling) is few s = λ t. s t.0
+few_enough e count (Err unspelled.NoMemory) is few s = tt
 
 -- an entry's spelling is read back, whatever follows it
 pub front_again : (e : Entry) (n left : ℕ) (rest : List ℕ) → n ≡ entry_nodes e + left → HasSpelling e → journal_entry.at n (spelled e ++ rest) ≡ Ok ((e, left), rest)
