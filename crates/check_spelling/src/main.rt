@@ -56,7 +56,8 @@ fn table_lines(alloc: Global) -> Result<String, NoMemory> {
         let line = format!(in alloc; "{node:?}\n")?;
         lines.push_str(line.as_str())?;
     }
-    let line = format!(in alloc; "entry {ENTRY}\n")?;
+    let place = ENTRY;
+    let line = format!(in alloc; "entry {place}\n")?;
     lines.push_str(line.as_str())?;
     Ok(lines)
 }

@@ -9,7 +9,7 @@ use tx_stage::{Key, Op, OpWhat, Staged, Touch};
 fn name_words(alloc: Global, name: &ObjectName) -> Result<String, NoMemory> {
     let domain = barred(alloc, &name.domain)?;
     let kind = barred(alloc, &name.name)?;
-    let id = digits(alloc, name.id.as_bytes())?;
+    let id = digits(alloc, name.id.as_bytes().as_slice())?;
     Ok(format!(in alloc; "{domain} {kind} {id}")?)
 }
 
