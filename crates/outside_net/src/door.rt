@@ -28,10 +28,10 @@ pub type ServerLink = WsLink<TcpStream, NoMask>;
 /// While it is asked for a link it waits for the listener and all connections in their handshake at the same time, and reads from each what
 /// has come. So a connection that is silent, slow or sends rubbish delays nobody, and needs no thread. Each has 2 seconds until its head is
 /// complete, and 65,536 bytes. At most 256 are at this point: one more takes the place of one that was refused and has not left, or else of
-/// the one that has waited longest. A refused one is answered with an HTTP status and the cause. A connection is told that it is accepted when its link is handed out, so one for which there
-/// is no session yet waits for its answer.
+/// the one that has waited longest. A refused one is answered with an HTTP status and the cause. A connection is sent its acceptance when
+/// its link is handed out, so one for which there is no session yet waits for its answer.
 ///
-/// If the system has no descriptor or memory for a new connection, that one or the one that has waited longest is turned away, and the door
+/// If the system has no descriptor or memory for a new connection, that one or the one that has waited longest is refused, and the door
 /// continues after 50 milliseconds.
 #[derive(Drop)]
 pub struct TcpDoor<'a, R> {
@@ -182,7 +182,8 @@ impl<'a, R: Net<Listener = TcpListener, Stream = TcpStream> + Clock> TcpDoor<'a,
         }
     }
 
-    /// Opens the hall if that was not done. It fails if the door is not listening, the system refuses, or memory runs out.
+    /// Opens the hall if that was not done. It fails if the door is not listening, the system refuses, or memory runs out. The links' posts
+    /// stay those of the first hall, and wake that one only.
     fn open(&mut self, alloc: Global) -> io::Result<()>
         ensures faults { self.new.faults ≡ self.old.faults }
         ensures given { self.new.given ≡ self.old.given }
@@ -196,10 +197,19 @@ impl<'a, R: Net<Listener = TcpListener, Stream = TcpStream> + Clock> TcpDoor<'a,
         };
         let hall = Hall::open(self.rt, alloc, listener, self.input)?;
         if self.posts.is_none() {
-            self.posts = Some(Posts::new(alloc, hall.watches_input())?);
+            let posts = Posts::new(alloc, hall.watches_input())?;
+            posts.wake_door_by(hall.waker()?);
+            self.posts = Some(posts);
         }
         self.hall = Some(hall);
         Ok(())
+    }
+
+    /// Reports to the log which sessions have ended since it was last called.
+    fn report<L: DoorLog>(&self, log: &mut L) {
+        if let Some(posts) = &self.posts {
+            posts.report(log);
+        }
     }
 
     /// A turn of the hall.
@@ -243,6 +253,7 @@ impl<'a, R: Net<Listener = TcpListener, Stream = TcpStream> + Clock> TcpDoor<'a,
             return Next::Failed;
         }
         for _ in 0..u64::MAX {
+            self.report(log);
             if let Some(ready) = self.next_ready() {
                 if let Some(link) = self.welcome(alloc, ready, log) {
                     return Next::Link(link);
@@ -261,7 +272,9 @@ impl<'a, R: Net<Listener = TcpListener, Stream = TcpStream> + Clock> TcpDoor<'a,
         Next::Failed
     }
 
-    /// The next link, as [`next`](Listener::next) returns it. The connections that are turned away meanwhile are reported to the log.
+    /// The next link, as [`next`](Listener::next) returns it. The connections that are refused meanwhile are reported to the log, and so are
+    /// the sessions whose links are told that they have ended, as soon as they are. If the door was told to listen more than once, these are
+    /// reported only when something else ends its wait.
     pub fn next_told<L: DoorLog>(&mut self, alloc: Global, log: &mut L) -> Next<ServerLink>
         ensures link { IfLink result (λ l. IsAccepted (⟦<ServerLink as Link>⟧.talk l) (⟦<ServerLink as Link>⟧.faults l) (⟦<ServerLink as Link>⟧.ended l)) }
         ensures usable { IfLink result (λ l. ⟦<ServerLink as Link>⟧.closed l ≡ false) }
@@ -291,14 +304,16 @@ impl<'a, R: Net<Listener = TcpListener, Stream = TcpStream> + Clock> TcpDoor<'a,
         }
     }
 
-    /// Takes a link back, as [`back`](Listener::back) does, and reports to the log how its session ended.
+    /// Takes a link back, as [`back`](Listener::back) does, and reports to the log how its session ended, unless that was reported as it
+    /// ended.
     pub fn back_told<L: DoorLog>(&mut self, link: ServerLink, number: u64, end: u8, log: &mut L)
         ensures given { ⟦<TcpDoor<'a, R> as Listener>⟧.given self.new ≡ ⟦<TcpDoor<'a, R> as Listener>⟧.given self.old }
         ensures stopped { ⟦<TcpDoor<'a, R> as Listener>⟧.stopped self.new ≡ ⟦<TcpDoor<'a, R> as Listener>⟧.stopped self.old }
         ensures kept { ⟦<TcpDoor<'a, R> as Listener>⟧.faults self.old ≤ ⟦<TcpDoor<'a, R> as Listener>⟧.faults self.new }
     {
+        self.report(log);
         let post = link.into_post();
-        if let Some(peer) = post.peer() {
+        if let Some(peer) = post.untold() {
             log.ended(&peer, number, end);
         }
         self.keep(post);

@@ -5,7 +5,7 @@ use crate::log::DoorLog;
 use crate::refusal::Refusal;
 use crate::room::{Ready, Room};
 use mio::unix::SourceFd;
-use mio::{Events, Interest, Poll, Token};
+use mio::{Events, Interest, Poll, Token, Waker};
 use std::alloc::Global;
 use std::io;
 use std::io::ErrorKind;
@@ -13,10 +13,12 @@ use std::net::{Net, SocketAddr, TcpListener, TcpStream};
 use std::os::fd::AsRawFd;
 use std::time::{Clock, Duration};
 
-/// What ends a wait: a connection at the listener, or the end of the standard input. The other tokens are the room's.
+/// What ends a wait: a connection at the listener, the end of the standard input, or that of a session. The other tokens are the room's.
 const LISTENER: Token = Token(0);
 
 const INPUT: Token = Token(1);
+
+const ENDING: Token = Token(usize::MAX);
 
 /// How many sources a wait reports together.
 const EVENTS: usize = 64;
@@ -64,7 +66,7 @@ pub(crate) struct Hall {
     crowd: bool,
     /// Whether the last accept failed.
     pause: bool,
-    /// A descriptor that is given up to turn a connection away when the system has no other.
+    /// A descriptor that is given up to refuse a connection when the system has no other.
     spare: Option<TcpListener>,
     /// Whether it waits for the end of the standard input too.
     input: bool,
@@ -100,6 +102,11 @@ impl Hall {
     /// Whether it waits for the end of the standard input too.
     pub(crate) fn watches_input(&self) -> bool {
         self.input
+    }
+
+    /// What ends the hall's wait from another thread.
+    pub(crate) fn waker(&self) -> io::Result<Waker> {
+        Waker::new(self.poll.registry(), ENDING)
     }
 
     /// The next connection whose head is complete. It leaves the hall.
@@ -205,7 +212,7 @@ impl Hall {
                 log.unaccepted(error);
                 self.pause = true;
                 if !self.room.cut_least_needed(alloc, now, log) {
-                    self.turn_away(alloc, listener, now, log);
+                    self.refuse_next(alloc, listener, now, log);
                 }
             }
             Fate::Listener => {
@@ -216,8 +223,8 @@ impl Hall {
         true
     }
 
-    /// Accepts a connection by means of the spare descriptor, and refuses it.
-    fn turn_away<L: DoorLog>(
+    /// Accepts the next connection by means of the spare descriptor, and refuses it.
+    fn refuse_next<L: DoorLog>(
         &mut self,
         alloc: Global,
         listener: &TcpListener,
@@ -260,7 +267,7 @@ fn hear<L: DoorLog>(
             heard.crowd = true;
         } else if token == INPUT {
             heard.stop = heard.stop || event.is_read_closed();
-        } else {
+        } else if token != ENDING {
             room.look(alloc, token, now, log);
         }
     }

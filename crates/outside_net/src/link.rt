@@ -491,8 +491,8 @@ impl<S: Read + Write + OpenStream + Drop, K: MaskKeys + Drop> WsLink<S, K> {
         }
     }
 
-    /// Sends the goodbye, and reads until the peer's has come, or has not come in time. A client from which no message came was turned
-    /// away, and is not waited for.
+    /// Sends the goodbye, and reads until the peer's has come, or has not come in time. A client from which no message came got no session,
+    /// and is not waited for.
     fn say_goodbye(&mut self)
         ensures faults { self.new.faults ≡ self.old.faults }
         ensures ended { self.new.ended ≡ self.old.ended }
@@ -566,8 +566,8 @@ impl<S: Read + Write + OpenStream + Drop, K: MaskKeys + Drop> WsLink<S, K> {
         }
     }
 
-    /// The server stops: buffered output is sent, the peer is told so, and nothing more comes.
-    fn leave(&mut self) -> Recv
+    /// The server stops: buffered output is sent, then a Close frame that says so, and nothing more comes.
+    fn stop(&mut self) -> Recv
         ensures faults { self.new.faults ≡ self.old.faults }
         ensures end { result ≡ Recv.End }
         ensures ended { self.new.ended ≡ true }
@@ -614,7 +614,7 @@ impl<S: Read + Write + OpenStream + Drop + Send, K: MaskKeys + Drop + Send> Link
             return Recv::End;
         }
         if self.post.is_stopping() {
-            return self.leave();
+            return self.stop();
         }
         if self.broken {
             self.fault();
@@ -643,6 +643,10 @@ impl<S: Read + Write + OpenStream + Drop + Send, K: MaskKeys + Drop + Send> Link
         } else {
             self.put(Message::Binary(bytes))
         }
+    }
+
+    fn leave(&mut self, number: u64, end: u8) {
+        self.post.leave(number, end);
     }
 
     fn close(&mut self) {
