@@ -140,7 +140,7 @@ module _ {A : Type 0} (k : List ℕ) (v : A) (ps : List (List ℕ × A)) (apart 
       (IsPermutation-trans _ _ _ (moved_front k v ps es moved) (insert_moves k v es fresh), insert_rises k v es fresh rise, refl)
 
 value_follows : {A : Type 0} (s : List (List ℕ × A) × ℕ) (bytes k : List ℕ) (r : Read (A × ℕ)) (after : ℕ → Read (A × ℕ)) → after s.1 ≡ r
-    → Follows Ordered Apart s (along (λ x. (s.0 ++ x.0 ∷ [], x.1)) (along (λ x. ((k, x.0), x.1)) r)) (λ t. cond (has k t.0) (Err (why.DoubleKey, length bytes)) (along (λ x. (insert_entry (slice_cmp nat_cmp) t.0 k x.0, x.1)) (after t.1)))
+    → Follows Ordered Apart s (along (λ (x : (List ℕ × A) × ℕ). (s.0 ++ x.0 ∷ [], x.1)) (along (λ (x : A × ℕ). ((k, x.0), x.1)) r)) (λ t. cond (has k t.0) (Err (why.DoubleKey, length bytes)) (along (λ (x : A × ℕ). (insert_entry (slice_cmp nat_cmp) t.0 k x.0, x.1)) (after t.1)))
 value_follows s bytes k (Ok x) after e = λ apart. (
   front_apart k x.0.0 s.0 apart,
   λ t beside. (
@@ -157,8 +157,8 @@ module _ {A : Type 0} (value : ℕ → List ℕ → Read (A × ℕ)) where
   unfolding push_at pair_at put_at
   pair_follows s bytes = by (text_at bytes)
     where
-      by : (r : Read (List ℕ)) → Follows Ordered Apart s (along (λ x. (s.0 ++ x.0 ∷ [], x.1)) (r >>= λ k. along (λ x. ((k.0, x.0), x.1)) (value s.1 k.1)))
-          (λ t. r >>= λ k. cond (has k.0 t.0) (Err (why.DoubleKey, length bytes)) (along (λ x. (insert_entry (slice_cmp nat_cmp) t.0 k.0 x.0, x.1)) (value t.1 k.1)))
+      by : (r : Read (List ℕ)) → Follows Ordered Apart s (along (λ (x : (List ℕ × A) × ℕ). (s.0 ++ x.0 ∷ [], x.1)) (r >>= λ k. along (λ (x : A × ℕ). ((k.0, x.0), x.1)) (value s.1 k.1)))
+          (λ t. r >>= λ k. cond (has k.0 t.0) (Err (why.DoubleKey, length bytes)) (along (λ (x : A × ℕ). (insert_entry (slice_cmp nat_cmp) t.0 k.0 x.0, x.1)) (value t.1 k.1)))
       by (Ok k) = value_follows s bytes k.0 (value s.1 k.1) (λ n. value n k.1) refl
       by (Err e) = tt
 

@@ -27,7 +27,7 @@ Rise es = IsStrictlySortedBy (slice_cmp nat_cmp) (keys_of es)
 abbrev pub Differ : {A : Type 0} → List (List ℕ × A) → Type 0
 Differ es = IsDistinct bytes_eq (keys_of es)
 
-pub none_rise : {A : Type 0} → Rise {A} []
+pub none_rise : {A : Type 0} → Rise {A = A} []
 unfolding IsStrictlySortedBy
 none_rise = tt
 
