@@ -2,6 +2,4 @@
 #![tactic(auto)]
 
 #[cfg(test)]
-mod reports;
-#[cfg(test)]
 mod sockets;
