@@ -1,7 +1,7 @@
 //! What every command does over its link: it asks, sends what the client has to send, writes, and closes the session.
 ghost use Rattle.std.specs.Prelude.{◌≡◌, ◌≤◌, Err, false};
 ghost use Rattle.etp_outside.specs.declared.status.Status.TheVariants.{Done};
-ghost use Rattle.client_forms.specs.Ctl.{Stage, asks, closes, unclosed, writes};
+ghost use Rattle.client_forms.specs.Ctl.{Place, Stage, asks, closes, unclosed, writes};
 ghost use Rattle.client_forms.specs.Sending.{SendCause, SendsAll, closed_by, refused_by, sent_by, short_by, unclosed_by, unsent_by};
 ghost use Rattle.client_forms.specs.Work.{MayClose, Stops, Works, place};
 
@@ -137,6 +137,20 @@ fn unclosed(status: Status) -> Status
     match status {
         Status::Done => Status::Limit,
         _ => status,
+    }
+}
+
+/// Writes bytes.
+pub(crate) fn write<L: Link, C: Clock, W: Sink, R: Source>(
+    bytes: &[u8],
+    io: &mut Io<L, C, W, R>,
+) -> Result<(), Stop>
+    ensures works { (p : Place) → Works result (writes bytes.now) p p io.old io.new }
+    ensures input { io.new.input ≡ io.old.input }
+{
+    match write_all(&mut io.out, bytes) {
+        Written::Done => Ok(()),
+        Written::Failed => Err(Stop::Cut(Cause::Output)),
     }
 }
 
