@@ -10,10 +10,10 @@ use etp_frame::{FrameError, MessageReader, Reading, check_message};
 use etp_schema::Side;
 use std::alloc::Global;
 
-/// How many bytes of a message are looked at before the next ones.
+/// How many bytes of a message are looked at in one piece.
 const PIECE: usize = 4_096;
 
-/// How long the next piece of so many bytes is.
+/// How long the next piece of `length` bytes is.
 fn next_size(length: usize) -> usize
     requires { 0 < length }
     ensures some { 0 < result }
@@ -64,7 +64,7 @@ fn next(
     }
 }
 
-/// Feeds a reader a message up to the first refusal. It answers that the bytes are a message where they are, and else that more is needed.
+/// Feeds a reader a message up to the first refusal. The answer is `Whole` if the bytes are a message, and otherwise that more is needed.
 fn feed_all(alloc: Global, bytes: &[u8], sender: Side) -> Result<Reading, FrameError>
     ensures right { IfOk result (IsRight sender bytes.now) }
     ensures refuses { IfErr result (IsCause (read_of sender bytes.now)) }
@@ -85,8 +85,8 @@ fn feed_all(alloc: Global, bytes: &[u8], sender: Side) -> Result<Reading, FrameE
     Ok(answer)
 }
 
-/// Succeeds if the bytes are a message that `sender` sends. They are refused as soon as a piece shows it, for the reason for which the
-/// whole is refused.
+/// Succeeds if the bytes are a message that `sender` sends. Otherwise they are refused at the first piece that shows it, with the cause that
+/// refuses the whole message.
 pub(crate) fn check_pieces(alloc: Global, bytes: &[u8], sender: Side) -> Result<(), FrameError>
     ensures { ChecksBytes (tree_of sender bytes.now) result }
 {
@@ -96,7 +96,7 @@ pub(crate) fn check_pieces(alloc: Global, bytes: &[u8], sender: Side) -> Result<
     }
 }
 
-/// Succeeds if the bytes are a message that `sender` sends, of which a reader answered this.
+/// Succeeds if the bytes are a message that `sender` sends. `answer` is what a reader answered to them.
 fn settle(alloc: Global, bytes: &[u8], sender: Side, answer: Reading) -> Result<(), FrameError>
     requires { IsRight sender bytes.now answer }
     ensures { ChecksBytes (tree_of sender bytes.now) result }

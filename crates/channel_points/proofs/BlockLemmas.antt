@@ -13,12 +13,12 @@ module _ {X : Type 0} where
   joined-append [] last more = refl
   joined-append (b ∷ bs) last more = ap (λ l. b ++ l) (joined-append bs last more) ∙ sym (append_assoc b (joined bs last) more)
 
-  get-front : (xs ys : List X) (k : ℕ) → k < length xs → slice_get (xs ++ ys) k ≡ slice_get xs k
+  pub get-front : (xs ys : List X) (k : ℕ) → k < length xs → slice_get (xs ++ ys) k ≡ slice_get xs k
   get-front [] ys k h = absurd (omega arith)
   get-front (x ∷ xs) ys zero h = refl
   get-front (x ∷ xs) ys (suc k) h = get-front xs ys k (omega arith)
 
-  get-back : (xs ys : List X) (k place : ℕ) → place ≡ length xs + k → slice_get (xs ++ ys) place ≡ slice_get ys k
+  pub get-back : (xs ys : List X) (k place : ℕ) → place ≡ length xs + k → slice_get (xs ++ ys) place ≡ slice_get ys k
   get-back [] ys k place e = ap (slice_get ys) (omega (arith, e))
   get-back (x ∷ xs) ys k zero e = absurd (omega arith)
   get-back (x ∷ xs) ys k (suc place) e = get-back xs ys k place (omega arith)

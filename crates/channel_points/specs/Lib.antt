@@ -1,6 +1,10 @@
 pub mod Blocks
 pub mod Bytes
+pub mod Chunks
+pub mod Fronts
 pub mod Handles
+pub mod Kept
 pub mod Order
 pub mod Rows
+pub mod Runs
 pub mod Splits

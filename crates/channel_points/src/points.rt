@@ -1,5 +1,5 @@
 //! The points of one channel.
-ghost use Rattle.std.specs.Prelude.{◌≡◌, ◌<◌, ◌≤◌, ◌==◌, ◌++◌, ◌∷◌, [], length, map, int_lt, slice_get, IfOk, OnErr, OnOk, Some};
+ghost use Rattle.std.specs.Prelude.{◌≡◌, ◌<◌, ◌≤◌, ◌+◌, ◌==◌, ◌++◌, ◌∷◌, [], length, map, take, drop, int_lt, slice_get, slice_range, IfOk, OnErr, OnOk, Some};
 ghost use Rattle.std.specs.Bool.{OnTrue};
 ghost use Rattle.std.specs.Cmp.Lexicographic.{lists_equiv, lists_per, pointwise};
 ghost use Rattle.std.specs.Vec.{vec_len};
@@ -8,12 +8,14 @@ ghost use Rattle.etp_values.specs.contracts.point.PointEq.TheImpl.Laws.{laws-law
 ghost use Rattle.etp_values.specs.contracts.point.PointPartialEq.TheImpl.{ghosts};
 ghost use Rattle.etp_values.specs.contracts.point.PointPartialEq.TheImpl.Laws.{laws-law as point_per};
 ghost use Rattle.channel_points.specs.Bytes.{point_bytes};
-ghost use Rattle.channel_points.specs.Order.{Rises};
+ghost use Rattle.channel_points.specs.Order.{Rises, last_of};
 ghost use Rattle.channel_points.specs.Splits.{IsSplit};
 
+use crate::block::Block;
 use crate::bytes::points_bytes;
+use crate::reads::last_index;
 use crate::search::count_below;
-use etp_values::{Copied, DataValue, List, NoMemory, Point, Shared};
+use etp_values::{Copied, DataValue, List, NoMemory, Point};
 use std::alloc::Global;
 use std::marker::Model;
 use std::slice;
@@ -41,7 +43,7 @@ enum Form {
     One(Point),
     Own(Vec<Point>),
     Run {
-        block: Shared<List<Point>>,
+        block: Block,
         start: usize,
         end: usize,
     },
@@ -93,15 +95,50 @@ fn longer(alloc: Global, points: &[Point], point: Point) -> Result<Vec<Point>, N
     Ok(copies)
 }
 
-fn copy_all(alloc: Global, points: &[Point]) -> Result<Vec<Point>, NoMemory>
+/// Copies of points.
+pub(crate) fn copy_all(alloc: Global, points: &[Point]) -> Result<Vec<Point>, NoMemory>
     ensures { IfOk result (λ r. r.items ≡ points.now) }
 {
     let mut copies = Vec::new(alloc);
+    add_copies(alloc, &mut copies, points)?;
+    Ok(copies)
+}
+
+/// Copies of points come after the others.
+pub(crate) fn add_copies(
+    alloc: Global,
+    copies: &mut Vec<Point>,
+    points: &[Point],
+) -> Result<(), NoMemory>
+    ensures { OnOk result (copies.new.items ≡ copies.old.items ++ points.now) }
+{
     copies.reserve(points.len())?;
     for point in points {
         copies.push(point.copy(alloc)?)?;
     }
-    Ok(copies)
+    Ok(())
+}
+
+/// `count` points after the first `start` of those from `first` to `end` in a block.
+fn part_of(
+    block: &Block,
+    first: usize,
+    end: usize,
+    start: usize,
+    count: usize,
+) -> Result<Points, NoMemory>
+    requires block { end ≤ length block.now }
+    requires within { first + start + count ≤ end }
+    ensures { IfOk result (λ r. r ≡ take count (drop start (slice_range block.now first end))) }
+{
+    let block = block.share()?;
+    Ok(Points {
+        form: Form::Run {
+            block,
+            start: first + start,
+            end: first + start + count,
+        },
+    })
 }
 
 impl Points {
@@ -135,12 +172,21 @@ impl Points {
         }
     }
 
+    /// These points, moved and not copied, and without other owners yet.
+    pub(crate) fn own(points: Vec<Point>) -> Points
+        ensures { result ≡ points.items }
+    {
+        Points {
+            form: Form::Own(points),
+        }
+    }
+
     fn block(alloc: Global, mut points: Vec<Point>) -> Result<Points, NoMemory>
         ensures { IfOk result (λ r. r ≡ points.items) }
     {
         points.shrink_to_fit();
         let end = points.len();
-        let block = Shared::new(alloc, List::from_vec(points))?;
+        let block = Block::of(alloc, &mut points)?;
         Ok(Points {
             form: Form::Run {
                 block,
@@ -162,11 +208,34 @@ impl Points {
         }
     }
 
+    /// `count` points after the first `start`. They share the memory of these where these are sealed.
+    pub(crate) fn part(&self, alloc: Global, start: usize, count: usize) -> Result<Points, NoMemory>
+        requires { start + count ≤ length self.now }
+        ensures { IfOk result (λ r. r ≡ take count (drop start self.now)) }
+    {
+        match &self.form {
+            Form::Run {
+                block,
+                start: first,
+                end,
+            } => part_of(block, *first, *end, start, count),
+            _ => Points::of(
+                alloc,
+                copy_all(alloc, &self.as_slice()[start..start + count])?,
+            ),
+        }
+    }
+
     /// How many points there are.
     pub fn len(&self) -> usize
         ensures { result ≡ length self.now }
     {
-        self.as_slice().len()
+        match &self.form {
+            Form::Empty => 0,
+            Form::One(_) => 1,
+            Form::Own(points) => points.len(),
+            Form::Run { start, end, .. } => *end - *start,
+        }
     }
 
     /// Whether there are no points.
@@ -174,6 +243,13 @@ impl Points {
         ensures { result ≡ length self.now == 0 }
     {
         self.as_slice().len() == 0
+    }
+
+    /// The index of the last point.
+    pub fn last_index(&self) -> Option<i64>
+        ensures { result ≡ last_of self.now }
+    {
+        last_index(self.as_slice())
     }
 
     /// The index of the point at a position.
@@ -214,6 +290,17 @@ impl Points {
         Ok(List::from_vec(copy_all(alloc, self.as_slice())?))
     }
 
+    /// The points, moved where they have no other owners, else copied.
+    pub(crate) fn into_vec(self, alloc: Global) -> Result<Vec<Point>, NoMemory>
+        ensures { IfOk result (λ r. r.items ≡ self) }
+    {
+        let Points { form } = self;
+        match form {
+            Form::Own(points) => Ok(points),
+            form => copy_all(alloc, Points { form }.as_slice()),
+        }
+    }
+
     /// Adds a point after the last one.
     pub fn push(&mut self, alloc: Global, point: Point) -> Result<(), NoMemory>
         ensures ok { OnOk result (self.new ≡ self.old ++ point ∷ []) }
@@ -231,6 +318,24 @@ impl Points {
     /// Whether a copy shares them.
     pub fn is_sealed(&self) -> bool {
         !matches!(&self.form, Form::Own(_))
+    }
+
+    /// Keeps the points so that a copy shares them.
+    pub(crate) fn seal(&mut self, alloc: Global) -> Result<(), NoMemory>
+        ensures { self.new ≡ self.old }
+    {
+        let Form::Own(points) = &mut self.form else {
+            return Ok(());
+        };
+        let end = points.len();
+        points.shrink_to_fit();
+        let block = Block::of(alloc, points)?;
+        self.form = Form::Run {
+            block,
+            start: 0,
+            end,
+        };
+        Ok(())
     }
 
     /// The same points, kept so that a copy shares them.

@@ -13,11 +13,24 @@ use std::mem;
 const BLOCK: usize = 1024;
 
 /// A list in blocks: no push moves more than the items of one. A contract sees the items, and how many more there is room for.
-#[derive(Debug, Drop)]
+#[derive(Debug)]
 pub struct Rows<T> {
     full: Vec<List<T>>,
     last: Vec<T>,
     count: usize,
+}
+
+/// Written out, so that whatever holds one drops it by a single call.
+impl<T: Drop> Drop for Rows<T> {
+    fn drop(self) {
+        let Rows {
+            full,
+            last,
+            count: _,
+        } = self;
+        drop(full);
+        drop(last);
+    }
 }
 
 impl<T> Model for Rows<T> {

@@ -11,8 +11,9 @@ ghost use Rattle.keyed_requests.specs.declared.sending.Sending.TheVariants.{Noti
 
 use crate::notices::append_notice;
 use crate::subscriptions::{SubscribeOutcome, SubscribePending};
+use channel_points::PointRun;
 use channel_store::Sub;
-use etp_values::{ErrorCode, List, Named, NoMemory, Point, Text};
+use etp_values::{ErrorCode, List, Named, NoMemory, Text};
 use keyed_requests::{
     Decision, Findings, KeyedReply, KeyedRequest, Outcome, Sending, first_found, keys_refusal,
     refused_outcome, request_outcome, request_reply,
@@ -236,14 +237,15 @@ fn add_first(
     alloc: Global,
     state: &mut Beginning,
     channel: i64,
-    points: List<Point>,
+    points: PointRun,
 ) -> Result<(), NoMemory>
     ensures { OnOk result (state.new ≡ record state.old { notices = state.old.notices ++ first_notices channel points }) }
 {
     if points.is_empty() {
         return Ok(());
     }
-    let message = append_notice(alloc, channel, points)?;
+    let copies = points.to_list(alloc)?;
+    let message = append_notice(alloc, channel, copies)?;
     let notices = mem::replace(&mut state.notices, List::new(alloc));
     let mut notices = notices.into_vec();
     notices.push(message)?;

@@ -4,6 +4,7 @@ use Rattle.std.specs.Prelude.{ℤ, pos, negsuc, Result, MatchResult, is_some, zi
 use Rattle.std.specs.List.{AllByRecursion}
 use Rattle.std.proofs.lemmas.Bool.{false≢true, or_parts}
 use Rattle.etp_values.specs.declared.point.ChannelPoint.{ChannelPoint}
+use Rattle.etp_values.specs.declared.point.Point.{Point}
 use Rattle.channel_store.specs.declared.error.ChannelError.{ChannelError}
 use Rattle.channel_store.specs.declared.error.ChannelError.TheVariants.{NoChannel, Index, Kind, Doubled, Outside, NoMemory}
 use Rattle.channel_store.specs.declared.change.What.{What}
@@ -14,11 +15,11 @@ use Rattle.channel_store.specs.declared.change.What.TheVariants.{Replace, Trunca
 use Rattle.channel_store.specs.declared.draft.Way.TheVariants.{Between, UpTo}
 use Rattle.channel_store.specs.Points.{is_within}
 use Rattle.channel_store.specs.Channels.{Channel, IsPastAll, fresh}
-use Rattle.channel_store.specs.Rows.{Row, plain, done, done_by, Due}
+use Rattle.channel_store.specs.Rows.{Row, plain, done, done_by, Due, IsAppending}
 use Rattle.std.specs.Ordering.{int_eq}
 use Rattle.channel_store.specs.Refusals.{channel_at, points_at, points_of, is_listed, or_else, first_refusal, unless, verdict, in_range, suits, item_refusal, disorder, append_refusal, channels_refusal, interval_refusal, inside_refusal, replace_refusal, cut_refusal, truncate_refusal}
 use Rattle.channel_store.specs.Store.{by_number, happens, changed, append_some, appended, replaced, truncated, IsNewPlace}
-use Rattle.channel_store.specs.Sweeps.{EndsAs, shown_of, IsIdle, row_at, next_rows, steps, append_item, add_item, opened, open_channel, open_cut, unless_refused, shown_in, is_staged, item_refusal_in, inside_refusal_in, staged_by, outcome, all_done, ids_of, AllDue}
+use Rattle.channel_store.specs.Sweeps.{EndsAs, shown_of, IsIdle, row_at, next_rows, steps, append_item, add_item, opened, open_channel, open_cut, unless_refused, shown_in, is_staged, item_refusal_in, inside_refusal_in, staged_by, outcome, all_done, ids_of, AllAppending, AllDue}
 use Rattle.etp_values.proofs.EachLemmas.{all-push, all-weaker}
 use Rattle.channel_store.proofs.NumberedLemmas.{by_number-same, by_number-map, get-by_number, get-none, by_number-after, map-by_number}
 use Rattle.channel_store.proofs.StagedLemmas.{step_at-ok, step_at-err, step_at-absent, append-steps, open-steps, add-steps, IsInside}
@@ -251,6 +252,17 @@ due-from place what n (c ∷ cs) h = (due place c (what (pos n)) h.0, due-from p
 
 pub all-due : (place : ℕ) (what : ℤ → Option What) (cs : List Channel) (rows : List Row) → rows ≡ staged_by what cs → IsNewPlace place cs → AllDue place rows
 all-due place what cs rows e h = subst (AllDue place) (sym e) (due-from place what 0 cs h)
+
+appending-one : (points : List Point) → IsAppending (append_some points)
+appending-one [] = tt
+appending-one (p ∷ ps) = tt
+
+appending-from : (items : List ChannelPoint) (n : ℕ) (cs : List Channel) → AllAppending (by_number (λ k c. record { shown = c; staged = appended items (pos k) }) n cs)
+appending-from items n [] = tt
+appending-from items n (c ∷ cs) = (appending-one (points_of (pos n) items), appending-from items (suc n) cs)
+
+pub all-appending : (items : List ChannelPoint) (cs : List Channel) (rows : List Row) → rows ≡ staged_by (appended items) cs → AllAppending rows
+all-appending items cs rows e = subst AllAppending (sym e) (appending-from items 0 cs)
 
 done-here : (place : ℕ) (id at : ℤ) (x : Channel) (o : Option What) (b : Bool) → (b ≡ false → o ≡ None) → cond b (done_by place id at x o) (record { shown = x; staged = o }) ≡ plain (happens place id at x o)
 done-here place id at x None true h = refl

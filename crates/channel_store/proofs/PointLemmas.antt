@@ -1,34 +1,28 @@
 -- The points of a channel in order.
-use Rattle.std.proofs.Common.{refl, ℕ, suc, ◌≡◌, ◌≤◌, ◌+◌, ◌-◌, Bool, true, false, cond, not, List, [], ◌∷◌, ◌++◌, length, take, drop, filter, ap, sym, ◌∙◌, arith, subst, append-nil, append_assoc, length-drop, Option, Some, None, option_map}
-use Rattle.std.specs.Prelude.{ℤ, int_lt, slice_get, fold, Ok, Err}
+use Rattle.std.proofs.Common.{refl, ℕ, ◌≡◌, ◌≤◌, ◌+◌, ◌-◌, Bool, true, false, cond, not, List, [], ◌∷◌, ◌++◌, length, take, drop, filter, ap, sym, ◌∙◌, arith, subst, append-nil, append_assoc, length-drop}
+use Rattle.std.specs.Prelude.{ℤ, int_lt, min, fold, Ok, Err}
 use Rattle.std.specs.List.{AllByRecursion}
 use Rattle.std.proofs.lemmas.Int.{ints}
-use Rattle.std.proofs.lemmas.List.{take_all}
+use Rattle.std.proofs.lemmas.List.{drop-drop, drop_all, take-take, take_all}
 use Rattle.etp_values.specs.declared.point.Point.{Point}
 use Rattle.channel_store.specs.declared.change.What.{What}
 use Rattle.channel_store.specs.declared.change.What.TheVariants.{Append, Replace, Truncate}
 use Rattle.channel_store.specs.declared.change.ChannelChange.{ChannelChange}
 use Rattle.channel_store.specs.declared.error.ChannelError.TheVariants.{Order, Outside}
-use Rattle.channel_store.specs.Points.{at_most, is_within, put_below, outside, inside, after, Rises, last_of, follows}
+use Rattle.channel_store.specs.Points.{at_most, is_within, put_below, outside, inside, after, Rises, follows}
 use Rattle.channel_store.specs.Channels.{Channel, whats_of, happened, IsKept, IsPastAll}
-use Rattle.std.proofs.lemmas.Bool.{false≢true}
 use Rattle.etp_values.proofs.IntLemmas.{int_lt_trans}
 use Rattle.channel_store.specs.Rows.{Fits, takes, before_next, joins}
-use Rattle.channel_store.specs.Told.{told_by, with_point}
+use Rattle.channel_store.specs.Told.{with_point}
 use Rattle.channel_store.specs.Splits.{IsSplit}
 use Rattle.etp_values.proofs.EachLemmas.{all-append, all-push, all-weaker}
+use Rattle.channel_points.proofs.ReadLemmas.{split-take}
 use Rattle.channel_points.proofs.OrderedLemmas.{all-filter, filter-all, all-cross, rises-push, rises-append, rises-filter, none-pass, all-fail}
 
 -- ---- tests on indexes
 
-pub at_most_before : (i x y : ℤ) → int_lt x y ≡ true → at_most y i ≡ true → at_most x i ≡ true
-at_most_before i x y h k = grind (arith, ints)
-
 above_after : (i x y : ℤ) → int_lt x y ≡ true → at_most x i ≡ false → at_most y i ≡ false
 above_after i x y h k = grind (arith, ints)
-
-not_below_after : (i x y : ℤ) → int_lt x y ≡ true → int_lt x i ≡ false → int_lt y i ≡ false
-not_below_after i x y h k = grind (arith, ints)
 
 -- what is at or below an end, and not in the interval, is below the interval
 below_both : (from to x : ℤ) → at_most x to ≡ true → not (is_within from to x) ≡ true → int_lt x from ≡ true
@@ -44,36 +38,6 @@ across : (to x y : ℤ) → at_most x to ≡ true → not (at_most y to) ≡ tru
 across to x y h k = grind (arith, ints)
 
 -- ---- the last point
-
-pub last_of-get : (xs : List Point) → last_of xs ≡ option_map (λ x. x.index) (slice_get xs (length xs - 1))
-last_of-get [] = refl
-last_of-get (x ∷ []) = refl
-last_of-get (x ∷ y ∷ ys) =
-    let e : length (x ∷ y ∷ ys) - 1 ≡ suc (length (y ∷ ys) - 1) = omega arith in
-    last_of-get (y ∷ ys) ∙ sym (ap (λ n. option_map (λ x. x.index) (slice_get (x ∷ y ∷ ys) n)) e)
-
--- the last index of two lists
-abbrev pub or_last : Option ℤ → Option ℤ → Option ℤ
-or_last (Some i) other = Some i
-or_last None other = other
-
-last_of-cons : (x : Point) (ys : List Point) → last_of (x ∷ ys) ≡ or_last (last_of ys) (Some x.index)
-last_of-cons x [] = refl
-last_of-cons x (y ∷ []) = refl
-last_of-cons x (y ∷ z ∷ zs) = last_of-cons x (z ∷ zs)
-
-or_last-assoc : (a b c : Option ℤ) → or_last (or_last a b) c ≡ or_last a (or_last b c)
-or_last-assoc (Some i) b c = refl
-or_last-assoc None b c = refl
-
-pub last_of-append : (xs ys : List Point) → last_of (xs ++ ys) ≡ or_last (last_of ys) (last_of xs)
-last_of-append [] ys = by (last_of ys)
-  where
-    by : (r : Option ℤ) → r ≡ or_last r None
-    by None = refl
-    by (Some i) = refl
-last_of-append (x ∷ xs) ys =
-    last_of-cons x (xs ++ ys) ∙ ap (λ r. or_last r (Some x.index)) (last_of-append xs ys) ∙ or_last-assoc (last_of ys) (last_of xs) (Some x.index) ∙ ap (or_last (last_of ys)) (sym (last_of-cons x xs))
 
 follows-all : (xs : List Point) (i : ℤ) → Rises xs → follows xs i ≡ true → AllByRecursion (λ x. int_lt x.index i ≡ true) xs
 follows-all [] i rises h = tt
@@ -93,9 +57,6 @@ fits-with_point xs (Truncate end) p fits h k = tt
 
 -- ---- an interval of points
 
-pub rest-is : {X : Type 0} (n : ℕ) (xs : List X) → take (length xs - n) (drop n xs) ≡ drop n xs
-rest-is n xs = ap (λ k. take k (drop n xs)) (sym (length-drop n xs)) ∙ take_all (length (drop n xs)) (drop n xs) (omega arith)
-
 pub inside-parts : (from to : ℤ) (xs : List Point) → filter (λ x. at_most x.index to) (filter (λ x. not (int_lt x.index from)) xs) ≡ inside from to xs
 inside-parts from to [] = refl
 inside-parts from to (x ∷ xs) = by (not (int_lt x.index from)) (at_most x.index to) refl refl (inside-parts from to xs)
@@ -107,36 +68,14 @@ inside-parts from to (x ∷ xs) = by (not (int_lt x.index from)) (at_most x.inde
     by true false ea eb rest = grind arith
     by false b ea eb rest = grind arith
 
-pub outside-parts : (from to : ℤ) (xs : List Point) → Rises xs → filter (λ x. int_lt x.index from) xs ++ filter (λ x. not (at_most x.index to)) (filter (λ x. not (int_lt x.index from)) xs) ≡ outside from to xs
-outside-parts from to [] rises = refl
-outside-parts from to (x ∷ xs) rises = by (int_lt x.index from) (at_most x.index to) refl refl (outside-parts from to xs rises.1)
-  where
-    by : (a b : Bool) → int_lt x.index from ≡ a → at_most x.index to ≡ b → filter (λ x. int_lt x.index from) xs ++ filter (λ x. not (at_most x.index to)) (filter (λ x. not (int_lt x.index from)) xs) ≡ outside from to xs
-        → cond (int_lt x.index from) (x ∷ filter (λ x. int_lt x.index from) xs) (filter (λ x. int_lt x.index from) xs) ++ filter (λ x. not (at_most x.index to)) (cond (not (int_lt x.index from)) (x ∷ filter (λ x. not (int_lt x.index from)) xs) (filter (λ x. not (int_lt x.index from)) xs))
-        ≡ cond (not (is_within from to x.index)) (x ∷ outside from to xs) (outside from to xs)
-    by true b ea eb rest = grind arith
-    by false true ea eb rest = grind arith
-    by false false ea eb rest =
-        let none : filter (λ x. int_lt x.index from) xs ≡ [] = none-pass (λ y. int_lt y.index from) xs (all-weaker _ _ (λ y h. not_below_after from x.index y.index h ea) xs rises.0) in
-        grind arith
-
 pub copied-is : (from to : ℤ) (xs : List Point) (start count : ℕ) → IsSplit (λ x. int_lt x.index from) xs start → IsSplit (λ x. at_most x.index to) (drop start xs) count → take count (drop start xs) ≡ inside from to xs
 copied-is from to xs start count below within = within.front ∙ ap (filter (λ x. at_most x.index to)) below.back ∙ inside-parts from to xs
-
-pub dropped-is : (from to : ℤ) (xs : List Point) (start count : ℕ) → Rises xs → IsSplit (λ x. int_lt x.index from) xs start → IsSplit (λ x. at_most x.index to) (drop start xs) count → take start xs ++ drop count (drop start xs) ≡ outside from to xs
-dropped-is from to xs start count rises below within =
-    (λ j. below.front j ++ within.back j)
-    ∙ ap (λ l. filter (λ x. int_lt x.index from) xs ++ filter (λ x. not (at_most x.index to)) l) below.back
-    ∙ outside-parts from to xs rises
 
 pub ends-within : {X : Type 0} (p q : X → Bool) (xs : List X) (start count : ℕ) → IsSplit p xs start → IsSplit q (drop start xs) count → start + count ≤ length xs
 ends-within p q xs start count below within = omega (arith, below.within, within.within, length-drop start xs)
 
 pub rises-outside : (from to : ℤ) (xs : List Point) → Rises xs → Rises (outside from to xs)
 rises-outside from to xs rises = rises-filter _ (λ x. not (is_within from to x.index)) xs rises
-
-pub rises-rest : (from : ℤ) (xs : List Point) (start : ℕ) → Rises xs → IsSplit (λ x. int_lt x.index from) xs start → Rises (drop start xs)
-rises-rest from xs start rises below = subst Rises (sym below.back) (rises-filter _ (λ x. not (int_lt x.index from)) xs rises)
 
 put_below-filter : (to : ℤ) (points xs : List Point) → Rises xs → put_below to points xs ≡ filter (λ x. at_most x.index to) xs ++ (points ++ filter (λ x. not (at_most x.index to)) xs)
 put_below-filter to points [] rises = sym (append-nil points)
@@ -149,8 +88,43 @@ put_below-filter to points (x ∷ xs) rises = by (at_most x.index to) refl (put_
         let fails : AllByRecursion (λ y. at_most y.index to ≡ false) xs = all-weaker _ _ (λ y h. above_after to x.index y.index h e) xs rises.0 in
         sym ((λ j. none-pass (λ y. at_most y.index to) xs fails j ++ (points ++ x ∷ all-fail (λ y. at_most y.index to) xs fails j)))
 
-pub put_below-split : (to : ℤ) (points xs : List Point) (n : ℕ) → Rises xs → IsSplit (λ x. at_most x.index to) xs n → take n xs ++ (points ++ drop n xs) ≡ put_below to points xs
-put_below-split to points xs n rises split = (λ j. split.front j ++ (points ++ split.back j)) ∙ sym (put_below-filter to points xs rises)
+low-outside : (from to : ℤ) (xs : List Point) → filter (λ x. at_most x.index to) (outside from to xs) ≡ filter (λ x. at_most x.index to) (filter (λ x. int_lt x.index from) xs)
+low-outside from to [] = refl
+low-outside from to (x ∷ xs) = by (int_lt x.index from) (at_most x.index to) refl refl (low-outside from to xs)
+  where
+    by : (a b : Bool) → int_lt x.index from ≡ a → at_most x.index to ≡ b → filter (λ x. at_most x.index to) (outside from to xs) ≡ filter (λ x. at_most x.index to) (filter (λ x. int_lt x.index from) xs)
+        → filter (λ x. at_most x.index to) (cond (not (is_within from to x.index)) (x ∷ outside from to xs) (outside from to xs))
+        ≡ filter (λ x. at_most x.index to) (cond (int_lt x.index from) (x ∷ filter (λ x. int_lt x.index from) xs) (filter (λ x. int_lt x.index from) xs))
+    by true true ea eb rest = grind arith
+    by true false ea eb rest = grind arith
+    by false true ea eb rest = grind arith
+    by false false ea eb rest = grind arith
+
+high-outside : (from to : ℤ) (xs : List Point) → filter (λ x. not (at_most x.index to)) (outside from to xs) ≡ filter (λ x. not (at_most x.index to)) xs
+high-outside from to [] = refl
+high-outside from to (x ∷ xs) = by (int_lt x.index from) (at_most x.index to) refl refl (high-outside from to xs)
+  where
+    by : (a b : Bool) → int_lt x.index from ≡ a → at_most x.index to ≡ b → filter (λ x. not (at_most x.index to)) (outside from to xs) ≡ filter (λ x. not (at_most x.index to)) xs
+        → filter (λ x. not (at_most x.index to)) (cond (not (is_within from to x.index)) (x ∷ outside from to xs) (outside from to xs))
+        ≡ cond (not (at_most x.index to)) (x ∷ filter (λ x. not (at_most x.index to)) xs) (filter (λ x. not (at_most x.index to)) xs)
+    by true true ea eb rest = grind arith
+    by true false ea eb rest = grind arith
+    by false true ea eb rest = grind arith
+    by false false ea eb rest = grind arith
+
+-- these points in the place of those of an interval, where `s` are below it and `e` are up to its end
+pub put-spliced : (from to : ℤ) (more xs : List Point) (s e k c : ℕ) → Rises xs → IsSplit (λ x. int_lt x.index from) xs s → IsSplit (λ x. at_most x.index to) xs e → k ≡ min s e → c ≡ e - s
+    → take k xs ++ (more ++ drop c (drop k xs)) ≡ put_below to more (outside from to xs)
+put-spliced from to more xs s e k c rises below within ek ec =
+    let sum : k + c ≡ e = omega arith in
+    let front : take k xs ≡ filter (λ x. at_most x.index to) (outside from to xs) =
+    sym (take-take k s xs (omega arith)) ∙ (split-take (λ x. at_most x.index to) xs e s k (omega arith) within).front ∙ ap (filter (λ x. at_most x.index to)) below.front ∙ sym (low-outside from to xs) in
+    let back : drop c (drop k xs) ≡ filter (λ x. not (at_most x.index to)) (outside from to xs) =
+    drop-drop c k xs ∙ ap (λ n. drop n xs) sum ∙ within.back ∙ sym (high-outside from to xs) in
+    (λ j. front j ++ (more ++ back j)) ∙ sym (put_below-filter to more (outside from to xs) (rises-outside from to xs rises))
+
+pub appended-is : (xs more : List Point) (n : ℕ) → n ≡ length xs → take n xs ++ (more ++ drop 0 (drop n xs)) ≡ xs ++ more
+appended-is xs more n e = (λ j. take_all n xs (omega arith) j ++ (more ++ drop_all n xs (omega arith) j)) ∙ ap (λ l. xs ++ l) (append-nil more)
 
 -- ---- what a change leaves is in order
 
@@ -194,18 +168,7 @@ kept-happened place id at c w kept fits past = record {
   placed = rises-push _ c.changes (record { place = place; channel = id; at = at; what = w }) kept.placed past;
 }
 
-pub told_by-with_point : (w : What) (p : Point) → takes w p ≡ true → told_by (with_point p w) ≡ told_by w ++ p ∷ []
-told_by-with_point (Append points) p h = refl
-told_by-with_point (Replace from to points) p h = refl
-told_by-with_point (Truncate end) p h = absurd (false≢true h)
-
 pub joins-ok : (id : ℤ) (points : List Point) (w : What) (p : Point) → takes w p ≡ true → follows (before_next points w) p.index ≡ true → joins id points w p ≡ Ok (with_point p w)
 joins-ok id points w p h k =
     ap (λ b. cond b (cond (follows (before_next points w) p.index) (Ok (with_point p w)) (Err (Order id))) (Err (Outside id))) h
     ∙ ap (λ b. cond b (Ok (with_point p w)) (Err (Order id))) k
-
--- what the next point of an append has to follow
-pub last-behind : (points told more : List Point) (w : What) → told ≡ told_by w → w ≡ Append more → or_last (last_of told) (last_of points) ≡ last_of (before_next points w)
-last-behind points told more w e h =
-    let same : told ≡ more = e ∙ ap told_by h in
-    ap (λ l. or_last (last_of l) (last_of points)) same ∙ sym (last_of-append points more) ∙ ap (λ v. last_of (before_next points v)) (sym h)

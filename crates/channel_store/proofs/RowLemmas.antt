@@ -9,12 +9,14 @@ use Rattle.std.proofs.lemmas.Bool.Decides.{nat_tests}
 use Rattle.channel_store.specs.declared.error.ChannelError.{ChannelError}
 use Rattle.channel_store.specs.declared.error.ChannelError.TheVariants.{NoChannel}
 use Rattle.channel_store.specs.declared.change.What.{What}
+use Rattle.channel_store.specs.declared.ready.Ready.{Ready}
+use Rattle.channel_points.specs.Chunks.{Held}
 use Rattle.channel_store.specs.Channels.{Channel}
-use Rattle.channel_store.specs.Rows.{Row, plain, cleared, done, done_by, IsDue, Becomes}
+use Rattle.channel_store.specs.Rows.{Row, plain, cleared, done, done_by, IsAppending, IsDue, IsNext, Becomes}
 use Rattle.std.specs.Ordering.{int_eq}
 use Rattle.channel_store.specs.Refusals.{is_listed, or_else, first_refusal, verdict}
 use Rattle.channel_store.specs.Store.{by_number}
-use Rattle.channel_store.specs.Sweeps.{shown_of, place_in, row_at, step_row, step_at, before_rows, with_row, modify, modify_at, all_done, AllDue, next_rows, steps}
+use Rattle.channel_store.specs.Sweeps.{shown_of, place_in, row_at, step_row, step_at, before_rows, with_row, modify, modify_at, all_done, AllAppending, AllDue, AreReady, IsNextIn, ids_ready, next_rows, steps}
 use Rattle.channel_store.proofs.EndedLemmas.{verdict-ok, verdict-err}
 use Rattle.channel_points.proofs.OrderedLemmas.{all-at}
 use Rattle.channel_store.proofs.NumberedLemmas.{by_number-same, by_number-modify, step_row-set, step_row-fails, step_row-beyond, shown-set, modify-set, modify-beyond}
@@ -122,6 +124,60 @@ due-after place at (negsuc k) rows h = h
 
 pub due-there : (place : ℕ) (rows : List Row) (id : ℤ) (k : ℕ) (r : Row) → place_in (length rows) id ≡ Some k → r ≡ get_or rows k r → AllDue place rows → IsDue place r
 due-there place rows id k r h at all = subst (IsDue place) (sym at) (all-at (IsDue place) rows k r all (place-some (length rows) id k h).1)
+
+appending-done : (later : ℕ) (id at : ℤ) (c : Channel) (o : Option What) → IsAppending (done_by later id at c o).staged
+appending-done later id at c None = tt
+appending-done later id at c (Some w) = tt
+
+appending-modify : (place k : ℕ) (id at : ℤ) (rows : List Row) → AllAppending rows → AllAppending (modify k (done place id at) rows)
+appending-modify place k id at [] h = tt
+appending-modify place zero id at (r ∷ rs) h = (appending-done place id at r.shown r.staged, h.1)
+appending-modify place (suc k) id at (r ∷ rs) h = (h.0, appending-modify place k id at rs h.1)
+
+pub appending-after : (place : ℕ) (at id : ℤ) (rows : List Row) → AllAppending rows → AllAppending (modify_at id (done place id at) rows)
+appending-after place at (pos k) rows h = appending-modify place k (pos k) at rows h
+appending-after place at (negsuc k) rows h = h
+
+pub appending-there : (rows : List Row) (id : ℤ) (k : ℕ) (r : Row) → place_in (length rows) id ≡ Some k → r ≡ get_or rows k r → AllAppending rows → IsAppending r.staged
+appending-there rows id k r h at all = subst (λ q. IsAppending q.staged) (sym at) (all-at (λ q. IsAppending q.staged) rows k r all (place-some (length rows) id k h).1)
+
+pub next-there : (rows : List Row) (id : ℤ) (k : ℕ) (r : Row) (points : Held) → place_in (length rows) id ≡ Some k → r ≡ get_or rows k r → IsNextIn (row_at rows id) points → IsNext r points
+next-there rows id k r points h at next = subst (λ o. IsNextIn o points) (row-there rows id k r h at) next
+
+next-done : (later : ℕ) (id at : ℤ) (c : Channel) (o : Option What) (points : Held) → IsNext (done_by later id at c o) points
+next-done later id at c None points = tt
+next-done later id at c (Some w) points = tt
+
+next-get : (place k n : ℕ) (id at : ℤ) (rows : List Row) (points : Held) → IsNextIn (slice_get rows n) points → IsNextIn (slice_get (modify k (done place id at) rows) n) points
+next-get place k n id at [] points h = h
+next-get place zero zero id at (r ∷ rs) points h = next-done place id at r.shown r.staged points
+next-get place zero (suc n) id at (r ∷ rs) points h = h
+next-get place (suc k) zero id at (r ∷ rs) points h = h
+next-get place (suc k) (suc n) id at (r ∷ rs) points h = next-get place k n id at rs points h
+
+next-modify : (place k : ℕ) (id at j : ℤ) (rows : List Row) (points : Held) → IsNextIn (row_at rows j) points → IsNextIn (row_at (modify k (done place id at) rows) j) points
+next-modify place k id at (pos n) rows points h = next-get place k n id at rows points h
+next-modify place k id at (negsuc n) rows points h = h
+
+next-after : (place : ℕ) (at id j : ℤ) (rows : List Row) (points : Held) → IsNextIn (row_at rows j) points → IsNextIn (row_at (modify_at id (done place id at) rows) j) points
+next-after place at (pos k) j rows points h = next-modify place k (pos k) at j rows points h
+next-after place at (negsuc k) j rows points h = h
+
+pub ready-after : (place : ℕ) (at id : ℤ) (rows : List Row) (readies : List Ready) → AreReady rows readies → AreReady (modify_at id (done place id at) rows) readies
+ready-after place at id rows [] h = tt
+ready-after place at id rows (q ∷ qs) h = (next-after place at id q.channel rows q.points h.0, ready-after place at id rows qs h.1)
+
+pub ids-push : (readies : List Ready) (q : Ready) → ids_ready (readies ++ q ∷ []) ≡ ids_ready readies ++ q.channel ∷ []
+ids-push [] q = refl
+ids-push (r ∷ rs) q = ap (λ l. r.channel ∷ l) (ids-push rs q)
+
+take-suc : (xs : List ℤ) (k : ℕ) (x : ℤ) → k < length xs → x ≡ get_or xs k x → take (suc k) xs ≡ take k xs ++ x ∷ []
+take-suc [] k x h e = absurd (omega arith)
+take-suc (y ∷ ys) zero x h e = ap (λ z. z ∷ []) (sym e)
+take-suc (y ∷ ys) (suc k) x h e = ap (λ l. y ∷ l) (take-suc ys k x (omega arith) e)
+
+pub take-next : (xs : List ℤ) (k : ℕ) (x : ℤ) → k < length xs → x ≡ get_or xs k x → take (k + 1) xs ≡ take k xs ++ x ∷ []
+take-next xs k x h e = ap (λ n. take n xs) (add-one k) ∙ take-suc xs k x h e
 
 -- ---- rows cleared so far
 

@@ -1,18 +1,24 @@
 -- A change that is about to happen.
-use Rattle.std.specs.Prelude.{ℕ, ◌≡◌, ◌≤◌, ◌+◌, List}
-use Rattle.std.specs.Vec.{vec_len}
+use Rattle.std.specs.Prelude.{◌≡◌, List, []}
 use Rattle.etp_values.specs.declared.point.Point.{Point}
+use Rattle.channel_points.specs.Chunks.{Held, with_added}
 use Rattle.channel_store.specs.declared.change.What.{What}
-use Rattle.channel_store.specs.declared.draft.Draft.{Draft}
+use Rattle.channel_store.specs.declared.change.What.TheVariants.{Append, Replace, Truncate}
 use Rattle.channel_store.specs.Rows.{Fits}
-use Rattle.channel_store.specs.Told.{told_by}
 
--- the change that a draft will be
-abbrev pub what_of : Draft → What
-what_of d = d.what
+-- the points that a change adds after the last one
+abbrev pub appends : What → List Point
+appends (Append points) = points
+appends (Replace from to points) = []
+appends (Truncate end) = []
 
--- what is about to happen fits the channel's points, has its own points a second time for the channel, and there is room for them
-pub record IsReady (points : List Point) (len cap : ℕ) (d : Draft) : Type 0 where
-  pub same : d.points.items ≡ told_by d.what
-  pub fits : Fits points d.what
-  pub room : len + vec_len d.points ≤ cap
+-- a channel's points when a point joins a change of the channel
+abbrev pub held_with : What → Point → Held → Held
+held_with (Append points) p h = with_added p h
+held_with (Replace from to points) p h = h
+held_with (Truncate end) p h = h
+
+-- what is about to happen fits the channel's points, and what it adds after them is about to be added
+pub record IsReady (h : Held) (w : What) : Type 0 where
+  pub same : h.added ≡ appends w
+  pub fits : Fits h.points w

@@ -3,7 +3,7 @@ use Rattle.std.specs.Prelude.{ℕ, ℤ, pos, ◌-ℤ◌, int_lt, Bool, true, fal
 use Rattle.std.specs.Int.{int_max}
 use Rattle.std.specs.List.{flat_map, AllByRecursion}
 use Rattle.etp_values.specs.declared.point.Point.{Point}
-pub use Rattle.channel_points.specs.Order.{Rises}
+pub use Rattle.channel_points.specs.Order.{Rises, first_of, last_of}
 use Rattle.channel_store.specs.declared.change.What.{What}
 use Rattle.channel_store.specs.declared.change.What.TheVariants.{Append, Replace, Truncate}
 
@@ -80,20 +80,9 @@ CopyIsPoints = (start : ℤ) (earlier later : List What) → AllByRecursion IsWi
 
 -- ---- points in order
 
--- the index of the first point
-abbrev pub first_of : List Point → Option ℤ
-first_of [] = None
-first_of (x ∷ xs) = Some x.index
-
 -- the index of a point by its number from the end, the last being 1
 abbrev pub index_from_end : ℕ → List Point → Option ℤ
 index_from_end count xs = if nat_lt (length xs) count then None else option_map (λ x. x.index) (slice_get xs (length xs - count))
-
--- the index of the last point
-abbrev pub last_of : List Point → Option ℤ
-last_of [] = None
-last_of (x ∷ []) = Some x.index
-last_of (x ∷ y ∷ ys) = last_of (y ∷ ys)
 
 -- an index is past another, if there is one
 abbrev pub lies_past : Option ℤ → ℤ → Bool

@@ -8,7 +8,8 @@ use Rattle.channel_store.specs.declared.error.ChannelError.{ChannelError}
 use Rattle.channel_store.specs.declared.error.ChannelError.TheVariants.{Order, Outside, NoMemory}
 use Rattle.channel_store.specs.declared.draft.Way.{Way}
 use Rattle.channel_store.specs.declared.draft.Way.TheVariants.{Behind, Between, UpTo}
-use Rattle.channel_store.specs.Points.{is_within, follows, Rises}
+use Rattle.channel_points.specs.Chunks.{Held, settled}
+use Rattle.channel_store.specs.Points.{after, is_within, follows, Rises}
 use Rattle.channel_store.specs.Channels.{Channel, happened, IsPastAll}
 use Rattle.channel_store.specs.Told.{with_point}
 
@@ -89,6 +90,22 @@ abbrev pub Fits : List Point → What → Type 0
 Fits xs (Append points) = Rises (xs ++ points)
 Fits xs (Replace from to points) = Rises points × AllByRecursion (λ x. is_within from to x.index ≡ true) points
 Fits xs (Truncate end) = Unit {0}
+
+-- what is about to happen, if anything is, only adds points after the last one
+abbrev pub IsAppending : Option What → Type 0
+IsAppending None = Unit {0}
+IsAppending (Some (Append points)) = Unit {0}
+IsAppending (Some (Replace from to points)) = ⊥
+IsAppending (Some (Truncate end)) = ⊥
+
+-- these are the points of a channel after what is about to happen, if anything is
+abbrev pub Follows : Channel → Option What → Held → Type 0
+Follows c None h = Unit {0}
+Follows c (Some w) h = h ≡ settled (after c.points w)
+
+-- these are the points of a row after what is about to happen
+abbrev pub IsNext : Row → Held → Type 0
+IsNext r h = Follows r.shown r.staged h
 
 -- a call that makes a new value from an old one ends as expected, unless memory ran out
 abbrev pub Becomes : {A : Type 0} → Result (Unit {0}) ChannelError → A → Result A ChannelError → Type 0

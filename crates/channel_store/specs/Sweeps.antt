@@ -8,8 +8,10 @@ use Rattle.channel_store.specs.declared.draft.Way.{Way}
 use Rattle.channel_store.specs.declared.draft.Way.TheVariants.{UpTo}
 use Rattle.channel_store.specs.declared.error.ChannelError.{ChannelError}
 use Rattle.channel_store.specs.declared.error.ChannelError.TheVariants.{NoChannel, Index, Doubled, NoMemory}
+use Rattle.channel_store.specs.declared.ready.Ready.{Ready}
+use Rattle.channel_points.specs.Chunks.{Held}
 use Rattle.channel_store.specs.Channels.{Channel}
-use Rattle.channel_store.specs.Rows.{Row, plain, what_by, begun, added, done, IsDue}
+use Rattle.channel_store.specs.Rows.{Row, plain, what_by, begun, added, done, IsAppending, IsDue, IsNext}
 use Rattle.channel_store.specs.Refusals.{in_range, is_listed, item_refusal, inside_refusal}
 use Rattle.channel_store.specs.Store.{by_number}
 use Rattle.channel_store.specs.Told.{told_by, IfGiven}
@@ -154,6 +156,23 @@ ids_of items = map (λ i. i.channel) items
 -- all that is about to happen may have this place in the journal
 abbrev pub AllDue : ℕ → List Row → Type 0
 AllDue place rows = AllByRecursion (IsDue place) rows
+
+-- all that is about to happen adds points after the last ones
+abbrev pub AllAppending : List Row → Type 0
+AllAppending rows = AllByRecursion (λ r. IsAppending r.staged) rows
+
+-- these are the points of a row, if there is one, after what is about to happen
+abbrev pub IsNextIn : Option Row → Held → Type 0
+IsNextIn None h = Unit {0}
+IsNextIn (Some r) h = IsNext r h
+
+-- the points that were made for each channel are those after what is about to happen to it
+abbrev pub AreReady : List Row → List Ready → Type 0
+AreReady rows readies = AllByRecursion (λ q. IsNextIn (row_at rows q.channel) q.points) readies
+
+-- the channels for which points were made
+abbrev pub ids_ready : List Ready → List ℤ
+ids_ready readies = map (λ q. q.channel) readies
 
 -- a call is accepted exactly without a refusal, and leaves these channels; otherwise it leaves those that were there
 abbrev pub EndsAs : Result (Unit {0}) ChannelError → List Row → List Row → Option ChannelError → List Channel → Type 0

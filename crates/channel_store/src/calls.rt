@@ -1,15 +1,19 @@
 //! The calls that change the channels: first the tests, then all allocation, and then the change, which can't fail.
-ghost use Rattle.std.specs.Prelude.{◌≡◌, [], IfOk, length, zip};
+//!
+//! `stage_..` tests a call and stages it in the channels, and `share_..` returns its items for the journal too. `prepare_replace` and
+//! `ready_truncate` also make the points that the channels will have. `.._all` does that and then the change; `test_..` stages and clears again.
+ghost use Rattle.std.specs.Prelude.{◌≡◌, [], IfOk, Ok, length, zip};
 ghost use Rattle.channel_store.specs.Refusals.{Refuses, append_refusal, first_refusal, interval_refusal, replace_refusal, truncate_refusal};
 ghost use Rattle.channel_store.specs.Rows.{Becomes};
 ghost use Rattle.channel_store.specs.Store.{IsNewPlace, appended, changed, replaced, truncated};
-ghost use Rattle.channel_store.specs.Sweeps.{EndsAs, IsIdle, add_item, inside_refusal_in, outcome, shown_of, staged_by, steps, unless_refused};
+ghost use Rattle.channel_store.specs.Sweeps.{AllDue, AreReady, EndsAs, IsIdle, add_item, all_done, ids_ready, inside_refusal_in, open_cut, outcome, shown_of, staged_by, steps, unless_refused};
 ghost use Rattle.channel_store.specs.Told.{ending};
 
 use crate::checks::{check_all_inside, check_interval, check_items};
 use crate::draft::Way;
 use crate::error::ChannelError;
 use crate::given::hand_out;
+use crate::ready::{Ready, ready_channels};
 use crate::rows::{
     add_items, append_items, clear_all, commit_channels, commit_items, open_channels, open_cuts,
 };
@@ -19,7 +23,7 @@ use etp_values::ChannelPoint;
 use std::alloc::Global;
 
 /// Begins an append of all items or of none.
-fn prepare_append(
+fn stage_append(
     alloc: Global,
     tracks: &mut Vec<Track>,
     items: &[ChannelPoint],
@@ -46,13 +50,13 @@ pub fn test_append(
     ensures answer { Refuses result (append_refusal (shown_of tracks.old.items) items.now) }
     ensures same { tracks.new.items ≡ tracks.old.items }
 {
-    let result = prepare_append(alloc, tracks, items);
+    let result = stage_append(alloc, tracks, items);
     clear_all(tracks);
     result
 }
 
-/// Begins an append of all items or of none, and hands them out for the journal.
-fn ready_append(
+/// Begins an append of all items or of none, and returns the items for the journal, which share the memory of the change.
+fn share_append(
     alloc: Global,
     tracks: &mut Vec<Track>,
     items: &[ChannelPoint],
@@ -64,7 +68,7 @@ fn ready_append(
     ensures kept { shown_of tracks.new.items ≡ shown_of tracks.old.items }
     ensures items { IfOk result (λ r. r ≡ items.now) }
 {
-    if let Err(error) = prepare_append(alloc, tracks, items) {
+    if let Err(error) = stage_append(alloc, tracks, items) {
         return Err(error);
     }
     hand_out(alloc, tracks, items)
@@ -85,7 +89,7 @@ pub fn append_all(
         (changed place at (appended items.now) (shown_of tracks.old.items)) }
     ensures items { IfOk result (λ r. r ≡ items.now) }
 {
-    match ready_append(alloc, tracks, items) {
+    match share_append(alloc, tracks, items) {
         Err(error) => {
             clear_all(tracks);
             Err(error)
@@ -137,7 +141,7 @@ fn fill(
 }
 
 /// Begins a replacement in all channels or in none, with the points that it is to have.
-fn prepare_replace(
+fn stage_replace(
     alloc: Global,
     tracks: &mut Vec<Track>,
     channels: &[i64],
@@ -171,13 +175,13 @@ pub fn test_replace(
         (replace_refusal (shown_of tracks.old.items) channels.now from to items.now) }
     ensures same { tracks.new.items ≡ tracks.old.items }
 {
-    let result = prepare_replace(alloc, tracks, channels, from, to, items);
+    let result = stage_replace(alloc, tracks, channels, from, to, items);
     clear_all(tracks);
     result
 }
 
-/// Begins a replacement in all channels or in none, and hands its items out for the journal.
-fn ready_replace(
+/// Begins a replacement in all channels or in none, and returns its items for the journal, which share the memory of the change.
+fn share_replace(
     alloc: Global,
     tracks: &mut Vec<Track>,
     channels: &[i64],
@@ -192,10 +196,70 @@ fn ready_replace(
     ensures kept { shown_of tracks.new.items ≡ shown_of tracks.old.items }
     ensures items { IfOk result (λ r. r ≡ items.now) }
 {
-    if let Err(error) = prepare_replace(alloc, tracks, channels, from, to, items) {
+    if let Err(error) = stage_replace(alloc, tracks, channels, from, to, items) {
         return Err(error);
     }
     hand_out(alloc, tracks, items)
+}
+
+/// The items of a call for the journal, and the points that its channels will have.
+#[derive(Drop)]
+pub struct Prepared {
+    given: ChannelPoints,
+    readies: Vec<Ready>,
+}
+
+/// These items, with the points that the channels will have.
+fn with_readies(
+    alloc: Global,
+    tracks: &[Track],
+    channels: &[i64],
+    given: ChannelPoints,
+) -> Result<Prepared, ChannelError>
+    ensures answer { Becomes (ending result) tracks.now (Ok tracks.now) }
+    ensures items { IfOk result (λ r. r.given ≡ given) }
+    ensures channels { IfOk result (λ r. ids_ready r.readies.items ≡ channels.now) }
+    ensures ready { IfOk result (λ r. AreReady tracks.now r.readies.items) }
+{
+    let readies = ready_channels(alloc, tracks, channels)?;
+    Ok(Prepared { given, readies })
+}
+
+/// Begins a replacement in all channels or in none, returns its items for the journal, and makes the points that the channels will have.
+fn prepare_replace(
+    alloc: Global,
+    tracks: &mut Vec<Track>,
+    channels: &[i64],
+    from: i64,
+    to: i64,
+    items: &[ChannelPoint],
+) -> Result<Prepared, ChannelError>
+    requires { IsIdle tracks.old.items }
+    ensures answer { Becomes (ending result) tracks.new.items
+        (outcome (replace_refusal (shown_of tracks.old.items) channels.now from to items.now)
+        (staged_by (replaced channels.now from to items.now) (shown_of tracks.old.items))) }
+    ensures kept { shown_of tracks.new.items ≡ shown_of tracks.old.items }
+    ensures items { IfOk result (λ r. r.given ≡ items.now) }
+    ensures channels { IfOk result (λ r. ids_ready r.readies.items ≡ channels.now) }
+    ensures ready { IfOk result (λ r. AreReady tracks.new.items r.readies.items) }
+{
+    match share_replace(alloc, tracks, channels, from, to, items) {
+        Err(error) => Err(error),
+        Ok(given) => with_readies(alloc, tracks.as_slice(), channels, given),
+    }
+}
+
+/// Does what is prepared.
+fn finish(tracks: &mut Vec<Track>, place: u64, at: i64, prepared: Prepared) -> ChannelPoints
+    requires due { AllDue place tracks.old.items }
+    requires ready { AreReady tracks.old.items prepared.readies.items }
+    ensures done { tracks.new.items
+        ≡ all_done place at (ids_ready prepared.readies.items) tracks.old.items }
+    ensures given { result ≡ prepared.given }
+{
+    let Prepared { given, readies } = prepared;
+    commit_channels(tracks, place, at, readies);
+    given
 }
 
 /// Replaces in all channels or in none.
@@ -216,16 +280,34 @@ pub fn replace_all(
         (changed place at (replaced channels.now from to items.now) (shown_of tracks.old.items)) }
     ensures items { IfOk result (λ r. r ≡ items.now) }
 {
-    match ready_replace(alloc, tracks, channels, from, to, items) {
+    match prepare_replace(alloc, tracks, channels, from, to, items) {
         Err(error) => {
             clear_all(tracks);
             Err(error)
         }
-        Ok(given) => {
-            commit_channels(tracks, place, at, channels);
-            Ok(given)
-        }
+        Ok(prepared) => Ok(finish(tracks, place, at, prepared)),
     }
+}
+
+/// Begins a truncation of all channels or of none, and makes the points that they will have.
+fn ready_truncate(
+    alloc: Global,
+    tracks: &mut Vec<Track>,
+    channels: &[i64],
+    ends: &[i64],
+) -> Result<Vec<Ready>, ChannelError>
+    requires { length channels.now ≡ length ends.now }
+    ensures answer { Becomes (ending result) tracks.new.items
+        (steps open_cut tracks.old.items (zip channels.now ends.now)) }
+    ensures kept { shown_of tracks.new.items ≡ shown_of tracks.old.items }
+    ensures channels { IfOk result (λ r. ids_ready r.items ≡ channels.now) }
+    ensures ready { IfOk result (λ r. AreReady tracks.new.items r.items) }
+{
+    if let Err(error) = open_cuts(alloc, tracks, channels, ends) {
+        return Err(error);
+    }
+    let readies = ready_channels(alloc, tracks.as_slice(), channels)?;
+    Ok(readies)
 }
 
 /// Truncates all channels or none.
@@ -244,10 +326,14 @@ pub fn truncate_all(
         (truncate_refusal (shown_of tracks.old.items) [] (zip channels.now ends.now))
         (changed place at (truncated (zip channels.now ends.now)) (shown_of tracks.old.items)) }
 {
-    if let Err(error) = open_cuts(alloc, tracks, channels, ends) {
-        clear_all(tracks);
-        return Err(error);
+    match ready_truncate(alloc, tracks, channels, ends) {
+        Err(error) => {
+            clear_all(tracks);
+            Err(error)
+        }
+        Ok(readies) => {
+            commit_channels(tracks, place, at, readies);
+            Ok(())
+        }
     }
-    commit_channels(tracks, place, at, channels);
-    Ok(())
 }

@@ -97,7 +97,7 @@ impl What {
     }
 
     /// The points of the change.
-    pub(crate) fn told(&self, alloc: Global) -> Result<Points, NoMemory>
+    pub(crate) fn points(&self, alloc: Global) -> Result<Points, NoMemory>
         ensures { IfOk result (λ r. r ≡ told_by self.now) }
     {
         match self {

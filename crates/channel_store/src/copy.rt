@@ -97,10 +97,10 @@ fn fold_in(points: &mut Vec<Point>, what: &What, mut more: Vec<Point>)
 }
 
 /// Copies of the points of a change.
-fn copy_told(alloc: Global, what: &What) -> Result<Vec<Point>, NoMemory>
+fn copy_points(alloc: Global, what: &What) -> Result<Vec<Point>, NoMemory>
     ensures { IfOk result (λ r. r.items ≡ told_by what.now) }
 {
-    Ok(what.told(alloc)?.to_list(alloc)?.into_vec())
+    Ok(what.points(alloc)?.to_list(alloc)?.into_vec())
 }
 
 /// Makes room for more points.
@@ -138,7 +138,7 @@ impl ChannelCopy {
         ensures ok { OnOk result (self.new ≡ after self.old what.now) }
         ensures err { OnErr result (self.new ≡ self.old) }
     {
-        let more = copy_told(alloc, what)?;
+        let more = copy_points(alloc, what)?;
         let mut points = mem::replace(&mut self.points, List::new(alloc)).into_vec();
         let taken = take_into(&mut points, what, more);
         self.points = List::from_vec(points);

@@ -1,15 +1,13 @@
-//! What is about to happen to a channel, with all the memory that it needs.
-ghost use Rattle.std.specs.Prelude.{◌≡◌, [], IfOk};
-ghost use Rattle.std.specs.Vec.{vec_len, vec_capacity};
-ghost use Rattle.channel_store.specs.Points.{last_of, lies_past};
-ghost use Rattle.channel_store.specs.Told.{told_by};
-ghost use Rattle.channel_store.specs.Rows.{Becomes, before_next, joins, takes, what_by};
-ghost use Rattle.channel_store.specs.Drafts.{IsReady};
+//! What is about to happen to a channel.
+ghost use Rattle.std.specs.Prelude.{◌≡◌, [], IfOk, OnOk, true};
+ghost use Rattle.channel_store.specs.Drafts.{IsReady, held_with};
+ghost use Rattle.channel_store.specs.Points.{follows, last_of, lies_past};
+ghost use Rattle.channel_store.specs.Rows.{before_next, joins, takes, what_by};
+ghost use Rattle.channel_store.specs.Told.{ending, with_point};
 
 use crate::change::What;
 use crate::error::ChannelError;
-use crate::points::last_index;
-use channel_points::{BoxedPoints, Points};
+use channel_points::{BoxedPoints, Chunks, Points};
 use etp_values::{Copied, NoMemory, Point};
 use std::alloc::Global;
 
@@ -21,16 +19,9 @@ pub enum Way {
     UpTo { end: i64 },
 }
 
-/// A change that is not done yet, and a second copy of its points for the channel.
-#[derive(Drop)]
-pub struct Draft {
-    pub points: Vec<Point>,
-    pub what: What,
-}
-
 impl Way {
     /// The change without points.
-    fn begin(self, alloc: Global) -> Result<What, NoMemory>
+    pub fn begin(self, alloc: Global) -> Result<What, NoMemory>
         ensures { IfOk result (λ w. w ≡ what_by self []) }
     {
         match self {
@@ -45,81 +36,26 @@ impl Way {
     }
 }
 
-impl Draft {
-    pub fn new(alloc: Global, way: Way) -> Result<Draft, NoMemory>
-        ensures what { IfOk result (λ d. d.what ≡ what_by way []) }
-        ensures points { IfOk result (λ d. d.points.items ≡ []) }
-    {
-        Ok(Draft {
-            points: Vec::new(alloc),
-            what: way.begin(alloc)?,
-        })
+/// The index that the next point has to exceed, in a channel that has these points.
+fn last_before(points: &Chunks, what: &What) -> Option<i64>
+    requires { IsReady points.now what.now }
+    ensures { result ≡ last_of (before_next points.now.points what.now) }
+{
+    match what {
+        What::Append(_) => points.last_added(),
+        What::Replace { points, .. } => points.get().last_index(),
+        What::Truncate { .. } => None,
     }
+}
 
-    /// The index that the next point has to exceed, in a channel that has these points.
-    pub fn last(&self, points: &[Point]) -> Option<i64>
-        requires { self.now.points.items ≡ told_by self.now.what }
-        ensures { result ≡ last_of (before_next points.now self.now.what) }
-    {
-        match &self.what {
-            What::Append(_) => match last_index(self.points.as_slice()) {
-                Some(index) => Some(index),
-                None => last_index(points),
-            },
-            What::Replace { .. } => last_index(self.points.as_slice()),
-            What::Truncate { .. } => None,
-        }
-    }
-
-    /// Whether the change may have such a point.
-    fn takes(&self, point: &Point) -> bool
-        ensures { result ≡ takes self.now.what point.now }
-    {
-        match &self.what {
-            What::Append(_) => true,
-            What::Replace { from, to, .. } => *from <= point.index && point.index <= *to,
-            What::Truncate { .. } => false,
-        }
-    }
-
-    /// Adds a copy of a point for the channel `channel`, which has these points, and makes room for it there.
-    pub fn add(
-        &mut self,
-        alloc: Global,
-        points: &mut Vec<Point>,
-        channel: i64,
-        point: &Point,
-    ) -> Result<(), ChannelError>
-        requires { IsReady points.old.items (vec_len points.old) (vec_capacity points.old) self.old }
-        ensures answer { Becomes result self.new.what
-            (joins channel points.old.items self.old.what point.now) }
-        ensures ready { IsReady points.new.items (vec_len points.new) (vec_capacity points.new) self.new }
-        ensures points { points.new.items ≡ points.old.items }
-    {
-        if !self.takes(point) {
-            return Err(ChannelError::Outside(channel));
-        }
-        if !is_past(self.last(points.as_slice()), point.index) {
-            return Err(ChannelError::Order(channel));
-        }
-        let first = point.copy(alloc)?;
-        let second = point.copy(alloc)?;
-        points.reserve(self.points.len() + 1)?;
-        self.points.reserve(1)?;
-        self.what.push(alloc, second)?;
-        self.points.push_reserved(first);
-        Ok(())
-    }
-
-    /// The same, kept so that a copy of the change shares its points.
-    pub fn sealed(self, alloc: Global) -> Result<Draft, NoMemory>
-        ensures { IfOk result (λ d. d ≡ self) }
-    {
-        let Draft { points, what } = self;
-        Ok(Draft {
-            points,
-            what: what.sealed(alloc)?,
-        })
+/// Whether a change may have such a point.
+fn takes(what: &What, point: &Point) -> bool
+    ensures { result ≡ takes what.now point.now }
+{
+    match what {
+        What::Append(_) => true,
+        What::Replace { from, to, .. } => *from <= point.index && point.index <= *to,
+        What::Truncate { .. } => false,
     }
 }
 
@@ -131,4 +67,55 @@ fn is_past(last: Option<i64>, index: i64) -> bool
         Some(last) => last < index,
         None => true,
     }
+}
+
+/// Whether a point may join what is about to happen to the channel `channel`, which has these points.
+pub fn check(points: &Chunks, what: &What, channel: i64, point: &Point) -> Result<(), ChannelError>
+    requires { IsReady points.now what.now }
+    ensures { result ≡ ending (joins channel points.now.points what.now point.now) }
+{
+    if !takes(what, point) {
+        return Err(ChannelError::Outside(channel));
+    }
+    if !is_past(last_before(points, what), point.index) {
+        return Err(ChannelError::Order(channel));
+    }
+    Ok(())
+}
+
+/// A copy of a point is about to be added to the channel, if that is what the change does with its points.
+fn hold(alloc: Global, points: &mut Chunks, what: &What, point: &Point) -> Result<(), NoMemory>
+    ensures ok { OnOk result (points.new ≡ held_with what.now point.now points.old) }
+    ensures kept { points.new.points ≡ points.old.points }
+{
+    match what {
+        What::Append(_) => {
+            let copy = point.copy(alloc)?;
+            points.push(alloc, copy)
+        }
+        What::Replace { .. } => Ok(()),
+        What::Truncate { .. } => Ok(()),
+    }
+}
+
+/// What is about to happen, with a copy of one more point.
+pub fn join(
+    alloc: Global,
+    points: &mut Chunks,
+    mut what: What,
+    point: &Point,
+) -> Result<What, NoMemory>
+    requires ready { IsReady points.old what }
+    requires takes { takes what point.now ≡ true }
+    requires follows { follows (before_next points.old.points what) point.now.index ≡ true }
+    ensures what { IfOk result (λ w. w ≡ with_point point.now what) }
+    ensures ready { IfOk result (λ w. IsReady points.new w) }
+    ensures kept { points.new.points ≡ points.old.points }
+{
+    if let Err(error) = hold(alloc, points, &what, point) {
+        return Err(error);
+    }
+    let copy = point.copy(alloc)?;
+    what.push(alloc, copy)?;
+    Ok(what)
 }

@@ -41,13 +41,13 @@ fn seal_items(
 }
 
 /// The points of what is about to happen to a channel.
-fn told(alloc: Global, tracks: &[Track], channel: i64) -> Result<Option<Points>, NoMemory>
+fn staged_points(alloc: Global, tracks: &[Track], channel: i64) -> Result<Option<Points>, NoMemory>
     ensures { IfOk result (λ r. r ≡ told_at (row_at tracks.now channel)) }
 {
     let Some(track) = track_at(tracks, channel) else {
         return Ok(None);
     };
-    track.told(alloc)
+    track.staged_points(alloc)
 }
 
 fn copy_items(alloc: Global, items: &[ChannelPoint]) -> Result<ChannelPoints, NoMemory>
@@ -72,7 +72,7 @@ fn share(
     requires told { Tells (row_at tracks.now channel) (points_of channel items.now) }
     ensures { IfOk result (λ r. r ≡ items.now) }
 {
-    let Some(points) = told(alloc, tracks, channel)? else {
+    let Some(points) = staged_points(alloc, tracks, channel)? else {
         return copy_items(alloc, items);
     };
     Ok(ChannelPoints::single(channel, points))

@@ -18,6 +18,7 @@ mod given;
 mod laws;
 mod places;
 mod points;
+mod ready;
 mod rows;
 mod store;
 mod subscription;

@@ -1,12 +1,14 @@
 //! What a call is about to do to the channels, item by item, and the end of it: all of it or nothing.
 ghost use Rattle.std.specs.Prelude.{◌≡◌, Some, map, zip, length};
 ghost use Rattle.channel_store.specs.Rows.{Becomes, added, begun, done, plain};
-ghost use Rattle.channel_store.specs.Sweeps.{AllDue, add_item, all_done, append_item, ids_of, modify_at, open_channel, open_cut, opened, shown_of, steps};
+ghost use Rattle.channel_store.specs.Sweeps.{AllAppending, AllDue, AreReady, IsNextIn, add_item, all_done, append_item, ids_of, ids_ready, modify_at, open_channel, open_cut, opened, row_at, shown_of, steps};
 
 use crate::checks::{in_range, place_of};
 use crate::draft::Way;
 use crate::error::ChannelError;
+use crate::ready::Ready;
 use crate::track::Track;
+use channel_points::Chunks;
 use etp_values::ChannelPoint;
 use std::alloc::Global;
 
@@ -177,9 +179,11 @@ pub fn clear_all(tracks: &mut Vec<Track>)
 }
 
 fn commit(tracks: &mut Vec<Track>, place: u64, channel: i64, at: i64)
-    requires { AllDue place tracks.old.items }
+    requires due { AllDue place tracks.old.items }
+    requires appending { AllAppending tracks.old.items }
     ensures done { tracks.new.items ≡ modify_at channel (done place channel at) tracks.old.items }
     ensures due { AllDue place tracks.new.items }
+    ensures appending { AllAppending tracks.new.items }
 {
     let Some(number) = place_of(tracks.len(), channel) else {
         return;
@@ -187,9 +191,10 @@ fn commit(tracks: &mut Vec<Track>, place: u64, channel: i64, at: i64)
     tracks[number].commit(place, channel, at);
 }
 
-/// Does what is about to happen to the channels of these items. It does not allocate.
+/// Appends what is about to be added to the channels of these items. It does not allocate.
 pub fn commit_items(tracks: &mut Vec<Track>, place: u64, at: i64, items: &[ChannelPoint])
-    requires { AllDue place tracks.old.items }
+    requires due { AllDue place tracks.old.items }
+    requires appending { AllAppending tracks.old.items }
     ensures { tracks.new.items ≡ all_done place at (ids_of items.now) tracks.old.items }
 {
     for item in items {
@@ -197,12 +202,26 @@ pub fn commit_items(tracks: &mut Vec<Track>, place: u64, at: i64, items: &[Chann
     }
 }
 
-/// Does what is about to happen to these channels. It does not allocate.
-pub fn commit_channels(tracks: &mut Vec<Track>, place: u64, at: i64, channels: &[i64])
-    requires { AllDue place tracks.old.items }
-    ensures { tracks.new.items ≡ all_done place at channels.now tracks.old.items }
+fn commit_with(tracks: &mut Vec<Track>, place: u64, channel: i64, at: i64, points: Chunks)
+    requires due { AllDue place tracks.old.items }
+    requires next { IsNextIn (row_at tracks.old.items channel) points }
+    ensures done { tracks.new.items ≡ modify_at channel (done place channel at) tracks.old.items }
+    ensures due { AllDue place tracks.new.items }
 {
-    for channel in channels {
-        commit(tracks, place, *channel, at);
+    let Some(number) = place_of(tracks.len(), channel) else {
+        return;
+    };
+    tracks[number].commit_with(place, channel, at, points);
+}
+
+/// Does what is about to happen to the channels for which points were made. It does not allocate.
+pub fn commit_channels(tracks: &mut Vec<Track>, place: u64, at: i64, readies: Vec<Ready>)
+    requires due { AllDue place tracks.old.items }
+    requires ready { AreReady tracks.old.items readies.items }
+    ensures { tracks.new.items ≡ all_done place at (ids_ready readies.items) tracks.old.items }
+{
+    for ready in readies {
+        let Ready { channel, points } = ready;
+        commit_with(tracks, place, channel, at, points);
     }
 }

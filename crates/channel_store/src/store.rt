@@ -16,7 +16,7 @@ use crate::error::ChannelError;
 use crate::points::PointSize;
 use crate::track::Track;
 use crate::tracks::{fresh_tracks, id_in, ids_by_uri};
-use channel_points::ChannelPoints;
+use channel_points::{ChannelPoints, PointRun};
 use etp_values::{ChannelPoint, List, NoMemory, Point, StoreUri};
 use indexmap::IndexMap;
 use server_config::Config;
@@ -27,11 +27,23 @@ use std::marker::Model;
 ///
 /// A contract sees the list of the channels. A call that changes the store takes effect completely or not at all: after any error the store
 /// is as before.
-#[derive(Drop)]
 pub struct ChannelStore {
     alloc: Global,
     tracks: Vec<Track>,
     ids: IndexMap<StoreUri, i64>,
+}
+
+/// Written out, so that whatever holds one drops it by a single call.
+impl Drop for ChannelStore {
+    fn drop(self) {
+        let ChannelStore {
+            alloc: _,
+            tracks,
+            ids,
+        } = self;
+        drop(tracks);
+        drop(ids);
+    }
 }
 
 impl Model for ChannelStore {
@@ -263,8 +275,8 @@ impl ChannelStore {
         Ok(track.range_size_within(from, to, most))
     }
 
-    /// Copies of a channel's points at or past `start`.
-    pub fn tail(&self, channel: i64, start: i64) -> Result<List<Point>, ChannelError>
+    /// A channel's points at or past `start`, in chunks that share its memory.
+    pub fn tail(&self, channel: i64, start: i64) -> Result<PointRun, ChannelError>
         ensures { Gives ChannelError.NoMemory result (tail_of self.now channel start) }
     {
         let Some(track) = track_at(self.tracks.as_slice(), channel) else {

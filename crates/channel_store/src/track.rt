@@ -5,29 +5,46 @@ ghost use Rattle.channel_store.specs.Channels.{fresh, IsKept};
 ghost use Rattle.channel_store.specs.Marks.{marked};
 ghost use Rattle.channel_store.specs.Points.{Rises, first_of, index_from_end, inside, last_of, past};
 ghost use Rattle.channel_store.specs.Told.{size_of, size_within, told_by};
-ghost use Rattle.channel_store.specs.Rows.{Becomes, IsDue, added, begun, cleared, done, plain, what_by};
+ghost use Rattle.channel_store.specs.Rows.{Becomes, IsAppending, IsDue, IsNext, added, begun, cleared, done, plain, what_by};
 
-use crate::change::ChannelChange;
-use crate::draft::{Draft, Way};
+use crate::change::{ChannelChange, What};
+use crate::draft::{Way, check, join};
 use crate::error::ChannelError;
 use crate::places::{change_at, mark_changes, next_place};
 use crate::points::{
-    PointSize, apply, copy_inside, copy_past, first_index, index_from_end, last_index, size_inside,
-    size_inside_within, size_past, size_past_within,
+    PointSize, apply, copy_inside, index_from_end, run_past, size_inside, size_inside_within,
+    size_past, size_past_within,
 };
-use channel_points::{Points, Rows};
+use channel_points::{Chunks, PointRun, Points, Rows};
 use etp_values::{Copied, List, NoMemory, Point, StoreUri};
 use server_config::{ChannelDef, ValueKind};
 use std::alloc::Global;
 use std::marker::Model;
+use std::mem;
 
-#[derive(Drop)]
 pub struct Track {
     uri: StoreUri,
     kind: ValueKind,
-    points: Vec<Point>,
+    points: Chunks,
     changes: Rows<ChannelChange>,
-    draft: Option<Draft>,
+    staged: Option<What>,
+}
+
+/// Written out, so that whatever holds one drops it by a single call.
+impl Drop for Track {
+    fn drop(self) {
+        let Track {
+            uri,
+            kind: _,
+            points,
+            changes,
+            staged,
+        } = self;
+        drop(uri);
+        drop(points);
+        drop(changes);
+        drop(staged);
+    }
 }
 
 impl Model for Track {
@@ -49,9 +66,9 @@ impl Track {
         Ok(Track {
             uri: def.uri.copy(alloc)?,
             kind: def.kind,
-            points: Vec::new(alloc),
+            points: Chunks::new(alloc),
             changes: Rows::new(alloc),
-            draft: None,
+            staged: None,
         })
     }
 
@@ -73,63 +90,63 @@ impl Track {
         ensures value { result ≡ last_of self.now.shown.points }
         ensures rises { Rises self.now.shown.points }
     {
-        last_index(self.points.as_slice())
+        self.points.last_index()
     }
 
     /// The index of the first point.
     pub fn first_index(&self) -> Option<i64>
         ensures { result ≡ first_of self.now.shown.points }
     {
-        first_index(self.points.as_slice())
+        self.points.first_index()
     }
 
     /// The index of a point by its number from the end.
     pub fn index_from_end(&self, count: u64) -> Option<i64>
         ensures { result ≡ index_from_end count self.now.shown.points }
     {
-        index_from_end(self.points.as_slice(), count)
+        index_from_end(&self.points, count)
     }
 
-    /// Copies of the points at or past `start`.
-    pub fn tail(&self, alloc: Global, start: i64) -> Result<List<Point>, NoMemory>
+    /// The points at or past `start`, in chunks that share the memory of the channel's.
+    pub fn tail(&self, alloc: Global, start: i64) -> Result<PointRun, NoMemory>
         ensures { IfOk result (λ r. r ≡ past start self.now.shown.points) }
     {
-        copy_past(alloc, self.points.as_slice(), start)
+        run_past(alloc, &self.points, start)
     }
 
     /// How many points are from `from` to `to`, and what they count.
     pub fn range_size(&self, from: i64, to: i64) -> PointSize
         ensures { result ≡ size_of (inside from to self.now.shown.points) }
     {
-        size_inside(self.points.as_slice(), from, to)
+        size_inside(&self.points, from, to)
     }
 
     /// How many points are from `from` to `to`, and what they count, if they are at most `most`.
     pub fn range_size_within(&self, from: i64, to: i64, most: u64) -> Option<PointSize>
         ensures { result ≡ size_within most (inside from to self.now.shown.points) }
     {
-        size_inside_within(self.points.as_slice(), from, to, most)
+        size_inside_within(&self.points, from, to, most)
     }
 
     /// How many points are at or past `start`, and what they count, if they are at most `most`.
     pub fn tail_size_within(&self, start: i64, most: u64) -> Option<PointSize>
         ensures { result ≡ size_within most (past start self.now.shown.points) }
     {
-        size_past_within(self.points.as_slice(), start, most)
+        size_past_within(&self.points, start, most)
     }
 
     /// How many points are at or past `start`, and what they count.
     pub fn tail_size(&self, start: i64) -> PointSize
         ensures { result ≡ size_of (past start self.now.shown.points) }
     {
-        size_past(self.points.as_slice(), start)
+        size_past(&self.points, start)
     }
 
     /// Copies of the points from `from` to `to`.
     pub fn range(&self, alloc: Global, from: i64, to: i64) -> Result<List<Point>, NoMemory>
         ensures { IfOk result (λ r. r ≡ inside from to self.now.shown.points) }
     {
-        copy_inside(alloc, self.points.as_slice(), from, to)
+        copy_inside(alloc, &self.points, from, to)
     }
 
     /// The change whose entry is at a place of the journal.
@@ -159,7 +176,7 @@ impl Track {
     pub fn is_staged(&self) -> bool
         ensures { result ≡ is_some self.now.staged }
     {
-        self.draft.is_some()
+        self.staged.is_some()
     }
 
     /// Begins a change without points.
@@ -167,10 +184,11 @@ impl Track {
         ensures ok { OnOk result (self.new ≡ record self.old { staged = Some (what_by way []) }) }
         ensures kept { self.new.shown ≡ self.old.shown }
     {
-        let draft = Draft::new(alloc, way)?;
-        drop(self.draft.take());
+        let what = way.begin(alloc)?;
+        drop(self.staged.take());
+        self.points.shed();
         self.changes.reserve()?;
-        drop(self.draft.replace(draft));
+        drop(self.staged.replace(what));
         Ok(())
     }
 
@@ -186,21 +204,27 @@ impl Track {
         self.begin(alloc, Way::Behind)
     }
 
-    /// Adds a copy of a point to what is about to happen to this channel, whose id is `channel`.
+    /// Adds a copy of a point to what is about to happen to this channel, whose id is `channel`. After an error nothing is about to
+    /// happen.
     pub fn add(&mut self, alloc: Global, channel: i64, point: &Point) -> Result<(), ChannelError>
         ensures answer { Becomes result self.new (added channel point.now self.old) }
         ensures kept { self.new.shown ≡ self.old.shown }
     {
-        let Some(draft) = &mut self.draft else {
+        let Some(what) = self.staged.take() else {
             return Err(ChannelError::Outside(channel));
         };
-        draft.add(alloc, &mut self.points, channel, point)
+        if let Err(error) = check(&self.points, &what, channel, point) {
+            return Err(error);
+        }
+        let joined = join(alloc, &mut self.points, what, point)?;
+        drop(self.staged.replace(joined));
+        Ok(())
     }
 
     /// Whether a copy of what is about to happen shares its points, or nothing is about to happen.
     fn is_sealed(&self) -> bool {
-        match &self.draft {
-            Some(draft) => draft.what.is_sealed(),
+        match &self.staged {
+            Some(what) => what.is_sealed(),
             None => true,
         }
     }
@@ -213,20 +237,30 @@ impl Track {
         if self.is_sealed() {
             return Ok(());
         }
-        let Some(draft) = self.draft.take() else {
+        let Some(what) = self.staged.take() else {
             return Ok(());
         };
-        self.draft = Some(draft.sealed(alloc)?);
+        self.staged = Some(what.sealed(alloc)?);
         Ok(())
     }
 
     /// The points of what is about to happen.
-    pub fn told(&self, alloc: Global) -> Result<Option<Points>, NoMemory>
+    pub fn staged_points(&self, alloc: Global) -> Result<Option<Points>, NoMemory>
         ensures { IfOk result (λ r. r ≡ option_map told_by self.now.staged) }
     {
-        match &self.draft {
-            Some(draft) => Ok(Some(draft.what.told(alloc)?)),
+        match &self.staged {
+            Some(what) => Ok(Some(what.points(alloc)?)),
             None => Ok(None),
+        }
+    }
+
+    /// The points after what is about to happen.
+    pub fn ready(&self, alloc: Global) -> Result<Chunks, NoMemory>
+        ensures { IfOk result (λ h. IsNext self.now h) }
+    {
+        match &self.staged {
+            Some(what) => apply(alloc, &self.points, what),
+            None => Ok(Chunks::new(alloc)),
         }
     }
 
@@ -234,19 +268,39 @@ impl Track {
     pub fn clear(&mut self)
         ensures { self.new ≡ cleared self.old }
     {
-        self.draft = None;
+        drop(self.staged.take());
+        self.points.shed();
     }
 
-    /// Does what is about to happen, and notes it as the change of the entry at `place`. It does not allocate.
+    /// Adds the points that are about to be added, and notes this as the change of the entry at `place`. It does not allocate.
     pub fn commit(&mut self, place: u64, channel: i64, at: i64)
-        requires { IsDue place self.old }
+        requires due { IsDue place self.old }
+        requires appending { IsAppending self.old.staged }
         ensures { self.new ≡ done place channel at self.old }
     {
-        let Some(draft) = self.draft.take() else {
+        let Some(what) = self.staged.take() else {
             return;
         };
-        let Draft { points, what } = draft;
-        apply(&mut self.points, &what, points);
+        self.points.keep();
+        self.changes.push_reserved(ChannelChange {
+            place,
+            channel,
+            at,
+            what,
+        });
+    }
+
+    /// Does what is about to happen, after which the channel has these points, and notes it as the change of the entry at `place`. It does
+    /// not allocate.
+    pub fn commit_with(&mut self, place: u64, channel: i64, at: i64, points: Chunks)
+        requires due { IsDue place self.old }
+        requires next { IsNext self.old points }
+        ensures { self.new ≡ done place channel at self.old }
+    {
+        let Some(what) = self.staged.take() else {
+            return;
+        };
+        drop(mem::replace(&mut self.points, points));
         self.changes.push_reserved(ChannelChange {
             place,
             channel,

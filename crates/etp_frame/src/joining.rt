@@ -47,16 +47,9 @@ pub enum JoinError {
 }
 
 /// Puts the chunks of objects' data into the objects. At most one message awaits its chunks at a time.
+#[derive(Drop)]
 pub struct Joiner {
     awaited: Option<Awaiting>,
-}
-
-/// Written out, so that whatever holds one drops it by a single call.
-impl Drop for Joiner {
-    fn drop(self) {
-        let Joiner { awaited } = self;
-        drop(awaited);
-    }
 }
 
 impl Model for Joiner {

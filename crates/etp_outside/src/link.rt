@@ -83,6 +83,18 @@ pub trait Link: Drop + Send {
         ensures ended { ended self.new ≡ ended self.old }
         ensures closed { closed self.new ≡ closed self.old };
 
+    /// Tells the link, before it is closed, the number of the session that it served and how that ended, both as they are handed over later
+    /// with the link ([`back`](crate::Listener::back)). It never waits, and nothing that the link reveals changes. A link that has nobody to
+    /// pass it on to does nothing.
+    fn leave(&mut self, number: u64, end: u8)
+        ensures talk { talk self.new ≡ talk self.old }
+        ensures faults { faults self.new ≡ faults self.old }
+        ensures ended { ended self.new ≡ ended self.old }
+        ensures closed { closed self.new ≡ closed self.old }
+    {
+        let _ = (number, end);
+    }
+
     /// Says goodbye to the peer: this side is done.
     fn close(&mut self)
         ensures talk { talk self.new ≡ talk self.old }

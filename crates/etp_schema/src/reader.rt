@@ -14,21 +14,11 @@ use etp_values::{Bits32, Bits64, Blob, Id16, Text};
 use std::alloc::Global;
 
 /// The rest of a message's bytes, and the number of nodes that are still allowed.
+#[derive(Drop)]
 pub struct Reader<'a> {
     rest: &'a [u8],
     left: u32,
     alloc: Global,
-}
-
-/// Written out, so that whatever holds one drops it by a single call.
-impl<'a> Drop for Reader<'a> {
-    fn drop(self) {
-        let Reader {
-            rest: _,
-            left: _,
-            alloc: _,
-        } = self;
-    }
 }
 
 impl<'a> Reader<'a> {

@@ -64,7 +64,7 @@ pub(crate) trait Keeps {
     /// If no more links are served for this reason, this many of those that were given out have no answer yet.
     ghost way: { Self → Served → Pass → Self.Door → ℕ → Type 0 };
 
-    /// The pass keeps its number, and there is room for as many children as before, of which there are at most so many more. The listener gave
+    /// The pass keeps its number, there is room for as many children as before, and there are at most `more` more of them. The listener gave
     /// out no link, did not stop, and listens where it did. It may have failed.
     ghost keeps: { Self → Pass → Pass → Self.Door → Self.Door → Self.Children → Self.Children → ℕ → Type 0 };
 }

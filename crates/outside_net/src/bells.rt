@@ -250,7 +250,7 @@ impl Post {
         }
     }
 
-    /// Whether the link that waits here is told what the others did.
+    /// Whether the link that waits here has a bell.
     pub(crate) fn has_bell(&self) -> bool {
         self.bell.is_some()
     }

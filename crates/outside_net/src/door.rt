@@ -28,10 +28,10 @@ pub type ServerLink = WsLink<TcpStream, NoMask>;
 /// While it is asked for a link it waits for the listener and all connections in their handshake at the same time, and reads from each what
 /// has come. So a connection that is silent, slow or sends rubbish delays nobody, and needs no thread. Each has 2 seconds until its head is
 /// complete, and 65,536 bytes. At most 256 are at this point: one more takes the place of one that was refused and has not left, or else of
-/// the one that has waited longest. A refused one is answered with an HTTP status and the cause. A connection is told that it is accepted when its link is handed out, so one for which there
-/// is no session yet waits for its answer.
+/// the one that has waited longest. A refused one is answered with an HTTP status and the cause. A connection is sent its acceptance when
+/// its link is handed out, so one for which there is no session yet waits for its answer.
 ///
-/// If the system has no descriptor or memory for a new connection, that one or the one that has waited longest is turned away, and the door
+/// If the system has no descriptor or memory for a new connection, that one or the one that has waited longest is refused, and the door
 /// continues after 50 milliseconds.
 #[derive(Drop)]
 pub struct TcpDoor<'a, R> {
@@ -261,7 +261,7 @@ impl<'a, R: Net<Listener = TcpListener, Stream = TcpStream> + Clock> TcpDoor<'a,
         Next::Failed
     }
 
-    /// The next link, as [`next`](Listener::next) returns it. The connections that are turned away meanwhile are reported to the log.
+    /// The next link, as [`next`](Listener::next) returns it. The connections that are refused meanwhile are reported to the log.
     pub fn next_told<L: DoorLog>(&mut self, alloc: Global, log: &mut L) -> Next<ServerLink>
         ensures link { IfLink result (λ l. IsAccepted (⟦<ServerLink as Link>⟧.talk l) (⟦<ServerLink as Link>⟧.faults l) (⟦<ServerLink as Link>⟧.ended l)) }
         ensures usable { IfLink result (λ l. ⟦<ServerLink as Link>⟧.closed l ≡ false) }

@@ -64,7 +64,7 @@ pub(crate) struct Hall {
     crowd: bool,
     /// Whether the last accept failed.
     pause: bool,
-    /// A descriptor that is given up to turn a connection away when the system has no other.
+    /// A descriptor that is given up to refuse a connection when the system has no other.
     spare: Option<TcpListener>,
     /// Whether it waits for the end of the standard input too.
     input: bool,
@@ -205,7 +205,7 @@ impl Hall {
                 log.unaccepted(error);
                 self.pause = true;
                 if !self.room.cut_least_needed(alloc, now, log) {
-                    self.turn_away(alloc, listener, now, log);
+                    self.refuse_next(alloc, listener, now, log);
                 }
             }
             Fate::Listener => {
@@ -216,8 +216,8 @@ impl Hall {
         true
     }
 
-    /// Accepts a connection by means of the spare descriptor, and refuses it.
-    fn turn_away<L: DoorLog>(
+    /// Accepts the next connection by means of the spare descriptor, and refuses it.
+    fn refuse_next<L: DoorLog>(
         &mut self,
         alloc: Global,
         listener: &TcpListener,

@@ -41,13 +41,13 @@ impl From<AllocError> for Missed {
     }
 }
 
-/// The longest message and frame. It is twice what a session reads, so that a message past that limit still arrives whole and is refused by
-/// the session; one past this limit is a fault of the link.
+/// The longest message and frame that the library would read. It reads none: after the handshake the link reads frames itself.
 const MAX_MESSAGE: usize = 33_554_432;
 
-/// How many bytes one read of a stream asks for. A socket keeps twice as many.
+/// How many bytes one read of the handshake asks for.
 const READ_BUFFER: usize = 65_536;
 
+/// The library's settings for the handshake.
 fn limits() -> WebSocketConfig {
     WebSocketConfig::default()
         .max_message_size(Some(MAX_MESSAGE))

@@ -491,8 +491,8 @@ impl<S: Read + Write + OpenStream + Drop, K: MaskKeys + Drop> WsLink<S, K> {
         }
     }
 
-    /// Sends the goodbye, and reads until the peer's has come, or has not come in time. A client from which no message came was turned
-    /// away, and is not waited for.
+    /// Sends the goodbye, and reads until the peer's has come, or has not come in time. A client from which no message came got no session,
+    /// and is not waited for.
     fn say_goodbye(&mut self)
         ensures faults { self.new.faults ≡ self.old.faults }
         ensures ended { self.new.ended ≡ self.old.ended }
@@ -566,7 +566,7 @@ impl<S: Read + Write + OpenStream + Drop, K: MaskKeys + Drop> WsLink<S, K> {
         }
     }
 
-    /// The server stops: buffered output is sent, the peer is told so, and nothing more comes.
+    /// The server stops: buffered output is sent, then a Close frame that says so, and nothing more comes.
     fn leave(&mut self) -> Recv
         ensures faults { self.new.faults ≡ self.old.faults }
         ensures end { result ≡ Recv.End }

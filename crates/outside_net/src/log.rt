@@ -3,8 +3,7 @@ use crate::refusal::Refusal;
 use std::io;
 use std::net::SocketAddr;
 
-/// Receives reports of the connections that a door turns away, as it does so, and of how the sessions of its links ended, as these come
-/// back.
+/// Receives reports of the connections that a door refuses, as it does so, and of how the sessions of its links ended, as these come back.
 pub trait DoorLog {
     /// The connection of this peer was given no link.
     fn refused(&mut self, peer: &SocketAddr, refusal: Refusal);

@@ -98,7 +98,7 @@ impl Pace {
         self.sent = self.sent.saturating_add(1);
     }
 
-    /// The time was over. A link without a bell does not wait long: nothing tells it what the others did.
+    /// The time was over. A link without a bell does not wait long: nothing wakes it when the others write.
     pub(crate) fn on_silence(&mut self, has_bell: bool) {
         let longest = if has_bell { LONGEST } else { LONGEST_DEAF };
         self.limit = self.limit.saturating_mul(2).max(SHORTEST).min(longest);

@@ -1,7 +1,8 @@
 //! What a store is asked, and what it answers.
+use channel_points::PointRun;
 use channel_store::{ChannelChange, Sub};
 use etp_values::{
-    ChannelPoint, Copied, DataValue, ErrorCode, List, Named, NoMemory, Point, StoreUri, Text,
+    ChannelPoint, Copied, DataValue, ErrorCode, List, Named, NoMemory, StoreUri, Text,
 };
 use object_store::SpaceRecord;
 use std::alloc::Global;
@@ -133,10 +134,10 @@ pub enum MetaReply {
     Refused(ErrorCode),
 }
 
-/// Where a subscription starts, and the points from there on.
+/// Where a subscription starts, and the points from there on, which share the memory of the channel's.
 #[derive(Drop)]
 pub enum StartReply {
-    From { start: i64, points: List<Point> },
+    From { start: i64, points: PointRun },
     Refused(ErrorCode),
 }
 

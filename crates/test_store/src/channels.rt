@@ -82,6 +82,21 @@ fn check(
     Ok(())
 }
 
+/// Items of channel 0 at each index from `from` to `to`.
+fn run(alloc: Global, from: i64, to: i64) -> Result<List<ChannelPoint>, NoMemory> {
+    let mut items = Vec::new(alloc);
+    for index in from..=to {
+        items.push(ChannelPoint {
+            channel: 0,
+            point: Point {
+                index,
+                value: DataValue::Long(index),
+            },
+        })?;
+    }
+    Ok(List::from_vec(items))
+}
+
 /// Adds points by channel, index and value, as the changes of the entry at a place.
 fn append(
     alloc: Global,
@@ -149,6 +164,41 @@ fn truncates_above_the_end(rt: HostRuntime) -> Result<(), Fail> {
     append(alloc, &mut store, 0, &[(0, 90, 1), (0, 91, 2)])?;
     truncate(alloc, &mut store, 1, 0, 90)?;
     check(&rt, &store, 0, 1000, &[90])
+}
+
+/// A replacement and a truncation of points that are not kept in one piece.
+#[test]
+fn changes_points_of_two_chunks(rt: HostRuntime) -> Result<(), Fail> {
+    let alloc = rt.alloc();
+    let mut store = two_channels(alloc)?;
+    store.append(0, 10, &run(alloc, 1, 1025)?)?;
+    store.append(1, 10, &run(alloc, 1026, 1100)?)?;
+    check(&rt, &store, 1023, 1027, &[1023, 1024, 1025, 1026, 1027])?;
+    equal(&rt, store.index_from_end(0, 78), Some(1023));
+    let one = items(alloc, &[(0, 1010, 1)])?;
+    store.replace(2, 20, &ids(alloc, &[0])?, 1000, 1030, &one)?;
+    check(&rt, &store, 998, 1032, &[998, 999, 1010, 1031, 1032])?;
+    equal(&rt, store.index_from_end(0, 72), Some(999));
+    truncate(alloc, &mut store, 3, 0, 999)?;
+    equal(&rt, store.last_index(0), Some(999));
+    equal(&rt, store.first_index(0), Some(1));
+    Ok(())
+}
+
+/// The points from an index on come in chunks of at most 1,024.
+#[test]
+fn hands_out_chunks(rt: HostRuntime) -> Result<(), Fail> {
+    let alloc = rt.alloc();
+    let mut store = two_channels(alloc)?;
+    store.append(0, 10, &run(alloc, 1, 1025)?)?;
+    equal(&rt, store.tail(0, 1)?.len(), 1025);
+    equal(&rt, store.tail(0, 1)?.chunks(), 2);
+    equal(&rt, store.tail(0, 1)?.chunk_from(1000).len(), 24);
+    store.truncate(1, 20, &ids(alloc, &[0])?, &ids(alloc, &[1])?)?;
+    equal(&rt, store.tail(0, 1)?.chunks(), 1);
+    truncate(alloc, &mut store, 2, 0, 0)?;
+    equal(&rt, store.tail(0, 1)?.chunks(), 0);
+    Ok(())
 }
 
 #[test]

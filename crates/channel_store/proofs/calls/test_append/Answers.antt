@@ -9,10 +9,10 @@ pub returns-clause-answer : goal.returns-clause-answer
 returns-clause-answer c =
     let items = c.args.items.now in
     let cs = shown_of c.args.tracks.now.items in
-    let first = c.prepare_append-result in
+    let first = c.stage_append-result in
     becomes-refuses first.result first.new.tracks.items (staged_by (appended items) cs) (append_refusal cs items) first.ensures.answer
 
 pub returns-clause-same : goal.returns-clause-same
 returns-clause-same c =
-    let first = c.prepare_append-result in
+    let first = c.stage_append-result in
     cleared-is c.args.tracks.now.items first.new.tracks.items c.clear_all.new.tracks.items c.requires first.ensures.kept c.clear_all.ensures

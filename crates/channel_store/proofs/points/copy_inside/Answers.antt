@@ -7,13 +7,13 @@ use Rattle.channel_store.specs.Points.{inside}
 use Rattle.channel_store.proofs.PointLemmas.{copied-is, ends-within}
 use Rattle.channel_store.proofs.points.copy_inside.Goals as goal
 
-pub copy_behind-requires : goal.copy_behind-requires
-copy_behind-requires c = ends-within _ _ c.args.points.now c.place_inside-start.result.0 c.place_inside-start.result.1 c.place_inside-start.ensures.below c.place_inside-start.ensures.inside
+pub copy_between-requires : goal.copy_between-requires
+copy_between-requires c = ends-within _ _ c.args.points.now.points c.place_inside-start.result.0 c.place_inside-start.result.1 c.place_inside-start.ensures.below c.place_inside-start.ensures.inside
 
 pub returns : goal.returns
 returns c =
-    let xs = c.args.points.now in
+    let xs = c.args.points.now.points in
     let from : to_z w64 (of_z w64 c.args.from) ≡ c.args.from = to_z-of_z w64 c.args.from c.ranges.from in
     let to : to_z w64 (of_z w64 c.args.to) ≡ c.args.to = to_z-of_z w64 c.args.to c.ranges.to in
     let is = copied-is (to_z w64 (of_z w64 c.args.from)) (to_z w64 (of_z w64 c.args.to)) xs c.place_inside-start.result.0 c.place_inside-start.result.1 c.place_inside-start.ensures.below c.place_inside-start.ensures.inside in
-    subst (λ l. IfOk c.copy_behind.result (λ r. r ≡ l)) (is ∙ (λ j. inside (from j) (to j) xs)) c.copy_behind.ensures
+    subst (λ l. IfOk c.copy_between.result (λ r. r ≡ l)) (is ∙ (λ j. inside (from j) (to j) xs)) c.copy_between.ensures

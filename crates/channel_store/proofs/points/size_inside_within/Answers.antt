@@ -8,11 +8,11 @@ use Rattle.channel_store.proofs.PointLemmas.{copied-is, ends-within}
 use Rattle.channel_store.proofs.points.size_inside_within.Goals as goal
 
 pub size_of_few-requires : goal.size_of_few-requires
-size_of_few-requires c = ends-within _ _ c.args.points.now c.place_inside-start.result.0 c.place_inside-start.result.1 c.place_inside-start.ensures.below c.place_inside-start.ensures.inside
+size_of_few-requires c = ends-within _ _ c.args.points.now.points c.place_inside-start.result.0 c.place_inside-start.result.1 c.place_inside-start.ensures.below c.place_inside-start.ensures.inside
 
 pub returns : goal.returns
 returns c =
-    let xs = c.args.points.now in
+    let xs = c.args.points.now.points in
     let from : to_z w64 (of_z w64 c.args.from) ≡ c.args.from = to_z-of_z w64 c.args.from c.ranges.from in
     let to : to_z w64 (of_z w64 c.args.to) ≡ c.args.to = to_z-of_z w64 c.args.to c.ranges.to in
     let is = copied-is (to_z w64 (of_z w64 c.args.from)) (to_z w64 (of_z w64 c.args.to)) xs c.place_inside-start.result.0 c.place_inside-start.result.1 c.place_inside-start.ensures.below c.place_inside-start.ensures.inside in

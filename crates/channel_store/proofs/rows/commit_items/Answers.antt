@@ -20,6 +20,7 @@ loop-item-preserved c =
           ∙ ap (λ l. all_done c.args.place at (ids_of l) rows) (sym (drop-here items n item (omega arith) c.item-item.is))
           ∙ c.loop-item.invariant.done;
       due = c.commit.ensures.due;
+      appending = c.commit.ensures.appending;
     }
 
 pub returns : goal.returns

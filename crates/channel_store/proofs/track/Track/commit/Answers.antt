@@ -1,29 +1,53 @@
-use Rattle.std.proofs.Common.{sym, subst, ◌∙◌, ◌≡◌, Some, vec_len}
-use Rattle.std.specs.Vec.{vec_capacity}
+use Rattle.std.proofs.Common.{sym, subst, ap, ◌∙◌, ◌≡◌, Some}
 use mir.Syntax.{w64}
 use mir.Val.{to_z, of_z}
+use Rattle.std.proofs.lemmas.Int.{to_z-of_z}
+use Rattle.channel_points.specs.Chunks.{settled}
 use Rattle.channel_store.specs.Points.{after}
 use Rattle.channel_store.specs.Channels.{IsKept, happened}
-use Rattle.channel_store.specs.Rows.{IsDue}
+use Rattle.channel_store.specs.Rows.{IsAppending, IsDue, done, done_by}
 use Rattle.channel_store.specs.Tracks.{channel_of, IsDrafted}
 use Rattle.channel_store.proofs.PointLemmas.{kept-happened}
-use Rattle.channel_store.proofs.TrackLemmas.{drafted-some, due-some}
+use Rattle.channel_store.proofs.TrackLemmas.{appended-all, appending-some, drafted-some, due-some}
 use Rattle.channel_store.proofs.track.Track.commit.Goals as goal
 
 pub invariant_of-self-2 : goal.invariant_of-self-2
 invariant_of-self-2 c =
     let t = c.self.inside in
-    let draft : t.draft ≡ Some c.in-Some.draft = sym c.take.ensures.value ∙ c.in-Some.is in
-    let ready = drafted-some t.points.items (vec_len t.points) (vec_capacity t.points) t.changes.room t.draft c.in-Some.draft draft c.self.invariant.drafted in
-    let past = due-some c.args.place (channel_of t) t.draft c.in-Some.draft draft (subst (IsDue c.args.place) (sym c.self.view_is) c.requires) in
-    let w = c.in-Some.draft.what in
+    let w = c.in-Some.what in
+    let staged : t.staged ≡ Some w = sym c.take.ensures.value ∙ c.in-Some.is in
+    let ready = drafted-some t.points t.changes.room t.staged w staged c.self.invariant.drafted in
+    let past = due-some c.args.place (channel_of t) t.staged w staged (subst (IsDue c.args.place) (sym c.self.view_is) c.requires.due) in
+    let appending = appending-some t.staged w staged (subst (λ r. IsAppending r.staged) (sym c.self.view_is) c.requires.appending) in
     let id = to_z w64 (of_z w64 c.args.channel) in
     let at = to_z w64 (of_z w64 c.args.at) in
-    let points : c.apply.new.points.items ≡ after t.points.items w = c.apply.ensures in
+    let all : c.keep.new.self ≡ settled (after t.points.points w) = appended-all t.points c.keep.new.self w ready.0 appending c.keep.ensures in
+    let points : c.keep.new.self.points ≡ after t.points.points w = ap (λ h. h.points) all in
     let changes : c.push_reserved.new.self.items ≡ (happened c.args.place id at (channel_of t) w).changes = c.push_reserved.ensures in
-    let same : happened c.args.place id at (channel_of t) w ≡ record { uri = t.uri; kind = t.kind; points = c.apply.new.points.items; changes = c.push_reserved.new.self.items } =
+    let same : happened c.args.place id at (channel_of t) w ≡ record { uri = t.uri; kind = t.kind; points = c.keep.new.self.points; changes = c.push_reserved.new.self.items } =
     (λ j. record { uri = t.uri; kind = t.kind; points = sym points j; changes = sym changes j }) in
     record {
       kept = subst IsKept same (kept-happened c.args.place id at (channel_of t) w c.self.invariant.kept ready.0.fits past);
-      drafted = subst (IsDrafted c.apply.new.points.items (vec_len c.apply.new.points) (vec_capacity c.apply.new.points) c.push_reserved.new.self.room) (sym c.take.ensures.after) tt;
+      drafted = subst (IsDrafted c.keep.new.self c.push_reserved.new.self.room) (sym c.take.ensures.after) tt;
     }
+
+pub returns : goal.returns
+returns c =
+    let t = c.self.inside in
+    let w = c.in-Some.what in
+    let staged : t.staged ≡ Some w = sym c.take.ensures.value ∙ c.in-Some.is in
+    let ready = drafted-some t.points t.changes.room t.staged w staged c.self.invariant.drafted in
+    let past = due-some c.args.place (channel_of t) t.staged w staged (subst (IsDue c.args.place) (sym c.self.view_is) c.requires.due) in
+    let appending = appending-some t.staged w staged (subst (λ r. IsAppending r.staged) (sym c.self.view_is) c.requires.appending) in
+    let id = to_z w64 (of_z w64 c.args.channel) in
+    let at = to_z w64 (of_z w64 c.args.at) in
+    let all : c.keep.new.self ≡ settled (after t.points.points w) = appended-all t.points c.keep.new.self w ready.0 appending c.keep.ensures in
+    let points : c.keep.new.self.points ≡ after t.points.points w = ap (λ h. h.points) all in
+    let changes : c.push_reserved.new.self.items ≡ (happened c.args.place id at (channel_of t) w).changes = c.push_reserved.ensures in
+    let same : happened c.args.place id at (channel_of t) w ≡ record { uri = t.uri; kind = t.kind; points = c.keep.new.self.points; changes = c.push_reserved.new.self.items } =
+    (λ j. record { uri = t.uri; kind = t.kind; points = sym points j; changes = sym changes j }) in
+    let channel : id ≡ c.args.channel = to_z-of_z w64 c.args.channel c.ranges.channel in
+    let moment : at ≡ c.args.at = to_z-of_z w64 c.args.at c.ranges.at in
+    (λ j. record { shown = sym same j; staged = c.take.ensures.after j })
+    ∙ (λ j. done_by c.args.place (channel j) (moment j) (channel_of t) (sym staged j))
+    ∙ ap (done c.args.place c.args.channel c.args.at) c.self.view_is
