@@ -84,6 +84,7 @@ def wait_for_port(port):
     raise AssertionError(f"nobody listens at {port}")
 
 
+@wants("dpkg", "dpkg-deb", "strip", "/usr/bin/python3")
 class Package(unittest.TestCase):
     """The package and what is in it. A program that is missing is replaced by a small one."""
 
@@ -106,7 +107,9 @@ class Package(unittest.TestCase):
 
     def test_two_builds_are_the_same_bytes(self):
         # The second one from a copy of the sources somewhere else, in another file system where there is one, by another user's habits.
-        epoch = run("git", "-C", ROOT, "log", "-1", "--format=%ct").stdout.strip()
+        told = run(DEPLOY / "make_deb.sh", "--moment")
+        self.assertEqual(told.returncode, 0, told.stdout)
+        epoch = told.stdout.strip()
         with tempfile.TemporaryDirectory() as folder, tempfile.TemporaryDirectory(dir="/dev/shm" if Path("/dev/shm").is_dir() else None) as memory:
             for name in ("deploy", "docs", "clients", "VERSION"):
                 run("cp", "-r", "--no-preserve=all", ROOT / name, folder)
@@ -536,7 +539,7 @@ class Front(unittest.IsolatedAsyncioTestCase):
             held.append(await session.open())
         self.assertEqual((await self.dial())[0], 503)
         held.pop().close()
-        for _ in range(100):
+        for _ in range(100 * PATIENCE):
             status, session = await self.dial()
             if status == 101:
                 break
@@ -562,7 +565,7 @@ class Front(unittest.IsolatedAsyncioTestCase):
         hearing[0].cancel()
         await asyncio.gather(hearing[0], return_exceptions=True)
         await rig.load(2)
-        header, body, heard = await asyncio.wait_for(hearing[1], 60)
+        header, body, heard = await asyncio.wait_for(hearing[1], 60 * PATIENCE)
         self.assertEqual((body.name, heard["data"][0]["indexes"][0]["item"]), ("ChannelData", (1, 2)))
         rig.close()
         office.close()
@@ -647,9 +650,9 @@ class Tunnel(unittest.IsolatedAsyncioTestCase):
     @wants("etpctl")
     async def test_etpctl_loads_through_it(self):
         url = f"ws://127.0.0.1:{self.rig('rig')}/etp"
-        told = await asyncio.to_thread(run, PROGRAMS / "etpctl", "load", url, URI, input="1 3FF8000000000000\n2 4000000000000000\n", timeout=120)
+        told = await asyncio.to_thread(run, PROGRAMS / "etpctl", "load", url, URI, input="1 3FF8000000000000\n2 4000000000000000\n", timeout=120 * PATIENCE)
         self.assertEqual((told.returncode, told.stdout.strip()), (0, "loaded 2"))
-        told = await asyncio.to_thread(run, PROGRAMS / "etpctl", "watch", url, URI, "1", timeout=120)
+        told = await asyncio.to_thread(run, PROGRAMS / "etpctl", "watch", url, URI, "1", timeout=120 * PATIENCE)
         self.assertEqual((told.returncode, told.stdout.splitlines()[0]), (0, "latest 2 d:4000000000000000"))
 
 
@@ -672,7 +675,7 @@ class Runner(unittest.TestCase):
         process = self.start(f"echo ready $*; {script}")
         self.assertEqual(process.stdout.readline(), "ready CONFIG 127.0.0.1:0\n")
         process.send_signal(number)
-        out, _ = process.communicate(timeout=90)
+        out, _ = process.communicate(timeout=90 * PATIENCE)
         return out, process.returncode
 
     def test_closes_the_input_on_either_signal(self):
@@ -681,7 +684,7 @@ class Runner(unittest.TestCase):
 
     def test_has_the_status_of_the_program(self):
         for script, status in (("exit 0", 0), ("exit 7", 7), ("kill -SEGV $$", 128 + signal.SIGSEGV)):
-            self.assertEqual(self.start(script).wait(60), status, script)
+            self.assertEqual(self.start(script).wait(60 * PATIENCE), status, script)
         self.assertEqual(self.stopped("cat; exit 5"), ("", 5))
 
     def test_kills_what_does_not_end(self):
@@ -792,6 +795,10 @@ class Stop(Run):
 
         loading = asyncio.create_task(load())
         await asyncio.sleep(2)
+        for _ in range(600 * PATIENCE):
+            if answered > 10:
+                break
+            await asyncio.sleep(0.1)
         lines, _ = await self.stop()
         with self.assertRaises(web_socket.Closed):
             await loading
@@ -856,7 +863,7 @@ class Stop(Run):
             ([wrong.name, "127.0.0.1:0"], 2, ["config refused: key 1 of channel 0"]), (["/nowhere.toml", "127.0.0.1:0"], 4, ["read fault"]),
             ([config, taken], 7, [f"can't listen at {taken}: the address is in use", "listen fault"]),
             ([config, "192.0.2.1:9002"], 7, ["can't listen at 192.0.2.1:9002: this machine has no such address", "listen fault"]),
-            ([config, "9002"], 7, ["can't listen at 9002: this is no address with a port, as 127.0.0.1:9002", "listen fault"]),
+            ([config, "9002"], 7, ["can't listen at 9002: this is not an address with a port, such as 127.0.0.1:9002", "listen fault"]),
         ):
             told = subprocess.run([DEPLOY / "etpd-run", PROGRAMS / "etpd", *words], stdout=subprocess.DEVNULL, stderr=subprocess.PIPE, text=True)
             self.assertEqual((told.returncode, told.stderr.splitlines()), (status, lines), words)
@@ -878,10 +885,9 @@ class Stop(Run):
         late = asyncio.create_task(self.client())
         await asyncio.sleep(1)
         self.assertFalse(late.done())
-        begun = time.monotonic()
+        # how soon is measured by bench/attack_places.py
         held[29].close()
-        await late
-        self.assertLess(time.monotonic() - begun, PATIENCE)
+        await asyncio.wait_for(late, 60 * PATIENCE)
 
     async def test_a_full_journal_refuses_changes_and_sessions(self):
         # Four entries: the first one, one of each of two sessions, and one of a load.
@@ -932,23 +938,27 @@ class Lines(Run):
         return said
 
     async def test_the_end_of_a_session_has_a_line(self):
-        # etpd writes it when the next client comes, or at the stop.
-        closes, leaves, resets, _ = [await self.client() for _ in range(4)]
+        # etpd writes it at once: nobody comes after these.
+        closes, leaves, resets, stays = [await self.client() for _ in range(4)]
         peer = self.peer(closes.socket.writer)
         await closes.send(0, 5, dict(reason=""))
         await self.goodbye(closes)
-        await self.client()
         self.assertRegex(await self.line(), rf"^session \d+ of {peer} ended: the client closed it$")
         peer = self.peer(leaves.socket.writer)
         leaves.close()
         await leaves.socket.writer.wait_closed()
-        await self.client()
         self.assertRegex(await self.line(), rf"^session \d+ of {peer} ended: the link ended$")
         peer = self.peer(resets.socket.writer)
         resets.socket.transport.get_extra_info("socket").setsockopt(socket.SOL_SOCKET, socket.SO_LINGER, struct.pack("ii", 1, 0))
         resets.socket.transport.abort()
-        await self.client()
         self.assertRegex(await self.line(), rf"^session \d+ of {peer} ended: the link failed$")
+        peer = self.peer(stays.socket.writer)
+        heard = asyncio.create_task(self.goodbye(stays))
+        _, lines = await self.stop()
+        self.assertEqual(await heard, 1001)
+        # None has a second line.
+        self.assertEqual(len(lines), 1, lines)
+        self.assertRegex(lines[0], rf" session \d+ of {peer} ended: the link ended$")
 
     async def test_a_refused_connection_has_a_line(self):
         for request, cause in (
@@ -960,9 +970,10 @@ class Lines(Run):
             self.assertEqual(await self.line(), f"refused {peer}: {cause}")
 
     async def test_no_more_than_ten_lines_a_second(self):
-        count = 100
-        for _ in range(count):
-            await self.ask(b"POST / HTTP/1.1\r\nHost: a\r\n\r\n")
+        count, begun = 100, time.monotonic()
+        for _ in range(0, count, 20):
+            await asyncio.gather(*(self.ask(b"POST / HTTP/1.1\r\nHost: a\r\n\r\n") for _ in range(20)))
+        taken = time.monotonic() - begun
         # The next line comes in a later second, and before it how many were left out.
         await asyncio.sleep(1.1)
         await self.ask(b"POST / HTTP/1.1\r\nHost: a\r\n\r\n")
@@ -970,7 +981,8 @@ class Lines(Run):
         told = [line for line in lines if " refused " in line]
         self.assertEqual(len(told) + left_out(lines), count + 1)
         self.assertLessEqual(max(collections.Counter(line[:29] for line in told).values()), 10)
-        self.assertGreater(left_out(lines), 0)
+        # In the seconds that the requests touched there was room for ten lines each: a slow machine may have had room for all.
+        self.assertGreaterEqual(left_out(lines), count - 10 * (int(taken) + 2))
 
 
 if __name__ == "__main__":

@@ -57,7 +57,8 @@ class RealServer:
         self.folder = tempfile.TemporaryDirectory()
         path = Path(self.folder.name, "server.toml")
         path.write_text(configuration(**settings))
-        self.process = subprocess.Popen([program, str(path), f"127.0.0.1:{port}"], stdout=subprocess.DEVNULL, stderr=subprocess.PIPE)
+        self.process = subprocess.Popen(
+            [program, str(path), f"127.0.0.1:{port}"], stdin=subprocess.DEVNULL, stdout=subprocess.DEVNULL, stderr=subprocess.PIPE)
         limit = threading.Timer(60 * max(1, PATIENCE), self.process.kill)
         limit.daemon = True
         limit.start()

@@ -36,7 +36,7 @@ class Engine:
              "--save", ""], stdout=subprocess.DEVNULL)
         import redis
 
-        end = time.monotonic() + 20
+        end = time.monotonic() + WAIT
         while True:
             try:
                 self.client = redis.Redis(port=self.port)
@@ -228,7 +228,7 @@ class Kills(unittest.TestCase):
                     self.engine.client.xadd(key, fields, id=number)
                 process = self.start()
                 self.assertEqual(process.wait(WAIT), 12)
-                end = time.monotonic() + 10
+                end = time.monotonic() + WAIT
                 while not any(text in line for line in self.said):
                     self.assertLess(time.monotonic(), end, self.said)
                     time.sleep(0.05)

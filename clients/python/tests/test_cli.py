@@ -1,4 +1,5 @@
 """The command line, in processes of its own, against a running server."""
+import importlib.util
 import json
 import os
 import re
@@ -120,6 +121,9 @@ class Commands(CommandCase):
                 (["catalog", wrong], 2, f"{wrong}:2: name: is not a text of 1 to 256 bytes (key 2 of channel 0)"),
                 (["check-config", wrong], 2, f"{wrong}:2: name: "), (["exporter", self.url, "--catalog", wrong], 2, f"{wrong}:2: name: "),
                 (["exporter", self.url, "--catalog", empty], 12, "is not a catalog"), (["range", self.url, channel_uri(0), "9" * 5000], 12, "not a moment")):
+            needed = {"plot": "matplotlib", "bridge": "redis"}.get(next(iter(words), None))
+            if needed and importlib.util.find_spec(needed) is None:
+                status, text = 1, f"needs the package {needed}, which is not installed"
             with self.subTest(words=words):
                 self.assertIn(text, run(*words, status=status))
         # files without an end are given up before they take memory
@@ -334,7 +338,7 @@ class Exporting(unittest.TestCase):
         import urllib.request
 
         try:
-            with urllib.request.urlopen(f"http://127.0.0.1:{self.port}{path}", timeout=10) as answer:
+            with urllib.request.urlopen(f"http://127.0.0.1:{self.port}{path}", timeout=WAIT) as answer:
                 return answer.status, answer.read().decode()
         except urllib.error.HTTPError as error:
             return error.code, error.read().decode()
@@ -349,7 +353,7 @@ class Exporting(unittest.TestCase):
             time.sleep(0.05)
 
     def begin(self, url, *words):
-        process = begin_command("exporter", url, "--listen", "127.0.0.1:0", "--every", "0.1", "--timeout", "2", *words)
+        process = begin_command("exporter", url, "--listen", "127.0.0.1:0", "--every", "0.1", "--timeout", str(2 * max(1, PATIENCE)), *words)
         self.addCleanup(process.stdin.close)
         self.addCleanup(process.stdout.close)
         self.addCleanup(process.stderr.close)

@@ -222,7 +222,7 @@ class Away(ProxyCase):
         with self.assertRaises(colmjurr.HandshakeError) as caught:
             store.spaces()
         self.assertEqual(caught.exception.status, 403)
-        self.assertLess(time.monotonic() - begun, 10)
+        self.assertLess(time.monotonic() - begun, 10 * max(1, PATIENCE))
 
     def test_a_watch_that_is_asked_in_short_steps_begins_again(self):
         """A caller who looks in every 50 ms, and gives up waiting each time, does not keep the watch from dialing."""
@@ -284,7 +284,7 @@ class Resuming(ProxyCase):
         begun = time.monotonic()
         with self.assertRaises(colmjurr.LinkError):
             store.spaces()
-        self.assertLess(time.monotonic() - begun, 10)
+        self.assertLess(time.monotonic() - begun, 10 * max(1, PATIENCE))
         with self.assertRaises(colmjurr.LinkError):
             with store.channel(channel_uri(0)).loader() as load:
                 load(1, 1.0)
@@ -393,7 +393,7 @@ class Resuming(ProxyCase):
         channel.load([10, 20, 30], [1, 2, 3])
         for how, wanted in (({"start": 20}, [20, 30]), ({"latest": 1}, [30]), ({"start": "1970-01-01T00:00:00.000021"}, [30]), ({}, [10, 20, 30])):
             with channel.watch(**how) as watch:
-                self.assertEqual(watch.next(20 * PATIENCE).points.indexes.tolist(), wanted)
+                self.assertEqual(list(watch.next(20 * PATIENCE).points.indexes), wanted)
         with channel.watch(start="now") as watch:
             channel.load([40], [4])
             self.assertEqual(list(watch.next(20 * PATIENCE).points), [(40, 4)])

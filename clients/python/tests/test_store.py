@@ -13,6 +13,10 @@ try:
     import numpy
 except ImportError:
     numpy = None
+try:
+    import pandas
+except ImportError:
+    pandas = None
 
 
 class Case(ServerCase):
@@ -291,7 +295,7 @@ class Kinds(Case):
             self.assertEqual((len(channel.range(11, 19)), len(channel.range(30, 20))), (0, 0))
             channel.refresh()
             self.assertEqual((channel.first, channel.last), (10, 40))
-            if numpy is not None and channel.kind in ("double", "boolean", "string"):
+            if pandas is not None and channel.kind in ("double", "boolean", "string"):
                 frame = found.to_pandas()
                 self.assertEqual((list(frame.columns), len(frame), frame.attrs["uom"]), ([channel.name], 4, channel.unit))
                 self.assertEqual(frame.index[0].isoformat(), "1970-01-01T00:00:00.000010+00:00")
@@ -411,10 +415,8 @@ class Loading(Case):
             self.assertEqual(channel.load([index for index, _ in points], [value for _, value in points]), 300)
         self.assertEqual(list(channel.range()), points)
 
-    @unittest.skipIf(numpy is None, "numpy is not there")
+    @unittest.skipIf(pandas is None, "pandas is not there")
     def test_tables(self):
-        import pandas
-
         store = self.connect()
         times = pandas.date_range("2026-12-01", periods=1000, freq="S", tz="Europe/Oslo")
         frame = pandas.DataFrame({"c5": numpy.linspace(0, 1, 1000, dtype="float32")}, index=times)

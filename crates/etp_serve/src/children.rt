@@ -34,7 +34,7 @@ pub(crate) struct Child<H> {
 pub(crate) type Children<L, C> = VecDeque<Child<Handle<L, C>>>;
 
 /// The number of an end: those of captures, plus 6 and 7 for the ends that no capture has.
-fn end_number_of(end: Ended) -> u8
+pub(crate) fn end_number_of(end: Ended) -> u8
     ensures { result ≡ end_number end }
 {
     match end {

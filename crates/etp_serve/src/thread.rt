@@ -4,6 +4,7 @@ ghost use Rattle.etp_outside.specs.Moments.{Tests};
 ghost use Rattle.store_hub.specs.Passes.{IsFresh, IsPassOf, config_of, known};
 ghost use Rattle.etp_serve.specs.Accepted.{IsDone};
 
+use crate::children::end_number_of;
 use crate::ended::Ended;
 use crate::endings::Endings;
 use crate::serving::serve_session;
@@ -67,7 +68,7 @@ fn moments_pass<C: Clock>(clock: &C)
     let _ = clock;
 }
 
-/// Serves a session that was just let in until it ends, closes its link, and notes among the endings that it has ended.
+/// Serves a session that was just let in until it ends, tells its link so and closes it, and notes among the endings that it has ended.
 pub(crate) fn serve_one<L: Link, C: Clock, G: Gate, R: Wait>(
     rt: &R,
     alloc: Global,
@@ -97,6 +98,7 @@ pub(crate) fn serve_one<L: Link, C: Clock, G: Gate, R: Wait>(
     moments_pass(&clock);
     let end = serve_session(rt, alloc, &mut link, hub, &mut pass, &mut clock, gate, conf);
     moments_pass(&clock);
+    link.leave(pass.number(), end_number_of(end));
     link.close();
     endings.note(bit);
     Finished { link, pass, end }

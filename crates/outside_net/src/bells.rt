@@ -1,4 +1,5 @@
-//! Bells, by which waiting links learn that the store may have changed.
+//! Bells, by which waiting links learn that the store may have changed, and a waiting door that a session has ended.
+use crate::log::DoorLog;
 use mio::unix::SourceFd;
 use mio::{Events, Interest, Poll, Token, Waker};
 use std::alloc::{AllocError, Global};
@@ -32,12 +33,26 @@ pub(crate) struct Bells {
     rung: AtomicU64,
     /// Whether all links are to end.
     stopping: AtomicBool,
+    /// The bits of the links whose sessions have ended since the door last looked.
+    left: AtomicU64,
+    /// Of each place, how the session that was last there ended.
+    ends: Vec<Ending>,
+    /// What wakes the door.
+    door: OnceLock<Waker>,
+}
+
+/// The number of a session that has ended, and how it ended.
+#[derive(Drop)]
+struct Ending {
+    number: AtomicU64,
+    end: AtomicU64,
 }
 
 /// The bell of one link.
 #[derive(Drop)]
 struct Bell {
     bells: Arc<Bells, Global>,
+    place: usize,
     bit: u64,
     /// How often the bells had been rung when this link last looked.
     seen: u64,
@@ -55,6 +70,8 @@ pub(crate) struct Post {
     over: bool,
     /// The peer of the link that waits here.
     peer: Option<SocketAddr>,
+    /// Whether the door was told how the link's session ended.
+    told: bool,
 }
 
 /// The posts of a door: those at which no link waits, and what makes another.
@@ -62,6 +79,8 @@ pub(crate) struct Post {
 pub(crate) struct Posts {
     free: Vec<Post>,
     bells: Arc<Bells, Global>,
+    /// Of each place, the peer of the link that waits there, or waited there last.
+    peers: Vec<Option<SocketAddr>>,
     /// How many have a bell.
     made: u32,
     /// Whether the end of the standard input stops the links.
@@ -79,15 +98,29 @@ pub(crate) enum Woken {
 impl Bells {
     fn new(alloc: Global) -> Result<Bells, AllocError> {
         let mut wakers = Vec::with_capacity(alloc, PLACES)?;
+        let mut ends = Vec::with_capacity(alloc, PLACES)?;
         for _ in 0..PLACES {
             wakers.push(OnceLock::new())?;
+            ends.push(Ending::new())?;
         }
         Ok(Bells {
             wakers,
             waiting: AtomicU64::new(0),
             rung: AtomicU64::new(0),
             stopping: AtomicBool::new(false),
+            left: AtomicU64::new(0),
+            ends,
+            door: OnceLock::new(),
         })
+    }
+
+    /// Notes the number of a place's session and how it ended, and wakes the door.
+    fn leave(&self, place: usize, bit: u64, number: u64, end: u8) {
+        if let Some(ending) = self.ends.get(place) {
+            ending.set(number, end);
+            self.left.fetch_or(bit, Ordering::SeqCst);
+            wake(&self.door);
+        }
     }
 
     /// Has all links end.
@@ -118,6 +151,27 @@ impl Bells {
     }
 }
 
+impl Ending {
+    fn new() -> Ending {
+        Ending {
+            number: AtomicU64::new(0),
+            end: AtomicU64::new(0),
+        }
+    }
+
+    fn set(&self, number: u64, end: u8) {
+        self.number.store(number, Ordering::SeqCst);
+        self.end.store(u64::from(end), Ordering::SeqCst);
+    }
+
+    /// Reports it to the log. The peer is that of the session's link.
+    fn report<L: DoorLog>(&self, peer: &SocketAddr, log: &mut L) {
+        let number = self.number.load(Ordering::SeqCst);
+        let end = self.end.load(Ordering::SeqCst);
+        log.ended(peer, number, (end % 256) as u8);
+    }
+}
+
 impl Bell {
     /// Whether the bells were rung since this link looked. If not, the link waits from now on, and each ring wakes it.
     fn waits(&self) -> bool {
@@ -130,7 +184,7 @@ impl Bell {
     }
 }
 
-/// Wakes the link of a place, if it has had one.
+/// Wakes the link of a place, if it has had one, or the door.
 fn wake(place: &OnceLock<Waker>) {
     if let Some(waker) = place.get() {
         let _ = waker.wake();
@@ -152,15 +206,21 @@ pub(crate) fn lone_post(net: &impl Net, alloc: Global) -> Option<Post> {
         socket: -1,
         over: false,
         peer: None,
+        told: false,
     })
 }
 
 impl Posts {
     /// No post yet. With `input` the end of the standard input ends the links of all posts.
     pub(crate) fn new(alloc: Global, input: bool) -> Result<Posts, AllocError> {
+        let mut peers = Vec::with_capacity(alloc, PLACES)?;
+        for _ in 0..PLACES {
+            peers.push(None)?;
+        }
         Ok(Posts {
             free: Vec::new(alloc),
             bells: Arc::new(alloc, Bells::new(alloc)?)?,
+            peers,
             made: 0,
             input,
         })
@@ -174,7 +234,43 @@ impl Posts {
             None => self.make(net, alloc)?,
         };
         post.peer = Some(peer);
+        post.told = false;
+        self.note(&post);
         Some(post)
+    }
+
+    /// Notes the peer of a post.
+    fn note(&mut self, post: &Post) {
+        if let Some(bell) = &post.bell {
+            if let Some(peer) = self.peers.get_mut(bell.place) {
+                *peer = post.peer;
+            }
+        }
+    }
+
+    /// From now on this wakes the door when a session has ended. Any later one is ignored.
+    pub(crate) fn wake_door_by(&self, waker: Waker) {
+        let _ = self.bells.door.try_set(waker);
+    }
+
+    /// Reports to the log which sessions have ended since it was last called.
+    pub(crate) fn report<L: DoorLog>(&self, log: &mut L) {
+        let mut left = self.bells.left.swap(0, Ordering::SeqCst);
+        for place in 0..PLACES {
+            if left & 1 == 1 {
+                self.report_place(place, log);
+            }
+            left >>= 1;
+        }
+    }
+
+    fn report_place<L: DoorLog>(&self, place: usize, log: &mut L) {
+        let (Some(peer), Some(ending)) = (self.peers.get(place), self.bells.ends.get(place)) else {
+            return;
+        };
+        if let Some(peer) = peer {
+            ending.report(peer, log);
+        }
     }
 
     /// Takes a post back. One for which there is no room is closed.
@@ -208,6 +304,7 @@ impl Posts {
         self.made = place.saturating_add(1);
         post.bell = Some(Bell {
             bells,
+            place: place as usize,
             bit: 1u64.wrapping_shl(place),
             seen: 0,
         });
@@ -255,9 +352,17 @@ impl Post {
         self.bell.is_some()
     }
 
-    /// The peer of the link that waits here.
-    pub(crate) fn peer(&self) -> Option<SocketAddr> {
-        self.peer
+    /// Tells the door the number of the link's session and how that ended, if the link has a bell.
+    pub(crate) fn leave(&mut self, number: u64, end: u8) {
+        if let Some(bell) = &self.bell {
+            bell.bells.leave(bell.place, bell.bit, number, end);
+            self.told = true;
+        }
+    }
+
+    /// The link's peer, if the door was not told how its session ended.
+    pub(crate) fn untold(&self) -> Option<SocketAddr> {
+        if self.told { None } else { self.peer }
     }
 
     /// Has the post wait for another readiness of its socket. What is ready by now is reported at the next wait.

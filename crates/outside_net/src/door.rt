@@ -182,7 +182,8 @@ impl<'a, R: Net<Listener = TcpListener, Stream = TcpStream> + Clock> TcpDoor<'a,
         }
     }
 
-    /// Opens the hall if that was not done. It fails if the door is not listening, the system refuses, or memory runs out.
+    /// Opens the hall if that was not done. It fails if the door is not listening, the system refuses, or memory runs out. The links' posts
+    /// stay those of the first hall, and wake that one only.
     fn open(&mut self, alloc: Global) -> io::Result<()>
         ensures faults { self.new.faults ≡ self.old.faults }
         ensures given { self.new.given ≡ self.old.given }
@@ -196,10 +197,19 @@ impl<'a, R: Net<Listener = TcpListener, Stream = TcpStream> + Clock> TcpDoor<'a,
         };
         let hall = Hall::open(self.rt, alloc, listener, self.input)?;
         if self.posts.is_none() {
-            self.posts = Some(Posts::new(alloc, hall.watches_input())?);
+            let posts = Posts::new(alloc, hall.watches_input())?;
+            posts.wake_door_by(hall.waker()?);
+            self.posts = Some(posts);
         }
         self.hall = Some(hall);
         Ok(())
+    }
+
+    /// Reports to the log which sessions have ended since it was last called.
+    fn report<L: DoorLog>(&self, log: &mut L) {
+        if let Some(posts) = &self.posts {
+            posts.report(log);
+        }
     }
 
     /// A turn of the hall.
@@ -243,6 +253,7 @@ impl<'a, R: Net<Listener = TcpListener, Stream = TcpStream> + Clock> TcpDoor<'a,
             return Next::Failed;
         }
         for _ in 0..u64::MAX {
+            self.report(log);
             if let Some(ready) = self.next_ready() {
                 if let Some(link) = self.welcome(alloc, ready, log) {
                     return Next::Link(link);
@@ -261,7 +272,9 @@ impl<'a, R: Net<Listener = TcpListener, Stream = TcpStream> + Clock> TcpDoor<'a,
         Next::Failed
     }
 
-    /// The next link, as [`next`](Listener::next) returns it. The connections that are refused meanwhile are reported to the log.
+    /// The next link, as [`next`](Listener::next) returns it. The connections that are refused meanwhile are reported to the log, and so are
+    /// the sessions whose links are told that they have ended, as soon as they are. If the door was told to listen more than once, these are
+    /// reported only when something else ends its wait.
     pub fn next_told<L: DoorLog>(&mut self, alloc: Global, log: &mut L) -> Next<ServerLink>
         ensures link { IfLink result (λ l. IsAccepted (⟦<ServerLink as Link>⟧.talk l) (⟦<ServerLink as Link>⟧.faults l) (⟦<ServerLink as Link>⟧.ended l)) }
         ensures usable { IfLink result (λ l. ⟦<ServerLink as Link>⟧.closed l ≡ false) }
@@ -291,14 +304,16 @@ impl<'a, R: Net<Listener = TcpListener, Stream = TcpStream> + Clock> TcpDoor<'a,
         }
     }
 
-    /// Takes a link back, as [`back`](Listener::back) does, and reports to the log how its session ended.
+    /// Takes a link back, as [`back`](Listener::back) does, and reports to the log how its session ended, unless that was reported as it
+    /// ended.
     pub fn back_told<L: DoorLog>(&mut self, link: ServerLink, number: u64, end: u8, log: &mut L)
         ensures given { ⟦<TcpDoor<'a, R> as Listener>⟧.given self.new ≡ ⟦<TcpDoor<'a, R> as Listener>⟧.given self.old }
         ensures stopped { ⟦<TcpDoor<'a, R> as Listener>⟧.stopped self.new ≡ ⟦<TcpDoor<'a, R> as Listener>⟧.stopped self.old }
         ensures kept { ⟦<TcpDoor<'a, R> as Listener>⟧.faults self.old ≤ ⟦<TcpDoor<'a, R> as Listener>⟧.faults self.new }
     {
+        self.report(log);
         let post = link.into_post();
-        if let Some(peer) = post.peer() {
+        if let Some(peer) = post.untold() {
             log.ended(&peer, number, end);
         }
         self.keep(post);

@@ -5,7 +5,7 @@ use crate::log::DoorLog;
 use crate::refusal::Refusal;
 use crate::room::{Ready, Room};
 use mio::unix::SourceFd;
-use mio::{Events, Interest, Poll, Token};
+use mio::{Events, Interest, Poll, Token, Waker};
 use std::alloc::Global;
 use std::io;
 use std::io::ErrorKind;
@@ -13,10 +13,12 @@ use std::net::{Net, SocketAddr, TcpListener, TcpStream};
 use std::os::fd::AsRawFd;
 use std::time::{Clock, Duration};
 
-/// What ends a wait: a connection at the listener, or the end of the standard input. The other tokens are the room's.
+/// What ends a wait: a connection at the listener, the end of the standard input, or that of a session. The other tokens are the room's.
 const LISTENER: Token = Token(0);
 
 const INPUT: Token = Token(1);
+
+const ENDING: Token = Token(usize::MAX);
 
 /// How many sources a wait reports together.
 const EVENTS: usize = 64;
@@ -100,6 +102,11 @@ impl Hall {
     /// Whether it waits for the end of the standard input too.
     pub(crate) fn watches_input(&self) -> bool {
         self.input
+    }
+
+    /// What ends the hall's wait from another thread.
+    pub(crate) fn waker(&self) -> io::Result<Waker> {
+        Waker::new(self.poll.registry(), ENDING)
     }
 
     /// The next connection whose head is complete. It leaves the hall.
@@ -260,7 +267,7 @@ fn hear<L: DoorLog>(
             heard.crowd = true;
         } else if token == INPUT {
             heard.stop = heard.stop || event.is_read_closed();
-        } else {
+        } else if token != ENDING {
             room.look(alloc, token, now, log);
         }
     }

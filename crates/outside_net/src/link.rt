@@ -567,7 +567,7 @@ impl<S: Read + Write + OpenStream + Drop, K: MaskKeys + Drop> WsLink<S, K> {
     }
 
     /// The server stops: buffered output is sent, then a Close frame that says so, and nothing more comes.
-    fn leave(&mut self) -> Recv
+    fn stop(&mut self) -> Recv
         ensures faults { self.new.faults ≡ self.old.faults }
         ensures end { result ≡ Recv.End }
         ensures ended { self.new.ended ≡ true }
@@ -614,7 +614,7 @@ impl<S: Read + Write + OpenStream + Drop + Send, K: MaskKeys + Drop + Send> Link
             return Recv::End;
         }
         if self.post.is_stopping() {
-            return self.leave();
+            return self.stop();
         }
         if self.broken {
             self.fault();
@@ -643,6 +643,10 @@ impl<S: Read + Write + OpenStream + Drop + Send, K: MaskKeys + Drop + Send> Link
         } else {
             self.put(Message::Binary(bytes))
         }
+    }
+
+    fn leave(&mut self, number: u64, end: u8) {
+        self.post.leave(number, end);
     }
 
     fn close(&mut self) {

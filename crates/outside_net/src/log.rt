@@ -3,7 +3,7 @@ use crate::refusal::Refusal;
 use std::io;
 use std::net::SocketAddr;
 
-/// Receives reports of the connections that a door refuses, as it does so, and of how the sessions of its links ended, as these come back.
+/// Receives reports of the connections that a door refuses, and of how the sessions of its links ended.
 pub trait DoorLog {
     /// The connection of this peer was given no link.
     fn refused(&mut self, peer: &SocketAddr, refusal: Refusal);
@@ -11,7 +11,7 @@ pub trait DoorLog {
     /// A connection could not be accepted.
     fn unaccepted(&mut self, error: &io::Error);
 
-    /// The link of this peer came back, with the number of its session and how that ended.
+    /// The session of this number, whose link has this peer, has ended this way. The number is 0 if no session was let in.
     fn ended(&mut self, peer: &SocketAddr, number: u64, end: u8);
 }
 

@@ -10,8 +10,7 @@ use std::net::{Net, TcpListener, TcpStream};
 use std::time::Clock;
 
 /// A listener over TCP that stops once the standard input has ended, and writes lines: `listening at port PORT` once it listens, or why it
-/// can't, and then one for each connection that is refused and each session that ended, at most ten a second. A session's line is written
-/// when its link is taken back.
+/// can't, and then one for each connection that is refused and each session that ends, at most ten a second.
 #[derive(Drop)]
 pub(crate) struct ToldDoor<'a, R, W> {
     door: TcpDoor<'a, R>,
@@ -54,9 +53,9 @@ fn cause_words(kind: ErrorKind) -> &'static str {
         ErrorKind::AddrInUse => "the address is in use",
         ErrorKind::AddrNotAvailable => "this machine has no such address",
         ErrorKind::PermissionDenied => "permission denied",
-        ErrorKind::InvalidInput => "this is no address with a port, as 127.0.0.1:9002",
+        ErrorKind::InvalidInput => "this is not an address with a port, such as 127.0.0.1:9002",
         ErrorKind::OutOfMemory => "out of memory",
-        _ => "the name is not known, or the system refuses",
+        _ => "the name is unknown, or the system refuses",
     }
 }
 

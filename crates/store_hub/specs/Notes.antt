@@ -77,8 +77,8 @@ abbrev pub Widens : Known → Known → Type 0
 Widens v w = (log : List Entry) × SeesMore log v w
 
 -- that journal had no room for the entry
-abbrev pub TurnsAway : Config → Known → Known → Type 0
-TurnsAway config v w = (log : List Entry) × SeesMore log v w × (has_room_for config log Enter ≡ false)
+abbrev pub FindsFull : Config → Known → Known → Type 0
+FindsFull config v w = (log : List Entry) × SeesMore log v w × (has_room_for config log Enter ≡ false)
 
 -- ---- meeting
 

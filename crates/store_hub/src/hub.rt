@@ -23,7 +23,7 @@ impl Hub {
     ghost use Rattle.turn_book.specs.Rules.{Knows};
     ghost use Rattle.turn_book.specs.Steps.{first_view, hearing};
     ghost use Rattle.store_hub.specs.Words.{by_of, enters_of};
-    ghost use Rattle.store_hub.specs.Notes.{Answers, Refuses, Tries, Enters, Widens, TurnsAway, Meets};
+    ghost use Rattle.store_hub.specs.Notes.{Answers, Refuses, Tries, Enters, Widens, FindsFull, Meets};
     ghost use Rattle.store_hub.specs.Passes.{known, config_of, IsPassOf, IsFresh};
 
     /// A hub over a store, with the pass of the session 0, the door, which has seen the whole journal. If allocation fails, the store is
@@ -60,7 +60,7 @@ impl Hub {
             × Enters (config_of self.now) at (known pass.old) p.number (known p)) }
         ensures fresh { IfOk result IsFresh }
         ensures full { result ≡ Err EnterError.JournalFull
-            → TurnsAway (config_of self.now) (known pass.old) (known pass.new) }
+            → FindsFull (config_of self.now) (known pass.old) (known pass.new) }
         ensures lack { result ≡ Err EnterError.NoMemory → Widens (known pass.old) (known pass.new) }
     {
         match turns::enter(rt, alloc, &self.book, &mut pass.seat, at) {

@@ -11,7 +11,7 @@ ghost use Rattle.turn_book.specs.Hands.{IsBegun, Waits};
 ghost use Rattle.turn_book.specs.Words.{view, fixed_of, IsSeatOf};
 ghost use Rattle.store_hub.specs.Words.{Known, by_of, enters_of};
 ghost use Rattle.store_hub.specs.Kept.{IsKept};
-ghost use Rattle.store_hub.specs.Notes.{noted, entering, Answers, Refuses, Tries, Enters, Widens, TurnsAway, Meets};
+ghost use Rattle.store_hub.specs.Notes.{noted, entering, Answers, Refuses, Tries, Enters, Widens, FindsFull, Meets};
 ghost use Rattle.store_hub.specs.Turns.{Adds, LetsIn, StaysKept};
 
 use crate::book::StoreBook;
@@ -178,7 +178,7 @@ pub(crate) fn enter<R: Wait>(
     ensures ok { IfOk result (λ t. (view seat.new ≡ view seat.old)
         × Enters (fixed_of (λ b. b.store.config) book.now) at (view seat.old) t.1 (view t.0)) }
     ensures full { result ≡ Err EnterError.JournalFull
-        → TurnsAway (fixed_of (λ b. b.store.config) book.now) (view seat.old) (view seat.new) }
+        → FindsFull (fixed_of (λ b. b.store.config) book.now) (view seat.old) (view seat.new) }
     ensures lack { result ≡ Err EnterError.NoMemory → Widens (view seat.old) (view seat.new) }
 {
     let mut fresh = book.split(seat);

@@ -2,4 +2,6 @@
 #![tactic(auto)]
 
 #[cfg(test)]
+mod reports;
+#[cfg(test)]
 mod sockets;

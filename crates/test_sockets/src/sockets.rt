@@ -13,7 +13,7 @@ use std::test::Fail;
 use std::time::Clock;
 
 /// A request, which offers the subprotocol in its second line of offers.
-const REQUEST: &[u8] =
+pub(crate) const REQUEST: &[u8] =
     b"GET /chat HTTP/1.1\r\nHost: server.example.com\r\nUpgrade: websocket\r\nConnection: Upgrade\r\nSec-WebSocket-Key: dGhlIHNhbXBsZSBub25jZQ==\r\nSec-WebSocket-Version: 13\r\nSec-WebSocket-Protocol: chat, superchat\r\nSec-WebSocket-Protocol: etp12.energistics.org\r\n\r\n";
 
 /// "Hello", masked, in two pieces.
@@ -116,7 +116,7 @@ const BAD_TEXTS: [Step; 2] = [Step::Says(BAD_TEXT), Step::Fails];
 const NO_TEXT: &[u8] = b"\x88\x02\x03\xef";
 
 /// A door at a port that the system picks.
-fn open_door<'a, R: Abort + Net<Listener = TcpListener, Stream = TcpStream> + Clock>(
+pub(crate) fn open_door<'a, R: Abort + Net<Listener = TcpListener, Stream = TcpStream> + Clock>(
     rt: &'a R,
 ) -> TcpDoor<'a, R> {
     let mut door = TcpDoor::new(rt);
@@ -125,19 +125,27 @@ fn open_door<'a, R: Abort + Net<Listener = TcpListener, Stream = TcpStream> + Cl
 }
 
 /// A client at the door's port, which has sent these bytes.
-fn client<R: Net<Listener = TcpListener, Stream = TcpStream> + Clock>(
+pub(crate) fn client<R: Net<Listener = TcpListener, Stream = TcpStream> + Clock>(
     rt: &R,
     door: &TcpDoor<R>,
     first: &[u8],
 ) -> io::Result<TcpStream> {
-    let port = door.port().unwrap_or(0);
+    client_at(rt, door.port().unwrap_or(0), first)
+}
+
+/// A client at a port, which has sent these bytes.
+pub(crate) fn client_at<R: Net<Stream = TcpStream>>(
+    rt: &R,
+    port: u16,
+    first: &[u8],
+) -> io::Result<TcpStream> {
     let mut client = TcpStream::connect(rt, ("127.0.0.1", port))?;
     client.write_all(first)?;
     Ok(client)
 }
 
 /// The next link of a door.
-fn welcomed<R: Net<Listener = TcpListener, Stream = TcpStream> + Clock>(
+pub(crate) fn welcomed<R: Net<Listener = TcpListener, Stream = TcpStream> + Clock>(
     alloc: Global,
     door: &mut TcpDoor<R>,
 ) -> Result<ServerLink, &'static str>

@@ -15,4 +15,4 @@ returns-clause-done g c =
     done_closed test config n v s.result a0 (g.L.Link.talk s.new.link) (g.L.Link.talk c.close.new.self) f0 (g.L.Link.faults s.new.link) (g.L.Link.faults c.close.new.self) (g.L.Link.ended s.new.link) (g.L.Link.ended c.close.new.self)
     (done_of s.result config n v a0 (g.L.Link.talk s.new.link) (g.C.Clock.told c.args.clock) (g.C.Clock.told s.new.clock) test (g.C.Clock.passes s.new.clock) f0 (g.L.Link.faults s.new.link) (g.L.Link.ended s.new.link)
     s.ensures.serves s.ensures.cause (s.new.pass.kept.0 ∙ ap Some s.ensures.own.1) (s.ensures.met ∙ c.requires.alone) c.requires.anew c.moments_pass.ensures c.moments_pass-2.ensures s.ensures.test)
-    c.close.ensures.talk c.close.ensures.faults c.close.ensures.ended
+    (c.close.ensures.talk ∙ c.leave.ensures.talk) (c.close.ensures.faults ∙ c.leave.ensures.faults) (c.close.ensures.ended ∙ c.leave.ensures.ended)
