@@ -19,14 +19,26 @@ fn put_marked(alloc: Global, word: &[u8], point: &Point, into: &mut Vec<u8>) -> 
 
 /// Appends the lines of points, each with a word in front.
 #[tactic(auto, using(crate::proofs::ChangeLemmas::marked_next))]
+fn put_points(
+    alloc: Global,
+    word: &[u8],
+    points: &[Point],
+    into: &mut Vec<u8>,
+) -> Result<(), NoMemory>
+    ensures { OnOk result (into.new.items ≡ into.old.items ++ marked word.now points.now) }
+{
+    for point in points {
+        put_marked(alloc, word, point, into)?;
+    }
+    Ok(())
+}
+
+/// The same for the points of a change.
 fn put_all(alloc: Global, word: &[u8], points: &Points, into: &mut Vec<u8>) -> Result<(), NoMemory>
     ensures { OnOk result (into.new.items ≡ into.old.items ++ marked word.now points.now) }
 {
-    for place in 0..points.len() {
-        let point = points.copy_at(alloc, place)?;
-        put_marked(alloc, word, &point, into)?;
-    }
-    Ok(())
+    let all = points.to_list(alloc)?;
+    put_points(alloc, word, all.as_slice(), into)
 }
 
 fn appended(alloc: Global, points: &Points) -> Result<Vec<u8>, NoMemory>

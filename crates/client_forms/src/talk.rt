@@ -2,7 +2,7 @@
 ghost use Rattle.std.specs.Prelude.{◌≡◌, ◌≤◌, Err, false};
 ghost use Rattle.etp_outside.specs.declared.status.Status.TheVariants.{Done};
 ghost use Rattle.client_forms.specs.Ctl.{Place, Stage, asks, closes, unclosed, writes};
-ghost use Rattle.client_forms.specs.Sending.{SendCause, SendsAll, closed_by, refused_by, sent_by, short_by, unclosed_by, unsent_by};
+ghost use Rattle.client_forms.specs.Sending.{SendCause, SendsAll, closed_by, refused_by, sent_by, short_by, unclosed_by, unsent_by, written_by};
 ghost use Rattle.client_forms.specs.Work.{MayClose, Stops, Works, place};
 
 use crate::io::Io;
@@ -148,7 +148,14 @@ pub(crate) fn write<L: Link, C: Clock, W: Sink, R: Source>(
     ensures works { (p : Place) → Works result (writes bytes.now) p p io.old io.new }
     ensures input { io.new.input ≡ io.old.input }
 {
-    match write_all(&mut io.out, bytes) {
+    written_by(write_all(&mut io.out, bytes))
+}
+
+/// What became of bytes that were written.
+fn written_by(written: Written) -> Result<(), Stop>
+    ensures { result ≡ written_by written }
+{
+    match written {
         Written::Done => Ok(()),
         Written::Failed => Err(Stop::Cut(Cause::Output)),
     }

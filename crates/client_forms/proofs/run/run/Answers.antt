@@ -1,4 +1,4 @@
-use Rattle.std.proofs.Common.{inr, refl, subst, sym}
+use Rattle.std.proofs.Common.{inr, refl, rules, subst, sym, ◌∙◌, FitsSigned, w64, to_z-of_z}
 use Rattle.client_forms.specs.Ctl.{Deleting, Following, Getting, Listing, Loading, Pinging, Putting, Ranging, Watching}
 use Rattle.client_forms.specs.Shown.{Show, lines_after, seen_on, viewing}
 use Rattle.client_forms.specs.Top.{dials, world}
@@ -111,10 +111,12 @@ returns-in-Spaces-clause-link_cause g c = λ e. c.run_at-in-Spaces.ensures.why.l
 
 pub returns-in-Range-clause-fulfils : goal.returns-in-Range-clause-fulfils
 returns-in-Range-clause-fulfils g c =
+    let from_fits : FitsSigned w64 c.in-Range.from = search rules in
+    let to_fits : FitsSigned w64 c.in-Range.to = search rules in
     let w = world (input (g.R.Source.left c.args.streams.input) (g.R.Source.faults c.args.streams.input)) (output (g.W.Sink.held c.args.streams.out) (g.W.Sink.faults c.args.streams.out)) (g.C.Clock.told c.args.streams.clock) (dials (g.D.Dialer.backs c.args.dialer.now) (g.D.Dialer.ended c.args.dialer.now) (g.D.Dialer.faults c.args.dialer.now)) in
     let z = world (input (g.R.Source.left c.run_at-in-Range.result.1.input) (g.R.Source.faults c.run_at-in-Range.result.1.input)) (output (g.W.Sink.held c.run_at-in-Range.result.1.out) (g.W.Sink.faults c.run_at-in-Range.result.1.out)) (g.C.Clock.told c.run_at-in-Range.result.1.clock) (dials (g.D.Dialer.backs c.run_at-in-Range.new.dialer) (g.D.Dialer.ended c.run_at-in-Range.new.dialer) (g.D.Dialer.faults c.run_at-in-Range.new.dialer)) in
     ran_range c.run_at-in-Range.result.0 c.args.form.address c.args.form.command (lines_after (viewing (λ v. (goal.View-dyn g (v.vtable, v.value)).held v.value) (λ v. (goal.View-dyn g (v.vtable, v.value)).step v.value) (λ v. (goal.View-dyn g (v.vtable, v.value)).shown v.value)) c.args.views.items) (g.H.Host.content c.args.host.now) w z c.in-Range.uri c.in-Range.from c.in-Range.to c.in-Range.is
-    (c.run_at-in-Range.ensures.runs (lines_after (viewing (λ v. (goal.View-dyn g (v.vtable, v.value)).held v.value) (λ v. (goal.View-dyn g (v.vtable, v.value)).step v.value) (λ v. (goal.View-dyn g (v.vtable, v.value)).shown v.value)) c.args.views.items) (Ranging c.in-Range.uri c.in-Range.from c.in-Range.to) (range_begins c.in-Range.uri c.new-command-in-Range.result.uri c.in-Range.from c.in-Range.to c.new-command-in-Range.result.from c.new-command-in-Range.result.to c.new-command-in-Range.result.stage c.new-command-in-Range.result.kind c.new-command-in-Range.ensures.0 c.new-command-in-Range.ensures.1 c.new-command-in-Range.ensures.2 c.new-command-in-Range.ensures.3))
+    (c.run_at-in-Range.ensures.runs (lines_after (viewing (λ v. (goal.View-dyn g (v.vtable, v.value)).held v.value) (λ v. (goal.View-dyn g (v.vtable, v.value)).step v.value) (λ v. (goal.View-dyn g (v.vtable, v.value)).shown v.value)) c.args.views.items) (Ranging c.in-Range.uri c.in-Range.from c.in-Range.to) (range_begins c.in-Range.uri c.new-command-in-Range.result.uri c.in-Range.from c.in-Range.to c.new-command-in-Range.result.from c.new-command-in-Range.result.to c.new-command-in-Range.result.stage c.new-command-in-Range.result.kind c.new-command-in-Range.ensures.0 (c.new-command-in-Range.ensures.1 ∙ to_z-of_z from_fits) (c.new-command-in-Range.ensures.2 ∙ to_z-of_z to_fits) c.new-command-in-Range.ensures.3))
 
 pub returns-in-Range-clause-form : goal.returns-in-Range-clause-form
 returns-in-Range-clause-form g c = c.run_at-in-Range.ensures.why.form
@@ -149,10 +151,11 @@ returns-in-Delete-clause-link_cause g c = λ e. c.run_at-in-Delete.ensures.why.l
 
 pub returns-in-Follow-clause-fulfils : goal.returns-in-Follow-clause-fulfils
 returns-in-Follow-clause-fulfils g c =
+    let start_fits : FitsSigned w64 c.in-Follow.start = search rules in
     let w = world (input (g.R.Source.left c.args.streams.input) (g.R.Source.faults c.args.streams.input)) (output (g.W.Sink.held c.args.streams.out) (g.W.Sink.faults c.args.streams.out)) (g.C.Clock.told c.args.streams.clock) (dials (g.D.Dialer.backs c.args.dialer.now) (g.D.Dialer.ended c.args.dialer.now) (g.D.Dialer.faults c.args.dialer.now)) in
     let z = world (input (g.R.Source.left c.run_at-in-Follow.result.1.input) (g.R.Source.faults c.run_at-in-Follow.result.1.input)) (output (g.W.Sink.held c.run_at-in-Follow.result.1.out) (g.W.Sink.faults c.run_at-in-Follow.result.1.out)) (g.C.Clock.told c.run_at-in-Follow.result.1.clock) (dials (g.D.Dialer.backs c.run_at-in-Follow.new.dialer) (g.D.Dialer.ended c.run_at-in-Follow.new.dialer) (g.D.Dialer.faults c.run_at-in-Follow.new.dialer)) in
     ran_follow c.run_at-in-Follow.result.0 c.args.form.address c.args.form.command (lines_after (viewing (λ v. (goal.View-dyn g (v.vtable, v.value)).held v.value) (λ v. (goal.View-dyn g (v.vtable, v.value)).step v.value) (λ v. (goal.View-dyn g (v.vtable, v.value)).shown v.value)) c.args.views.items) (g.H.Host.content c.args.host.now) w z c.in-Follow.uri c.in-Follow.start c.in-Follow.is
-    (c.run_at-in-Follow.ensures.runs (lines_after (viewing (λ v. (goal.View-dyn g (v.vtable, v.value)).held v.value) (λ v. (goal.View-dyn g (v.vtable, v.value)).step v.value) (λ v. (goal.View-dyn g (v.vtable, v.value)).shown v.value)) c.args.views.items) (Following c.in-Follow.uri c.in-Follow.start) (follow_begins c.in-Follow.uri c.new-command-in-Follow.result.uri c.in-Follow.start c.new-command-in-Follow.result.start c.new-command-in-Follow.result.stage c.new-command-in-Follow.ensures.0 c.new-command-in-Follow.ensures.1 c.new-command-in-Follow.ensures.2))
+    (c.run_at-in-Follow.ensures.runs (lines_after (viewing (λ v. (goal.View-dyn g (v.vtable, v.value)).held v.value) (λ v. (goal.View-dyn g (v.vtable, v.value)).step v.value) (λ v. (goal.View-dyn g (v.vtable, v.value)).shown v.value)) c.args.views.items) (Following c.in-Follow.uri c.in-Follow.start) (follow_begins c.in-Follow.uri c.new-command-in-Follow.result.uri c.in-Follow.start c.new-command-in-Follow.result.start c.new-command-in-Follow.result.stage c.new-command-in-Follow.ensures.0 (c.new-command-in-Follow.ensures.1 ∙ to_z-of_z start_fits) c.new-command-in-Follow.ensures.2))
 
 pub returns-in-Follow-clause-form : goal.returns-in-Follow-clause-form
 returns-in-Follow-clause-form g c = c.run_at-in-Follow.ensures.why.form

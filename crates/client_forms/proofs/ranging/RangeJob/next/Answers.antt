@@ -1,11 +1,12 @@
-use Rattle.std.proofs.Common.{refl, sym, ap, ◌∙◌}
+use Rattle.std.proofs.Common.{List, refl, sym, subst, ap, ◌∙◌}
 use Rattle.client_core.specs.declared.ask.Ask.TheVariants as asked
 use Rattle.client_forms.specs.Ctl.{Asked, Ranged, Ranging, goes_by}
-use Rattle.client_forms.specs.Jobs.{HasRead, IsRange, range_stage}
+use Rattle.client_forms.specs.Jobs.{GivesLines, HasRead, IsRange, range_stage}
 use Rattle.client_forms.specs.Plans.{Waits, acts, standing}
 use Rattle.client_forms.specs.Work.{input, outside, place}
 use Rattle.client_forms.specs.declared.action.Action.TheVariants as action
 use Rattle.client_forms.specs.declared.ranging.RangeStage.TheVariants as range
+use Rattle.etp_values.specs.declared.point.Point.{Point}
 use Rattle.point_lines.specs.Spelling.{lines_of}
 use Rattle.client_forms.proofs.PlanningLemmas.{goes_fronts, plan_alone, plan_given, plan_lines, reads_as}
 use Rattle.client_forms.proofs.ranging.RangeJob.next.Goals as goal
@@ -40,6 +41,6 @@ returns-in-Points-clause-plans g c = λ shown job stage l told o there.
     let s = c.args.self.now in
     let is = there.stage_is ∙ ap (λ n. range_stage n s.kind) c.in-Ranged.is in
     plan_lines c.show_points.result (lines_of s.kind c.in-Points.points) (λ v rest. IsRange s.uri s.from s.to s.stage s.kind job v × Waits rest) (λ v. IsRange s.uri s.from s.to s.stage s.kind job v) (HasRead job left)
-    (λ d. goes_by shown job d.at.stage c.args.got.now d) stage x c.show_points.ensures (there, refl) there (reads_as job (Ranging s.uri s.from s.to) left there.job_is tt)
+    (λ d. goes_by shown job d.at.stage c.args.got.now d) stage x (subst (λ (ps : List Point). GivesLines c.show_points.result (lines_of s.kind ps)) c.as_slice.ensures c.show_points.ensures) (there, refl) there (reads_as job (Ranging s.uri s.from s.to) left there.job_is tt)
     (λ t d. λ i. goes_by shown (there.job_is i) (is i) (c.in-Points.is i) (standing (place t stage) d))
     (goes_fronts shown job c.args.got.now)
