@@ -180,6 +180,8 @@ module _ (shown : ℤ → List ChangeMsg → List ℕ) (u : StoreUri) (lines : L
   idle_opening (got.Object id bytes) n c = refl
   idle_opening (got.Meta id channel kind) n c = refl
   idle_opening (got.Change x) n c = refl
+  idle_opening (got.Points id points) n c = refl
+  idle_opening (got.Spaces id spaces) n c = refl
   idle_opening (got.Pong t) n c = refl
 
   idle_asked : (g : Got) → ((id channel kind : _) → g ≡ got.Meta id channel kind → ⊥) → (c : Course) → goes_by shown (Loading u lines) Asked g c ≡ c
@@ -188,6 +190,8 @@ module _ (shown : ℤ → List ChangeMsg → List ℕ) (u : StoreUri) (lines : L
   idle_asked (got.Object id bytes) n c = refl
   idle_asked (got.Meta id channel kind) n c = absurd (n id channel kind refl)
   idle_asked (got.Change x) n c = refl
+  idle_asked (got.Points id points) n c = refl
+  idle_asked (got.Spaces id spaces) n c = refl
   idle_asked (got.Pong t) n c = refl
 
   idle_loaded : (g : Got) → ((t : _) → g ≡ got.Pong t → ⊥) → (c : Course) → goes_by shown (Loading u lines) Loaded g c ≡ c
@@ -196,6 +200,8 @@ module _ (shown : ℤ → List ChangeMsg → List ℕ) (u : StoreUri) (lines : L
   idle_loaded (got.Object id bytes) n c = refl
   idle_loaded (got.Meta id channel kind) n c = refl
   idle_loaded (got.Change x) n c = refl
+  idle_loaded (got.Points id points) n c = refl
+  idle_loaded (got.Spaces id spaces) n c = refl
   idle_loaded (got.Pong t) n c = absurd (n t refl)
 
 module _ (shown : ℤ → List ChangeMsg → List ℕ) (g : Got) (u : StoreUri) (now : LoadStage) (r : Reader) (job : Job) (left : Option (List ℕ)) (stage : Stage) (h : IsLoad u now r job left stage) where
