@@ -11,7 +11,7 @@ _etpd() {
 
 _etpctl() {
     case $COMP_CWORD in
-        1) COMPREPLY=($(compgen -W 'put get load watch' -- "$2")) ;;
+        1) COMPREPLY=($(compgen -W 'ping spaces put get delete load range watch follow' -- "$2")) ;;
         4) [ "${COMP_WORDS[1]}" = put ] && COMPREPLY=($(compgen -f -- "$2")) && compopt -o filenames 2> /dev/null ;;
     esac
 }

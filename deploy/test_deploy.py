@@ -283,7 +283,7 @@ class Package(unittest.TestCase):
 
     def test_completion_offers_the_commands(self):
         script = f'source {DEPLOY}/completion.bash; COMP_WORDS=({{0}} {{1}}); COMP_CWORD=1; _{{0}} {{0}} {{1}}; echo "${{{{COMPREPLY[*]}}}}"'
-        for program, begun, offered in (("etpctl", "w", "watch"), ("etpctl", "''", "put get load watch"), ("etptool", "c", "check capture")):
+        for program, begun, offered in (("etpctl", "w", "watch"), ("etpctl", "''", "ping spaces put get delete load range watch follow"), ("etptool", "c", "check capture")):
             told = run("bash", "-c", script.format(program, begun))
             self.assertEqual(told.stdout.strip(), offered)
         commands = re.findall(r"^    ([a-z][a-z-]*)\b", self.colmjurr("--help").stdout, re.MULTILINE)

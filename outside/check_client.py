@@ -127,6 +127,11 @@ class Table:
         self.take(21, 12, {"success": {"c": ""}}, f"done {number}", correlation=number)
 
 
+    def range(self):
+        return self.ask("range 3 -5 8", 21, 9, {"requestUuid": bytes(16), "channelRanges": [
+            {"channelIds": [3], "interval": interval(long_index(-5), long_index(8)), "secondaryIntervals": []}]})
+
+
 def points(*rows):
     return {"data": [item(*row) for row in rows]}
 
@@ -156,6 +161,7 @@ def asks(table):
     number = table.ask(f"meta {WELL}", 21, 1, {"uris": {"c": WELL}})
     table.take(21, 2, {"metadata": {"c": metadata(4, 11)}}, f"meta {number} 4 11", correlation=number)
     table.ask("load 3:5:6 4:-1:0", 22, 4, points((3, 5, 6), (4, -1, 0)))
+    replaced(table)
     number = table.ask("ping", 0, 8, {"currentDateTime": 7})
     table.pong(number, "pong 9")
     table.subscribe(9)
@@ -167,6 +173,29 @@ def asks(table):
     table.client("asks before the session is open", opened=False)
     table.row("ping", "refused: state")
     table.row("close", "refused: state")
+
+
+def replaced(table):
+    """Replacements, truncations, ranges, dataspaces and deletions."""
+    for rows, words in ((((5, 6), (7, -8)), "5:6 7:-8"), ((), "")):
+        number = table.ask(f"replace 3 -5 8 {words}".rstrip(), 22, 6, {
+            "changedInterval": interval(long_index(-5), long_index(8)), "channelIds": [3], "data": [item(3, *row) for row in rows]})
+        table.take(22, 8, {"channelChangeTime": 6}, f"done {number}", correlation=number)
+    number = table.ask("cut 3 7", 22, 9, {"channels": {"c": {"channelId": 3, "newEndIndex": long_index(7)}}})
+    table.take(22, 10, {"channelsTruncatedTime": {"c": 6}}, f"done {number}", correlation=number)
+    number = table.range()
+    table.take(21, 10, points((3, 5, 6), (3, 7, -8)), f"points {number} 5:6 7:-8", correlation=number)
+    number = table.range()
+    table.take(21, 10, points(), f"points {number}", correlation=number)
+    number = table.ask("spaces", 24, 1, {"storeLastWriteFilter": maybe(None)})
+    table.take(24, 2, {"dataspaces": [space("eml:///", 3, 1), space("eml:///dataspace('a')", -1, 2)]},
+               f"spaces {number} eml:/// 3 1 eml:///dataspace('a') -1 2", correlation=number)
+    number = table.ask(f"delete {WELL}", 4, 3, {"uris": {"c": WELL}, "pruneContainedObjects": False})
+    table.take(4, 10, {"deletedUris": {"c": {"values": [WELL]}}}, f"done {number}", correlation=number)
+
+
+def space(uri, written, created):
+    return {"uri": uri, "path": "", "storeLastWrite": written, "storeCreated": created, "customData": {}}
 
 
 def puts(table):
@@ -208,6 +237,23 @@ def refusals(table):
     case("an answer without the key")
     number = table.ask(f"get {WELL}", 4, 1, {"uris": {"c": WELL}, "format": ""})
     table.take(4, 4, {"dataObjects": {}}, f"refused: unasked {number}", "ended", correlation=number)
+    case("a range with a point of another channel")
+    number = table.range()
+    table.take(21, 10, points((3, 5, 6), (4, 7, 8)), f"refused: unasked {number}", "ended", correlation=number)
+    case("a range with an index that is no long")
+    number = table.range()
+    table.take(21, 10, {"data": [{**item(3, 1, 1), "indexes": [{"item": (0, None)}]}]}, f"refused: unasked {number}", "ended", correlation=number)
+    case("points that nothing asked for")
+    table.take(21, 10, points((3, 5, 6)), "refused: unasked 0", "ended")
+    case("a truncation of another key")
+    number = table.ask("cut 3 7", 22, 9, {"channels": {"c": {"channelId": 3, "newEndIndex": long_index(7)}}})
+    table.take(22, 10, {"channelsTruncatedTime": {"d": 6}}, f"refused: unasked {number}", "ended", correlation=number)
+    case("a deletion of another key")
+    number = table.ask(f"delete {WELL}", 4, 3, {"uris": {"c": WELL}, "pruneContainedObjects": False})
+    table.take(4, 10, {"deletedUris": {}}, f"refused: unasked {number}", "ended", correlation=number)
+    case("a replacement that is answered by a truncation")
+    number = table.ask("replace 3 1 2", 22, 6, {"changedInterval": interval(long_index(1), long_index(2)), "channelIds": [3], "data": []})
+    table.take(22, 10, {"channelsTruncatedTime": {"c": 6}}, f"refused: unasked {number}", "ended", correlation=number)
     case("an exception to nothing")
     table.exception(8, "refused: unasked 8", "ended")
     case("an exception by a key, and one without a code")
@@ -250,6 +296,19 @@ def parts(table):
     table.take(0, 8, {"currentDateTime": 3}, "nothing")
     table.take(0, 1001, {}, "nothing", correlation=number)
     table.take(24, 6, {"success": {"b": ""}}, f"done {number}", correlation=number)
+    table.client("parts of points, dataspaces, deletions and truncations")
+    number = table.range()
+    table.take(21, 10, points((3, 5, 6)), "nothing", correlation=number, flags=0)
+    table.take(21, 10, points((3, 6, 7), (3, 7, 8)), f"points {number} 5:6 6:7 7:8", correlation=number)
+    number = table.ask("spaces", 24, 1, {"storeLastWriteFilter": maybe(None)})
+    table.take(24, 2, {"dataspaces": [space("a", 1, 2)]}, "nothing", correlation=number, flags=0)
+    table.take(24, 2, {"dataspaces": [space("b", 3, 4)]}, f"spaces {number} a 1 2 b 3 4", correlation=number)
+    number = table.ask(f"delete {WELL}", 4, 3, {"uris": {"c": WELL}, "pruneContainedObjects": False})
+    table.take(4, 10, {"deletedUris": {"c": {"values": [WELL]}}}, "nothing", correlation=number, flags=0)
+    table.take(4, 10, {"deletedUris": {"d": {"values": []}}}, f"done {number}", correlation=number)
+    number = table.ask("cut 3 7", 22, 9, {"channels": {"c": {"channelId": 3, "newEndIndex": long_index(7)}}})
+    table.take(22, 10, {"channelsTruncatedTime": {"c": 6}}, "nothing", correlation=number, flags=0)
+    table.take(22, 10, {"channelsTruncatedTime": {"a": 6}}, f"done {number}", correlation=number)
     table.client("an exception behind a part of the response")
     number = table.ask(f"meta {WELL}", 21, 1, {"uris": {"c": WELL}})
     table.take(21, 2, {"metadata": {"c": metadata(4, 11)}}, "nothing", correlation=number, flags=0)

@@ -3,7 +3,7 @@
 
 usage: check_points.py FOLDER    writes FOLDER/stdin and FOLDER/stdout
 
-A line is read here by regular expressions over its bytes, by the words of docs/PROFILE.md."""
+A line is read here by regular expressions over its bytes, and written again, by the words of docs/PROFILE.md."""
 import random
 import re
 import sys
@@ -52,6 +52,13 @@ def answer(line):
     return "none" if shown is None else f"{int(index)} {shown}"
 
 
+def written(line):
+    """The line in which the point of a line is written: its own, with capitals for the digits of bytes."""
+    if answer(line) in ("empty", "none"):
+        return b""
+    return (line[1:].upper() if KINDS[line[0] - ord("a")] == "bytes" else line[1:]) + b"\n"
+
+
 def samples():
     numbers = [b"0", b"-0", b"01", b"+1", b"-1", b"1", b"", b"-", b"--1", b"1-", b"2147483647", b"2147483648", b"-2147483648", b"-2147483649",
                b"9223372036854775807", b"9223372036854775808", b"-9223372036854775808", b"-9223372036854775809", b"18446744073709551616",
@@ -78,7 +85,7 @@ def main(folder):
     with open(folder + "/stdin", "wb") as f:
         f.write(b"".join(l + b"\n" for l in lines) + b"k1 " + b"z" * 65534)
     with open(folder + "/stdout", "wb") as f:
-        f.write("".join(answer(l) + "\n" for l in lines).encode() + b"TooLong\n")
+        f.write(b"".join(answer(l).encode() + b"\n" + written(l) for l in lines) + b"TooLong\n")
 
 
 main(sys.argv[1])

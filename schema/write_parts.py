@@ -320,7 +320,7 @@ def ends_lemma(protocol, written):
     """That a client has the whole after the last of its parts, or refuses each alike."""
     alias, five = written.alias(f"{protocol.enum}.TheVariants"), "refl, refl, refl, refl, refl"
     name, rise = ends_word(protocol, alias) + "_ends", " rise" if joined_of(protocol) else ""
-    last = {"names_end": " rise", "items_end": "", "unread_end": f" (λ a h t. refl)\n    (λ a. ({five}, refl, refl, refl, refl))"}
+    last = {"names_end": " rise", "items_end": "", "unread_end": f" (λ a h t. refl)\n    (λ a. ({five}, {five}, refl, λ channel. refl, refl, refl))"}
 
     def line(each):
         ends = "unread_end" if not each.joined else "names_end" if is_map(each) else "items_end"

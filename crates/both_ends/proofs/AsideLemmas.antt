@@ -4,7 +4,7 @@ use Rattle.std.specs.List.{AllByRecursion, list_any}
 use Rattle.std.specs.Ordering.{int_eq}
 use Rattle.std.proofs.lemmas.Bool.{false≢true}
 use Rattle.channel_store.specs.declared.change.What.{What}
-use Rattle.client_core.specs.Answers.{done, due_at, is_granted, grants_object, grants_space, grants_subscription, meta_of, moment_in, object_in, opened_in, channel_in, session_in, without, is_loaded}
+use Rattle.client_core.specs.Answers.{done, due_at, is_granted, grants_object, grants_space, grants_subscription, meta_of, moment_in, object_in, opened_in, channel_in, points_in, says_cut, says_deleted, says_replaced, session_in, spaces_in, without, is_loaded}
 use Rattle.client_core.specs.Joining.{grown, is_broken, joined}
 use Rattle.client_core.specs.Laws.{handed, is_subscription}
 use Rattle.client_core.specs.Notices.{changes_of, notice}
@@ -13,6 +13,8 @@ use Rattle.client_core.specs.Taking.{Taken, by_answer, by_changes, by_due, by_fl
 use Rattle.client_core.specs.declared.got.ClientError.{ClientError}
 use Rattle.client_core.specs.declared.got.ClientError.TheVariants as error
 use Rattle.client_core.specs.declared.got.Got.TheVariants as got
+use Rattle.client_core.specs.declared.got.Space.{Space}
+use Rattle.etp_values.specs.declared.point.Point.{Point}
 use Rattle.client_core.specs.declared.state.Asked.{Asked}
 use Rattle.client_core.specs.declared.state.Due.{Due}
 use Rattle.client_core.specs.declared.state.Due.TheVariants as due
@@ -99,6 +101,7 @@ subscribe_joins : (x y : ChannelSubscribeMessage) → subscribe_aside x ≡ true
     → (subscribe_aside (subscribe_joined x y) ≡ true) × (subscribe_stops (subscribe_joined x y) ≡ subscribe_stops y) × (subscribe_empty y ≡ true → subscribe_empty (subscribe_joined x y) ≡ true)
 subscribe_joins (subscribe.GetChannelMetadataResponse x) (subscribe.GetChannelMetadataResponse y) held aside = (refl, refl, λ e. e)
 subscribe_joins (subscribe.SubscriptionsStopped x) (subscribe.SubscriptionsStopped y) held aside = (refl, refl, λ e. e)
+subscribe_joins (subscribe.GetRangesResponse x) (subscribe.GetRangesResponse y) held aside = (refl, refl, λ e. e)
 subscribe_joins (subscribe.SubscribeChannelsResponse x) (subscribe.SubscribeChannelsResponse y) held aside =
     let both : not (some_key (merged x.success y.success)) ≡ true = none_merged x.success y.success held aside in (both, refl, λ e. both)
 subscribe_joins (subscribe.ChannelData x) (subscribe.ChannelData y) held aside = absurd (false≢true aside)
@@ -221,6 +224,26 @@ module _ (P : Asked → Type 0) (stop : Bool) where
   pong_goes h m s aside kept None = changes_go h m s aside
   pong_goes h m s aside kept (Some x) = λ lives. (refl, kept, λ all. all_filter P (λ a. not (is_loaded h.correlation a)) (without h.correlation s.asks) (all_filter P (λ a. not (int_eq a.id h.correlation)) s.asks all), λ e. (refl, λ c before. no_more before))
 
+  replacement_goes : (h : Header) (m : Message) (s : Heard) → is_aside m ≡ true → AsideKept s.kept → due_at h.correlation s.asks ≡ Some due.Replacement → (b : Bool) → Goes P stop s (by_answer h m due.Replacement (done h.correlation b) s)
+  replacement_goes h m s aside kept at false = changes_go h m s aside
+  replacement_goes h m s aside kept at true = λ lives. (refl, kept, all_filter P (λ a. not (int_eq a.id h.correlation)) s.asks, λ e. (refl, λ c before. done_still c h.correlation s.asks due.Replacement before at refl))
+
+  truncation_goes : (h : Header) (m : Message) (s : Heard) → is_aside m ≡ true → AsideKept s.kept → due_at h.correlation s.asks ≡ Some due.Truncation → (b : Bool) → Goes P stop s (by_answer h m due.Truncation (done h.correlation b) s)
+  truncation_goes h m s aside kept at false = changes_go h m s aside
+  truncation_goes h m s aside kept at true = λ lives. (refl, kept, all_filter P (λ a. not (int_eq a.id h.correlation)) s.asks, λ e. (refl, λ c before. done_still c h.correlation s.asks due.Truncation before at refl))
+
+  deletion_goes : (h : Header) (m : Message) (s : Heard) → is_aside m ≡ true → AsideKept s.kept → due_at h.correlation s.asks ≡ Some due.Deletion → (b : Bool) → Goes P stop s (by_answer h m due.Deletion (done h.correlation b) s)
+  deletion_goes h m s aside kept at false = changes_go h m s aside
+  deletion_goes h m s aside kept at true = λ lives. (refl, kept, all_filter P (λ a. not (int_eq a.id h.correlation)) s.asks, λ e. (refl, λ c before. done_still c h.correlation s.asks due.Deletion before at refl))
+
+  range_goes : (h : Header) (m : Message) (s : Heard) (channel : ℤ) → is_aside m ≡ true → AsideKept s.kept → (o : Option (List Point)) → Goes P stop s (by_answer h m (due.Range channel) (option_map (got.Points h.correlation) o) s)
+  range_goes h m s channel aside kept None = changes_go h m s aside
+  range_goes h m s channel aside kept (Some x) = λ lives. (refl, kept, all_filter P (λ a. not (int_eq a.id h.correlation)) s.asks, λ e. (refl, λ c before. no_more before))
+
+  spaces_go : (h : Header) (m : Message) (s : Heard) → is_aside m ≡ true → AsideKept s.kept → (o : Option (List Space)) → Goes P stop s (by_answer h m due.Spaces (option_map (got.Spaces h.correlation) o) s)
+  spaces_go h m s aside kept None = changes_go h m s aside
+  spaces_go h m s aside kept (Some x) = λ lives. (refl, kept, all_filter P (λ a. not (int_eq a.id h.correlation)) s.asks, λ e. (refl, λ c before. no_more before))
+
   subscription_goes : (h : Header) (m : Message) (s : Heard) (channel : ℤ) → is_aside m ≡ true → Goes P stop s (by_answer h m (due.Subscription channel) (done h.correlation (grants_subscription m)) s)
   subscription_goes h m s channel aside = subst (λ b. Goes P stop s (by_answer h m (due.Subscription channel) (done h.correlation b) s)) (sym (ungranted m aside)) (changes_go h m s aside)
 
@@ -234,6 +257,11 @@ module _ (P : Asked → Type 0) (stop : Bool) where
   due_goes h m s aside kept (Some due.Metadata) at = metadata_goes h m s aside kept (channel_in m)
   due_goes h m s aside kept (Some due.Load) at = changes_go h m s aside
   due_goes h m s aside kept (Some (due.Subscription channel)) at = subscription_goes h m s channel aside
+  due_goes h m s aside kept (Some due.Replacement) at = replacement_goes h m s aside kept at (says_replaced m)
+  due_goes h m s aside kept (Some due.Truncation) at = truncation_goes h m s aside kept at (says_cut m)
+  due_goes h m s aside kept (Some (due.Range channel)) at = range_goes h m s channel aside kept (points_in channel m)
+  due_goes h m s aside kept (Some due.Spaces) at = spaces_go h m s aside kept (spaces_in m)
+  due_goes h m s aside kept (Some due.Deletion) at = deletion_goes h m s aside kept at (says_deleted m)
   due_goes h m s aside kept (Some due.Pong) at = pong_goes h m s aside kept (moment_in m)
 
   told_goes : (h : Header) (m : Message) (s : Heard) → is_aside m ≡ true → AsideKept s.kept → Goes P stop s (told h m s)

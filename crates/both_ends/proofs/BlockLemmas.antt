@@ -319,6 +319,11 @@ answers h x t (Some due.Object) at lives = unasked_ends h x t (Answers h x t) li
 answers h x t (Some due.Opening) at lives = unasked_ends h x t (Answers h x t) lives
 answers h x t (Some due.Metadata) at lives = unasked_ends h x t (Answers h x t) lives
 answers h x t (Some due.Load) at lives = unasked_ends h x t (Answers h x t) lives
+answers h x t (Some due.Replacement) at lives = unasked_ends h x t (Answers h x t) lives
+answers h x t (Some due.Truncation) at lives = unasked_ends h x t (Answers h x t) lives
+answers h x t (Some (due.Range channel)) at lives = unasked_ends h x t (Answers h x t) lives
+answers h x t (Some due.Spaces) at lives = unasked_ends h x t (Answers h x t) lives
+answers h x t (Some due.Deletion) at lives = unasked_ends h x t (Answers h x t) lives
 answers h x t (Some due.Pong) at lives = unasked_ends h x t (Answers h x t) lives
 
 -- ---- one more subscription

@@ -139,6 +139,11 @@ due_is due.Object channel is = absurd (none-some channel is)
 due_is due.Opening channel is = absurd (none-some channel is)
 due_is due.Metadata channel is = absurd (none-some channel is)
 due_is due.Load channel is = absurd (none-some channel is)
+due_is due.Replacement channel is = absurd (none-some channel is)
+due_is due.Truncation channel is = absurd (none-some channel is)
+due_is (due.Range c) channel is = absurd (none-some channel is)
+due_is due.Spaces channel is = absurd (none-some channel is)
+due_is due.Deletion channel is = absurd (none-some channel is)
 due_is due.Pong channel is = absurd (none-some channel is)
 
 -- an ask waits for the subscription that the message of its id asks for, if that asks for one
@@ -201,6 +206,11 @@ ask_sends all rising s (ask.Load points) moment rest front back is lives = (reco
 ask_sends all rising s (ask.Meta uri) moment rest front back is lives = (record { id = pos s.next; due = due.Metadata } ∷ [], (put_known all rising s.next (message_of moment (ask.Meta uri)) [] due.Metadata rest front back refl is, tt), refl)
 ask_sends all rising s (ask.Subscribe channel start) moment rest front back is lives =
     (record { id = pos s.next; due = due.Subscription channel } ∷ [], (put_known all rising s.next (message_of moment (ask.Subscribe channel start)) [] (due.Subscription channel) rest front back refl is, tt), refl)
+ask_sends all rising s (ask.Replace channel from to points) moment rest front back is lives = (record { id = pos s.next; due = due.Replacement } ∷ [], (put_known all rising s.next (message_of moment (ask.Replace channel from to points)) [] due.Replacement rest front back refl is, tt), refl)
+ask_sends all rising s (ask.Cut channel end) moment rest front back is lives = (record { id = pos s.next; due = due.Truncation } ∷ [], (put_known all rising s.next (message_of moment (ask.Cut channel end)) [] due.Truncation rest front back refl is, tt), refl)
+ask_sends all rising s (ask.Range channel from to) moment rest front back is lives = (record { id = pos s.next; due = due.Range channel } ∷ [], (put_known all rising s.next (message_of moment (ask.Range channel from to)) [] (due.Range channel) rest front back refl is, tt), refl)
+ask_sends all rising s ask.Spaces moment rest front back is lives = (record { id = pos s.next; due = due.Spaces } ∷ [], (put_known all rising s.next (message_of moment ask.Spaces) [] due.Spaces rest front back refl is, tt), refl)
+ask_sends all rising s (ask.Delete uri) moment rest front back is lives = (record { id = pos s.next; due = due.Deletion } ∷ [], (put_known all rising s.next (message_of moment (ask.Delete uri)) [] due.Deletion rest front back refl is, tt), refl)
 ask_sends all rising s ask.Ping moment rest front back is lives = (record { id = pos s.next; due = due.Pong } ∷ [], (put_known all rising s.next (message_of moment ask.Ping) [] due.Pong rest front back refl is, tt), refl)
 ask_sends all rising s ask.Close moment rest front back is lives = absurd (false≢true (sym lives))
 
@@ -246,10 +256,11 @@ begun_known moment es =
 
 abbrev SubscribeModest : ChannelSubscribeMessage → Type 0
 SubscribeModest (subscribe.GetChannelMetadata x) = Unit {0}
+SubscribeModest (subscribe.GetRanges x) = Unit {0}
 SubscribeModest (subscribe.SubscribeChannels x) = (channel : ℤ) × (start : ℤ) × (x.channels ≡ keyed (subscription_of channel start))
 SubscribeModest _ = ⊥
 
--- of the ChannelSubscribe protocol it asks for one channel's metadata or for one subscription, and no more
+-- of the ChannelSubscribe protocol it asks for one channel's metadata, for points or for one subscription, and no more
 abbrev pub IsModest : Message → Type 0
 IsModest (message.ChannelSubscribe x) = SubscribeModest x
 IsModest _ = Unit {0}
@@ -274,6 +285,11 @@ pieces_modest s (ask.OpenChannel uri) moment = (tt, tt)
 pieces_modest s (ask.Load points) moment = (tt, tt)
 pieces_modest s (ask.Meta uri) moment = (tt, tt)
 pieces_modest s (ask.Subscribe channel start) moment = ((channel, start, refl), tt)
+pieces_modest s (ask.Replace channel from to points) moment = (tt, tt)
+pieces_modest s (ask.Cut channel end) moment = (tt, tt)
+pieces_modest s (ask.Range channel from to) moment = (tt, tt)
+pieces_modest s ask.Spaces moment = (tt, tt)
+pieces_modest s (ask.Delete uri) moment = (tt, tt)
 pieces_modest s ask.Ping moment = (tt, tt)
 pieces_modest s ask.Close moment = (tt, tt)
 

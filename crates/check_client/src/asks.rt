@@ -48,6 +48,19 @@ fn points_of(alloc: Global, words: &str) -> Result<List<ChannelPoint>, NoMemory>
     Ok(List::from_vec(points))
 }
 
+/// The points of `INDEX:LONG ..`, of which there may be none.
+fn bare_points_of(alloc: Global, words: &str) -> Result<List<Point>, NoMemory> {
+    let mut points = Vec::new(alloc);
+    for word in words.split_whitespace() {
+        let (index, value) = word.split_once(':').unwrap_or(("0", "0"));
+        points.push(Point {
+            index: number(index),
+            value: DataValue::Long(number(value)),
+        })?;
+    }
+    Ok(List::from_vec(points))
+}
+
 /// The ask of two words.
 fn pair_of(alloc: Global, name: &str, rest: &str) -> Result<Option<Ask>, NoMemory> {
     match name {
@@ -56,6 +69,7 @@ fn pair_of(alloc: Global, name: &str, rest: &str) -> Result<Option<Ask>, NoMemor
         "open" => Ok(Some(Ask::OpenChannel(uri_of(alloc, rest)))),
         "meta" => Ok(Some(Ask::Meta(uri_of(alloc, rest)))),
         "load" => Ok(Some(Ask::Load(points_of(alloc, rest)?))),
+        "delete" => Ok(Some(Ask::Delete(uri_of(alloc, rest)))),
         _ => triple_of(alloc, name, rest),
     }
 }
@@ -73,6 +87,36 @@ fn triple_of(alloc: Global, name: &str, rest: &str) -> Result<Option<Ask>, NoMem
             channel: number(second),
             start: number(third),
         })),
+        "cut" => Ok(Some(Ask::Cut {
+            channel: number(second),
+            end: number(third),
+        })),
+        _ => interval_of(alloc, name, number(second), third),
+    }
+}
+
+/// The ask of a channel, an interval and points.
+fn interval_of(
+    alloc: Global,
+    name: &str,
+    channel: i64,
+    rest: &str,
+) -> Result<Option<Ask>, NoMemory> {
+    let (from, rest) = rest.split_once(' ').unwrap_or((rest, ""));
+    let (to, rest) = rest.split_once(' ').unwrap_or((rest, ""));
+    let from = number(from);
+    let to = number(to);
+    match name {
+        "range" => Ok(Some(Ask::Range { channel, from, to })),
+        "replace" => {
+            let points = bare_points_of(alloc, rest)?;
+            Ok(Some(Ask::Replace {
+                channel,
+                from,
+                to,
+                points,
+            }))
+        }
         _ => Ok(None),
     }
 }
@@ -81,6 +125,7 @@ fn triple_of(alloc: Global, name: &str, rest: &str) -> Result<Option<Ask>, NoMem
 pub(crate) fn ask_of(alloc: Global, line: &str) -> Result<Option<Ask>, NoMemory> {
     match line {
         "ping" => Ok(Some(Ask::Ping)),
+        "spaces" => Ok(Some(Ask::Spaces)),
         "close" => Ok(Some(Ask::Close)),
         _ => {
             let (name, rest) = line.split_once(' ').unwrap_or((line, ""));

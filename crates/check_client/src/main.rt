@@ -1,8 +1,8 @@
 //! Plays asks and messages to clients, and prints what each sends and returns.
 //!
 //! A line of the input is `begin MOMENT` (a client from here on), an ask (`space PATH`, `put URI BYTES`, `get URI`, `open URI`, `load
-//! POINTS`, `meta URI`, `subscribe CHANNEL START`, `ping`, `close`, where BYTES is how many bytes 0x41 are put and points are
-//! `CHANNEL:INDEX:LONG`), `take HEX`, `copy CHANNEL`, or a comment that begins with `#`. Each ask is made at the moment 7. The input and
+//! POINTS`, `meta URI`, `subscribe CHANNEL START`, `replace CHANNEL FROM TO INDEX:LONG ..`, `cut CHANNEL END`, `range CHANNEL FROM TO`, `spaces`,
+//! `delete URI`, `ping`, `close`, where BYTES is how many bytes 0x41 are put and points are `CHANNEL:INDEX:LONG`), `take HEX`, `copy CHANNEL`, or a comment that begins with `#`. Each ask is made at the moment 7. The input and
 //! the expected output were made outside of this product (`outside/check_client.py`).
 #![tactic(auto)]
 

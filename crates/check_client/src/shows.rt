@@ -1,6 +1,6 @@
 //! What is returned, in words.
 use channel_store::{ChangeMsg, What};
-use client_core::{ClientError, Got};
+use client_core::{ClientError, Got, Space};
 use etp_values::{DataValue, NoMemory, Point};
 use std::alloc::{AllocError, Global};
 
@@ -50,6 +50,21 @@ fn change_text(alloc: Global, change: &ChangeMsg) -> Result<String, NoMemory> {
     }
 }
 
+/// `URI WRITTEN CREATED` of each.
+fn spaces_text(alloc: Global, spaces: &[Space]) -> Result<String, NoMemory> {
+    let mut text = String::new(alloc);
+    for space in spaces {
+        let one = format!(in alloc;
+            " {} {} {}",
+            space.uri.as_str(),
+            space.written,
+            space.created
+        )?;
+        text.push_str(one.as_str())?;
+    }
+    Ok(text)
+}
+
 /// What a message returns.
 pub(crate) fn show(alloc: Global, got: &Got) -> Result<String, NoMemory> {
     match got {
@@ -64,6 +79,14 @@ pub(crate) fn show(alloc: Global, got: &Got) -> Result<String, NoMemory> {
         }
         Got::Meta { id, channel, kind } => Ok(format!(in alloc; "meta {id} {channel} {kind}")?),
         Got::Change(change) => change_text(alloc, change),
+        Got::Points(id, points) => {
+            let points = points_text(alloc, points.as_slice())?;
+            Ok(format!(in alloc; "points {id}{points}")?)
+        }
+        Got::Spaces(id, spaces) => {
+            let spaces = spaces_text(alloc, spaces.as_slice())?;
+            Ok(format!(in alloc; "spaces {id}{spaces}")?)
+        }
         Got::Pong(moment) => Ok(format!(in alloc; "pong {moment}")?),
     }
 }

@@ -1,5 +1,5 @@
 //! What a line of the input says about a run.
-use etp_outside::{Item, MemDial, MemFile, MemHost, MemLink, MemSource};
+use etp_outside::{Item, MemDial, MemFile, MemHost, MemLink, MemSink, MemSource};
 use etp_values::{Blob, List, NoMemory, Text};
 use std::alloc::Global;
 
@@ -13,6 +13,7 @@ pub(crate) struct Case {
     pub(crate) host: MemHost,
     pub(crate) dialer: MemDial,
     pub(crate) input: MemSource,
+    pub(crate) out: MemSink,
 }
 
 /// The bytes of a word in hexadecimal, or none for `-`.
@@ -89,16 +90,37 @@ fn dialer_of(alloc: Global, text: &str) -> Result<MemDial, NoMemory> {
     MemDial::new(alloc, List::from_vec(links), only(alloc, dialed)?)
 }
 
-/// The run of a line, if it is one.
-pub(crate) fn case_of(alloc: Global, line: &str) -> Result<Option<Case>, NoMemory> {
-    let fields: Vec<&str> = line.split('|').collect(alloc)?;
-    let [words, file, input, link] = fields.as_slice() else {
-        return Ok(None);
-    };
-    Ok(Some(Case {
+/// An output of which the write of this number fails.
+fn sink_of(alloc: Global, word: &str) -> Result<MemSink, NoMemory> {
+    Ok(MemSink::new(Vec::new(alloc), only(alloc, word)?))
+}
+
+/// The run of four fields, and of the number of the write that fails.
+fn fields_case(
+    alloc: Global,
+    words: &str,
+    file: &str,
+    input: &str,
+    link: &str,
+    full: &str,
+) -> Result<Case, NoMemory> {
+    Ok(Case {
         words: words_of(alloc, words)?,
         host: host_of(alloc, file.trim())?,
         dialer: dialer_of(alloc, link)?,
         input: MemSource::new(content_of(alloc, input.trim())?, List::new(alloc)),
-    }))
+        out: sink_of(alloc, full.trim())?,
+    })
+}
+
+/// The run of a line, if it is one.
+pub(crate) fn case_of(alloc: Global, line: &str) -> Result<Option<Case>, NoMemory> {
+    let fields: Vec<&str> = line.split('|').collect(alloc)?;
+    match fields.as_slice() {
+        [words, file, input, link] => Ok(Some(fields_case(alloc, words, file, input, link, "0")?)),
+        [words, file, input, link, full] => Ok(Some(fields_case(
+            alloc, words, file, input, link, full,
+        )?)),
+        _ => Ok(None),
+    }
 }

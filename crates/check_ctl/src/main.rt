@@ -1,7 +1,7 @@
 //! Runs the client over hosts, links and streams in memory, and prints what each command wrote, how it ended, and what it sent.
 //!
 //! A line of the input is a run, in four fields between `|`: the words of the command line, the content of the file `file`, the content of
-//! the input, and the link. A content is in hexadecimal, `-` for none. A link is the number of its call that fails, or 0, and what comes
+//! the input, and the link; a fifth one is the number of the write to the output that fails. A content is in hexadecimal, `-` for none. A link is the number of its call that fails, or 0, and what comes
 //! over it: `-` is an idle turn, and anything else a message in hexadecimal; after the last one the peer has ended the link. An empty field
 //! means that there is no link to dial. The clock returns 7, 8 and so on. A line that begins with `#` is printed as it is.
 //! `CALL@DIAL` in place of the link's number also has the number of the call of the dialer that fails.
@@ -15,8 +15,8 @@ mod shows;
 
 use cases::{Case, case_of};
 use client_forms::{Streams, run_client};
-use etp_outside::{MemDial, MemLink, MemSink, Status, StepClock};
-use etp_values::{List, NoMemory};
+use etp_outside::{MemDial, MemLink, Status, StepClock};
+use etp_values::NoMemory;
 use shows::digits_of;
 use std::alloc::{AllocError, Global};
 use std::io::{self, BufRead, BufReader, Write};
@@ -90,10 +90,11 @@ fn run_case<R: AllocGlobal + Print + Wait>(
         mut host,
         mut dialer,
         input,
+        out,
     } = case;
     let streams = Streams {
         input,
-        out: MemSink::new(Vec::new(alloc), List::new(alloc)),
+        out,
         clock: StepClock::new(FIRST_MOMENT, 1),
     };
     let (status, streams) = run_client(

@@ -1,4 +1,4 @@
-//! Reads the lines of its input as points, and prints the point of each.
+//! Reads the lines of its input as points, and prints the point of each, and behind it the line in which the point is written.
 //!
 //! A line's first byte gives the kind of the channel: `a` means the first kind of the schema, `b` the next. The input and the expected
 //! output were made outside of this product (`outside/check_points.py`). The input's last line is too long.
@@ -6,9 +6,9 @@
 
 use etp_outside::StdSource;
 use etp_values::{DataValue, NoMemory, Point};
-use point_lines::{Advance, Lines, point_in};
+use point_lines::{Advance, Lines, lines_of, point_in};
 use std::alloc::Global;
-use std::io::{self, BufReader};
+use std::io::{self, BufReader, Write};
 
 /// A text between bars, so that blanks show.
 fn barred(alloc: Global, text: &str) -> Result<String, NoMemory> {
@@ -75,6 +75,28 @@ fn print_line(rt: &HostRuntime, line: &[u8]) -> io::Result<()> {
     }
 }
 
+/// The line in which the point of a line is written.
+fn written(alloc: Global, line: &[u8]) -> Result<Option<Vec<u8>>, NoMemory> {
+    match line {
+        [first, rest @ ..] => {
+            let kind = u32::from(first.saturating_sub(b'a'));
+            match point_in(alloc, kind, rest)? {
+                Some(point) => lines_of(alloc, kind, &[point]),
+                None => Ok(None),
+            }
+        }
+        [] => Ok(None),
+    }
+}
+
+fn print_written(rt: &HostRuntime, line: &[u8]) -> io::Result<()> {
+    match written(rt.alloc(), line) {
+        Ok(Some(lines)) => io::writer(rt).write_all(lines.as_slice()),
+        Ok(None) => Ok(()),
+        Err(_) => println!(rt; "no memory"),
+    }
+}
+
 fn main(rt: HostRuntime) -> io::Result<()> {
     let alloc = rt.alloc();
     let mut input = StdSource::new(BufReader::new(alloc, rt.reader())?);
@@ -85,6 +107,7 @@ fn main(rt: HostRuntime) -> io::Result<()> {
             return println!(rt; "{advance:?}");
         }
         print_line(&rt, lines.line())?;
+        print_written(&rt, lines.line())?;
     }
     Ok(())
 }

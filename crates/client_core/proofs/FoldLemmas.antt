@@ -8,6 +8,7 @@ use Rattle.channel_store.specs.Points.{after, copy}
 use Rattle.channel_store.specs.declared.change.What.{What}
 use Rattle.channel_store.specs.declared.copy.ChangeMsg.{ChangeMsg}
 use Rattle.etp_schema.specs.declared.body.Side.TheVariants.{Server}
+use Rattle.etp_values.specs.declared.point.Point.{Point}
 use Rattle.etp_frame.specs.Header.{final_part, has_flag}
 use Rattle.etp_frame.specs.Joining.{Awaited, joins}
 use Rattle.etp_frame.specs.Reading.{read_of}
@@ -24,7 +25,7 @@ use Rattle.msg_channel.specs.declared.channel_subscribe_messages.ChannelSubscrib
 use Rattle.msg_core.specs.declared.core_messages.CoreMessage.{CoreMessage}
 use Rattle.msg_core.specs.declared.core_messages.CoreMessage.TheVariants as core
 use Rattle.msg_core.specs.declared.core_messages.ProtocolException.{ProtocolException}
-use Rattle.client_core.specs.Answers.{channel_in, done, due_at, grants_object, grants_space, grants_subscription, meta_of, moment_in, object_in, opened_in, session_in, subscribed}
+use Rattle.client_core.specs.Answers.{channel_in, done, due_at, grants_object, grants_space, grants_subscription, meta_of, moment_in, object_in, opened_in, points_in, says_cut, says_deleted, says_replaced, session_in, spaces_in, subscribed}
 use Rattle.client_core.specs.Asking.{asked, asked_by, begun, closed_if, due_of, is_close, is_spent, pieces, sends_message}
 use Rattle.client_core.specs.Joining.{grown, is_broken}
 use Rattle.client_core.specs.Laws.{CopiesAreFolds, Event, Asks, Takes, accepts, change_of, handed, is_subscription, since, since_event, stepped, told_of}
@@ -35,6 +36,7 @@ use Rattle.client_core.specs.Taking.{Taken, by_answer, by_changes, by_due, by_fl
 use Rattle.client_core.specs.declared.ask.Ask.{Ask}
 use Rattle.client_core.specs.declared.got.ClientError.TheVariants as error
 use Rattle.client_core.specs.declared.got.Got.TheVariants as got
+use Rattle.client_core.specs.declared.got.Space.{Space}
 use Rattle.client_core.specs.declared.state.Asked.{Asked}
 use Rattle.client_core.specs.declared.state.Due.{Due}
 use Rattle.client_core.specs.declared.state.Due.TheVariants as due
@@ -99,6 +101,31 @@ object_put_keeps : (c : ℤ) (before : Option (List What)) (h : Header) (m : Mes
 object_put_keeps c before h m s stands at true = stands ∙ not_accepted c h.correlation s.asks due.ObjectPut before at refl
 object_put_keeps c before h m s stands at false = changes_keep c s.asks before h.correlation (notice h m) s stands
 
+replacement_keeps : (c : ℤ) (before : Option (List What)) (h : Header) (m : Message) (s : Heard) → Stands c before s → due_at h.correlation s.asks ≡ Some due.Replacement
+    → (b : Bool) → Keeps c s.asks before (by_answer h m due.Replacement (done h.correlation b) s)
+replacement_keeps c before h m s stands at true = stands ∙ not_accepted c h.correlation s.asks due.Replacement before at refl
+replacement_keeps c before h m s stands at false = changes_keep c s.asks before h.correlation (notice h m) s stands
+
+truncation_keeps : (c : ℤ) (before : Option (List What)) (h : Header) (m : Message) (s : Heard) → Stands c before s → due_at h.correlation s.asks ≡ Some due.Truncation
+    → (b : Bool) → Keeps c s.asks before (by_answer h m due.Truncation (done h.correlation b) s)
+truncation_keeps c before h m s stands at true = stands ∙ not_accepted c h.correlation s.asks due.Truncation before at refl
+truncation_keeps c before h m s stands at false = changes_keep c s.asks before h.correlation (notice h m) s stands
+
+deletion_keeps : (c : ℤ) (before : Option (List What)) (h : Header) (m : Message) (s : Heard) → Stands c before s → due_at h.correlation s.asks ≡ Some due.Deletion
+    → (b : Bool) → Keeps c s.asks before (by_answer h m due.Deletion (done h.correlation b) s)
+deletion_keeps c before h m s stands at true = stands ∙ not_accepted c h.correlation s.asks due.Deletion before at refl
+deletion_keeps c before h m s stands at false = changes_keep c s.asks before h.correlation (notice h m) s stands
+
+range_keeps : (c channel : ℤ) (before : Option (List What)) (h : Header) (m : Message) (s : Heard) → Stands c before s
+    → (o : Option (List Point)) → Keeps c s.asks before (by_answer h m (due.Range channel) (option_map (got.Points h.correlation) o) s)
+range_keeps c channel before h m s stands (Some x) = stands ∙ nothing_more before
+range_keeps c channel before h m s stands None = changes_keep c s.asks before h.correlation (notice h m) s stands
+
+spaces_keep : (c : ℤ) (before : Option (List What)) (h : Header) (m : Message) (s : Heard) → Stands c before s
+    → (o : Option (List Space)) → Keeps c s.asks before (by_answer h m due.Spaces (option_map (got.Spaces h.correlation) o) s)
+spaces_keep c before h m s stands (Some x) = stands ∙ nothing_more before
+spaces_keep c before h m s stands None = changes_keep c s.asks before h.correlation (notice h m) s stands
+
 -- the subscription of the channel, or of another
 subscription_keeps : (c channel : ℤ) (before : Option (List What)) (h : Header) (m : Message) (s : Heard) → Stands c before s → due_at h.correlation s.asks ≡ Some (due.Subscription channel)
     → (b : Bool) → Keeps c s.asks before (by_answer h m (due.Subscription channel) (done h.correlation b) s)
@@ -151,6 +178,11 @@ due_keeps c before h m s stands (Some due.Opening) at = opening_keeps c before h
 due_keeps c before h m s stands (Some due.Metadata) at = metadata_keeps c before h m s stands (channel_in m)
 due_keeps c before h m s stands (Some due.Load) at = changes_keep c s.asks before h.correlation (notice h m) s stands
 due_keeps c before h m s stands (Some (due.Subscription channel)) at = subscription_keeps c channel before h m s stands at (grants_subscription m)
+due_keeps c before h m s stands (Some due.Replacement) at = replacement_keeps c before h m s stands at (says_replaced m)
+due_keeps c before h m s stands (Some due.Truncation) at = truncation_keeps c before h m s stands at (says_cut m)
+due_keeps c before h m s stands (Some (due.Range channel)) at = range_keeps c channel before h m s stands (points_in channel m)
+due_keeps c before h m s stands (Some due.Spaces) at = spaces_keep c before h m s stands (spaces_in m)
+due_keeps c before h m s stands (Some due.Deletion) at = deletion_keeps c before h m s stands at (says_deleted m)
 due_keeps c before h m s stands (Some due.Pong) at = pong_keeps c before h m s stands (moment_in m)
 
 told_keeps : (c : ℤ) (before : Option (List What)) (h : Header) (m : Message) (s : Heard) → Stands c before s → Keeps c s.asks before (told h m s)

@@ -1,9 +1,10 @@
 -- What ends an ask.
-use Rattle.std.specs.Prelude.{ℕ, ℤ, Bool, true, false, not, ◌&&◌, int_lt, List, [], ◌∷◌, ◌++◌, Option, Some, None, is_some, option_map, codes, filter}
+use Rattle.std.specs.Prelude.{ℕ, ℤ, Bool, true, false, not, ◌&&◌, int_lt, List, [], ◌∷◌, ◌++◌, Option, Some, None, is_some, map, option_map, codes, filter}
 use Rattle.std.specs.List.{find}
 use Rattle.std.specs.Map.{lookup}
 use Rattle.std.specs.Ordering.{int_eq}
 use Rattle.std.specs.Str.{bytes_eq}
+use Rattle.etp_values.specs.declared.point.Point.{Point}
 use Rattle.msg_channel.specs.ChannelRecords.{channel_data_kind_place}
 use Rattle.msg_channel.specs.declared.channel_data_load_messages.ChannelDataLoadMessage.{ChannelDataLoadMessage}
 use Rattle.msg_channel.specs.declared.channel_data_load_messages.ChannelDataLoadMessage.TheVariants as load
@@ -12,15 +13,18 @@ use Rattle.msg_channel.specs.declared.channel_subscribe_messages.ChannelSubscrib
 use Rattle.msg_channel.specs.declared.channel_subscribe_messages.ChannelSubscribeMessage.TheVariants as subscribe
 use Rattle.msg_core.specs.declared.core_messages.CoreMessage.{CoreMessage}
 use Rattle.msg_core.specs.declared.core_messages.CoreMessage.TheVariants as core
+use Rattle.msg_core.specs.declared.dataspace_messages.Dataspace.{Dataspace}
 use Rattle.msg_core.specs.declared.dataspace_messages.DataspaceMessage.{DataspaceMessage}
 use Rattle.msg_core.specs.declared.dataspace_messages.DataspaceMessage.TheVariants as dataspace
 use Rattle.msg_store.specs.declared.store_messages.StoreMessage.{StoreMessage}
 use Rattle.msg_store.specs.declared.store_messages.StoreMessage.TheVariants as store
 use Rattle.etp_frame.specs.declared.message.Message.{Message}
 use Rattle.etp_frame.specs.declared.message.Message.TheVariants as message
+use Rattle.client_parts.specs.Changes.{channel_points}
 use Rattle.client_core.specs.State.{Heard}
 use Rattle.client_core.specs.declared.got.Got.{Got}
 use Rattle.client_core.specs.declared.got.Got.TheVariants as got
+use Rattle.client_core.specs.declared.got.Space.{Space}
 use Rattle.client_core.specs.declared.state.Asked.{Asked}
 use Rattle.client_core.specs.declared.state.Channel.{Channel}
 use Rattle.client_core.specs.declared.state.Due.{Due}
@@ -115,6 +119,54 @@ abbrev pub opened_in : Message → Option ChannelMetadataRecord
 opened_in (message.ChannelDataLoad x) = load_channel x
 opened_in _ = None
 
+abbrev pub load_replaced : ChannelDataLoadMessage → Bool
+load_replaced (load.ReplaceRangeResponse x) = true
+load_replaced _ = false
+
+-- a message says that the points are replaced; it names no key
+abbrev pub says_replaced : Message → Bool
+says_replaced (message.ChannelDataLoad x) = load_replaced x
+says_replaced _ = false
+
+abbrev pub load_cut : ChannelDataLoadMessage → Bool
+load_cut (load.TruncateChannelsResponse x) = is_granted x.channels_truncated_time
+load_cut _ = false
+
+-- a message says that the channel is cut
+abbrev pub says_cut : Message → Bool
+says_cut (message.ChannelDataLoad x) = load_cut x
+says_cut _ = false
+
+abbrev pub subscribe_points : ℤ → ChannelSubscribeMessage → Option (List Point)
+subscribe_points channel (subscribe.GetRangesResponse x) = channel_points channel x.payload
+subscribe_points channel _ = None
+
+-- the points of the channel that a message carries, if it carries no others
+abbrev pub points_in : ℤ → Message → Option (List Point)
+points_in channel (message.ChannelSubscribe x) = subscribe_points channel x
+points_in channel _ = None
+
+abbrev pub space_of : Dataspace → Space
+space_of x = record { uri = x.uri; written = x.store_last_write; created = x.store_created }
+
+abbrev pub dataspace_spaces : DataspaceMessage → Option (List Space)
+dataspace_spaces (dataspace.GetDataspacesResponse x) = Some (map space_of x.dataspaces)
+dataspace_spaces _ = None
+
+-- the dataspaces that a message lists
+abbrev pub spaces_in : Message → Option (List Space)
+spaces_in (message.Dataspace x) = dataspace_spaces x
+spaces_in _ = None
+
+abbrev pub store_deleted : StoreMessage → Bool
+store_deleted (store.DeleteDataObjectsResponse x) = is_granted x.deleted_uris
+store_deleted _ = false
+
+-- a message says that the object is deleted
+abbrev pub says_deleted : Message → Bool
+says_deleted (message.Store x) = store_deleted x
+says_deleted _ = false
+
 -- ---- answers
 
 -- that the ask of this id is done, if its key is granted
@@ -132,6 +184,11 @@ answer id due.Opening m = option_map (meta_of id) (opened_in m)
 answer id due.Metadata m = option_map (meta_of id) (channel_in m)
 answer id due.Load m = None
 answer id (due.Subscription channel) m = done id (grants_subscription m)
+answer id due.Replacement m = done id (says_replaced m)
+answer id due.Truncation m = done id (says_cut m)
+answer id (due.Range channel) m = option_map (got.Points id) (points_in channel m)
+answer id due.Spaces m = option_map (got.Spaces id) (spaces_in m)
+answer id due.Deletion m = done id (says_deleted m)
 answer id due.Pong m = option_map got.Pong (moment_in m)
 
 -- ---- open asks

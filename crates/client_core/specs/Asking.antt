@@ -27,6 +27,11 @@ due_of (ask.OpenChannel uri) = Some due.Opening
 due_of (ask.Load points) = Some due.Load
 due_of (ask.Meta uri) = Some due.Metadata
 due_of (ask.Subscribe channel start) = Some (due.Subscription channel)
+due_of (ask.Replace channel from to points) = Some due.Replacement
+due_of (ask.Cut channel end) = Some due.Truncation
+due_of (ask.Range channel from to) = Some (due.Range channel)
+due_of ask.Spaces = Some due.Spaces
+due_of (ask.Delete uri) = Some due.Deletion
 due_of ask.Ping = Some due.Pong
 due_of ask.Close = None
 

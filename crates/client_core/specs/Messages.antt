@@ -2,6 +2,7 @@
 use Rattle.std.specs.Prelude.{ℕ, ℤ, pos, false, true, List, [], ◌∷◌, None, codes, map}
 use Rattle.etp_values.specs.Uri.{plain_uri}
 use Rattle.etp_values.specs.declared.point.ChannelPoint.{ChannelPoint}
+use Rattle.etp_values.specs.declared.point.Point.{Point}
 use Rattle.etp_values.specs.declared.uri.StoreUri.{StoreUri}
 use Rattle.etp_schema.specs.declared.status.ActiveStatusKind.TheVariants.{Active}
 use Rattle.msg_core.specs.declared.core_messages.CoreMessage.TheVariants as core
@@ -15,8 +16,11 @@ use Rattle.msg_store.specs.declared.store_messages.StoreMessage.TheVariants as s
 use Rattle.msg_channel.specs.declared.channel_data_load_messages.ChannelDataLoadMessage.TheVariants as load
 use Rattle.msg_channel.specs.declared.channel_subscribe_messages.ChannelSubscribeMessage.TheVariants as subscribe
 use Rattle.msg_channel.specs.declared.channel_subscribe_messages.ChannelSubscribeInfo.{ChannelSubscribeInfo}
+use Rattle.msg_channel.specs.declared.channel_ranges.ChannelRangeInfo.{ChannelRangeInfo}
+use Rattle.msg_channel.specs.declared.indexes.IndexInterval.{IndexInterval}
 use Rattle.msg_channel.specs.declared.indexes.IndexValue.TheVariants as index
 use Rattle.msg_channel.specs.declared.points.DataItem.{DataItem}
+use Rattle.msg_channel.specs.declared.points.TruncateInfo.{TruncateInfo}
 use Rattle.etp_frame.specs.declared.message.Message.{Message}
 use Rattle.etp_frame.specs.declared.message.Message.TheVariants as message
 use Rattle.client_core.specs.declared.ask.Ask.{Ask}
@@ -104,6 +108,20 @@ item_of p = record { channel_id = p.channel; indexes = index.Long p.point.index 
 abbrev pub subscription_of : ℤ → ℤ → ChannelSubscribeInfo
 subscription_of channel start = record { channel_id = channel; start_index = index.Long start; data_changes = true; request_latest_index_count = None }
 
+-- the same for a point of this channel
+abbrev pub item_at : ℤ → Point → DataItem
+item_at channel p = item_of (record { channel = channel; point = p })
+
+-- an interval from one index to another
+abbrev pub long_interval : ℤ → ℤ → IndexInterval
+long_interval from to = record { start_index = index.Long from; end_index = index.Long to; uom = []; depth_datum = [] }
+
+abbrev pub cut_of : ℤ → ℤ → TruncateInfo
+cut_of channel end = record { channel_id = channel; new_end_index = index.Long end }
+
+abbrev pub range_of : ℤ → ℤ → ℤ → ChannelRangeInfo
+range_of channel from to = record { channel_ids = channel ∷ []; interval = long_interval from to; secondary_intervals = [] }
+
 -- ---- the message of each ask
 
 abbrev pub space_put : List ℕ → Message
@@ -127,6 +145,21 @@ channel_asked uri = message.ChannelSubscribe (subscribe.GetChannelMetadata (reco
 abbrev pub channel_subscribed : ℤ → ℤ → Message
 channel_subscribed channel start = message.ChannelSubscribe (subscribe.SubscribeChannels (record { channels = keyed (subscription_of channel start) }))
 
+abbrev pub range_replaced : ℤ → ℤ → ℤ → List Point → Message
+range_replaced channel from to points = message.ChannelDataLoad (load.ReplaceRange (record { changed_interval = long_interval from to; channel_ids = channel ∷ []; payload = map (item_at channel) points }))
+
+abbrev pub channel_cut : ℤ → ℤ → Message
+channel_cut channel end = message.ChannelDataLoad (load.TruncateChannels (record { channels = keyed (cut_of channel end) }))
+
+abbrev pub range_asked : ℤ → ℤ → ℤ → Message
+range_asked channel from to = message.ChannelSubscribe (subscribe.GetRanges (record { request_uuid = no_id; channel_ranges = range_of channel from to ∷ [] }))
+
+abbrev pub spaces_asked : Message
+spaces_asked = message.Dataspace (dataspace.GetDataspaces (record { store_last_write_filter = None }))
+
+abbrev pub object_deleted : StoreUri → Message
+object_deleted uri = message.Store (store.DeleteDataObjects (record { uris = keyed (plain_uri uri); prune_contained_objects = false }))
+
 abbrev pub pinged : ℤ → Message
 pinged moment = message.Core (core.Ping (record { current_date_time = moment }))
 
@@ -142,5 +175,10 @@ message_of moment (ask.OpenChannel uri) = channel_opened uri
 message_of moment (ask.Load points) = points_loaded points
 message_of moment (ask.Meta uri) = channel_asked uri
 message_of moment (ask.Subscribe channel start) = channel_subscribed channel start
+message_of moment (ask.Replace channel from to points) = range_replaced channel from to points
+message_of moment (ask.Cut channel end) = channel_cut channel end
+message_of moment (ask.Range channel from to) = range_asked channel from to
+message_of moment ask.Spaces = spaces_asked
+message_of moment (ask.Delete uri) = object_deleted uri
 message_of moment ask.Ping = pinged moment
 message_of moment ask.Close = session_closed

@@ -1,19 +1,21 @@
 //! What ends an ask.
-ghost use Rattle.std.specs.Prelude.{◌≡◌, option_map, IfOk};
-ghost use Rattle.client_core.specs.Answers.{answer, at_key, channel_in, core_moment, core_session, dataspace_granted, done, grants_object, grants_space, grants_subscription, is_granted, load_channel, meta_of, moment_in, object_in, opened_in, session_in, store_granted, store_object, subscribe_channel, subscribe_granted};
+ghost use Rattle.std.specs.Prelude.{◌≡◌, map, option_map, IfOk};
+ghost use Rattle.client_core.specs.Answers.{answer, at_key, channel_in, core_moment, core_session, dataspace_granted, dataspace_spaces, done, grants_object, grants_space, grants_subscription, is_granted, load_channel, load_cut, load_replaced, meta_of, moment_in, object_in, opened_in, points_in, says_cut, says_deleted, says_replaced, session_in, space_of, spaces_in, store_deleted, store_granted, store_object, subscribe_channel, subscribe_granted, subscribe_points};
 ghost use Rattle.client_core.specs.declared.got.Got.TheVariants as got;
 ghost use Rattle.msg_channel.specs.ChannelRecords.{channel_data_kind_place};
 
-use crate::got::Got;
+use crate::got::{Got, Space};
 use crate::messages::KEY;
 use crate::state::Due;
+use client_parts::channel_points;
 use etp_frame::Message;
-use etp_values::{Blob, Id16, Named, NoMemory};
+use etp_values::{Blob, Id16, List, Named, NoMemory, Point, Text};
 use msg_channel::{
     ChannelDataKind, ChannelDataLoadMessage, ChannelMetadataRecord, ChannelSubscribeMessage,
 };
-use msg_core::{CoreMessage, DataspaceMessage};
+use msg_core::{CoreMessage, Dataspace, DataspaceMessage};
 use msg_store::{GetDataObjectsResponse, StoreMessage};
+use std::alloc::Global;
 
 /// The index of a kind of data in the schema's order.
 fn kind_place(kind: ChannelDataKind) -> u32
@@ -256,10 +258,166 @@ fn opening(id: i64, message: &Message) -> Option<Got>
     }
 }
 
+// ---- points
+
+fn load_replaced(message: &ChannelDataLoadMessage) -> bool
+    ensures { result ≡ load_replaced message.now }
+{
+    matches!(message, ChannelDataLoadMessage::ReplaceRangeResponse(_))
+}
+
+fn says_replaced(message: &Message) -> bool
+    ensures { result ≡ says_replaced message.now }
+{
+    match message {
+        Message::ChannelDataLoad(message) => load_replaced(message.get()),
+        _ => false,
+    }
+}
+
+fn load_cut(message: &ChannelDataLoadMessage) -> bool
+    ensures { result ≡ load_cut message.now }
+{
+    match message {
+        ChannelDataLoadMessage::TruncateChannelsResponse(reply) => is_granted(
+            &reply.channels_truncated_time,
+        ),
+        _ => false,
+    }
+}
+
+fn says_cut(message: &Message) -> bool
+    ensures { result ≡ says_cut message.now }
+{
+    match message {
+        Message::ChannelDataLoad(message) => load_cut(message.get()),
+        _ => false,
+    }
+}
+
+fn subscribe_points(
+    alloc: Global,
+    channel: i64,
+    message: &ChannelSubscribeMessage,
+) -> Result<Option<List<Point>>, NoMemory>
+    ensures { IfOk result (λ ps. ps ≡ subscribe_points channel message.now) }
+{
+    match message {
+        ChannelSubscribeMessage::GetRangesResponse(reply) => channel_points(
+            alloc,
+            channel,
+            reply.payload.as_slice(),
+        ),
+        _ => Ok(None),
+    }
+}
+
+fn points_in(
+    alloc: Global,
+    channel: i64,
+    message: &Message,
+) -> Result<Option<List<Point>>, NoMemory>
+    ensures { IfOk result (λ ps. ps ≡ points_in channel message.now) }
+{
+    match message {
+        Message::ChannelSubscribe(message) => subscribe_points(alloc, channel, message.get()),
+        _ => Ok(None),
+    }
+}
+
+fn points(alloc: Global, id: i64, channel: i64, message: &Message) -> Result<Option<Got>, NoMemory>
+    ensures { IfOk result (λ g. g ≡ option_map (got.Points id) (points_in channel message.now)) }
+{
+    match points_in(alloc, channel, message)? {
+        Some(points) => Ok(Some(Got::Points(id, points))),
+        None => Ok(None),
+    }
+}
+
+// ---- dataspaces
+
+fn space_of(alloc: Global, found: &Dataspace) -> Result<Space, NoMemory>
+    ensures { IfOk result (λ s. s ≡ space_of found.now) }
+{
+    Ok(Space {
+        uri: Text::copy(alloc, found.uri.get().as_str())?,
+        written: found.store_last_write,
+        created: found.store_created,
+    })
+}
+
+fn all_spaces(alloc: Global, all: &[Dataspace]) -> Result<List<Space>, NoMemory>
+    ensures { IfOk result (λ l. l ≡ map space_of all.now) }
+{
+    let mut spaces = Vec::new(alloc);
+    for found in all {
+        spaces.push(space_of(alloc, found)?)?;
+    }
+    Ok(List::from_vec(spaces))
+}
+
+fn dataspace_spaces(
+    alloc: Global,
+    message: &DataspaceMessage,
+) -> Result<Option<List<Space>>, NoMemory>
+    ensures { IfOk result (λ l. l ≡ dataspace_spaces message.now) }
+{
+    match message {
+        DataspaceMessage::GetDataspacesResponse(reply) => Ok(Some(all_spaces(
+            alloc,
+            reply.dataspaces.as_slice(),
+        )?)),
+        _ => Ok(None),
+    }
+}
+
+fn spaces_in(alloc: Global, message: &Message) -> Result<Option<List<Space>>, NoMemory>
+    ensures { IfOk result (λ l. l ≡ spaces_in message.now) }
+{
+    match message {
+        Message::Dataspace(message) => dataspace_spaces(alloc, message.get()),
+        _ => Ok(None),
+    }
+}
+
+fn spaces(alloc: Global, id: i64, message: &Message) -> Result<Option<Got>, NoMemory>
+    ensures { IfOk result (λ g. g ≡ option_map (got.Spaces id) (spaces_in message.now)) }
+{
+    match spaces_in(alloc, message)? {
+        Some(spaces) => Ok(Some(Got::Spaces(id, spaces))),
+        None => Ok(None),
+    }
+}
+
+// ---- a deletion
+
+fn store_deleted(message: &StoreMessage) -> bool
+    ensures { result ≡ store_deleted message.now }
+{
+    match message {
+        StoreMessage::DeleteDataObjectsResponse(reply) => is_granted(&reply.deleted_uris),
+        _ => false,
+    }
+}
+
+fn says_deleted(message: &Message) -> bool
+    ensures { result ≡ says_deleted message.now }
+{
+    match message {
+        Message::Store(message) => store_deleted(message.get()),
+        _ => false,
+    }
+}
+
 // ---- answers
 
 /// The answer that a message is to the ask of this id, if it ends what the ask waits for.
-pub(crate) fn answer(id: i64, due: Due, message: &Message) -> Result<Option<Got>, NoMemory>
+pub(crate) fn answer(
+    alloc: Global,
+    id: i64,
+    due: Due,
+    message: &Message,
+) -> Result<Option<Got>, NoMemory>
     ensures { IfOk result (λ g. g ≡ answer id due message.now) }
 {
     match due {
@@ -271,6 +429,11 @@ pub(crate) fn answer(id: i64, due: Due, message: &Message) -> Result<Option<Got>
         Due::Metadata => Ok(meta(id, message)),
         Due::Load => Ok(None),
         Due::Subscription(_) => Ok(done(id, grants_subscription(message))),
+        Due::Replacement => Ok(done(id, says_replaced(message))),
+        Due::Truncation => Ok(done(id, says_cut(message))),
+        Due::Range(channel) => points(alloc, id, channel, message),
+        Due::Spaces => spaces(alloc, id, message),
+        Due::Deletion => Ok(done(id, says_deleted(message))),
         Due::Pong => Ok(pong(message)),
     }
 }

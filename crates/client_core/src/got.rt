@@ -1,8 +1,17 @@
 //! What a client returns.
 use channel_store::ChangeMsg;
 use etp_frame::{FrameError, JoinError};
-use etp_values::{Blob, Id16, NoMemory, Text};
+use etp_values::{Blob, Id16, List, NoMemory, Point, Text};
 use thiserror::Error;
+
+/// A dataspace of a store.
+#[derive(Drop)]
+pub struct Space {
+    pub uri: Text,
+    /// When the store last wrote it, and when it made it, in microseconds since 1970-01-01 UTC.
+    pub written: i64,
+    pub created: i64,
+}
 
 /// An answer, or something that happened to a subscribed channel. An `id` is that of the ask.
 #[derive(Drop)]
@@ -17,6 +26,10 @@ pub enum Got {
     Meta { id: i64, channel: i64, kind: u32 },
     /// A change of a subscribed channel.
     Change(ChangeMsg),
+    /// The points of a channel that the ask of this id asked for.
+    Points(i64, List<Point>),
+    /// The dataspaces, for the ask of this id.
+    Spaces(i64, List<Space>),
     /// A Pong with the server's time, in microseconds since 1970-01-01 UTC.
     Pong(i64),
 }

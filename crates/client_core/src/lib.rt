@@ -22,6 +22,6 @@ mod taking;
 
 pub use ask::Ask;
 pub use client::Client;
-pub use got::{ClientError, Got};
+pub use got::{ClientError, Got, Space};
 pub use laws::copies_are_folds;
 pub use state::{Asked, Channel, Due, Kept, Phase};

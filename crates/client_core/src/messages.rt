@@ -1,20 +1,25 @@
 //! The messages of asks.
-ghost use Rattle.std.specs.Prelude.{◌≡◌, None, IfOk, map};
-ghost use Rattle.client_core.specs.Messages.{channel_asked, channel_opened, channel_subscribed, formats, item_of, keyed, message_of, object_asked, object_put, pinged, points_loaded, protocols, request_message, request_session, requested, resource_of, session_closed, space_put};
+ghost use Rattle.std.specs.Prelude.{◌≡◌, ◌∷◌, [], None, IfOk, map};
+ghost use Rattle.client_core.specs.Messages.{channel_asked, channel_cut, channel_opened, channel_subscribed, formats, item_at, item_of, keyed, long_interval, message_of, object_asked, object_deleted, object_put, pinged, points_loaded, protocols, range_asked, range_of, range_replaced, request_message, request_session, requested, resource_of, session_closed, space_put, spaces_asked};
 
 use crate::ask::Ask;
 use etp_frame::Message;
 use etp_schema::{ActiveStatusKind, Few, protocols};
-use etp_values::{Blob, Boxed, ChannelPoint, Id16, List, Named, NoMemory, Shared, StoreUri, Text};
+use etp_values::{
+    Blob, Boxed, ChannelPoint, Id16, List, Named, NoMemory, Point, Shared, StoreUri, Text,
+};
 use msg_channel::{
-    ChannelDataLoadMessage, ChannelSubscribeInfo, ChannelSubscribeMessage, DataItem,
-    GetChannelMetadata, IndexValue, LoadChannelData, OpenChannels, SubscribeChannels,
+    ChannelDataLoadMessage, ChannelRangeInfo, ChannelSubscribeInfo, ChannelSubscribeMessage,
+    DataItem, GetChannelMetadata, GetRanges, IndexInterval, IndexValue, LoadChannelData,
+    OpenChannels, ReplaceRange, SubscribeChannels, TruncateChannels, TruncateInfo,
 };
 use msg_core::{
-    CloseSession, CoreMessage, Dataspace, DataspaceMessage, Ping, PutDataspaces, RequestSession,
-    SupportedProtocol, Version,
+    CloseSession, CoreMessage, Dataspace, DataspaceMessage, GetDataspaces, Ping, PutDataspaces,
+    RequestSession, SupportedProtocol, Version,
 };
-use msg_store::{DataObject, GetDataObjects, PutDataObjects, Resource, StoreMessage};
+use msg_store::{
+    DataObject, DeleteDataObjects, GetDataObjects, PutDataObjects, Resource, StoreMessage,
+};
 use std::alloc::Global;
 
 /// The key under which an ask names its one thing.
@@ -270,6 +275,127 @@ fn subscribe(alloc: Global, channel: i64, start: i64) -> Result<Message, NoMemor
     )?))
 }
 
+/// The items of points of one channel.
+fn items_at(alloc: Global, channel: i64, points: List<Point>) -> Result<List<DataItem>, NoMemory>
+    ensures { IfOk result (λ l. l ≡ map (item_at channel) points) }
+{
+    let mut items = Vec::new(alloc);
+    items.reserve(points.len())?;
+    for point in points.into_vec() {
+        let item = item_of(alloc, ChannelPoint { channel, point });
+        items.push(item)?;
+    }
+    Ok(List::from_vec(items))
+}
+
+/// An interval from one index to another.
+fn interval(alloc: Global, from: i64, to: i64) -> IndexInterval
+    ensures { result ≡ long_interval from to }
+{
+    IndexInterval {
+        start_index: IndexValue::Long(from),
+        end_index: IndexValue::Long(to),
+        uom: Text::new(alloc),
+        depth_datum: Text::new(alloc),
+    }
+}
+
+fn only(alloc: Global, channel: i64) -> Result<List<i64>, NoMemory>
+    ensures { IfOk result (λ l. l ≡ channel ∷ []) }
+{
+    let mut channels = Vec::new(alloc);
+    channels.push(channel)?;
+    Ok(List::from_vec(channels))
+}
+
+fn replace(
+    alloc: Global,
+    channel: i64,
+    from: i64,
+    to: i64,
+    points: List<Point>,
+) -> Result<Message, NoMemory>
+    ensures { IfOk result (λ m. m ≡ range_replaced channel from to points) }
+{
+    let payload = items_at(alloc, channel, points)?;
+    let channel_ids = only(alloc, channel)?;
+    Ok(Message::ChannelDataLoad(Boxed::new(
+        alloc,
+        ChannelDataLoadMessage::ReplaceRange(ReplaceRange {
+            changed_interval: interval(alloc, from, to),
+            channel_ids,
+            payload,
+        }),
+    )?))
+}
+
+fn cut(alloc: Global, channel: i64, end: i64) -> Result<Message, NoMemory>
+    ensures { IfOk result (λ m. m ≡ channel_cut channel end) }
+{
+    let channels = keyed(
+        alloc,
+        TruncateInfo {
+            channel_id: channel,
+            new_end_index: IndexValue::Long(end),
+        },
+    )?;
+    Ok(Message::ChannelDataLoad(Boxed::new(
+        alloc,
+        ChannelDataLoadMessage::TruncateChannels(TruncateChannels { channels }),
+    )?))
+}
+
+fn range_of(alloc: Global, channel: i64, from: i64, to: i64) -> Result<ChannelRangeInfo, NoMemory>
+    ensures { IfOk result (λ r. r ≡ range_of channel from to) }
+{
+    let channel_ids = only(alloc, channel)?;
+    Ok(ChannelRangeInfo {
+        channel_ids,
+        interval: interval(alloc, from, to),
+        secondary_intervals: List::new(alloc),
+    })
+}
+
+fn range(alloc: Global, channel: i64, from: i64, to: i64) -> Result<Message, NoMemory>
+    ensures { IfOk result (λ m. m ≡ range_asked channel from to) }
+{
+    let one = range_of(alloc, channel, from, to)?;
+    let mut channel_ranges = Vec::new(alloc);
+    channel_ranges.push(one)?;
+    Ok(Message::ChannelSubscribe(Boxed::new(
+        alloc,
+        ChannelSubscribeMessage::GetRanges(GetRanges {
+            request_uuid: Id16::from_bytes([0; 16]),
+            channel_ranges: List::from_vec(channel_ranges),
+        }),
+    )?))
+}
+
+fn spaces(alloc: Global) -> Result<Message, NoMemory>
+    ensures { IfOk result (λ m. m ≡ spaces_asked) }
+{
+    Ok(Message::Dataspace(Boxed::new(
+        alloc,
+        DataspaceMessage::GetDataspaces(GetDataspaces {
+            store_last_write_filter: None,
+        }),
+    )?))
+}
+
+fn delete(alloc: Global, uri: StoreUri) -> Result<Message, NoMemory>
+    ensures { IfOk result (λ m. m ≡ object_deleted uri) }
+{
+    let uri = uri.write(alloc)?;
+    let uris = keyed(alloc, uri)?;
+    Ok(Message::Store(Boxed::new(
+        alloc,
+        StoreMessage::DeleteDataObjects(DeleteDataObjects {
+            uris,
+            prune_contained_objects: false,
+        }),
+    )?))
+}
+
 fn ping(alloc: Global, moment: i64) -> Result<Message, NoMemory>
     ensures { IfOk result (λ m. m ≡ pinged moment) }
 {
@@ -304,6 +430,16 @@ pub(crate) fn message_of(alloc: Global, ask: Ask, moment: i64) -> Result<Message
         Ask::Load(points) => load(alloc, points),
         Ask::Meta(uri) => meta(alloc, uri),
         Ask::Subscribe { channel, start } => subscribe(alloc, channel, start),
+        Ask::Replace {
+            channel,
+            from,
+            to,
+            points,
+        } => replace(alloc, channel, from, to, points),
+        Ask::Cut { channel, end } => cut(alloc, channel, end),
+        Ask::Range { channel, from, to } => range(alloc, channel, from, to),
+        Ask::Spaces => spaces(alloc),
+        Ask::Delete(uri) => delete(alloc, uri),
         Ask::Ping => ping(alloc, moment),
         Ask::Close => close(alloc),
     }

@@ -32,6 +32,16 @@ pub enum Due {
     Load,
     /// The response to a subscription of the channel of this number.
     Subscription(i64),
+    /// The response to a replacement of points.
+    Replacement,
+    /// The response to a truncation.
+    Truncation,
+    /// The points of the channel of this number.
+    Range(i64),
+    /// The dataspaces.
+    Spaces,
+    /// The response to the deletion of an object.
+    Deletion,
     /// A Pong.
     Pong,
 }

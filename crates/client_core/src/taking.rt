@@ -446,7 +446,7 @@ impl Hearing {
         ensures state { let expected = by_answer header.now message due (answer header.now.correlation due message) self.old in
             OnOk result (self.new ≡ expected.state) }
     {
-        match answer(header.correlation, due, &message) {
+        match answer(alloc, header.correlation, due, &message) {
             Ok(got) => self.on_answer(alloc, header, due, message, got),
             Err(NoMemory) => no_memory(message),
         }

@@ -41,34 +41,35 @@ came_back server taken sent (Some t) (Some u) faults over (Some bs) (Some cs) di
 }
 
 dials_by : (st : Status) (server : Address) (taken : List Item) (sent : List (List ℕ)) (d e : Dials) → HasDialed server taken sent d e → DialsBy st server taken sent d e
-dials_by status.ReadFault server taken sent d e h = inl h
-dials_by status.WriteFault server taken sent d e h = inl h
 dials_by status.LinkFault server taken sent d e h = inl h
 dials_by status.NoMemory server taken sent d e h = inl h
 dials_by st server taken sent d e h = h
 
 -- ---- what a status says about the course
 
-whole_front : (sent : List (List ℕ)) (written : List ℕ) (r : Course) → Whole sent written r → Front sent written r
-whole_front sent written r h = record {
-  sent_is = subst (λ (l : List (List ℕ)). IsPrefix sent l) h.sent_is (prefix_self sent);
-  written_is = subst (λ (l : List ℕ). IsPrefix written l) h.written_is (prefix_self written);
-}
+module _ (sent : List (List ℕ)) (written : List ℕ) (moments : List ℤ) (r : List ℤ → Course) where
+  whole_front : (st : Status) → ByCourse st sent written moments r → Front sent written (r moments)
+  whole_front st h =
+      let w : Whole [] sent written (r moments) = subst (λ (ms : List ℤ). Whole [] sent written (r ms)) (append-nil moments) (h []).0 in
+      record {
+        sent_is = subst (λ (l : List (List ℕ)). IsPrefix sent l) w.sent_is (prefix_self sent);
+        written_is = subst (λ (l : List ℕ). IsPrefix written l) w.written_is (prefix_self written);
+      }
 
-by_course : (st : Status) (sent : List (List ℕ)) (written : List ℕ) (r : Course) (w z : World) → ByCourse st sent written r → ByStatus st sent written r w z
-by_course status.ReadFault sent written r w z h = whole_front sent written r h.0
-by_course status.WriteFault sent written r w z h = whole_front sent written r h.0
-by_course status.LinkFault sent written r w z h = whole_front sent written r h.0
-by_course status.NoMemory sent written r w z h = whole_front sent written r h.0
-by_course status.Peer sent written r w z h = inl h
-by_course (status.Refused code) sent written r w z h = inl h
-by_course status.Stopped sent written r w z h = inl h
-by_course st sent written r w z h = h
+  by_course : (st : Status) (w z : World) → ByCourse st sent written moments r → ByStatus st sent written moments r w z
+  by_course status.ReadFault w z h = whole_front status.ReadFault h
+  by_course status.WriteFault w z h = whole_front status.WriteFault h
+  by_course status.LinkFault w z h = whole_front status.LinkFault h
+  by_course status.NoMemory w z h = whole_front status.NoMemory h
+  by_course status.Peer w z h = inl h
+  by_course (status.Refused code) w z h = inl h
+  by_course status.Stopped w z h = inl h
+  by_course st w z h = h
 
-by_short : (st : Status) (sent : List (List ℕ)) (written : List ℕ) (r : Course) (w z : World) → IsLate st → CutShort st sent written r w z → ByStatus st sent written r w z
-by_short (status.Refused code) sent written r w z late h = inr h
-by_short status.Stopped sent written r w z late h = inr h
-by_short st sent written r w z late h = absurd late
+  by_short : (st : Status) (w z : World) → IsLate st → CutShort st sent written (r moments) w z → ByStatus st sent written moments r w z
+  by_short (status.Refused code) w z late h = inr h
+  by_short status.Stopped w z late h = inr h
+  by_short st w z late h = absurd late
 
 -- a link that failed raises the dialer's count
 module _ (l m : Line) (told later : Option (List ℤ)) (o q : Output) (i j : Input) (d e : Dials) (faultless : l.faults ≡ 0) (kept : d.faults ≤ e.faults) (hung : 0 < m.faults → Rose d.faults e.faults) where
@@ -94,14 +95,14 @@ module _ (l m : Line) (told later : Option (List ℤ)) (o q : Output) (i j : Inp
   failed_so (inl rose) = inl (link_rose rose)
   failed_so (inr rose) = inr rose
 
-  ended_so : (s : Stop) (sent : List (List ℕ)) (written : List ℕ) (r : Course) → (e.ended ≡ (d.ended || m.ended)) → EndsBy s sent written r x y → ByStatus (status_of s) sent written r w z
-  ended_so (stop.Over st) sent written r over h = by_course st sent written r w z h
-  ended_so (stop.Short st) sent written r over h = by_short st sent written r w z h.3 (h.0, h.1, failed_so h.2)
-  ended_so (stop.Cut cause.Link) sent written r over h = h.0
-  ended_so (stop.Cut cause.Output) sent written r over h = h.0
-  ended_so (stop.Cut cause.Input) sent written r over h = h.0
-  ended_so (stop.Cut cause.Memory) sent written r over h = h.0
-  ended_so stop.Left sent written r over h = inr (h.0, h.1, over ∙ ap (λ b. d.ended || b) h.2 ∙ or-true d.ended)
+  ended_so : (s : Stop) (sent : List (List ℕ)) (written : List ℕ) (moments : List ℤ) (r : List ℤ → Course) → (e.ended ≡ (d.ended || m.ended)) → EndsBy s sent written moments r x y → ByStatus (status_of s) sent written moments r w z
+  ended_so (stop.Over st) sent written moments r over h = by_course sent written moments r st w z h
+  ended_so (stop.Short st) sent written moments r over h = by_short sent written moments r st w z h.3 (h.0, h.1, failed_so h.2)
+  ended_so (stop.Cut cause.Link) sent written moments r over h = h.0
+  ended_so (stop.Cut cause.Output) sent written moments r over h = h.0
+  ended_so (stop.Cut cause.Input) sent written moments r over h = h.0
+  ended_so (stop.Cut cause.Memory) sent written moments r over h = h.0
+  ended_so stop.Left sent written moments r over h = inr (h.0, over ∙ ap (λ b. d.ended || b) h.1 ∙ or-true d.ended)
 
   -- the causes
   own_fault : (st : Status) → IsOwn st → HasCause st w z
@@ -138,7 +139,7 @@ module _ (l m : Line) (told later : Option (List ℤ)) (o q : Output) (i j : Inp
     written = c.written;
     output = c.came.wrote;
     dialed = dials_by (status_of s) server c.taken c.sent d e (came_back server c.taken c.sent l.talk m.talk l.faults l.ended d.backs e.backs dialed tells c.came.talked back);
-    done = ended_so s c.sent c.written (ctl shown job c.moments c.taken) over c.end;
+    done = ended_so s c.sent c.written c.moments (λ ms. ctl shown job ms c.taken) over c.end;
   }
 
 pub told_from : (a b c : Option (List (Option Talk))) (talk : Option Talk) → b ≡ a → Told b c (HangsUp talk) → Told a c (HangsUp talk)
@@ -156,7 +157,7 @@ done_over stop.Left x y why e = cc
 
 -- ---- no link could be made
 
-undialed : (st : Status) (server : Address) (course : List ℤ → List Item → Course) (i : Input) (o : Output) (told : Option (List ℤ)) (d e : Dials) → DialsBy st server [] [] d e → ByStatus st [] [] (course [] []) (world i o told d) (world i o told e) → Runs st server course (world i o told d) (world i o told e)
+undialed : (st : Status) (server : Address) (course : List ℤ → List Item → Course) (i : Input) (o : Output) (told : Option (List ℤ)) (d e : Dials) → DialsBy st server [] [] d e → ByStatus st [] [] [] (λ ms. course ms []) (world i o told d) (world i o told e) → Runs st server course (world i o told d) (world i o told e)
 undialed st server course i o told d e dialed done = record {
   moments = [];
   told = told_self told (λ xs ys. ys ≡ xs ++ []) (λ xs. sym (append-nil xs));

@@ -12,7 +12,7 @@ use Rattle.client_forms.specs.declared.stop.Stop.{Stop}
 use Rattle.client_forms.specs.declared.stop.Stop.TheVariants as stop
 use Rattle.client_forms.specs.declared.action.Action.TheVariants as action
 use Rattle.client_forms.specs.declared.action.Action.{Action}
-use Rattle.client_forms.proofs.CourseLemmas.{Grows, at_path, set_at, stepped, nothing_moved, grows_not, asks_grows, report_grows}
+use Rattle.client_forms.proofs.CourseLemmas.{Grows, at_path, set_at, stepped, nothing_moved, grows_not, asks_grows, report_grows, writes_grows}
 use Rattle.client_forms.proofs.RefitLemmas.{did_nothing}
 use Rattle.etp_outside.specs.declared.status.Status.TheVariants as status
 use Rattle.std.proofs.KnownBytes.{Appends-nil}
@@ -194,6 +194,7 @@ read_quietly l told o i j less = record {
 acts_grows : (a : Action) (c : Course) → Grows c (acts a c)
 acts_grows action.Wait c = grows_not c
 acts_grows (action.Ask b) c = asks_grows b c
+acts_grows (action.Write b) c = writes_grows b c
 acts_grows (action.Report b) c = report_grows b status.Done c
 
 fronts_both : (c d e : Course) → Grows c d → Fronts d [] [] e → Fronts c [] [] e

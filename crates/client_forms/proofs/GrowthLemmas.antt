@@ -12,8 +12,10 @@ use Rattle.etp_outside.specs.declared.status.Status.{Status}
 use Rattle.etp_outside.specs.declared.status.Status.TheVariants as status
 use Rattle.etp_values.specs.declared.point.Point.{Point}
 use Rattle.client_forms.specs.Loading.{Filled, read_lines, filled}
-use Rattle.client_forms.specs.Ctl.{Course, Job, Putting, Getting, Loading, Watching, Stage, Opening, Asked, Loaded, Watched, ends, writes, comes_to, asks, closes, loads_one, loads_all, loads_last, ends_if, ends_first, loads, pings_if, pings, first_ask, put_line, loaded_line, goes_by, goes_if, goes_on, showing, hears, takes_message, with_client}
-use Rattle.client_forms.proofs.CourseLemmas.{Grows, grows_not, grows_trans, asks_grows, report_grows}
+use Rattle.client_forms.specs.Ctl.{Course, Job, Putting, Getting, Loading, Watching, Stage, Opening, Asked, Loaded, Watched, ends, writes, comes_to, asks, closes, loads_one, loads_all, loads_last, ends_if, ends_first, loads, pings_if, pings, first_ask, shows_all, Pinging, Listing, Ranging, Deleting, Following, Ranged, Followed, goes_by, goes_if, goes_on, showing, hears, takes_message, with_client}
+use Rattle.client_forms.specs.Texts.{change_lines, deleted_line, loaded_line, pong_line, put_line, space_lines}
+use Rattle.point_lines.specs.Spelling.{lines_of}
+use Rattle.client_forms.proofs.CourseLemmas.{Grows, grows_not, grows_trans, asks_grows, report_grows, writes_grows}
 use Rattle.client_forms.proofs.BreakingLemmas.{breaks_grows, shown_grows}
 
 loads_all_grows : (channel : ℤ) (messages : List (List Point)) (c : Course) → Grows c (loads_all channel messages c)
@@ -43,6 +45,10 @@ loads_grows channel (Some st) f c =
     let all = loads_all channel f.closed c in
     grows_trans c all (ends_first st all) (loads_all_grows channel f.closed c) (ends_if_grows all.status st all)
 
+shows_all_grows : (o : Option (List ℕ)) (c : Course) → Grows c (shows_all o c)
+shows_all_grows None c = record { sent = prefix_self c.sent; written = prefix_self c.written }
+shows_all_grows (Some text) c = report_grows text status.Done c
+
 module _ (shown : ℤ → List ChangeMsg → List ℕ) where
   feeds_grows : (b : Bool) (channel : ℤ) (fed : List ChangeMsg) (c : Course) → Grows c (if b then closes status.Done (writes (shown channel fed) (comes_to (Watched channel fed) c)) else comes_to (Watched channel fed) c)
   feeds_grows true channel fed c = let g = report_grows (shown channel fed) status.Done (comes_to (Watched channel fed) c) in record { sent = g.sent; written = g.written }
@@ -59,6 +65,13 @@ module _ (shown : ℤ → List ChangeMsg → List ℕ) where
   goes_by_grows (Loading u lines) Loaded (got.Pong t) c = report_grows (loaded_line (length lines)) status.Done c
   goes_by_grows (Watching u count) Asked (got.Meta id channel kind) c = let g = asks_grows (ask.Subscribe channel _) (comes_to (Watched channel []) c) in record { sent = g.sent; written = g.written }
   goes_by_grows (Watching u count) (Watched channel fed) (got.Change x) c = feeds_grows (length (fed ++ x ∷ []) == count) channel (fed ++ x ∷ []) c
+  goes_by_grows Pinging Asked (got.Pong t) c = report_grows (pong_line t) status.Done c
+  goes_by_grows Listing Asked (got.Spaces id spaces) c = report_grows (space_lines spaces) status.Done c
+  goes_by_grows (Deleting u) Asked (got.Done id) c = report_grows (deleted_line u) status.Done c
+  goes_by_grows (Ranging u from to) Asked (got.Meta id channel kind) c = let g = asks_grows (ask.Range channel from to) (comes_to (Ranged kind) c) in record { sent = g.sent; written = g.written }
+  goes_by_grows (Ranging u from to) (Ranged kind) (got.Points id points) c = shows_all_grows (lines_of kind points) c
+  goes_by_grows (Following u start) Asked (got.Meta id channel kind) c = let g = asks_grows (ask.Subscribe channel start) (comes_to Followed c) in record { sent = g.sent; written = g.written }
+  goes_by_grows (Following u start) Followed (got.Change x) c = writes_grows (change_lines x.what) c
   goes_by_grows job stage g c = grows_not c
 
 module _ (shown : ℤ → List ChangeMsg → List ℕ) (job : Job) where

@@ -19,3 +19,5 @@ pub mod WatchLemmas
 pub mod LoadLemmas
 pub mod DialingLemmas
 pub mod FormLemmas
+pub mod RangeLemmas
+mod ChangeLemmas

@@ -10,11 +10,12 @@ use Rattle.etp_outside.specs.declared.status.Status.{Status}
 use Rattle.etp_values.specs.declared.point.Point.{Point}
 use Rattle.etp_values.specs.declared.uri.StoreUri.{StoreUri}
 use Rattle.point_lines.specs.Lines.{HasGiven, Reading, lines_in}
-use Rattle.client_forms.specs.Ctl.{Course, Job, Loading, Stage, Opening, Asked, Loaded, ends, goes_by, loaded_line, loads, loads_all, loads_from, loads_last, pings}
+use Rattle.client_forms.specs.Ctl.{Course, Job, Loading, Stage, Opening, Asked, Loaded, ends, goes_by, loads, loads_all, loads_from, loads_last, pings}
 use Rattle.client_forms.specs.Filling.{CutsRead, HasLoaded, Holds, IsFresh, IsFull, IsLoad, IsLoading, IsReady, OwesLoad, ReadsFor, StopsRead, WantsLast}
 use Rattle.client_forms.specs.Jobs.{HasRead}
 use Rattle.client_forms.specs.Loading.{Filled, filled, of_channel, read_lines}
 use Rattle.client_forms.specs.Plans.{acts, standing, GivesAction, Plan, PlanStops, Plans, Rests}
+use Rattle.client_forms.specs.Texts.{loaded_line}
 use Rattle.client_forms.specs.Work.{Fronts, IsCause, Line, Outside, Output, input, outside, place}
 use Rattle.client_forms.specs.declared.action.Action.{Action}
 use Rattle.client_forms.specs.declared.action.Action.TheVariants as action
@@ -180,6 +181,8 @@ module _ (shown : ℤ → List ChangeMsg → List ℕ) (u : StoreUri) (lines : L
   idle_opening (got.Object id bytes) n c = refl
   idle_opening (got.Meta id channel kind) n c = refl
   idle_opening (got.Change x) n c = refl
+  idle_opening (got.Points id points) n c = refl
+  idle_opening (got.Spaces id spaces) n c = refl
   idle_opening (got.Pong t) n c = refl
 
   idle_asked : (g : Got) → ((id channel kind : _) → g ≡ got.Meta id channel kind → ⊥) → (c : Course) → goes_by shown (Loading u lines) Asked g c ≡ c
@@ -188,6 +191,8 @@ module _ (shown : ℤ → List ChangeMsg → List ℕ) (u : StoreUri) (lines : L
   idle_asked (got.Object id bytes) n c = refl
   idle_asked (got.Meta id channel kind) n c = absurd (n id channel kind refl)
   idle_asked (got.Change x) n c = refl
+  idle_asked (got.Points id points) n c = refl
+  idle_asked (got.Spaces id spaces) n c = refl
   idle_asked (got.Pong t) n c = refl
 
   idle_loaded : (g : Got) → ((t : _) → g ≡ got.Pong t → ⊥) → (c : Course) → goes_by shown (Loading u lines) Loaded g c ≡ c
@@ -196,6 +201,8 @@ module _ (shown : ℤ → List ChangeMsg → List ℕ) (u : StoreUri) (lines : L
   idle_loaded (got.Object id bytes) n c = refl
   idle_loaded (got.Meta id channel kind) n c = refl
   idle_loaded (got.Change x) n c = refl
+  idle_loaded (got.Points id points) n c = refl
+  idle_loaded (got.Spaces id spaces) n c = refl
   idle_loaded (got.Pong t) n c = absurd (n t refl)
 
 module _ (shown : ℤ → List ChangeMsg → List ℕ) (g : Got) (u : StoreUri) (now : LoadStage) (r : Reader) (job : Job) (left : Option (List ℕ)) (stage : Stage) (h : IsLoad u now r job left stage) where

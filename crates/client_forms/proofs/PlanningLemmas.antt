@@ -1,17 +1,20 @@
 -- What commands that wait after each step want done.
-use Rattle.std.proofs.Common.{◌≡◌, ℕ, ℤ, List, [], Option, Result, Ok, Err, refl, sym, subst}
+use Rattle.std.proofs.Common.{◌≡◌, ℕ, ℤ, List, [], Option, None, Some, Result, Ok, Err, refl, sym, subst}
 use Rattle.channel_store.specs.declared.copy.ChangeMsg.{ChangeMsg}
 use Rattle.client_core.specs.State.{State}
 use Rattle.client_core.specs.declared.ask.Ask.{Ask}
 use Rattle.client_core.specs.declared.got.Got.{Got}
 use Rattle.etp_values.specs.declared.uri.StoreUri.{StoreUri}
-use Rattle.client_forms.specs.Ctl.{Course, Job, Putting, Getting, Stage, goes_by}
-use Rattle.client_forms.specs.Jobs.{HasRead}
+use Rattle.client_forms.specs.Ctl.{Course, Job, Putting, Getting, Stage, goes_by, shows_all}
+use Rattle.client_forms.specs.Jobs.{GivesLines, HasRead}
 use Rattle.client_forms.specs.Plans.{acts, standing, Rests, Plan, Plans, GivesAction}
 use Rattle.client_forms.specs.Work.{Fronts, Outside, place}
 use Rattle.client_forms.specs.declared.action.Action.{Action}
 use Rattle.client_forms.specs.declared.action.Action.TheVariants as action
+use Rattle.etp_outside.specs.declared.status.Status.TheVariants as status
+use Rattle.client_forms.specs.declared.stop.Cause.TheVariants as cause
 use Rattle.client_forms.specs.declared.stop.Stop.{Stop}
+use Rattle.client_forms.specs.declared.stop.Stop.TheVariants as stop
 use Rattle.client_forms.proofs.CourseLemmas.{grows_not}
 use Rattle.client_forms.proofs.GrowthLemmas.{goes_by_grows}
 use Rattle.client_forms.proofs.WorkLemmas.{fronts_grown}
@@ -36,6 +39,22 @@ put_reads job left u b is = subst (λ j. HasRead j left) (sym is) tt
 
 pub get_reads : (job : Job) (left : Option (List ℕ)) (u : StoreUri) → job ≡ Getting u → HasRead job left
 get_reads job left u is = subst (λ j. HasRead j left) (sym is) tt
+
+-- what a job has read is what that job has read
+pub reads_as : (job j : Job) (left : Option (List ℕ)) → job ≡ j → HasRead j left → HasRead job left
+reads_as job j left is read = subst (λ v. HasRead v left) (sym is) read
+
+limit_done : status.Limit ≡ status.Done → ⊥
+limit_done e = cc
+
+-- lines are shown, or the command meets a limit
+pub plan_lines : (r : Result Action Stop) (o : Option (List ℕ)) (owes : Stage → (Course → Course) → Type 0) (stands : Stage → Type 0) (read : Type 0) (f : Course → Course) (stage : Stage) (x : Outside) → GivesLines r o → owes stage (λ c. c) → stands stage → read
+    → ((s : State) (c : Course) → f (standing (place s stage) c) ≡ shows_all o (standing (place s stage) c)) → ((c : Course) → Fronts c [] [] (f c)) → Plans r owes stands read f stage x x
+plan_lines (Ok a) (Some text) owes stands read f stage x gives o h d same fronts = subst (λ v. Plan owes stands read f stage v) (sym gives) (plan_alone owes stands read f stage stage (action.Report text) o h d same)
+plan_lines (Ok a) None owes stands read f stage x gives o h d same fronts = absurd gives
+plan_lines (Err (stop.Over status.Limit)) None owes stands read f stage x gives o h d same fronts = (limit_done, same)
+plan_lines (Err (stop.Cut cause.Memory)) lines owes stands read f stage x gives o h d same fronts = (fronts, tt)
+plan_lines (Err e) lines owes stands read f stage x gives o h d same fronts = absurd gives
 
 -- ---- commands that read before they are done
 

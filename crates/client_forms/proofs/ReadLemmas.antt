@@ -46,6 +46,7 @@ there p moments = record (fresh moments) { at = p }
 reads_done : (a : Action) (read : Type 0) (p : Place) (x y : Outside) → ((bytes : List ℕ) → a ≡ action.Report bytes → read) → Ends (acts a) status.Done p x y → read
 reads_done action.Wait read p x y reports h = absurd (none-some status.Done (ap (λ (d : Course). d.status) (h.course (there p []) [] (record { here = refl; going = refl }))))
 reads_done (action.Ask b) read p x y reports h = absurd (asks_at_undone b (h.moments ++ []) (there p (h.moments ++ [])) refl (ap (λ (d : Course). d.status) (h.course (there p []) [] (record { here = refl; going = refl }))))
+reads_done (action.Write b) read p x y reports h = absurd (none-some status.Done (ap (λ (d : Course). d.status) (h.course (there p []) [] (record { here = refl; going = refl }))))
 reads_done (action.Report b) read p x y reports h = reports b refl
 
 pub done_reads : (e : Stop) (a : Action) (read : Type 0) (p : Place) (x y : Outside) → e ≡ stop.Over status.Done → ((bytes : List ℕ) → a ≡ action.Report bytes → read) → Stops e (acts a) p x y → read

@@ -113,11 +113,11 @@ module _ (stands : Stage → Type 0) (shown : ℤ → List ChangeMsg → List �
   no_more : ctl shown job h.moments h.taken ≡ here []
   no_more = ap (λ ms. ctl shown job ms h.taken) (sym (append-nil h.moments)) ∙ h.course []
 
-  whole_so_far : Whole h.sent h.written (ctl shown job h.moments h.taken)
-  whole_so_far = record {
-    sent_is = sym (ap (λ (c : Course). c.sent) no_more);
-    written_is = sym (ap (λ (c : Course). c.written) no_more);
-    moments = ap (λ (c : Course). c.moments) no_more;
+  whole_so_far : (later : List ℤ) → Whole later h.sent h.written (ctl shown job (h.moments ++ later) h.taken)
+  whole_so_far later = record {
+    sent_is = sym (ap (λ (c : Course). c.sent) (h.course later));
+    written_is = sym (ap (λ (c : Course). c.written) (h.course later));
+    moments = ap (λ (c : Course). c.moments) (h.course later);
   }
 
   front_so_far : Front h.sent h.written (ctl shown job h.moments h.taken)
@@ -155,7 +155,7 @@ module _ (stands : Stage → Type 0) (shown : ℤ → List ChangeMsg → List �
     sent = h.sent;
     written = h.written;
     came = came_still h.moments h.taken h.sent h.written x y (outside m y.told y.output y.input) h.came (came_nothing y.line m y.told y.output y.input same less);
-    end = (whole_so_far, ap (λ (c : Course). c.status) no_more, over);
+    end = (λ later. (whole_so_far later, ap (λ (c : Course). c.status) (h.course later)), over);
   }
 
   pub cut_off : (e : Cause) (m : Line) → Told y.line.talk m.talk (λ a b. b ≡ a) → y.line.faults ≤ m.faults → IsCause e y (outside m y.told y.output y.input) → Ended (stop.Cut e) shown job x (outside m y.told y.output y.input)
@@ -210,12 +210,11 @@ module _ (stands : Stage → Type 0) (shown : ℤ → List ChangeMsg → List �
       sent = h.sent ++ k.messages;
       written = h.written ++ k.bytes;
       came = came_more k.moments k.messages k.bytes z k.did;
-      end = by_step (λ c. EndsBy (stop.Over st) (h.sent ++ k.messages) (h.written ++ k.bytes) c x z) k.moments (whole_by k);
-    } where
-      whole_by : (k : Ends on st (place s h.stage) mid z) → EndsBy (stop.Over st) (h.sent ++ k.messages) (h.written ++ k.bytes) (on (here k.moments)) x z
-      whole_by k =
-          let is : on (here k.moments) ≡ ends st (moved (here []) k.left [] k.messages k.bytes) = ap (λ ms. on (here ms)) (sym (append-nil k.moments)) ∙ k.course (here []) [] is_here in
-          (record { sent_is = sym (ap (λ (c : Course). c.sent) is); written_is = sym (ap (λ (c : Course). c.written) is); moments = ap (λ (c : Course). c.moments) is }, ap (λ (c : Course). c.status) is)
+      end = λ later.
+          let is : ctl shown job ((h.moments ++ k.moments) ++ later) (h.taken ++ Message bytes ∷ []) ≡ ends st (moved (here []) k.left later k.messages k.bytes) =
+          ap (λ ms. ctl shown job ms (h.taken ++ Message bytes ∷ [])) (append_assoc h.moments k.moments later) ∙ one_more (Message bytes) (k.moments ++ later) ∙ k.course (here []) later is_here in
+          (record { sent_is = sym (ap (λ (c : Course). c.sent) is); written_is = sym (ap (λ (c : Course). c.written) is); moments = ap (λ (c : Course). c.moments) is }, ap (λ (c : Course). c.status) is);
+    }
 
     heard_short : (st : Status) (z : Outside) → Cuts on st (place s h.stage) mid z → HasFailed mid z → Ended (stop.Short st) shown job x z
     heard_short st z k failed = record {

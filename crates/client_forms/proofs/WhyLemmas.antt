@@ -66,6 +66,7 @@ works_less f p q x y h = did_less h.moments h.messages h.bytes x y h.did
 pub acts_own : (a : Action) → Owns (acts a)
 acts_own action.Wait c own = own
 acts_own (action.Ask b) c own = asks_own b c own
+acts_own (action.Write bytes) c own = own
 acts_own (action.Report bytes) c own = closes_own status.Done (writes bytes c) tt own
 
 pub breaks_own_by : (st : Status) → IsOwn st → Owns (breaks st)

@@ -4,10 +4,13 @@ use Rattle.std.specs.Io.KnownBytes.{Appends}
 use Rattle.std.proofs.KnownBytes.{Appends-nil}
 use Rattle.std.proofs.lemmas.List.{append-nil, take-append-drop}
 use mathlib.Core.List.{IsPrefix}
+use Rattle.etp_outside.specs.Faults.{Rose}
 use Rattle.etp_outside.specs.Told.{Told}
-use Rattle.etp_outside.specs.Whole.{AppendsFront}
+use Rattle.etp_outside.specs.Whole.{AppendsFront, WritesAll}
 use Rattle.etp_outside.specs.declared.status.Status.{Status}
 use Rattle.etp_outside.specs.declared.status.Status.TheVariants as status
+use Rattle.etp_outside.specs.declared.whole.Written.{Written}
+use Rattle.etp_outside.specs.declared.whole.Written.TheVariants as written
 use Rattle.etp_outside.proofs.ToldLemmas.{told_self}
 use Rattle.client_core.specs.Asking.{asked}
 use Rattle.client_core.specs.State.{State}
@@ -17,7 +20,7 @@ use Rattle.client_core.specs.declared.ask.Ask.TheVariants as ask
 use Rattle.client_core.specs.declared.got.ClientError.{ClientError}
 use Rattle.client_core.specs.declared.got.ClientError.TheVariants as error
 use Rattle.client_forms.specs.Ctl.{Course, Place, Stage, drained, ends, writes, asks, closes, unclosed}
-use Rattle.client_forms.specs.Sending.{SendsAll, SendsFront, SendCause, sent_by, closed_by, short_by, unsent_by, refused_by, unclosed_by}
+use Rattle.client_forms.specs.Sending.{SendsAll, SendsFront, SendCause, sent_by, closed_by, short_by, unsent_by, refused_by, unclosed_by, written_by}
 use Rattle.client_forms.specs.Work.{Line, Output, Input, outside, place, Says, Kept, Did, IsAt, IsLate, MayClose, moved, Goes, Ends, Fronts, Breaks, Cuts, Stops, Works}
 use Rattle.client_forms.specs.declared.stop.Cause.{Cause}
 use Rattle.client_forms.specs.declared.stop.Cause.TheVariants as cause
@@ -232,3 +235,8 @@ write_breaks bytes p l told o q i less f =
         written = (drop f.0 bytes, append_assoc c.written (take f.0 bytes) (drop f.0 bytes) ∙ ap (λ w. c.written ++ w) (take-append-drop f.0 bytes));
       };
     }
+
+-- what came of writing
+pub write_works : (w : Written) (bytes : List ℕ) (p : Place) (l : Line) (told : Option (List ℤ)) (o q : Output) (i : Input) → o.faults ≤ q.faults → WritesAll w bytes o.held q.held → (w ≡ written.Failed → Rose o.faults q.faults) → Works (written_by w) (writes bytes) p p (outside l told o i) (outside l told q i)
+write_works written.Done bytes p l told o q i less h why = write_goes bytes p l told o q i less h
+write_works written.Failed bytes p l told o q i less h why = (write_breaks bytes p l told o q i less h, why refl)

@@ -1,6 +1,5 @@
 -- What a command sends, writes and answers, by the items that its link took and the moments that its clock returned.
-use Rattle.std.specs.Prelude.{ℕ, ℤ, negsuc, ◌-◌, ◌^◌, ◌==◌, Bool, true, false, List, [], ◌∷◌, ◌++◌, codes, length, fold, if◌then◌else◌, Option, None, Some, Result, Ok, Err}
-use Rattle.std.specs.Fmt.{decimal}
+use Rattle.std.specs.Prelude.{ℕ, ℤ, negsuc, ◌-◌, ◌^◌, ◌==◌, Bool, true, false, List, [], ◌∷◌, ◌++◌, length, fold, if◌then◌else◌, Option, None, Some, Result, Ok, Err}
 use Rattle.channel_store.specs.declared.copy.ChangeMsg.{ChangeMsg}
 use Rattle.client_core.specs.Asking.{asked, begun}
 use Rattle.client_core.specs.State.{State, first_state}
@@ -15,17 +14,23 @@ use Rattle.etp_outside.specs.declared.link.Item.{Item}
 use Rattle.etp_outside.specs.declared.link.Item.TheVariants.{Message, Idle}
 use Rattle.etp_outside.specs.declared.status.Status.{Status}
 use Rattle.etp_outside.specs.declared.status.Status.TheVariants as status
-use Rattle.etp_values.specs.Uri.{plain_uri}
 use Rattle.etp_values.specs.declared.point.Point.{Point}
 use Rattle.etp_values.specs.declared.uri.StoreUri.{StoreUri}
+use Rattle.point_lines.specs.Spelling.{lines_of}
 use Rattle.client_forms.specs.Loading.{Filled, read_lines, filled, of_channel}
+use Rattle.client_forms.specs.Texts.{change_lines, deleted_line, loaded_line, pong_line, put_line, space_lines}
 
--- a command with what it works on: an object's data, the lines of an input, a number of changes
+-- a command with what it works on: an object's data, the lines of an input, a number of changes, an interval of indexes, a first index
 pub data Job : Type 0 where
   Putting : (uri : StoreUri) → (payload : List ℕ) → Job
   Getting : (uri : StoreUri) → Job
   Loading : (uri : StoreUri) → (lines : List (List ℕ)) → Job
   Watching : (uri : StoreUri) → (count : ℕ) → Job
+  Pinging : Job
+  Listing : Job
+  Ranging : (uri : StoreUri) → (from to : ℤ) → Job
+  Deleting : (uri : StoreUri) → Job
+  Following : (uri : StoreUri) → (start : ℤ) → Job
 
 -- what a command waits for
 pub data Stage : Type 0 where
@@ -37,6 +42,10 @@ pub data Stage : Type 0 where
   Loaded : Stage
   -- further changes of this channel; these were fed to the views
   Watched : (channel : ℤ) → (fed : List ChangeMsg) → Stage
+  -- the points of a channel of this kind
+  Ranged : (kind : ℕ) → Stage
+  -- further changes, which are written
+  Followed : Stage
 
 -- where a command is
 pub record Place : Type 0 where
@@ -117,6 +126,8 @@ is_opening Opening = true
 is_opening Asked = false
 is_opening Loaded = false
 is_opening (Watched channel fed) = false
+is_opening (Ranged kind) = false
+is_opening Followed = false
 
 -- the same for a session that may not be open yet: then there is none to close
 abbrev pub breaks : Status → Course → Course
@@ -182,12 +193,16 @@ first_ask (Putting u bytes) = ask.Put u bytes
 first_ask (Getting u) = ask.Get u
 first_ask (Loading u lines) = ask.OpenChannel u
 first_ask (Watching u count) = ask.Meta u
+first_ask Pinging = ask.Ping
+first_ask Listing = ask.Spaces
+first_ask (Ranging u from to) = ask.Meta u
+first_ask (Deleting u) = ask.Delete u
+first_ask (Following u start) = ask.Meta u
 
-abbrev pub put_line : StoreUri → List ℕ
-put_line u = codes "put " ++ plain_uri u ++ codes "\n"
-
-abbrev pub loaded_line : ℕ → List ℕ
-loaded_line n = codes "loaded " ++ decimal n ++ codes "\n"
+-- lines are written and the session is closed; without them the command meets a limit: no line can denote one of the points
+abbrev pub shows_all : Option (List ℕ) → Course → Course
+shows_all None c = ends status.Limit c
+shows_all (Some text) c = closes status.Done (writes text c)
 
 -- `shown` are the lines of the views of a channel that were fed these changes
 module _ (shown : ℤ → List ChangeMsg → List ℕ) where
@@ -205,6 +220,13 @@ module _ (shown : ℤ → List ChangeMsg → List ℕ) where
   goes_by (Loading u lines) Loaded (got.Pong t) c = closes status.Done (writes (loaded_line (length lines)) c)
   goes_by (Watching u count) Asked (got.Meta id channel kind) c = asks (ask.Subscribe channel from_first) (comes_to (Watched channel []) c)
   goes_by (Watching u count) (Watched channel fed) (got.Change x) c = feeds count channel (fed ++ x ∷ []) c
+  goes_by Pinging Asked (got.Pong t) c = closes status.Done (writes (pong_line t) c)
+  goes_by Listing Asked (got.Spaces id spaces) c = closes status.Done (writes (space_lines spaces) c)
+  goes_by (Deleting u) Asked (got.Done id) c = closes status.Done (writes (deleted_line u) c)
+  goes_by (Ranging u from to) Asked (got.Meta id channel kind) c = asks (ask.Range channel from to) (comes_to (Ranged kind) c)
+  goes_by (Ranging u from to) (Ranged kind) (got.Points id points) c = shows_all (lines_of kind points) c
+  goes_by (Following u start) Asked (got.Meta id channel kind) c = asks (ask.Subscribe channel start) (comes_to Followed c)
+  goes_by (Following u start) Followed (got.Change x) c = writes (change_lines x.what) c
   goes_by job stage g c = c
 
   -- the lines of the views, if there are any

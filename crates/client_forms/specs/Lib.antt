@@ -1,3 +1,4 @@
+pub mod Texts
 pub mod Loading
 pub mod Ctl
 pub mod Work

@@ -1,12 +1,15 @@
 -- What the lines of an input load: their points, and the messages that take these.
-use Rattle.std.specs.Prelude.{ℕ, ℤ, ◌+◌, ◌||◌, ◌&&◌, Bool, true, false, List, [], ◌∷◌, ◌++◌, length, map, nat_lt, nat_le, if◌then◌else◌, Option, None, Some}
+use Rattle.std.specs.Prelude.{◌≡◌, ℕ, ℤ, ◌+◌, ◌||◌, ◌&&◌, Bool, true, false, List, [], ◌∷◌, ◌++◌, length, map, nat_lt, nat_le, if◌then◌else◌, Option, None, Some}
 use Rattle.channel_points.specs.Bytes.{point_bytes}
 use Rattle.etp_outside.specs.declared.status.Status.{Status}
 use Rattle.etp_outside.specs.declared.status.Status.TheVariants as status
 use Rattle.etp_values.specs.Weight.{weigh}
 use Rattle.etp_values.specs.declared.point.ChannelPoint.{ChannelPoint}
 use Rattle.etp_values.specs.declared.point.Point.{Point}
+use Rattle.std.specs.List.{AllByRecursion}
+use Rattle.point_lines.specs.Lines.{lines_in}
 use Rattle.point_lines.specs.Points.{point_in}
+use Rattle.point_lines.specs.Spelling.{IsPoint, lines_of}
 
 -- the points of lines up to the first that is refused, if one is, and the status of its refusal
 pub record Read : Type 0 where
@@ -24,6 +27,10 @@ read_lines kind n [] = record { points = []; refused = None }
 read_lines kind n (l ∷ ls) =
     if nat_lt 65536 (length l) then record { points = []; refused = Some status.Limit }
     else with_line n (point_in kind l) (read_lines kind (n + 1) ls)
+
+-- the lines that a range has of points are read as these points
+abbrev pub RangesAreLoaded : Type 0
+RangesAreLoaded = (kind : ℕ) (ps : List Point) (text : List ℕ) → AllByRecursion IsPoint ps → lines_of kind ps ≡ Some text → read_lines kind 1 (lines_in text) ≡ record { points = ps; refused = None }
 
 -- one message takes at most 1,000 points, which count at most 8,388,608 bytes
 abbrev pub fits : List Point → Bool

@@ -16,11 +16,13 @@ use Rattle.client_forms.specs.declared.stop.Stop.TheVariants as stop
 abbrev pub acts : Action → Course → Course
 acts action.Wait c = c
 acts (action.Ask a) c = asks a c
+acts (action.Write bytes) c = writes bytes c
 acts (action.Report bytes) c = closes status.Done (writes bytes c)
 
 abbrev pub is_wait : Action → Bool
 is_wait action.Wait = true
 is_wait (action.Ask a) = false
+is_wait (action.Write bytes) = false
 is_wait (action.Report bytes) = false
 
 -- a course of a command that is here and continues

@@ -5,4 +5,4 @@ use Rattle.etp_outside.specs.declared.status.Status.{Status}
 
 -- the status line and what follows it: after a malformed command line the usage
 abbrev pub told : Status → List ℕ
-told status = told_with (codes "\netpctl put URL URI FILE\netpctl get URL URI\netpctl load URL URI < LINES\netpctl watch URL URI COUNT\n") status
+told status = told_with (codes "\netpctl ping URL\netpctl spaces URL\netpctl put URL URI FILE\netpctl get URL URI\netpctl delete URL URI\netpctl load URL URI < LINES\netpctl range URL URI FROM TO\netpctl watch URL URI COUNT\netpctl follow URL URI START\n") status

@@ -47,12 +47,12 @@ pub record Going (stands : Stage → Type 0) (shown : ℤ → List ChangeMsg →
   pub came : Came moments taken sent written x y
   pub course : (later : List ℤ) → ctl shown job (moments ++ later) taken ≡ waiting s stage later sent written
 
--- how a command stopped, by its course
-abbrev pub EndsBy : Stop → List (List ℕ) → List ℕ → Course → Outside → Outside → Type 0
-EndsBy (stop.Over st) sent written r x y = Whole sent written r × (r.status ≡ Some st)
-EndsBy (stop.Short st) sent written r x y = Front sent written r × (r.status ≡ Some st) × HasFailed x y × IsLate st
-EndsBy (stop.Cut e) sent written r x y = Front sent written r × IsCause e x y
-EndsBy stop.Left sent written r x y = Whole sent written r × (r.status ≡ None) × (y.line.ended ≡ true)
+-- how a command stopped after these moments were returned, by its course: if it ended or waits, it does so whatever moments were to follow
+abbrev pub EndsBy : Stop → List (List ℕ) → List ℕ → List ℤ → (List ℤ → Course) → Outside → Outside → Type 0
+EndsBy (stop.Over st) sent written moments r x y = (later : List ℤ) → Whole later sent written (r (moments ++ later)) × ((r (moments ++ later)).status ≡ Some st)
+EndsBy (stop.Short st) sent written moments r x y = Front sent written (r moments) × ((r moments).status ≡ Some st) × HasFailed x y × IsLate st
+EndsBy (stop.Cut e) sent written moments r x y = Front sent written (r moments) × IsCause e x y
+EndsBy stop.Left sent written moments r x y = ((later : List ℤ) → Whole later sent written (r (moments ++ later)) × ((r (moments ++ later)).status ≡ None)) × (y.line.ended ≡ true)
 
 -- the status of a command that stopped
 abbrev pub status_of : Stop → Status
@@ -71,7 +71,7 @@ pub record Ended (e : Stop) (shown : ℤ → List ChangeMsg → List ℕ) (job :
   pub sent : List (List ℕ)
   pub written : List ℕ
   pub came : Came moments taken sent written x y
-  pub end : EndsBy e sent written (ctl shown job moments taken) x y
+  pub end : EndsBy e sent written moments (λ ms. ctl shown job ms taken) x y
 
 -- what a turn results in
 abbrev pub Turns : Result (Unit {0}) Stop → (Stage → Type 0) → (ℤ → List ChangeMsg → List ℕ) → Job → State → Outside → Outside → Type 0
@@ -92,5 +92,5 @@ IsUnread st file = ⊥
 
 -- the file of a name was read, or why not
 abbrev pub ReadsFile : Result (List ℕ) Status → Option (List ℕ) → Type 0
-ReadsFile (Ok payload) file = IfSome file (λ bytes. payload ≡ bytes)
+ReadsFile (Ok payload) file = IfSome file (λ bytes. payload ≡ bytes) × (length payload ≤ max_file)
 ReadsFile (Err st) file = IsUnread st file

@@ -8,6 +8,8 @@ use Rattle.etp_outside.specs.Talk.{Talk}
 use Rattle.etp_outside.specs.Told.{Told}
 use Rattle.etp_outside.specs.declared.status.Status.{Status}
 use Rattle.etp_outside.specs.declared.status.Status.TheVariants as status
+use Rattle.etp_outside.specs.declared.whole.Written.{Written}
+use Rattle.etp_outside.specs.declared.whole.Written.TheVariants as written
 use Rattle.client_forms.specs.Ctl.{drained, unclosed}
 use Rattle.client_forms.specs.Work.{Says}
 use Rattle.client_forms.specs.declared.stop.Cause.{Cause}
@@ -46,6 +48,11 @@ SendCause (Err cause.Memory) before now = Unit {0}
 abbrev pub sent_by : Result (Unit {0}) Cause → Result (Unit {0}) Stop
 sent_by (Ok u) = Ok u
 sent_by (Err e) = Err (stop.Cut e)
+
+-- what becomes of bytes that the command writes
+abbrev pub written_by : Written → Result (Unit {0}) Stop
+written_by written.Done = Ok tt
+written_by written.Failed = Err (stop.Cut cause.Output)
 
 -- why a command stops whose ask the client refuses
 abbrev pub refused_by : ClientError → Stop

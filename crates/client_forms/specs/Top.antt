@@ -15,8 +15,8 @@ use Rattle.etp_outside.specs.declared.link.Item.{Item}
 use Rattle.etp_outside.specs.declared.status.Status.{Status}
 use Rattle.etp_outside.specs.declared.status.Status.TheVariants as status
 use Rattle.point_lines.specs.Lines.{lines_in}
-use Rattle.client_words.specs.Words.{Command, Form, Put, Get, Load, Watch}
-use Rattle.client_forms.specs.Ctl.{Course, Job, Putting, Getting, Loading, Watching, ctl}
+use Rattle.client_words.specs.Words.{Command, Form, Put, Get, Load, Watch, Ping, Spaces, Range, Delete, Follow}
+use Rattle.client_forms.specs.Ctl.{Course, Job, Putting, Getting, Loading, Watching, Pinging, Listing, Ranging, Deleting, Following, ctl}
 use Rattle.client_forms.specs.Work.{Input, Output}
 
 -- what a dialer reveals: the links that came back, whether the peer of one had ended it, and how often it failed
@@ -74,13 +74,11 @@ pub record CameBack (server : Address) (taken : List Item) (sent : List (List �
 abbrev pub HasDialed : Address → List Item → List (List ℕ) → Dials → Dials → Type 0
 HasDialed server taken sent d e = Told d.backs e.backs (CameBack server taken sent)
 
--- with a fault or if memory ran out there may be no link
+-- if the link failed or memory ran out there may be no link
 abbrev pub MayHaveDialed : Address → List Item → List (List ℕ) → Dials → Dials → Type 0
 MayHaveDialed server taken sent d e = HasDialed server taken sent d e ⊎ (e.backs ≡ d.backs)
 
 abbrev pub DialsBy : Status → Address → List Item → List (List ℕ) → Dials → Dials → Type 0
-DialsBy status.ReadFault server taken sent d e = MayHaveDialed server taken sent d e
-DialsBy status.WriteFault server taken sent d e = MayHaveDialed server taken sent d e
 DialsBy status.LinkFault server taken sent d e = MayHaveDialed server taken sent d e
 DialsBy status.NoMemory server taken sent d e = MayHaveDialed server taken sent d e
 DialsBy st server taken sent d e = HasDialed server taken sent d e
@@ -91,40 +89,46 @@ job_of (Put u name) file input = Putting u file
 job_of (Get u) file input = Getting u
 job_of (Load u) file input = Loading u (lines_in input)
 job_of (Watch u n) file input = Watching u n
+job_of Ping file input = Pinging
+job_of Spaces file input = Listing
+job_of (Range u from to) file input = Ranging u from to
+job_of (Delete u) file input = Deleting u
+job_of (Follow u start) file input = Following u start
 
--- what was sent and written is all of a course that used all moments
-pub record Whole (sent : List (List ℕ)) (written : List ℕ) (r : Course) : Type 0 where
+-- what was sent and written is all of a course that has left these moments
+pub record Whole (later : List ℤ) (sent : List (List ℕ)) (written : List ℕ) (r : Course) : Type 0 where
   pub sent_is : sent ≡ r.sent
   pub written_is : written ≡ r.written
-  pub moments : r.moments ≡ []
+  pub moments : r.moments ≡ later
 
 -- or a prefix of it
 pub record Front (sent : List (List ℕ)) (written : List ℕ) (r : Course) : Type 0 where
   pub sent_is : IsPrefix sent r.sent
   pub written_is : IsPrefix written r.written
 
--- the course ended this way
-abbrev pub ByCourse : Status → List (List ℕ) → List ℕ → Course → Type 0
-ByCourse st sent written r = Whole sent written r × (r.status ≡ Some st)
+-- The course ended this way after these moments were returned, and whatever moments were to follow: so it skipped no ask for want of a
+-- moment.
+abbrev pub ByCourse : Status → List (List ℕ) → List ℕ → List ℤ → (List ℤ → Course) → Type 0
+ByCourse st sent written moments r = (later : List ℤ) → Whole later sent written (r (moments ++ later)) × ((r (moments ++ later)).status ≡ Some st)
 
--- it still waited when the peer ended the link
-abbrev pub LeftAlone : List (List ℕ) → List ℕ → Course → World → Type 0
-LeftAlone sent written r z = Whole sent written r × (r.status ≡ None) × (z.dials.ended ≡ true)
+-- it still waited when the peer ended the link, and waits whatever moments were to follow
+abbrev pub LeftAlone : List (List ℕ) → List ℕ → List ℤ → (List ℤ → Course) → World → Type 0
+LeftAlone sent written moments r z = ((later : List ℤ) → Whole later sent written (r (moments ++ later)) × ((r (moments ++ later)).status ≡ None)) × (z.dials.ended ≡ true)
 
 -- it ended this way, and its last words did not get through
 abbrev pub CutShort : Status → List (List ℕ) → List ℕ → Course → World → World → Type 0
 CutShort st sent written r w z = Front sent written r × (r.status ≡ Some st) × (Rose w.dials.faults z.dials.faults ⊎ Rose w.output.faults z.output.faults)
 
--- what a status says about the course of a command
-abbrev pub ByStatus : Status → List (List ℕ) → List ℕ → Course → World → World → Type 0
-ByStatus status.ReadFault sent written r w z = Front sent written r
-ByStatus status.WriteFault sent written r w z = Front sent written r
-ByStatus status.LinkFault sent written r w z = Front sent written r
-ByStatus status.NoMemory sent written r w z = Front sent written r
-ByStatus status.Peer sent written r w z = ByCourse status.Peer sent written r ⊎ LeftAlone sent written r z
-ByStatus (status.Refused code) sent written r w z = ByCourse (status.Refused code) sent written r ⊎ CutShort (status.Refused code) sent written r w z
-ByStatus status.Stopped sent written r w z = ByCourse status.Stopped sent written r ⊎ CutShort status.Stopped sent written r w z
-ByStatus st sent written r w z = ByCourse st sent written r
+-- what a status says about the course of a command, by the moments that were returned
+abbrev pub ByStatus : Status → List (List ℕ) → List ℕ → List ℤ → (List ℤ → Course) → World → World → Type 0
+ByStatus status.ReadFault sent written moments r w z = Front sent written (r moments)
+ByStatus status.WriteFault sent written moments r w z = Front sent written (r moments)
+ByStatus status.LinkFault sent written moments r w z = Front sent written (r moments)
+ByStatus status.NoMemory sent written moments r w z = Front sent written (r moments)
+ByStatus status.Peer sent written moments r w z = ByCourse status.Peer sent written moments r ⊎ LeftAlone sent written moments r z
+ByStatus (status.Refused code) sent written moments r w z = ByCourse (status.Refused code) sent written moments r ⊎ CutShort (status.Refused code) sent written (r moments) w z
+ByStatus status.Stopped sent written moments r w z = ByCourse status.Stopped sent written moments r ⊎ CutShort status.Stopped sent written (r moments) w z
+ByStatus st sent written moments r w z = ByCourse st sent written moments r
 
 -- what is loaded is all of the input
 abbrev pub ReadsAll : Status → Command → Option (List ℕ) → Type 0
@@ -141,21 +145,22 @@ pub record Runs (st : Status) (server : Address) (course : List ℤ → List Ite
   pub written : List ℕ
   pub output : Appends w.output.held z.output.held written
   pub dialed : DialsBy st server taken sent w.dials z.dials
-  pub done : ByStatus st sent written (course moments taken) w z
+  pub done : ByStatus st sent written moments (λ ms. course ms taken) w z
+
+-- the maximum size of a file that is put, in bytes
+abbrev pub max_file : ℕ
+max_file = 67108864
 
 -- the command of a form was begun
 pub record Ran (st : Status) (form : Form) (shown : ℤ → List ChangeMsg → List ℕ) (file : Option (List ℕ)) (w z : World) : Type 0 where
   -- the bytes of the file and of the input, if these reveal them
   pub payload : List ℕ
   pub payload_is : IfSome file (λ bytes. payload ≡ bytes)
+  pub payload_fits : length payload ≤ max_file
   pub read : List ℕ
   pub read_is : IfSome w.input.left (λ bytes. read ≡ bytes)
   pub runs : Runs st (server_of form.address) (ctl shown (job_of form.command payload read)) w z
   pub all_read : ReadsAll st form.command z.input.left
-
--- the maximum size of a file that is put, in bytes
-abbrev pub max_file : ℕ
-max_file = 67108864
 
 -- nothing was begun: the file that is to be put is too long or can't be read, or memory ran out
 abbrev pub NotBegun : Status → Command → (List ℕ → Option (List ℕ)) → Type 0

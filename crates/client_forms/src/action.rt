@@ -6,7 +6,7 @@ ghost use Rattle.client_forms.specs.Work.{Works, place};
 
 use crate::io::Io;
 use crate::stop::Stop;
-use crate::talk::{ask, report};
+use crate::talk::{ask, report, write};
 use client_core::{Ask, Client};
 use etp_outside::{Clock, Link, Sink, Source};
 use etp_values::Blob;
@@ -19,6 +19,8 @@ pub(crate) enum Action {
     Wait,
     /// To ask for something.
     Ask(Ask),
+    /// To write these bytes.
+    Write(Blob),
     /// To write these bytes, and to close the session: the command is done.
     Report(Blob),
 }
@@ -36,6 +38,7 @@ pub(crate) fn perform<L: Link, C: Clock, W: Sink, R: Source>(
     match action {
         Action::Wait => Ok(()),
         Action::Ask(wish) => ask(alloc, wish, client, io),
+        Action::Write(bytes) => write(bytes.as_bytes(), io),
         Action::Report(bytes) => Err(report(alloc, bytes.as_bytes(), client, io)),
     }
 }

@@ -4,11 +4,12 @@ ghost use Rattle.std.specs.declared.option.Option.{Option};
 ghost use Rattle.channel_store.specs.declared.copy.ChangeMsg.{ChangeMsg};
 ghost use Rattle.etp_values.specs.declared.point.Point.{Point};
 ghost use Rattle.client_core.specs.declared.ask.Ask.TheVariants as asked;
-ghost use Rattle.client_forms.specs.Ctl.{Asked, Course, Job, loaded_line};
+ghost use Rattle.client_forms.specs.Ctl.{Asked, Course, Job};
 ghost use Rattle.client_forms.specs.Filling.{Fills, GivesPoint, Holds, IsAtLine, IsFresh, IsLoad, IsLoading, OwesLoad, ReadsFor, Turns, WantsLast, turned};
 ghost use Rattle.client_forms.specs.Jobs.{HasRead};
 ghost use Rattle.client_forms.specs.Plans.{GivesAction, GivesUp, Plans};
 ghost use Rattle.client_forms.specs.Shown.{Seen};
+ghost use Rattle.client_forms.specs.Texts.{loaded_line};
 ghost use Rattle.client_forms.specs.Work.{Line, Output, input, outside};
 ghost use Rattle.client_forms.specs.declared.action.Action.TheVariants as action;
 

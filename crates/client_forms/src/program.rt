@@ -11,7 +11,7 @@ use std::process::ExitCode;
 
 /// What follows the line of `Usage`.
 const USAGE: &[u8] =
-    b"\netpctl put URL URI FILE\netpctl get URL URI\netpctl load URL URI < LINES\netpctl watch URL URI COUNT\n";
+    b"\netpctl ping URL\netpctl spaces URL\netpctl put URL URI FILE\netpctl get URL URI\netpctl delete URL URI\netpctl load URL URI < LINES\netpctl range URL URI FROM TO\netpctl watch URL URI COUNT\netpctl follow URL URI START\n";
 
 /// Writes to `errors` how the client has ended, and returns its exit status. What can't be written is lost.
 pub fn finish<W: Sink>(alloc: Global, status: Status, errors: &mut W) -> ExitCode

@@ -1,9 +1,9 @@
 //! `put`: an object with the bytes of a file.
 ghost use Rattle.std.specs.Prelude.{◌≡◌, false, IfOk};
 ghost use Rattle.client_core.specs.declared.ask.Ask.TheVariants as asked;
-ghost use Rattle.client_forms.specs.Ctl.{put_line};
 ghost use Rattle.client_forms.specs.Jobs.{IsPut};
 ghost use Rattle.client_forms.specs.Plans.{GivesAction, Waits};
+ghost use Rattle.client_forms.specs.Texts.{put_line};
 ghost use Rattle.client_forms.specs.declared.action.Action.TheVariants as action;
 
 use crate::action::Action;

@@ -19,11 +19,16 @@ ghost use Rattle.etp_outside.specs.Dials.{IsDialed};
 ghost use Rattle.etp_outside.specs.declared.link.Address.{Address};
 
 use crate::command::Job;
+use crate::deleting::Delete;
+use crate::following::Follow;
 use crate::getting::Get;
 use crate::hear::on_message;
 use crate::io::{Io, Streams};
+use crate::listing::Spaces;
 use crate::loading::Load;
+use crate::pinging::Ping;
 use crate::putting::Put;
+use crate::ranging::Range;
 use crate::stop::{Cause, Stop};
 use crate::talk::send_all;
 use crate::watching::Watch;
@@ -348,6 +353,26 @@ fn run<H: Host, D: Dialer, R: Source, W: Sink, C: Clock, T: Wait>(
             let command = Load::new(alloc, uri);
             run_at(rt, alloc, &address, command, dialer, streams, &mut board)
         }
+        Command::Ping => {
+            let command = Ping::new();
+            run_at(rt, alloc, &address, command, dialer, streams, &mut board)
+        }
+        Command::Spaces => {
+            let command = Spaces::new();
+            run_at(rt, alloc, &address, command, dialer, streams, &mut board)
+        }
+        Command::Range { uri, from, to } => {
+            let command = Range::new(uri, from, to);
+            run_at(rt, alloc, &address, command, dialer, streams, &mut board)
+        }
+        Command::Delete(uri) => {
+            let command = Delete::new(uri);
+            run_at(rt, alloc, &address, command, dialer, streams, &mut board)
+        }
+        Command::Follow { uri, start } => {
+            let command = Follow::new(uri, start);
+            run_at(rt, alloc, &address, command, dialer, streams, &mut board)
+        }
         Command::Watch { uri, count } => {
             let command = Watch::new(uri, count);
             run_at(rt, alloc, &address, command, dialer, streams, &mut board)
@@ -355,8 +380,8 @@ fn run<H: Host, D: Dialer, R: Source, W: Sink, C: Clock, T: Wait>(
     }
 }
 
-/// Does what the words say, and returns how that ended, with the streams. The forms are `put URL URI FILE`, `get URL URI`, `load URL URI` and `watch URL URI
-/// COUNT`. The views show the channel that is watched.
+/// Does what the words say, and returns how that ended, with the streams. The forms are those of `client_words`. The views show the channel that
+/// is watched.
 pub fn run_client<H: Host, D: Dialer, R: Source, W: Sink, C: Clock, T: Wait>(
     rt: &T,
     alloc: Global,

@@ -1,8 +1,8 @@
 //! What every command does over its link: it asks, sends what the client has to send, writes, and closes the session.
 ghost use Rattle.std.specs.Prelude.{◌≡◌, ◌≤◌, Err, false};
 ghost use Rattle.etp_outside.specs.declared.status.Status.TheVariants.{Done};
-ghost use Rattle.client_forms.specs.Ctl.{Stage, asks, closes, unclosed, writes};
-ghost use Rattle.client_forms.specs.Sending.{SendCause, SendsAll, closed_by, refused_by, sent_by, short_by, unclosed_by, unsent_by};
+ghost use Rattle.client_forms.specs.Ctl.{Place, Stage, asks, closes, unclosed, writes};
+ghost use Rattle.client_forms.specs.Sending.{SendCause, SendsAll, closed_by, refused_by, sent_by, short_by, unclosed_by, unsent_by, written_by};
 ghost use Rattle.client_forms.specs.Work.{MayClose, Stops, Works, place};
 
 use crate::io::Io;
@@ -137,6 +137,27 @@ fn unclosed(status: Status) -> Status
     match status {
         Status::Done => Status::Limit,
         _ => status,
+    }
+}
+
+/// Writes bytes.
+pub(crate) fn write<L: Link, C: Clock, W: Sink, R: Source>(
+    bytes: &[u8],
+    io: &mut Io<L, C, W, R>,
+) -> Result<(), Stop>
+    ensures works { (p : Place) → Works result (writes bytes.now) p p io.old io.new }
+    ensures input { io.new.input ≡ io.old.input }
+{
+    written_by(write_all(&mut io.out, bytes))
+}
+
+/// What became of bytes that were written.
+fn written_by(written: Written) -> Result<(), Stop>
+    ensures { result ≡ written_by written }
+{
+    match written {
+        Written::Done => Ok(()),
+        Written::Failed => Err(Stop::Cut(Cause::Output)),
     }
 }
 

@@ -114,7 +114,7 @@ impl Job for Watch {
 }
 
 /// To ask what the channel is.
-fn ask_meta(alloc: Global, uri: &StoreUri) -> Result<Action, Stop>
+pub(crate) fn ask_meta(alloc: Global, uri: &StoreUri) -> Result<Action, Stop>
     ensures { GivesAction result (action.Ask (asked.Meta uri.now)) }
 {
     match uri.copy(alloc) {

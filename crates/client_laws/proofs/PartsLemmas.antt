@@ -1,5 +1,5 @@
 -- The parts of each message that comes in parts. For the crates above, too: the items of all groups are those of the message.
-use Rattle.std.proofs.Common.{◌≡◌, ℕ, pos, Bool, true, false, not, ◌||◌, List, [], ◌∷◌, ◌++◌, Option, Some, None, fold, map, option_map, if◌then◌else◌, refl, sym, ap, subst, ◌∙◌, append_assoc, append-nil}
+use Rattle.std.proofs.Common.{◌≡◌, ℕ, ℤ, pos, Bool, true, false, not, ◌||◌, List, [], ◌∷◌, ◌++◌, Option, Some, None, fold, map, option_map, if◌then◌else◌, refl, sym, ap, subst, ◌∙◌, append_assoc, append-nil}
 use Rattle.std.specs.List.{AllByRecursion}
 use Rattle.std.specs.Ordering.{int_eq}
 use Rattle.std.proofs.lemmas.Bool.{false≢true}
@@ -28,7 +28,7 @@ use Rattle.etp_frame.specs.declared.header.Header.{Header}
 use Rattle.etp_frame.specs.declared.message.Message.{Message}
 use Rattle.etp_frame.specs.declared.message.Message.TheVariants as message
 use Rattle.client_parts.specs.Joining.{merged}
-use Rattle.client_core.specs.Answers.{channel_in, done, grants_object, grants_space, grants_subscription, meta_of, moment_in, object_in, opened_in, session_in}
+use Rattle.client_core.specs.Answers.{channel_in, done, grants_object, grants_space, grants_subscription, meta_of, moment_in, object_in, opened_in, points_in, says_cut, says_deleted, says_replaced, session_in, spaces_in}
 use Rattle.client_core.specs.Joining.{is_exception, joined}
 use Rattle.client_core.specs.Notices.{changes_of}
 use Rattle.client_core.specs.State.{Heard, is_ended}
@@ -69,6 +69,7 @@ module _ {A : Type 0} (size : A → Amount) (limit : ℕ) where
 abbrev IsUnread : Message → Type 0
 IsUnread m =
     (session_in m ≡ None) × (grants_space m ≡ false) × (grants_object m ≡ false) × (object_in m ≡ None) × (opened_in m ≡ None) × (channel_in m ≡ None) × (grants_subscription m ≡ false) × (moment_in m ≡ None) × (changes_of m ≡ None)
+    × (says_replaced m ≡ false) × (says_cut m ≡ false) × ((channel : ℤ) → points_in channel m ≡ None) × (spaces_in m ≡ None) × (says_deleted m ≡ false)
 
 no_change : (h : Header) (m : Message) (t : Heard) → changes_of m ≡ None → by_changes h.correlation (if int_eq h.correlation (pos 0) then changes_of m else None) t ≡ fails (error.Unasked h.correlation) t
 no_change h m t none = ap (λ o. by_changes h.correlation (if int_eq h.correlation (pos 0) then o else None) t) none ∙ by (int_eq h.correlation (pos 0))
@@ -87,6 +88,11 @@ due_unread h m t u (Some due.Opening) = ap (λ o. by_answer h m due.Opening (opt
 due_unread h m t u (Some due.Metadata) = ap (λ o. by_answer h m due.Metadata (option_map (meta_of h.correlation) o) t) u.5 ∙ no_change h m t u.8
 due_unread h m t u (Some due.Load) = no_change h m t u.8
 due_unread h m t u (Some (due.Subscription channel)) = ap (λ b. by_answer h m (due.Subscription channel) (done h.correlation b) t) u.6 ∙ no_change h m t u.8
+due_unread h m t u (Some due.Replacement) = ap (λ b. by_answer h m due.Replacement (done h.correlation b) t) u.9 ∙ no_change h m t u.8
+due_unread h m t u (Some due.Truncation) = ap (λ b. by_answer h m due.Truncation (done h.correlation b) t) u.10 ∙ no_change h m t u.8
+due_unread h m t u (Some (due.Range channel)) = ap (λ o. by_answer h m (due.Range channel) (option_map (got.Points h.correlation) o) t) (u.11 channel) ∙ no_change h m t u.8
+due_unread h m t u (Some due.Spaces) = ap (λ o. by_answer h m due.Spaces (option_map (got.Spaces h.correlation) o) t) u.12 ∙ no_change h m t u.8
+due_unread h m t u (Some due.Deletion) = ap (λ b. by_answer h m due.Deletion (done h.correlation b) t) u.13 ∙ no_change h m t u.8
 due_unread h m t u (Some due.Pong) = ap (λ o. by_answer h m due.Pong (option_map got.Pong o) t) u.7 ∙ no_change h m t u.8
 
 told_unread : (h : Header) (a b : Message) (t : Heard) → IsUnread a → IsUnread b → told h a t ≡ told h b t
@@ -187,21 +193,19 @@ core_ends limit x rise = alone (message.Core x)
 
 dataspace_ends : (limit : ℕ) (x : DataspaceMessage) → DataspaceRises x → Parted (dataspace_parts limit x) (message.Dataspace x)
 dataspace_ends limit (dataspace.GetDataspacesResponse x) rise =
-    unread_end false (λ g. message.Dataspace (dataspace.GetDataspacesResponse (record x { dataspaces = g }))) (λ g. (refl, refl, refl, refl, refl)) (item_amount dataspace_form) limit x.dataspaces (λ a b. refl) (λ a h t. refl)
-    (λ a. (refl, refl, refl, refl, refl, refl, refl, refl, refl))
+    items_end false (λ g. message.Dataspace (dataspace.GetDataspacesResponse (record x { dataspaces = g }))) (λ g. (refl, refl, refl, refl, refl)) (item_amount dataspace_form) limit x.dataspaces (λ a b. refl)
 dataspace_ends limit (dataspace.PutDataspacesResponse x) rise =
     names_end false (λ g. message.Dataspace (dataspace.PutDataspacesResponse (record x { success = g }))) (λ g. (refl, refl, refl, refl, refl)) (entry_amount text_form) limit x.success (λ a b. refl) rise
 dataspace_ends limit (dataspace.DeleteDataspacesResponse x) rise =
     unread_end false (λ g. message.Dataspace (dataspace.DeleteDataspacesResponse (record x { success = g }))) (λ g. (refl, refl, refl, refl, refl)) (entry_amount text_form) limit x.success (λ a b. refl) (λ a h t. refl)
-    (λ a. (refl, refl, refl, refl, refl, refl, refl, refl, refl))
+    (λ a. (refl, refl, refl, refl, refl, refl, refl, refl, refl, refl, refl, λ channel. refl, refl, refl))
 dataspace_ends limit x rise = alone (message.Dataspace x)
 
 result_ends : (limit : ℕ) (x : StoreMessage) → StoreRises x → Parted (result_parts limit x) (message.Store x)
 result_ends limit (store.PutDataObjectsResponse x) rise =
     names_end false (λ g. message.Store (store.PutDataObjectsResponse (record x { success = g }))) (λ g. (refl, refl, refl, refl, refl)) (entry_amount put_response_form) limit x.success (λ a b. refl) rise
 result_ends limit (store.DeleteDataObjectsResponse x) rise =
-    unread_end false (λ g. message.Store (store.DeleteDataObjectsResponse (record x { deleted_uris = g }))) (λ g. (refl, refl, refl, refl, refl)) (entry_amount array_of_string_form) limit x.deleted_uris (λ a b. refl) (λ a h t. refl)
-    (λ a. (refl, refl, refl, refl, refl, refl, refl, refl, refl))
+    names_end false (λ g. message.Store (store.DeleteDataObjectsResponse (record x { deleted_uris = g }))) (λ g. (refl, refl, refl, refl, refl)) (entry_amount array_of_string_form) limit x.deleted_uris (λ a b. refl) rise
 result_ends limit x rise = alone (message.Store x)
 
 store_ends : (limit number blobs : ℕ) (x : StoreMessage) → store_objects x ≡ false → StoreRises x → Parted (store_parts limit number blobs x) (message.Store x)
@@ -212,22 +216,22 @@ store_ends limit number blobs x without rise = result_ends limit x rise
 array_ends : (limit : ℕ) (x : DataArrayMessage) → Parted (data_array_parts limit x) (message.DataArray x)
 array_ends limit (array.GetDataArraysResponse x) =
     unread_end false (λ g. message.DataArray (array.GetDataArraysResponse (record x { data_arrays = g }))) (λ g. (refl, refl, refl, refl, refl)) (entry_amount data_array_form) limit x.data_arrays (λ a b. refl) (λ a h t. refl)
-    (λ a. (refl, refl, refl, refl, refl, refl, refl, refl, refl))
+    (λ a. (refl, refl, refl, refl, refl, refl, refl, refl, refl, refl, refl, λ channel. refl, refl, refl))
 array_ends limit (array.GetDataSubarraysResponse x) =
     unread_end false (λ g. message.DataArray (array.GetDataSubarraysResponse (record x { data_subarrays = g }))) (λ g. (refl, refl, refl, refl, refl)) (entry_amount data_array_form) limit x.data_subarrays (λ a b. refl) (λ a h t. refl)
-    (λ a. (refl, refl, refl, refl, refl, refl, refl, refl, refl))
+    (λ a. (refl, refl, refl, refl, refl, refl, refl, refl, refl, refl, refl, λ channel. refl, refl, refl))
 array_ends limit (array.GetDataArrayMetadataResponse x) =
     unread_end false (λ g. message.DataArray (array.GetDataArrayMetadataResponse (record x { array_metadata = g }))) (λ g. (refl, refl, refl, refl, refl)) (entry_amount data_array_metadata_form) limit x.array_metadata (λ a b. refl) (λ a h t. refl)
-    (λ a. (refl, refl, refl, refl, refl, refl, refl, refl, refl))
+    (λ a. (refl, refl, refl, refl, refl, refl, refl, refl, refl, refl, refl, λ channel. refl, refl, refl))
 array_ends limit (array.PutDataArraysResponse x) =
     unread_end false (λ g. message.DataArray (array.PutDataArraysResponse (record x { success = g }))) (λ g. (refl, refl, refl, refl, refl)) (entry_amount text_form) limit x.success (λ a b. refl) (λ a h t. refl)
-    (λ a. (refl, refl, refl, refl, refl, refl, refl, refl, refl))
+    (λ a. (refl, refl, refl, refl, refl, refl, refl, refl, refl, refl, refl, λ channel. refl, refl, refl))
 array_ends limit (array.PutDataSubarraysResponse x) =
     unread_end false (λ g. message.DataArray (array.PutDataSubarraysResponse (record x { success = g }))) (λ g. (refl, refl, refl, refl, refl)) (entry_amount text_form) limit x.success (λ a b. refl) (λ a h t. refl)
-    (λ a. (refl, refl, refl, refl, refl, refl, refl, refl, refl))
+    (λ a. (refl, refl, refl, refl, refl, refl, refl, refl, refl, refl, refl, λ channel. refl, refl, refl))
 array_ends limit (array.PutUninitializedDataArraysResponse x) =
     unread_end false (λ g. message.DataArray (array.PutUninitializedDataArraysResponse (record x { success = g }))) (λ g. (refl, refl, refl, refl, refl)) (entry_amount text_form) limit x.success (λ a b. refl) (λ a h t. refl)
-    (λ a. (refl, refl, refl, refl, refl, refl, refl, refl, refl))
+    (λ a. (refl, refl, refl, refl, refl, refl, refl, refl, refl, refl, refl, λ channel. refl, refl, refl))
 array_ends limit x = alone (message.DataArray x)
 
 subscribe_ends : (limit : ℕ) (x : ChannelSubscribeMessage) → SubscribeRises x → Parted (channel_subscribe_parts limit x) (message.ChannelSubscribe x)
@@ -244,8 +248,7 @@ subscribe_ends limit (subscribe.RangeReplaced x) rise =
 subscribe_ends limit (subscribe.ChannelsTruncated x) rise =
     items_end false (λ g. message.ChannelSubscribe (subscribe.ChannelsTruncated (record x { channels = g }))) (λ g. (refl, refl, refl, refl, refl)) (item_amount truncate_info_form) limit x.channels (λ a b. refl)
 subscribe_ends limit (subscribe.GetRangesResponse x) rise =
-    unread_end false (λ g. message.ChannelSubscribe (subscribe.GetRangesResponse (record x { payload = g }))) (λ g. (refl, refl, refl, refl, refl)) (item_amount data_item_form) limit x.payload (λ a b. refl) (λ a h t. refl)
-    (λ a. (refl, refl, refl, refl, refl, refl, refl, refl, refl))
+    items_end false (λ g. message.ChannelSubscribe (subscribe.GetRangesResponse (record x { payload = g }))) (λ g. (refl, refl, refl, refl, refl)) (item_amount data_item_form) limit x.payload (λ a b. refl)
 subscribe_ends limit x rise = alone (message.ChannelSubscribe x)
 
 load_ends : (limit : ℕ) (x : ChannelDataLoadMessage) → LoadRises x → Parted (channel_data_load_parts limit x) (message.ChannelDataLoad x)
@@ -253,10 +256,9 @@ load_ends limit (load.OpenChannelsResponse x) rise =
     names_end false (λ g. message.ChannelDataLoad (load.OpenChannelsResponse (record x { channels = g }))) (λ g. (refl, refl, refl, refl, refl)) (entry_amount open_channel_info_form) limit x.channels (λ a b. refl) rise
 load_ends limit (load.ChannelsClosed x) rise =
     unread_end false (λ g. message.ChannelDataLoad (load.ChannelsClosed (record x { id = g }))) (λ g. (refl, refl, refl, refl, refl)) (entry_amount long_form) limit x.id (λ a b. refl) (λ a h t. refl)
-    (λ a. (refl, refl, refl, refl, refl, refl, refl, refl, refl))
+    (λ a. (refl, refl, refl, refl, refl, refl, refl, refl, refl, refl, refl, λ channel. refl, refl, refl))
 load_ends limit (load.TruncateChannelsResponse x) rise =
-    unread_end false (λ g. message.ChannelDataLoad (load.TruncateChannelsResponse (record x { channels_truncated_time = g }))) (λ g. (refl, refl, refl, refl, refl)) (entry_amount long_form) limit x.channels_truncated_time (λ a b. refl) (λ a h t. refl)
-    (λ a. (refl, refl, refl, refl, refl, refl, refl, refl, refl))
+    names_end false (λ g. message.ChannelDataLoad (load.TruncateChannelsResponse (record x { channels_truncated_time = g }))) (λ g. (refl, refl, refl, refl, refl)) (entry_amount long_form) limit x.channels_truncated_time (λ a b. refl) rise
 load_ends limit x rise = alone (message.ChannelDataLoad x)
 
 parts_end : (limit number blobs : ℕ) (m : Message) → has_objects m ≡ false → Rises m → Parted (parts limit number blobs m) m

@@ -105,6 +105,7 @@ DataspaceRises _ = Unit {0}
 
 abbrev pub StoreRises : StoreMessage → Type 0
 StoreRises (store.PutDataObjectsResponse x) = Rise x.success
+StoreRises (store.DeleteDataObjectsResponse x) = Rise x.deleted_uris
 StoreRises _ = Unit {0}
 
 abbrev pub SubscribeRises : ChannelSubscribeMessage → Type 0
@@ -115,6 +116,7 @@ SubscribeRises _ = Unit {0}
 
 abbrev pub LoadRises : ChannelDataLoadMessage → Type 0
 LoadRises (load.OpenChannelsResponse x) = Rise x.channels
+LoadRises (load.TruncateChannelsResponse x) = Rise x.channels_truncated_time
 LoadRises _ = Unit {0}
 
 -- the names of a message that a client puts together by names rise, as they do in each message that is sent

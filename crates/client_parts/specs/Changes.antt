@@ -46,6 +46,17 @@ point_of x = record { channel = x.channel_id; point = record { index = index_of 
 abbrev pub points_of : List DataItem → Option (List ChannelPoint)
 points_of xs = if list_all is_point xs then Some (map point_of xs) else None
 
+-- an item that is a point of this channel
+abbrev pub is_point_of : ℤ → DataItem → Bool
+is_point_of channel x = is_point x && int_eq x.channel_id channel
+
+abbrev pub bare_point : DataItem → Point
+bare_point x = record { index = index_of x.indexes; value = x.value }
+
+-- the points of items, if all of them are points of this channel
+abbrev pub channel_points : ℤ → List DataItem → Option (List Point)
+channel_points channel xs = if list_all (is_point_of channel) xs then Some (map bare_point xs) else None
+
 -- ---- new points: one change for each run of points of one channel
 
 abbrev pub run_of : ChannelPoint → Run

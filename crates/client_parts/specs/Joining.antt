@@ -31,11 +31,13 @@ core_joined x y = y
 -- one part of a message on dataspaces after another
 abbrev pub dataspace_joined : DataspaceMessage → DataspaceMessage → DataspaceMessage
 dataspace_joined (dataspace.PutDataspacesResponse x) (dataspace.PutDataspacesResponse y) = dataspace.PutDataspacesResponse (record x { success = merged x.success y.success })
+dataspace_joined (dataspace.GetDataspacesResponse x) (dataspace.GetDataspacesResponse y) = dataspace.GetDataspacesResponse (record x { dataspaces = x.dataspaces ++ y.dataspaces })
 dataspace_joined x y = y
 
 -- one part of a message on objects after another
 abbrev pub store_joined : StoreMessage → StoreMessage → StoreMessage
 store_joined (store.PutDataObjectsResponse x) (store.PutDataObjectsResponse y) = store.PutDataObjectsResponse (record x { success = merged x.success y.success })
+store_joined (store.DeleteDataObjectsResponse x) (store.DeleteDataObjectsResponse y) = store.DeleteDataObjectsResponse (record x { deleted_uris = merged x.deleted_uris y.deleted_uris })
 store_joined x y = y
 
 -- one part of a message on subscriptions after another
@@ -46,9 +48,11 @@ subscribe_joined (subscribe.SubscriptionsStopped x) (subscribe.SubscriptionsStop
 subscribe_joined (subscribe.ChannelData x) (subscribe.ChannelData y) = subscribe.ChannelData (record x { payload = x.payload ++ y.payload })
 subscribe_joined (subscribe.RangeReplaced x) (subscribe.RangeReplaced y) = subscribe.RangeReplaced (record x { payload = x.payload ++ y.payload })
 subscribe_joined (subscribe.ChannelsTruncated x) (subscribe.ChannelsTruncated y) = subscribe.ChannelsTruncated (record x { channels = x.channels ++ y.channels })
+subscribe_joined (subscribe.GetRangesResponse x) (subscribe.GetRangesResponse y) = subscribe.GetRangesResponse (record x { payload = x.payload ++ y.payload })
 subscribe_joined x y = y
 
 -- one part of a message on the load after another
 abbrev pub load_joined : ChannelDataLoadMessage → ChannelDataLoadMessage → ChannelDataLoadMessage
 load_joined (load.OpenChannelsResponse x) (load.OpenChannelsResponse y) = load.OpenChannelsResponse (record x { channels = merged x.channels y.channels })
+load_joined (load.TruncateChannelsResponse x) (load.TruncateChannelsResponse y) = load.TruncateChannelsResponse (record x { channels_truncated_time = merged x.channels_truncated_time y.channels_truncated_time })
 load_joined x y = y

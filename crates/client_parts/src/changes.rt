@@ -4,13 +4,13 @@ ghost use Rattle.std.specs.BTreeMap.{get};
 ghost use Rattle.std.specs.List.{list_all};
 ghost use Rattle.std.specs.Option.{unwrap_or};
 ghost use Rattle.std.specs.Ordering.{int_cmp};
-ghost use Rattle.client_parts.specs.Changes.{appended, behind, has_long_ends, has_one_long, index_of, is_long, is_point, long_of, point_of, points_of, range_changes, replaced_by, replacements, run_of, runs, subscribe_changes, truncated, truncations, with_point};
+ghost use Rattle.client_parts.specs.Changes.{appended, bare_point, behind, channel_points, has_long_ends, has_one_long, index_of, is_long, is_point, is_point_of, long_of, point_of, points_of, range_changes, replaced_by, replacements, run_of, runs, subscribe_changes, truncated, truncations, with_point};
 ghost use Rattle.msg_channel.specs.declared.channel_subscribe_messages.ChannelSubscribeMessage.TheVariants as subscribe;
 
 use crate::grouping::{grouped, points_at};
 use channel_points::{BoxedPoints, Points};
 use channel_store::{ChangeMsg, What};
-use etp_values::{ChannelPoint, List, NoMemory, Point};
+use etp_values::{ChannelPoint, Copied, List, NoMemory, Point};
 use msg_channel::{
     ChannelData, ChannelSubscribeMessage, ChannelsTruncated, DataItem, IndexInterval, IndexValue,
     RangeReplaced, TruncateInfo,
@@ -114,6 +114,52 @@ fn no_points(items: List<DataItem>) -> Result<Option<List<ChannelPoint>>, NoMemo
 {
     drop(items);
     Ok(None)
+}
+
+/// Whether all items are points of a channel.
+fn are_points_of(channel: i64, items: &[DataItem]) -> bool
+    ensures { result ≡ list_all (is_point_of channel) items.now }
+{
+    for item in items {
+        if !(has_one_long(item.indexes.as_slice()) && item.channel_id == channel) {
+            return false;
+        }
+    }
+    true
+}
+
+fn bare_point(alloc: Global, item: &DataItem) -> Result<Point, NoMemory>
+    ensures { IfOk result (λ p. p ≡ bare_point item.now) }
+{
+    let value = item.value.copy(alloc)?;
+    Ok(Point {
+        index: index_of(item.indexes.as_slice()),
+        value,
+    })
+}
+
+fn bare_points(alloc: Global, items: &[DataItem]) -> Result<List<Point>, NoMemory>
+    ensures { IfOk result (λ l. l ≡ map bare_point items.now) }
+{
+    let mut points = Vec::new(alloc);
+    for item in items {
+        points.push(bare_point(alloc, item)?)?;
+    }
+    Ok(List::from_vec(points))
+}
+
+/// Copies of the points of items, if all of them are points of a channel.
+pub fn channel_points(
+    alloc: Global,
+    channel: i64,
+    items: &[DataItem],
+) -> Result<Option<List<Point>>, NoMemory>
+    ensures { IfOk result (λ ps. ps ≡ channel_points channel items.now) }
+{
+    if !are_points_of(channel, items) {
+        return Ok(None);
+    }
+    Ok(Some(bare_points(alloc, items)?))
 }
 
 fn run_of(alloc: Global, point: ChannelPoint) -> Result<Run, NoMemory>

@@ -17,11 +17,13 @@ ghost use Rattle.msg_store.specs.declared.store_messages.StoreMessage.TheVariant
 use etp_values::{List, Named, NoMemory, Text};
 use msg_channel::{
     ChannelData, ChannelDataLoadMessage, ChannelSubscribeMessage, ChannelsTruncated,
-    GetChannelMetadataResponse, OpenChannelsResponse, RangeReplaced, SubscribeChannelsResponse,
-    SubscriptionsStopped,
+    GetChannelMetadataResponse, GetRangesResponse, OpenChannelsResponse, RangeReplaced,
+    SubscribeChannelsResponse, SubscriptionsStopped, TruncateChannelsResponse,
 };
-use msg_core::{CoreMessage, DataspaceMessage, ProtocolException, PutDataspacesResponse};
-use msg_store::{PutDataObjectsResponse, StoreMessage};
+use msg_core::{
+    CoreMessage, DataspaceMessage, GetDataspacesResponse, ProtocolException, PutDataspacesResponse,
+};
+use msg_store::{DeleteDataObjectsResponse, PutDataObjectsResponse, StoreMessage};
 use std::alloc::Global;
 use std::collections::BTreeMap;
 
@@ -178,6 +180,24 @@ fn put_dataspaces_response(
     }
 }
 
+fn get_dataspaces_response(
+    first: DataspaceMessage,
+    more: GetDataspacesResponse,
+) -> Result<DataspaceMessage, NoMemory>
+    ensures { IfOk result (λ m. m ≡ dataspace_joined first (dataspace.GetDataspacesResponse more)) }
+{
+    match first {
+        DataspaceMessage::GetDataspacesResponse(first) => {
+            let dataspaces = appended(first.dataspaces, more.dataspaces)?;
+            Ok(DataspaceMessage::GetDataspacesResponse(GetDataspacesResponse {
+                dataspaces,
+                ..first
+            }))
+        }
+        other => Ok(later(other, DataspaceMessage::GetDataspacesResponse(more))),
+    }
+}
+
 /// A further part of a message, appended to what there is of it.
 pub fn dataspace_joined(
     alloc: Global,
@@ -190,6 +210,7 @@ pub fn dataspace_joined(
         DataspaceMessage::PutDataspacesResponse(more) => put_dataspaces_response(
             alloc, first, more,
         ),
+        DataspaceMessage::GetDataspacesResponse(more) => get_dataspaces_response(first, more),
         other => Ok(later(first, other)),
     }
 }
@@ -212,6 +233,25 @@ fn put_data_objects_response(
     }
 }
 
+fn delete_data_objects_response(
+    alloc: Global,
+    first: StoreMessage,
+    more: DeleteDataObjectsResponse,
+) -> Result<StoreMessage, NoMemory>
+    ensures { IfOk result (λ m. m ≡ store_joined first (store.DeleteDataObjectsResponse more)) }
+{
+    match first {
+        StoreMessage::DeleteDataObjectsResponse(first) => {
+            let deleted_uris = merged(alloc, first.deleted_uris, more.deleted_uris)?;
+            Ok(StoreMessage::DeleteDataObjectsResponse(DeleteDataObjectsResponse {
+                deleted_uris,
+                ..first
+            }))
+        }
+        other => Ok(later(other, StoreMessage::DeleteDataObjectsResponse(more))),
+    }
+}
+
 /// A further part of a message, appended to what there is of it.
 pub fn store_joined(
     alloc: Global,
@@ -222,6 +262,9 @@ pub fn store_joined(
 {
     match more {
         StoreMessage::PutDataObjectsResponse(more) => put_data_objects_response(alloc, first, more),
+        StoreMessage::DeleteDataObjectsResponse(more) => delete_data_objects_response(
+            alloc, first, more,
+        ),
         other => Ok(later(first, other)),
     }
 }
@@ -291,6 +334,21 @@ fn subscriptions_stopped(
     }
 }
 
+fn get_ranges_response(
+    first: ChannelSubscribeMessage,
+    more: GetRangesResponse,
+) -> Result<ChannelSubscribeMessage, NoMemory>
+    ensures { IfOk result (λ m. m ≡ subscribe_joined first (subscribe.GetRangesResponse more)) }
+{
+    match first {
+        ChannelSubscribeMessage::GetRangesResponse(first) => {
+            let payload = appended(first.payload, more.payload)?;
+            Ok(ChannelSubscribeMessage::GetRangesResponse(GetRangesResponse { payload, ..first }))
+        }
+        other => Ok(later(other, ChannelSubscribeMessage::GetRangesResponse(more))),
+    }
+}
+
 fn channel_data(
     first: ChannelSubscribeMessage,
     more: ChannelData,
@@ -357,6 +415,7 @@ pub fn subscribe_joined(
         ChannelSubscribeMessage::ChannelData(more) => channel_data(first, more),
         ChannelSubscribeMessage::RangeReplaced(more) => range_replaced(first, more),
         ChannelSubscribeMessage::ChannelsTruncated(more) => channels_truncated(first, more),
+        ChannelSubscribeMessage::GetRangesResponse(more) => get_ranges_response(first, more),
         other => Ok(later(first, other)),
     }
 }
@@ -382,6 +441,32 @@ fn open_channels_response(
     }
 }
 
+fn truncate_channels_response(
+    alloc: Global,
+    first: ChannelDataLoadMessage,
+    more: TruncateChannelsResponse,
+) -> Result<ChannelDataLoadMessage, NoMemory>
+    ensures { IfOk result (λ m. m ≡ load_joined first (load.TruncateChannelsResponse more)) }
+{
+    match first {
+        ChannelDataLoadMessage::TruncateChannelsResponse(first) => {
+            let channels_truncated_time = merged(
+                alloc,
+                first.channels_truncated_time,
+                more.channels_truncated_time,
+            )?;
+            Ok(ChannelDataLoadMessage::TruncateChannelsResponse(TruncateChannelsResponse {
+                channels_truncated_time,
+                ..first
+            }))
+        }
+        other => Ok(later(
+            other,
+            ChannelDataLoadMessage::TruncateChannelsResponse(more),
+        )),
+    }
+}
+
 /// A further part of a message, appended to what there is of it.
 pub fn load_joined(
     alloc: Global,
@@ -392,6 +477,9 @@ pub fn load_joined(
 {
     match more {
         ChannelDataLoadMessage::OpenChannelsResponse(more) => open_channels_response(
+            alloc, first, more,
+        ),
+        ChannelDataLoadMessage::TruncateChannelsResponse(more) => truncate_channels_response(
             alloc, first, more,
         ),
         other => Ok(later(first, other)),

@@ -1,4 +1,4 @@
-//! The client on the command line: `etpctl put URL URI FILE`, `etpctl get URL URI`, `etpctl load URL URI` and `etpctl watch URL URI COUNT`.
+//! The client on the command line: `etpctl ping URL`, `etpctl put URL URI FILE` and the other forms of `client_words`.
 //! `client_forms` does the work and says what each does. A channel that is watched is shown by its last point, its last ten points, and
 //! counts.
 //!

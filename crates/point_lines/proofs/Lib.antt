@@ -3,3 +3,4 @@ mod BitLemmas
 mod MarkLemmas
 mod LineLemmas
 mod TextLemmas
+mod SpellLemmas

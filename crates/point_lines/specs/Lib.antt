@@ -3,3 +3,4 @@ pub mod Points
 pub mod Lines
 pub mod Marks
 pub mod Reads
+pub mod Spelling

@@ -5,27 +5,11 @@ ghost use Rattle.etp_values.specs.declared.data.DataValue.TheVariants as value;
 ghost use Rattle.point_lines.specs.Numerals.{bits_in as bits_of, bytes_in as bytes_of, integer_in as integer_of};
 ghost use Rattle.point_lines.specs.Points.{long_in, point_at, point_in, text_in, truth_in, value_in};
 
+use crate::kinds;
 use crate::marks::parted;
 use crate::numerals::{bits_in, bytes_in, integer_in};
 use etp_values::{Bits32, Bits64, Boxed, DataValue, NoMemory, Point, Text};
 use std::alloc::Global;
-
-/// The kinds of channels by their indexes among the kinds of the schema.
-mod kinds {
-    pub const BOOLEAN: u32 = 5;
-
-    pub const INT: u32 = 6;
-
-    pub const LONG: u32 = 7;
-
-    pub const FLOAT: u32 = 8;
-
-    pub const DOUBLE: u32 = 9;
-
-    pub const STRING: u32 = 10;
-
-    pub const BYTES: u32 = 11;
-}
 
 /// `true` or `false`.
 fn truth_in(text: &[u8]) -> Option<bool>
@@ -68,8 +52,8 @@ fn int_in(text: &[u8]) -> Option<i32>
     }
 }
 
-/// A number of 64 bits.
-fn long_in(text: &[u8]) -> Option<i64>
+/// The number of 64 bits that a text denotes in decimal, without a sign except `-` and without an unnecessary zero.
+pub fn long_in(text: &[u8]) -> Option<i64>
     ensures { result ≡ long_in text.now }
 {
     integer_in(i64::MAX as u64, text)

@@ -1,11 +1,11 @@
-use Rattle.std.proofs.Common.{inr, refl, subst, sym}
-use Rattle.client_forms.specs.Ctl.{Getting, Loading, Putting, Watching}
+use Rattle.std.proofs.Common.{inr, refl, rules, subst, sym, ◌∙◌, FitsSigned, w64, to_z-of_z}
+use Rattle.client_forms.specs.Ctl.{Deleting, Following, Getting, Listing, Loading, Pinging, Putting, Ranging, Watching}
 use Rattle.client_forms.specs.Shown.{Show, lines_after, seen_on, viewing}
 use Rattle.client_forms.specs.Top.{dials, world}
 use Rattle.client_forms.specs.Work.{input, output}
 use Rattle.point_lines.specs.Lines.{lines_in}
 use Rattle.watch_views.specs.Boards.{reading}
-use Rattle.client_forms.proofs.FormLemmas.{get_begins, no_memory, put_begins, ran_get, ran_load, ran_put, ran_watch}
+use Rattle.client_forms.proofs.FormLemmas.{delete_begins, follow_begins, get_begins, list_begins, no_memory, ping_begins, put_begins, ran_delete, ran_follow, ran_get, ran_load, ran_ping, ran_put, ran_range, ran_spaces, ran_watch, range_begins}
 use Rattle.client_forms.proofs.LoadLemmas.{load_begins}
 use Rattle.client_forms.proofs.WatchLemmas.{board_shows_first, watch_starts}
 use Rattle.client_forms.proofs.run.run.Goals as goal
@@ -17,7 +17,7 @@ pub returns-in-Ok-read_payload-clause-fulfils : goal.returns-in-Ok-read_payload-
 returns-in-Ok-read_payload-clause-fulfils g c =
     let w = world (input (g.R.Source.left c.args.streams.input) (g.R.Source.faults c.args.streams.input)) (output (g.W.Sink.held c.args.streams.out) (g.W.Sink.faults c.args.streams.out)) (g.C.Clock.told c.args.streams.clock) (dials (g.D.Dialer.backs c.args.dialer.now) (g.D.Dialer.ended c.args.dialer.now) (g.D.Dialer.faults c.args.dialer.now)) in
     let z = world (input (g.R.Source.left c.run_at.result.1.input) (g.R.Source.faults c.run_at.result.1.input)) (output (g.W.Sink.held c.run_at.result.1.out) (g.W.Sink.faults c.run_at.result.1.out)) (g.C.Clock.told c.run_at.result.1.clock) (dials (g.D.Dialer.backs c.run_at.new.dialer) (g.D.Dialer.ended c.run_at.new.dialer) (g.D.Dialer.faults c.run_at.new.dialer)) in
-    ran_put c.run_at.result.0 c.args.form.address c.args.form.command (lines_after (viewing (λ v. (goal.View-dyn g (v.vtable, v.value)).held v.value) (λ v. (goal.View-dyn g (v.vtable, v.value)).step v.value) (λ v. (goal.View-dyn g (v.vtable, v.value)).shown v.value)) c.args.views.items) (g.H.Host.content c.args.host.now) w z c.in-Put.uri c.in-Put.file c.in-Put.is c.in-Ok-read_payload.payload c.in-Ok-read_payload.ensures.file
+    ran_put c.run_at.result.0 c.args.form.address c.args.form.command (lines_after (viewing (λ v. (goal.View-dyn g (v.vtable, v.value)).held v.value) (λ v. (goal.View-dyn g (v.vtable, v.value)).step v.value) (λ v. (goal.View-dyn g (v.vtable, v.value)).shown v.value)) c.args.views.items) (g.H.Host.content c.args.host.now) w z c.in-Put.uri c.in-Put.file c.in-Put.is c.in-Ok-read_payload.payload c.in-Ok-read_payload.ensures.file.0 c.in-Ok-read_payload.ensures.file.1
     (c.run_at.ensures.runs (lines_after (viewing (λ v. (goal.View-dyn g (v.vtable, v.value)).held v.value) (λ v. (goal.View-dyn g (v.vtable, v.value)).step v.value) (λ v. (goal.View-dyn g (v.vtable, v.value)).shown v.value)) c.args.views.items) (Putting c.in-Put.uri c.in-Ok-read_payload.payload) (put_begins c.in-Put.uri c.new-command.result.uri c.in-Ok-read_payload.payload c.new-command.result.payload c.new-command.result.asked c.new-command.ensures))
 
 pub returns-in-Ok-read_payload-clause-form : goal.returns-in-Ok-read_payload-clause-form
@@ -70,6 +70,104 @@ returns-in-Load-clause-write_cause g c = λ e. c.run_at-in-Load.ensures.why.writ
 
 pub returns-in-Load-clause-link_cause : goal.returns-in-Load-clause-link_cause
 returns-in-Load-clause-link_cause g c = λ e. c.run_at-in-Load.ensures.why.link e
+
+pub returns-in-Ping-clause-fulfils : goal.returns-in-Ping-clause-fulfils
+returns-in-Ping-clause-fulfils g c =
+    let w = world (input (g.R.Source.left c.args.streams.input) (g.R.Source.faults c.args.streams.input)) (output (g.W.Sink.held c.args.streams.out) (g.W.Sink.faults c.args.streams.out)) (g.C.Clock.told c.args.streams.clock) (dials (g.D.Dialer.backs c.args.dialer.now) (g.D.Dialer.ended c.args.dialer.now) (g.D.Dialer.faults c.args.dialer.now)) in
+    let z = world (input (g.R.Source.left c.run_at-in-Ping.result.1.input) (g.R.Source.faults c.run_at-in-Ping.result.1.input)) (output (g.W.Sink.held c.run_at-in-Ping.result.1.out) (g.W.Sink.faults c.run_at-in-Ping.result.1.out)) (g.C.Clock.told c.run_at-in-Ping.result.1.clock) (dials (g.D.Dialer.backs c.run_at-in-Ping.new.dialer) (g.D.Dialer.ended c.run_at-in-Ping.new.dialer) (g.D.Dialer.faults c.run_at-in-Ping.new.dialer)) in
+    ran_ping c.run_at-in-Ping.result.0 c.args.form.address c.args.form.command (lines_after (viewing (λ v. (goal.View-dyn g (v.vtable, v.value)).held v.value) (λ v. (goal.View-dyn g (v.vtable, v.value)).step v.value) (λ v. (goal.View-dyn g (v.vtable, v.value)).shown v.value)) c.args.views.items) (g.H.Host.content c.args.host.now) w z c.in-Ping.is
+    (c.run_at-in-Ping.ensures.runs (lines_after (viewing (λ v. (goal.View-dyn g (v.vtable, v.value)).held v.value) (λ v. (goal.View-dyn g (v.vtable, v.value)).step v.value) (λ v. (goal.View-dyn g (v.vtable, v.value)).shown v.value)) c.args.views.items) Pinging (ping_begins c.new-command-in-Ping.result.asked c.new-command-in-Ping.ensures))
+
+pub returns-in-Ping-clause-form : goal.returns-in-Ping-clause-form
+returns-in-Ping-clause-form g c = c.run_at-in-Ping.ensures.why.form
+
+pub returns-in-Ping-clause-read_cause : goal.returns-in-Ping-clause-read_cause
+returns-in-Ping-clause-read_cause g c = λ e. inr (c.run_at-in-Ping.ensures.why.read e)
+
+pub returns-in-Ping-clause-write_cause : goal.returns-in-Ping-clause-write_cause
+returns-in-Ping-clause-write_cause g c = λ e. c.run_at-in-Ping.ensures.why.write e
+
+pub returns-in-Ping-clause-link_cause : goal.returns-in-Ping-clause-link_cause
+returns-in-Ping-clause-link_cause g c = λ e. c.run_at-in-Ping.ensures.why.link e
+
+pub returns-in-Spaces-clause-fulfils : goal.returns-in-Spaces-clause-fulfils
+returns-in-Spaces-clause-fulfils g c =
+    let w = world (input (g.R.Source.left c.args.streams.input) (g.R.Source.faults c.args.streams.input)) (output (g.W.Sink.held c.args.streams.out) (g.W.Sink.faults c.args.streams.out)) (g.C.Clock.told c.args.streams.clock) (dials (g.D.Dialer.backs c.args.dialer.now) (g.D.Dialer.ended c.args.dialer.now) (g.D.Dialer.faults c.args.dialer.now)) in
+    let z = world (input (g.R.Source.left c.run_at-in-Spaces.result.1.input) (g.R.Source.faults c.run_at-in-Spaces.result.1.input)) (output (g.W.Sink.held c.run_at-in-Spaces.result.1.out) (g.W.Sink.faults c.run_at-in-Spaces.result.1.out)) (g.C.Clock.told c.run_at-in-Spaces.result.1.clock) (dials (g.D.Dialer.backs c.run_at-in-Spaces.new.dialer) (g.D.Dialer.ended c.run_at-in-Spaces.new.dialer) (g.D.Dialer.faults c.run_at-in-Spaces.new.dialer)) in
+    ran_spaces c.run_at-in-Spaces.result.0 c.args.form.address c.args.form.command (lines_after (viewing (λ v. (goal.View-dyn g (v.vtable, v.value)).held v.value) (λ v. (goal.View-dyn g (v.vtable, v.value)).step v.value) (λ v. (goal.View-dyn g (v.vtable, v.value)).shown v.value)) c.args.views.items) (g.H.Host.content c.args.host.now) w z c.in-Spaces.is
+    (c.run_at-in-Spaces.ensures.runs (lines_after (viewing (λ v. (goal.View-dyn g (v.vtable, v.value)).held v.value) (λ v. (goal.View-dyn g (v.vtable, v.value)).step v.value) (λ v. (goal.View-dyn g (v.vtable, v.value)).shown v.value)) c.args.views.items) Listing (list_begins c.new-command-in-Spaces.result.asked c.new-command-in-Spaces.ensures))
+
+pub returns-in-Spaces-clause-form : goal.returns-in-Spaces-clause-form
+returns-in-Spaces-clause-form g c = c.run_at-in-Spaces.ensures.why.form
+
+pub returns-in-Spaces-clause-read_cause : goal.returns-in-Spaces-clause-read_cause
+returns-in-Spaces-clause-read_cause g c = λ e. inr (c.run_at-in-Spaces.ensures.why.read e)
+
+pub returns-in-Spaces-clause-write_cause : goal.returns-in-Spaces-clause-write_cause
+returns-in-Spaces-clause-write_cause g c = λ e. c.run_at-in-Spaces.ensures.why.write e
+
+pub returns-in-Spaces-clause-link_cause : goal.returns-in-Spaces-clause-link_cause
+returns-in-Spaces-clause-link_cause g c = λ e. c.run_at-in-Spaces.ensures.why.link e
+
+pub returns-in-Range-clause-fulfils : goal.returns-in-Range-clause-fulfils
+returns-in-Range-clause-fulfils g c =
+    let from_fits : FitsSigned w64 c.in-Range.from = search rules in
+    let to_fits : FitsSigned w64 c.in-Range.to = search rules in
+    let w = world (input (g.R.Source.left c.args.streams.input) (g.R.Source.faults c.args.streams.input)) (output (g.W.Sink.held c.args.streams.out) (g.W.Sink.faults c.args.streams.out)) (g.C.Clock.told c.args.streams.clock) (dials (g.D.Dialer.backs c.args.dialer.now) (g.D.Dialer.ended c.args.dialer.now) (g.D.Dialer.faults c.args.dialer.now)) in
+    let z = world (input (g.R.Source.left c.run_at-in-Range.result.1.input) (g.R.Source.faults c.run_at-in-Range.result.1.input)) (output (g.W.Sink.held c.run_at-in-Range.result.1.out) (g.W.Sink.faults c.run_at-in-Range.result.1.out)) (g.C.Clock.told c.run_at-in-Range.result.1.clock) (dials (g.D.Dialer.backs c.run_at-in-Range.new.dialer) (g.D.Dialer.ended c.run_at-in-Range.new.dialer) (g.D.Dialer.faults c.run_at-in-Range.new.dialer)) in
+    ran_range c.run_at-in-Range.result.0 c.args.form.address c.args.form.command (lines_after (viewing (λ v. (goal.View-dyn g (v.vtable, v.value)).held v.value) (λ v. (goal.View-dyn g (v.vtable, v.value)).step v.value) (λ v. (goal.View-dyn g (v.vtable, v.value)).shown v.value)) c.args.views.items) (g.H.Host.content c.args.host.now) w z c.in-Range.uri c.in-Range.from c.in-Range.to c.in-Range.is
+    (c.run_at-in-Range.ensures.runs (lines_after (viewing (λ v. (goal.View-dyn g (v.vtable, v.value)).held v.value) (λ v. (goal.View-dyn g (v.vtable, v.value)).step v.value) (λ v. (goal.View-dyn g (v.vtable, v.value)).shown v.value)) c.args.views.items) (Ranging c.in-Range.uri c.in-Range.from c.in-Range.to) (range_begins c.in-Range.uri c.new-command-in-Range.result.uri c.in-Range.from c.in-Range.to c.new-command-in-Range.result.from c.new-command-in-Range.result.to c.new-command-in-Range.result.stage c.new-command-in-Range.result.kind c.new-command-in-Range.ensures.0 (c.new-command-in-Range.ensures.1 ∙ to_z-of_z from_fits) (c.new-command-in-Range.ensures.2 ∙ to_z-of_z to_fits) c.new-command-in-Range.ensures.3))
+
+pub returns-in-Range-clause-form : goal.returns-in-Range-clause-form
+returns-in-Range-clause-form g c = c.run_at-in-Range.ensures.why.form
+
+pub returns-in-Range-clause-read_cause : goal.returns-in-Range-clause-read_cause
+returns-in-Range-clause-read_cause g c = λ e. inr (c.run_at-in-Range.ensures.why.read e)
+
+pub returns-in-Range-clause-write_cause : goal.returns-in-Range-clause-write_cause
+returns-in-Range-clause-write_cause g c = λ e. c.run_at-in-Range.ensures.why.write e
+
+pub returns-in-Range-clause-link_cause : goal.returns-in-Range-clause-link_cause
+returns-in-Range-clause-link_cause g c = λ e. c.run_at-in-Range.ensures.why.link e
+
+pub returns-in-Delete-clause-fulfils : goal.returns-in-Delete-clause-fulfils
+returns-in-Delete-clause-fulfils g c =
+    let w = world (input (g.R.Source.left c.args.streams.input) (g.R.Source.faults c.args.streams.input)) (output (g.W.Sink.held c.args.streams.out) (g.W.Sink.faults c.args.streams.out)) (g.C.Clock.told c.args.streams.clock) (dials (g.D.Dialer.backs c.args.dialer.now) (g.D.Dialer.ended c.args.dialer.now) (g.D.Dialer.faults c.args.dialer.now)) in
+    let z = world (input (g.R.Source.left c.run_at-in-Delete.result.1.input) (g.R.Source.faults c.run_at-in-Delete.result.1.input)) (output (g.W.Sink.held c.run_at-in-Delete.result.1.out) (g.W.Sink.faults c.run_at-in-Delete.result.1.out)) (g.C.Clock.told c.run_at-in-Delete.result.1.clock) (dials (g.D.Dialer.backs c.run_at-in-Delete.new.dialer) (g.D.Dialer.ended c.run_at-in-Delete.new.dialer) (g.D.Dialer.faults c.run_at-in-Delete.new.dialer)) in
+    ran_delete c.run_at-in-Delete.result.0 c.args.form.address c.args.form.command (lines_after (viewing (λ v. (goal.View-dyn g (v.vtable, v.value)).held v.value) (λ v. (goal.View-dyn g (v.vtable, v.value)).step v.value) (λ v. (goal.View-dyn g (v.vtable, v.value)).shown v.value)) c.args.views.items) (g.H.Host.content c.args.host.now) w z c.in-Delete.uri c.in-Delete.is
+    (c.run_at-in-Delete.ensures.runs (lines_after (viewing (λ v. (goal.View-dyn g (v.vtable, v.value)).held v.value) (λ v. (goal.View-dyn g (v.vtable, v.value)).step v.value) (λ v. (goal.View-dyn g (v.vtable, v.value)).shown v.value)) c.args.views.items) (Deleting c.in-Delete.uri) (delete_begins c.in-Delete.uri c.new-command-in-Delete.result.uri c.new-command-in-Delete.result.asked c.new-command-in-Delete.ensures))
+
+pub returns-in-Delete-clause-form : goal.returns-in-Delete-clause-form
+returns-in-Delete-clause-form g c = c.run_at-in-Delete.ensures.why.form
+
+pub returns-in-Delete-clause-read_cause : goal.returns-in-Delete-clause-read_cause
+returns-in-Delete-clause-read_cause g c = λ e. inr (c.run_at-in-Delete.ensures.why.read e)
+
+pub returns-in-Delete-clause-write_cause : goal.returns-in-Delete-clause-write_cause
+returns-in-Delete-clause-write_cause g c = λ e. c.run_at-in-Delete.ensures.why.write e
+
+pub returns-in-Delete-clause-link_cause : goal.returns-in-Delete-clause-link_cause
+returns-in-Delete-clause-link_cause g c = λ e. c.run_at-in-Delete.ensures.why.link e
+
+pub returns-in-Follow-clause-fulfils : goal.returns-in-Follow-clause-fulfils
+returns-in-Follow-clause-fulfils g c =
+    let start_fits : FitsSigned w64 c.in-Follow.start = search rules in
+    let w = world (input (g.R.Source.left c.args.streams.input) (g.R.Source.faults c.args.streams.input)) (output (g.W.Sink.held c.args.streams.out) (g.W.Sink.faults c.args.streams.out)) (g.C.Clock.told c.args.streams.clock) (dials (g.D.Dialer.backs c.args.dialer.now) (g.D.Dialer.ended c.args.dialer.now) (g.D.Dialer.faults c.args.dialer.now)) in
+    let z = world (input (g.R.Source.left c.run_at-in-Follow.result.1.input) (g.R.Source.faults c.run_at-in-Follow.result.1.input)) (output (g.W.Sink.held c.run_at-in-Follow.result.1.out) (g.W.Sink.faults c.run_at-in-Follow.result.1.out)) (g.C.Clock.told c.run_at-in-Follow.result.1.clock) (dials (g.D.Dialer.backs c.run_at-in-Follow.new.dialer) (g.D.Dialer.ended c.run_at-in-Follow.new.dialer) (g.D.Dialer.faults c.run_at-in-Follow.new.dialer)) in
+    ran_follow c.run_at-in-Follow.result.0 c.args.form.address c.args.form.command (lines_after (viewing (λ v. (goal.View-dyn g (v.vtable, v.value)).held v.value) (λ v. (goal.View-dyn g (v.vtable, v.value)).step v.value) (λ v. (goal.View-dyn g (v.vtable, v.value)).shown v.value)) c.args.views.items) (g.H.Host.content c.args.host.now) w z c.in-Follow.uri c.in-Follow.start c.in-Follow.is
+    (c.run_at-in-Follow.ensures.runs (lines_after (viewing (λ v. (goal.View-dyn g (v.vtable, v.value)).held v.value) (λ v. (goal.View-dyn g (v.vtable, v.value)).step v.value) (λ v. (goal.View-dyn g (v.vtable, v.value)).shown v.value)) c.args.views.items) (Following c.in-Follow.uri c.in-Follow.start) (follow_begins c.in-Follow.uri c.new-command-in-Follow.result.uri c.in-Follow.start c.new-command-in-Follow.result.start c.new-command-in-Follow.result.stage c.new-command-in-Follow.ensures.0 (c.new-command-in-Follow.ensures.1 ∙ to_z-of_z start_fits) c.new-command-in-Follow.ensures.2))
+
+pub returns-in-Follow-clause-form : goal.returns-in-Follow-clause-form
+returns-in-Follow-clause-form g c = c.run_at-in-Follow.ensures.why.form
+
+pub returns-in-Follow-clause-read_cause : goal.returns-in-Follow-clause-read_cause
+returns-in-Follow-clause-read_cause g c = λ e. inr (c.run_at-in-Follow.ensures.why.read e)
+
+pub returns-in-Follow-clause-write_cause : goal.returns-in-Follow-clause-write_cause
+returns-in-Follow-clause-write_cause g c = λ e. c.run_at-in-Follow.ensures.why.write e
+
+pub returns-in-Follow-clause-link_cause : goal.returns-in-Follow-clause-link_cause
+returns-in-Follow-clause-link_cause g c = λ e. c.run_at-in-Follow.ensures.why.link e
 
 pub returns-clause-fulfils : goal.returns-clause-fulfils
 returns-clause-fulfils g c =

@@ -1,6 +1,7 @@
 use Rattle.std.proofs.Common.{true, refl, ap, ◌∙◌}
 use Rattle.client_core.specs.declared.ask.Ask.TheVariants as asked
-use Rattle.client_forms.specs.Ctl.{Asked, goes_by, put_line}
+use Rattle.client_forms.specs.Ctl.{Asked, goes_by}
+use Rattle.client_forms.specs.Texts.{put_line}
 use Rattle.client_forms.specs.Jobs.{HasRead, IsPut, stage_of}
 use Rattle.client_forms.specs.Plans.{Waits, standing}
 use Rattle.client_forms.specs.Work.{input, outside, place}
