@@ -964,7 +964,7 @@ class Lines(Run):
         for request, cause in (
             (b"POST /etp HTTP/1.1\r\nHost: a\r\n\r\n", "the method is not GET"),
             (b"GET /etp HTTP/1.1\r\nHost: a\r\n\r\n", "the request asks for no WebSocket over HTTP/1.1"),
-            (b"\x16\x03\x01\x02\x00\r\n\r\n", "this is no HTTP request"),
+            (b"\x16\x03\x01\x02\x00\r\n\r\n", "this is not an HTTP request"),
         ):
             peer = await self.ask(request)
             self.assertEqual(await self.line(), f"refused {peer}: {cause}")

@@ -276,8 +276,8 @@ CUT = wire.write_frame(1, 0, 0, b"a message")[:20]
 
 CAUSES = {
     "short": "the input ends inside the item at byte {}",
-    "number": "ten bytes do not end the number at byte {}",
-    "range": "the int at byte {} passes 32 bits",
+    "number": "the number at byte {} does not end within ten bytes",
+    "range": "the int at byte {} does not fit in 32 bits",
     "boolean": "the boolean at byte {} is neither 0 nor 1",
     "branch": "the union or enum at byte {} has no such branch or symbol",
     "utf8": "the text at byte {} is not UTF-8",

@@ -166,8 +166,8 @@ def add_read(lines, line, node, raw):
 # --- nodes -------------------------------------------------------------------------------------------------------------
 
 CAUSES = {
-    "short": "the input ends inside the item at byte {}", "number": "ten bytes do not end the number at byte {}",
-    "range": "the int at byte {} passes 32 bits", "boolean": "the boolean at byte {} is neither 0 nor 1",
+    "short": "the input ends inside the item at byte {}", "number": "the number at byte {} does not end within ten bytes",
+    "range": "the int at byte {} does not fit in 32 bits", "boolean": "the boolean at byte {} is neither 0 nor 1",
     "branch": "the union or enum at byte {} has no such branch or symbol", "utf8": "the text at byte {} is not UTF-8",
     "length": "the length at byte {} is negative", "blocksize": "the items of the block at byte {} do not fill its size",
     "doublekey": "the map has the name at byte {} already", "limit": "the value at byte {} is one node too many",

@@ -12,9 +12,9 @@ use thiserror::Error;
 pub enum Why {
     #[error("the input ends inside the item")]
     Short,
-    #[error("ten bytes do not end the number")]
+    #[error("the number does not end within ten bytes")]
     Number,
-    #[error("the int passes 32 bits")]
+    #[error("the int does not fit in 32 bits")]
     Range,
     #[error("the boolean is neither 0 nor 1")]
     Bool,

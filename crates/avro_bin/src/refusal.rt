@@ -13,10 +13,10 @@ pub enum Refusal {
     #[error("the input ends inside the item at byte {0}")]
     Short(usize),
     /// Ten bytes do not end a number, or the tenth is above 1.
-    #[error("ten bytes do not end the number at byte {0}")]
+    #[error("the number at byte {0} does not end within ten bytes")]
     Number(usize),
     /// An int exceeds 32 bits.
-    #[error("the int at byte {0} passes 32 bits")]
+    #[error("the int at byte {0} does not fit in 32 bits")]
     Range(usize),
     /// A boolean is neither 0 nor 1.
     #[error("the boolean at byte {0} is neither 0 nor 1")]

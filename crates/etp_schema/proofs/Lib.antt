@@ -2,6 +2,8 @@ pub mod BodyLemmas
 pub mod PartLemmas
 pub mod MeasuredLemmas
 pub mod ItemLemmas
+pub mod SortedLemmas
+pub mod PairLemmas
 pub mod TypedLemmas
 pub mod KindLemmas
 pub mod WritingLemmas

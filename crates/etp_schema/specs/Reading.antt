@@ -6,7 +6,7 @@ use Rattle.avro_bin.specs.declared.fault.Fault.TheVariants as fault
 use Rattle.avro_bin.specs.declared.refusal.Refusal.{Refusal}
 use Rattle.avro_bin.specs.declared.refusal.Refusal.TheVariants as r
 use Rattle.avro_bin.specs.Value.{Value}
-use Rattle.avro_bin.specs.Reading.{Read, Fails, value_at}
+use Rattle.avro_bin.specs.Reading.{Read, ◌>>=◌, Fails, text_at, value_at}
 use Rattle.avro_bin.specs.Along.{along, seen}
 use Rattle.etp_schema.specs.Family.{Kind}
 use Rattle.etp_schema.specs.declared.reader.Reader.{Reader}
@@ -40,3 +40,9 @@ ReadsAs f read (Err e) = (e ≡ r.NoMemory) ⊎ (read ≡ Err e)
 abbrev pub kind_at : {M : Type 0} → Option (Kind M) → ℕ → List ℕ → Read (Option M × ℕ)
 kind_at None n bytes = Ok ((None, n), bytes)
 kind_at (Some k) n bytes = along (seen (λ v. Some (k.read v))) (value_at k.schema n bytes)
+
+-- a name and its value, whether or not the name has occurred already
+unfoldable pub pair_at : {A : Type 0} → (ℕ → List ℕ → Read (A × ℕ)) → ℕ → List ℕ → Read ((List ℕ × A) × ℕ)
+pair_at value n bytes = do
+  k ← text_at bytes
+  along (λ x. ((k.0, x.0), x.1)) (value n k.1)

@@ -1,16 +1,20 @@
 //! Lists, maps, optional and boxed values from and to bytes.
-ghost use Rattle.std.specs.Prelude.{◌≡◌, ◌++◌, ◌∷◌, [], ◌<◌, ◌^◌, IfOk, IfSome, Ok, OnOk, length, map, pos};
+ghost use Rattle.std.specs.Prelude.{◌≡◌, ◌++◌, ◌∷◌, [], ◌<◌, ◌^◌, IfOk, IfSome, Ok, OnOk, length, map, pos, suc};
+ghost use Rattle.std.specs.Cmp.Lexicographic.{slice_cmp};
 ghost use Rattle.std.specs.List.{AllByRecursion};
+ghost use Rattle.std.specs.List.Sorted.{IsPermutation, IsStrictlySortedBy};
+ghost use Rattle.std.specs.Map.{keys_of};
+ghost use Rattle.std.specs.Ordering.{nat_cmp};
 ghost use Rattle.etp_values.specs.Entries.{on_value};
 ghost use Rattle.avro_bin.specs.Number.{plain_number};
 ghost use Rattle.avro_bin.specs.Plain.{plain, plain_all, plain_named, plain_blob, Writes};
-ghost use Rattle.avro_bin.specs.Reading.{items_at, block_at};
+ghost use Rattle.avro_bin.specs.Reading.{items_at, block_at, blocks_at};
 ghost use Rattle.avro_bin.specs.Along.{push_at, put_at};
 ghost use Rattle.avro_bin.specs.Shape.{FitsTree, IsText, AllFit, AllNamedFit};
 ghost use Rattle.avro_bin.specs.Value.{VUnion, row, entries};
 ghost use Rattle.etp_schema.specs.Form.{Holds, list_form, list_at, named_at};
 ghost use Rattle.etp_schema.specs.Measure.{counts, measured_behind, measured_named};
-ghost use Rattle.etp_schema.specs.Reading.{Reads, ReadsOn};
+ghost use Rattle.etp_schema.specs.Reading.{Reads, ReadsOn, pair_at};
 
 use crate::few::Few;
 use crate::measure::Measure;
@@ -217,6 +221,114 @@ impl<T: OnWire> OnWire for Named<T> {
 
 /// The entries of blocks, up to a count of 0.
 fn read_named<T: OnWire>(from: &mut Reader<'_>) -> Result<Named<T>, Fault>
+    ensures { Reads (named_at T.form from.old.left from.old.rest.now) result from.new }
+{
+    let mut ahead = from.again();
+    if let Some(named) = read_at_once(&mut ahead) {
+        from.go_on(&ahead);
+        return Ok(named);
+    }
+    read_in_turn(from)
+}
+
+/// The same, with the names put in order once all are read, which takes a fraction of the time. `None` if anything is wrong, and then the
+/// position of the reader is unspecified.
+fn read_at_once<T: OnWire>(from: &mut Reader<'_>) -> Option<Named<T>>
+    ensures { IfSome result (λ named. named_at T.form from.old.left from.old.rest.now ≡ Ok ((named, from.new.left), from.new.rest.now)) }
+{
+    let mut pairs = Vec::new(from.alloc());
+    let Ok(()) = read_pairs(from, &mut pairs) else {
+        return None;
+    };
+    let Some(named) = by_name(pairs) else {
+        return None;
+    };
+    Some(named)
+}
+
+/// The pairs in the order of their names. `None` if a name occurs twice, or memory runs out.
+fn by_name<T: OnWire>(pairs: Vec<(Text, T)>) -> Option<Named<T>>
+    ensures moved { IfSome result (λ named. IsPermutation pairs.items named) }
+    ensures sorted { IfSome result (λ named. IsStrictlySortedBy (slice_cmp nat_cmp) (keys_of named)) }
+{
+    let Ok(ordered) = Named::from_pairs(pairs) else {
+        return None;
+    };
+    let Some(named) = ordered else {
+        return None;
+    };
+    let items = named.into_vec();
+    Some(Named::from_sorted(items))
+}
+
+/// The names and values of blocks, up to a count of 0, after those already read. A name may occur twice.
+fn read_pairs<T: OnWire>(from: &mut Reader<'_>, pairs: &mut Vec<(Text, T)>) -> Result<(), Fault>
+    ensures { ReadsOn (blocks_at (push_at (pair_at T.form.at)) (suc (length from.old.rest.now)) (pairs.old.items, from.old.left) from.old.rest.now) (pairs.new.items, from.new.left) from.new result }
+{
+    let bytes = from.rest();
+    for _ in 0..bytes.len() + 1 {
+        let count = from.long()?;
+        if count == 0 {
+            return Ok(());
+        }
+        read_pair_block(from, count, pairs)?;
+    }
+    // Unreachable: each block takes a byte.
+    Err(Fault::At(Why::Limit, from.rest().len()))
+}
+
+/// The names and values of a block whose count is read, after those already read.
+fn read_pair_block<T: OnWire>(
+    from: &mut Reader<'_>,
+    count: i64,
+    pairs: &mut Vec<(Text, T)>,
+) -> Result<(), Fault>
+    ensures { ReadsOn (block_at (push_at (pair_at T.form.at)) (pairs.old.items, from.old.left) count from.old.rest.now) (pairs.new.items, from.new.left) from.new result }
+{
+    if count >= 0 {
+        return read_some_pairs(from, count as u64, pairs);
+    }
+    let start = from.rest().len();
+    let size = from.long()?;
+    if size < 0 {
+        return Err(Fault::At(Why::Length, start));
+    }
+    let before = from.rest().len();
+    read_some_pairs(from, count.unsigned_abs(), pairs)?;
+    if !is_filled(before, size as u64, from.rest().len()) {
+        return Err(Fault::At(Why::BlockSize, start));
+    }
+    Ok(())
+}
+
+/// `count` names and values, after those already read.
+fn read_some_pairs<T: OnWire>(
+    from: &mut Reader<'_>,
+    count: u64,
+    pairs: &mut Vec<(Text, T)>,
+) -> Result<(), Fault>
+    ensures { ReadsOn (items_at (push_at (pair_at T.form.at)) count (pairs.old.items, from.old.left) from.old.rest.now) (pairs.new.items, from.new.left) from.new result }
+{
+    let room = count.min(ROOM) as usize;
+    make_room(pairs, room.min(from.rest().len()))?;
+    for _ in 0..count {
+        read_pair(from, pairs)?;
+    }
+    Ok(())
+}
+
+/// One name and its value, after those already read.
+fn read_pair<T: OnWire>(from: &mut Reader<'_>, pairs: &mut Vec<(Text, T)>) -> Result<(), Fault>
+    ensures { ReadsOn (push_at (pair_at T.form.at) (pairs.old.items, from.old.left) from.old.rest.now) (pairs.new.items, from.new.left) from.new result }
+{
+    let name = from.text()?;
+    let value = T::read(from)?;
+    pairs.push((name, value))?;
+    Ok(())
+}
+
+/// The entries of blocks, up to a count of 0, each put in its place before the next is read: so the first fault is the one that is found.
+fn read_in_turn<T: OnWire>(from: &mut Reader<'_>) -> Result<Named<T>, Fault>
     ensures { Reads (named_at T.form from.old.left from.old.rest.now) result from.new }
 {
     let bytes = from.rest();

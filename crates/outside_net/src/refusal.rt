@@ -73,7 +73,7 @@ impl Refusal {
         ensures { result.now ≡ words_of self }
     {
         match self {
-            Refusal::NotHttp => "this is no HTTP request",
+            Refusal::NotHttp => "this is not an HTTP request",
             Refusal::TooLong => "the request is too long",
             Refusal::Behind => "something follows the request before it is answered",
             Refusal::Late => "the request did not come in time",
@@ -82,7 +82,7 @@ impl Refusal {
             Refusal::NoUpgrade => "the request asks for no WebSocket over HTTP/1.1",
             Refusal::Version => "Sec-WebSocket-Version is not 13",
             Refusal::Versions => "Sec-WebSocket-Version is there twice",
-            Refusal::Key => "Sec-WebSocket-Key is missing, there twice, or no base64 of 16 bytes",
+            Refusal::Key => "Sec-WebSocket-Key is missing, there twice, or not the base64 of 16 bytes",
             Refusal::NoPlace => "there is no place for a further connection",
             Refusal::Left => "the peer left before its handshake was done",
         }

@@ -2,7 +2,7 @@ use Rattle.std.proofs.Common.{◌≡◌, ◌+◌, ◌<◌, ◌≤◌, length, ru
 use Rattle.std.proofs.lemmas.Result.{err_from_is_err_and}
 use Rattle.avro_bin.specs.Along.{put_at}
 use Rattle.avro_bin.proofs.StepLemmas.{blocks_stop, blocks_more, blocks_ends, blocks_none, blocks_fail, is_zero}
-use Rattle.etp_schema.proofs.many_on_wire.read_named.Goals as goal
+use Rattle.etp_schema.proofs.many_on_wire.read_in_turn.Goals as goal
 
 pub returns-in_err-count : goal.returns-in_err-count
 returns-in_err-count g c =
