@@ -66,13 +66,6 @@ joined-with_tail cs (x ∷ xs) u = joined-push cs (x ∷ xs) u
 
 -- ---- the open chunk is sealed
 
-pub tail-none : (cs : List (List Point)) (t : List Point) → t ≡ [] → cs ≡ with_tail cs t
-tail-none cs t e = sym (ap (with_tail cs) e)
-
-pub tail-some : (cs : List (List Point)) (t : List Point) → 0 < length t → cs ++ t ∷ [] ≡ with_tail cs t
-tail-some cs [] h = absurd (omega arith)
-tail-some cs (x ∷ xs) h = refl
-
 chunked-tail : (cs : List (List Point)) (t : List Point) → Stands cs t → AreChunks (with_tail cs t)
 chunked-tail cs [] stands = stands.chunks
 chunked-tail cs (x ∷ xs) stands = chunked-push cs (x ∷ xs) stands.chunks (record { some = omega arith; few = stands.few }) (stands.follows (omega arith))
@@ -137,9 +130,6 @@ stands-attach cs fs t m stands fresh some many = record {
 pub attached-points : (cs fs : List (List Point)) (t m : List Point) → joined (with_tail cs t ++ fs) m ≡ joined cs t ++ joined fs m
 attached-points cs fs t m = joined-concat (with_tail cs t) fs m ∙ joined-with_tail cs t (joined fs m) ∙ joined-append cs t (joined fs m)
 
-pub none-points : (cs fs : List (List Point)) (t m : List Point) → fs ≡ [] → m ≡ [] → joined cs t ≡ joined cs t ++ joined fs m
-none-points cs fs t m e f = sym (append-nil (joined cs t)) ∙ (λ j. joined cs t ++ joined (sym e j) (sym f j))
-
 -- ---- points that are counted
 
 pub counted-push : (h k : Held) (p : Point) (count added n : ℕ) → AreCounted h count added → k ≡ with_added p h → count + added < 18446744073709551615 → n ≡ added + 1 → AreCounted k count n
@@ -148,23 +138,6 @@ counted-push h k p count added n counted e below f =
     let all : length k.added ≡ length h.added + 1 = ap (λ x. length x.added) e ∙ length-append h.added (p ∷ []) in
     let old_points : count ≡ length h.points = counted.shown in
     let old_added : added ≡ length h.added = counted.coming in
-    record { shown = omega arith; coming = omega arith; bounded = omega arith }
-
-pub counted-keep : (h k : Held) (count added n : ℕ) → AreCounted h count added → k ≡ all_added h → n ≡ count + added → AreCounted k n 0
-counted-keep h k count added n counted e f =
-    let points : length k.points ≡ length h.points + length h.added = ap (λ x. length x.points) e ∙ length-append h.points h.added in
-    let none : length k.added ≡ 0 = ap (λ x. length x.added) e in
-    let old_points : count ≡ length h.points = counted.shown in
-    let old_added : added ≡ length h.added = counted.coming in
-    let bounded : count + added ≤ 18446744073709551615 = counted.bounded in
-    record { shown = omega arith; coming = omega arith; bounded = omega arith }
-
-pub counted-shed : (h k : Held) (count added : ℕ) → AreCounted h count added → k ≡ none_added h → AreCounted k count 0
-counted-shed h k count added counted e =
-    let points : length k.points ≡ length h.points = ap (λ x. length x.points) e in
-    let none : length k.added ≡ 0 = ap (λ x. length x.added) e in
-    let old_points : count ≡ length h.points = counted.shown in
-    let bounded : count + added ≤ 18446744073709551615 = counted.bounded in
     record { shown = omega arith; coming = omega arith; bounded = omega arith }
 
 -- ---- chunks that are put together
@@ -213,15 +186,6 @@ stands-last cs ds c t h e f =
 
 pub points-last : (cs ds : List (List Point)) (c t : List Point) → cs ≡ ds ++ c ∷ [] → t ≡ c → joined ds t ≡ joined cs []
 points-last cs ds c t e f = ap (joined ds) f ∙ joined-tail ds c ∙ sym (pushed-points ds c) ∙ ap (λ l. joined l []) (sym e)
-
-pub stands-none : (cs ds : List (List Point)) (t : List Point) → ds ≡ [] → t ≡ [] → Stands ds t
-stands-none cs ds t e f =
-    subst (λ X. X) (λ j. Stands (sym e j) (sym f j)) (record {
-      chunks = tt;
-      few = omega arith;
-      follows = λ h. absurd (omega arith);
-      empty = λ h. refl;
-    })
 
 pub small-chunks : (cs : List (List Point)) → AreChunks cs → AllByRecursion (λ c. length c ≤ 1024) cs
 small-chunks [] h = tt

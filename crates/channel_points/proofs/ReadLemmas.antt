@@ -309,6 +309,3 @@ weigh-append f (x ∷ xs) ys = let rest = weigh-append f xs ys in omega (arith, 
 
 pub bytes-next : (s v w all total new : ℕ) → new ≡ capped (s + capped v) → all ≡ v + w → capped (s + all) ≡ total → capped (new + w) ≡ total
 bytes-next s v w all total new e f h = omega arith
-
-pub bytes-last : (s v all total new : ℕ) → new ≡ capped (s + capped v) → all ≡ v → capped (s + all) ≡ total → new ≡ total
-bytes-last s v all total new e f h = omega arith

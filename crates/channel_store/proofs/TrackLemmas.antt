@@ -59,9 +59,6 @@ joins-facts id xs w p u h = by (takes w p) (follows (before_next xs w) p.index) 
     by true false ea eb k = cc
     by false b ea eb k = cc
 
-pub added-none : (id : ℤ) (p : Point) (r : Row) → r.staged ≡ None → added id p r ≡ Err (Outside id)
-added-none id p r e = ap (added_by id p r) e
-
 pub added-err : (id : ℤ) (p : Point) (r : Row) (w : What) (e : ChannelError) → r.staged ≡ Some w → Err e ≡ ending (joins id r.shown.points w p) → added id p r ≡ Err e
 added-err id p r w e staged h = ap (added_by id p r) staged ∙ ap (staged_as r) (ending-err (joins id r.shown.points w p) e h)
 
