@@ -63,9 +63,9 @@ joined_called keep (Replies sendings) = Replies sendings
 joined_called keep (Calls wants kept) = Calls (call.Look (flat_map (λ x. x.1) wants)) (keep kept)
 
 -- the operations make one call
-abbrev pub ops_called : ArrayChange → Outcome (List (List ℕ × Op)) (List (List ℕ × Decision (Unit {0}))) DataArrayMessage → ArrayOutcome
-ops_called what (Replies sendings) = Replies sendings
-ops_called what (Calls ops kept) = Calls (call.Put ops) (pending.Change what kept)
+abbrev pub ops_call : ArrayChange → Outcome (List (List ℕ × Op)) (List (List ℕ × Decision (Unit {0}))) DataArrayMessage → ArrayOutcome
+ops_call what (Replies sendings) = Replies sendings
+ops_call what (Calls ops kept) = Calls (call.Put ops) (pending.Change what kept)
 
 -- ---- reading
 
@@ -100,7 +100,7 @@ change_refusal stage items = if is_read_only stage then Some RequestDenied else 
 
 -- arrays are put outside a transaction, and staged in one
 abbrev pub unstaged_put_outcome : Option Transaction → ℤ → List (List ℕ × PutDataArraysType) → ArrayOutcome
-unstaged_put_outcome stage at arrays = ops_called change.Put (plain_outcome (λ x. op_of (set_array at) (checked_put stage x)) (change_response change.Put) arrays)
+unstaged_put_outcome stage at arrays = ops_call change.Put (plain_outcome (λ x. op_of (set_array at) (checked_put stage x)) (change_response change.Put) arrays)
 
 abbrev pub staged_put_outcome : Option Transaction → ℤ → List (List ℕ × PutDataArraysType) → ArrayOutcome
 staged_put_outcome stage at arrays = joined_called (pending.StagedPut change.Put at) (request_outcome (λ x. x) put_wants (change_response change.Put) (checked (λ s x. (s, checked_put stage x)) nothing arrays))
@@ -110,7 +110,7 @@ put_outcome stage at arrays = if is_some stage then staged_put_outcome stage at 
 
 -- the same for arrays to be created
 abbrev pub unstaged_make_outcome : Option Transaction → ℤ → List (List ℕ × PutUninitializedDataArrayType) → ArrayOutcome
-unstaged_make_outcome stage at arrays = ops_called change.Make (request_outcome (λ x. nothing) (set_array at) (change_response change.Make) (checked (checked_made stage) 0 arrays))
+unstaged_make_outcome stage at arrays = ops_call change.Make (request_outcome (λ x. nothing) (set_array at) (change_response change.Make) (checked (checked_made stage) 0 arrays))
 
 abbrev pub staged_make_outcome : Option Transaction → ℤ → List (List ℕ × PutUninitializedDataArrayType) → ArrayOutcome
 staged_make_outcome stage at arrays = joined_called (pending.StagedPut change.Make at) (request_outcome (λ x. x) put_wants (change_response change.Make) (checked (checked_made stage) 0 arrays))
@@ -120,7 +120,7 @@ make_outcome stage at arrays = if is_some stage then staged_make_outcome stage a
 
 -- the same for patches
 abbrev pub unstaged_patch_outcome : Option Transaction → ℤ → List (List ℕ × PutDataSubarraysType) → ArrayOutcome
-unstaged_patch_outcome stage at arrays = ops_called change.Patch (plain_outcome (λ x. op_of (patch_array at) (checked_patch stage x)) (change_response change.Patch) arrays)
+unstaged_patch_outcome stage at arrays = ops_call change.Patch (plain_outcome (λ x. op_of (patch_array at) (checked_patch stage x)) (change_response change.Patch) arrays)
 
 abbrev pub staged_patch_outcome : Option Transaction → ℤ → List (List ℕ × PutDataSubarraysType) → ArrayOutcome
 staged_patch_outcome stage at arrays = looks_called (pending.StagedPatch at) (request_outcome (λ x. x) (λ x. want.Array x.key) (change_response change.Patch) (checked (λ s x. (s, checked_patch stage x)) nothing arrays))

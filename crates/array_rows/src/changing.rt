@@ -1,6 +1,6 @@
 //! What the requests that change arrays have in common.
 ghost use Rattle.std.specs.Prelude.{◌≡◌, IfOk, OnOk, []};
-ghost use Rattle.array_rows.specs.Arrays.{joined_called, ops_called};
+ghost use Rattle.array_rows.specs.Arrays.{joined_called, ops_call};
 ghost use Rattle.array_rows.specs.Changing.{change_response, decided_found, patch_array, put_wants, set_array, staged_put};
 ghost use Rattle.array_rows.specs.declared.arrays.ArrayPending.TheVariants as pending;
 ghost use Rattle.keyed_requests.specs.Keyed.{granted_unless};
@@ -146,11 +146,11 @@ impl PlainReply for ChangeReply {
 }
 
 /// The operations make one call.
-pub(crate) fn ops_called(
+pub(crate) fn ops_call(
     what: ArrayChange,
     outcome: Outcome<Named<Op>, Named<Decision<()>>, DataArrayMessage>,
 ) -> ArrayOutcome
-    ensures { result ≡ ops_called what outcome }
+    ensures { result ≡ ops_call what outcome }
 {
     match outcome {
         Outcome::Replies(sendings) => Outcome::Replies(sendings),
@@ -260,7 +260,7 @@ impl KeyedReply for StagedPutReply {
 }
 
 /// The looks before whole arrays are staged make one call.
-pub(crate) fn staged_put_called(
+pub(crate) fn staged_put_call(
     alloc: Global,
     what: ArrayChange,
     moment: i64,

@@ -7,8 +7,8 @@ ghost use Rattle.msg_store.specs.ArrayTypes.{logical_type_place};
 
 use crate::arrays::ArrayOutcome;
 use crate::changing::{
-    ArrayChange, ArrayPut, ChangeReply, StagedPutReply, ops_called, put_wants, set_array,
-    staged_put_called,
+    ArrayChange, ArrayPut, ChangeReply, StagedPutReply, ops_call, put_wants, set_array,
+    staged_put_call,
 };
 use crate::naming::named_array;
 use crate::sizes::is_custom_large;
@@ -313,7 +313,7 @@ fn unstaged_make_outcome(
     let request = MakeArrays { stage, moment };
     let reply = Plain(ChangeReply { what });
     let outcome = request_outcome(alloc, &request, &reply, &mut 0, arrays)?;
-    Ok(ops_called(what, outcome))
+    Ok(ops_call(what, outcome))
 }
 
 fn staged_make_outcome(
@@ -327,7 +327,7 @@ fn staged_make_outcome(
     let what = ArrayChange::Make;
     let reply = StagedPutReply { what, moment };
     let outcome = request_outcome(alloc, &StagedMake { stage }, &reply, &mut 0, arrays)?;
-    staged_put_called(alloc, what, moment, outcome)
+    staged_put_call(alloc, what, moment, outcome)
 }
 
 /// What comes of a PutUninitializedDataArrays that isn't refused as a whole.

@@ -310,7 +310,7 @@ impl KeyedReply for StagedShapesReply {
     }
 }
 
-fn metadata_called(
+fn metadata_call(
     alloc: Global,
     outcome: Outcome<Named<Want>, Named<Decision<()>>, DataArrayMessage>,
 ) -> Result<ArrayOutcome, NoMemory>
@@ -327,7 +327,7 @@ fn metadata_called(
     }
 }
 
-fn staged_metadata_called(
+fn staged_metadata_call(
     alloc: Global,
     outcome: Outcome<Named<Want>, Named<Decision<ArrayKey>>, DataArrayMessage>,
 ) -> Result<ArrayOutcome, NoMemory>
@@ -354,7 +354,7 @@ fn unstaged_metadata_outcome(
     // The first half makes no part, so any limit works.
     let reply = ShapesReply { limit: 0 };
     let outcome = request_outcome(alloc, &Shapes { stage }, &reply, &mut (), ids)?;
-    metadata_called(alloc, outcome)
+    metadata_call(alloc, outcome)
 }
 
 fn staged_metadata_outcome(
@@ -367,7 +367,7 @@ fn staged_metadata_outcome(
     // The first half makes no part, so any limit works.
     let reply = StagedShapesReply { limit: 0 };
     let outcome = request_outcome(alloc, &WholeArrays { stage }, &reply, &mut (), ids)?;
-    staged_metadata_called(alloc, outcome)
+    staged_metadata_call(alloc, outcome)
 }
 
 /// What comes of a GetDataArrayMetadata whose keys are within the limits.

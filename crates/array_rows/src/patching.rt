@@ -11,7 +11,7 @@ ghost use Rattle.tx_stage.specs.declared.look.Want.TheVariants as want;
 
 use crate::arrays::{ArrayOutcome, ArrayPending};
 use crate::changing::{
-    ArrayChange, ArrayPatch, ChangeReply, change_response, granted_unless, ops_called, patch_array,
+    ArrayChange, ArrayPatch, ChangeReply, change_response, granted_unless, ops_call, patch_array,
 };
 use crate::naming::named_array;
 use crate::reading::{array_seen, seen_reply};
@@ -268,7 +268,7 @@ fn patch_seen(
     }
 }
 
-fn staged_patch_called(
+fn staged_patch_call(
     alloc: Global,
     moment: i64,
     outcome: Outcome<Named<Want>, Named<Decision<ArrayPatch>>, DataArrayMessage>,
@@ -301,7 +301,7 @@ fn unstaged_patch_outcome(
     let request = Plain(PatchArrays { stage, moment });
     let reply = Plain(ChangeReply { what });
     let outcome = request_outcome(alloc, &request, &reply, &mut (), arrays)?;
-    Ok(ops_called(what, outcome))
+    Ok(ops_call(what, outcome))
 }
 
 fn staged_patch_outcome(
@@ -314,7 +314,7 @@ fn staged_patch_outcome(
 {
     let reply = StagedPatchReply { moment };
     let outcome = request_outcome(alloc, &StagedPatches { stage }, &reply, &mut (), arrays)?;
-    staged_patch_called(alloc, moment, outcome)
+    staged_patch_call(alloc, moment, outcome)
 }
 
 /// What comes of a PutDataSubarrays that isn't refused as a whole.

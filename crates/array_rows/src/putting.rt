@@ -6,8 +6,8 @@ ghost use Rattle.array_rows.specs.Changing.{checked_put, op_of, plain_meaning, p
 
 use crate::arrays::ArrayOutcome;
 use crate::changing::{
-    ArrayChange, ArrayPut, ChangeReply, StagedPutReply, ops_called, put_wants, set_array,
-    staged_put_called,
+    ArrayChange, ArrayPut, ChangeReply, StagedPutReply, ops_call, put_wants, set_array,
+    staged_put_call,
 };
 use crate::naming::named_array;
 use crate::sizes::is_custom_large;
@@ -167,7 +167,7 @@ fn unstaged_put_outcome(
     let request = Plain(PutArrays { stage, moment });
     let reply = Plain(ChangeReply { what });
     let outcome = request_outcome(alloc, &request, &reply, &mut (), arrays)?;
-    Ok(ops_called(what, outcome))
+    Ok(ops_call(what, outcome))
 }
 
 fn staged_put_outcome(
@@ -181,7 +181,7 @@ fn staged_put_outcome(
     let what = ArrayChange::Put;
     let reply = StagedPutReply { what, moment };
     let outcome = request_outcome(alloc, &StagedPut { stage }, &reply, &mut (), arrays)?;
-    staged_put_called(alloc, what, moment, outcome)
+    staged_put_call(alloc, what, moment, outcome)
 }
 
 /// What comes of a PutDataArrays that isn't refused as a whole.

@@ -163,7 +163,7 @@ fn array_there(array: Option<ArrayRecord>) -> Decision<ArrayRecord>
     }
 }
 
-fn get_called(
+fn get_call(
     alloc: Global,
     outcome: Outcome<Named<Want>, Named<Decision<ArrayKey>>, DataArrayMessage>,
 ) -> Result<ArrayOutcome, NoMemory>
@@ -191,7 +191,7 @@ pub(crate) fn get_outcome(
     // The first half makes no part, so any limit works.
     let reply = GetArraysReply { limit: 0 };
     let outcome = request_outcome(alloc, &WholeArrays { stage }, &reply, &mut (), ids)?;
-    get_called(alloc, outcome)
+    get_call(alloc, outcome)
 }
 
 /// The second half of a request whose keys were looked at, by what was seen.

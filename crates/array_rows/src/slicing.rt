@@ -302,7 +302,7 @@ fn cut_seen(
     }
 }
 
-fn slice_called(
+fn slice_call(
     alloc: Global,
     outcome: Outcome<Named<Want>, Named<Decision<List<i64>>>, DataArrayMessage>,
 ) -> Result<ArrayOutcome, NoMemory>
@@ -319,7 +319,7 @@ fn slice_called(
     }
 }
 
-fn staged_slice_called(
+fn staged_slice_call(
     alloc: Global,
     outcome: Outcome<Named<Want>, Named<Decision<Region>>, DataArrayMessage>,
 ) -> Result<ArrayOutcome, NoMemory>
@@ -346,7 +346,7 @@ fn unstaged_slice_outcome(
     // The first half makes no part, so any limit works.
     let reply = SlicesReply { limit: 0 };
     let outcome = request_outcome(alloc, &Slices { stage }, &reply, &mut (), asked)?;
-    slice_called(alloc, outcome)
+    slice_call(alloc, outcome)
 }
 
 fn staged_slice_outcome(
@@ -359,7 +359,7 @@ fn staged_slice_outcome(
     // The first half makes no part, so any limit works.
     let reply = StagedSlicesReply { limit: 0 };
     let outcome = request_outcome(alloc, &StagedSlices { stage }, &reply, &mut (), asked)?;
-    staged_slice_called(alloc, outcome)
+    staged_slice_call(alloc, outcome)
 }
 
 /// What comes of a GetDataSubarrays whose keys are within the limits.

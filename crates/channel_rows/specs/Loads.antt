@@ -51,12 +51,12 @@ leaves opens outcome = record { opens = opens; outcome = outcome }
 abbrev pub open_response : List (List ℕ × OpenChannelInfo) → ChannelDataLoadMessage
 open_response channels = message.OpenChannelsResponse (record { channels = channels })
 
-abbrev pub open_called : Outcome (List (List ℕ × StoreUri)) (List (List ℕ × Decision (Unit {0}))) ChannelDataLoadMessage → LoadOutcome
-open_called (Replies sendings) = Replies sendings
-open_called (Calls uris kept) = Calls (call.Meta uris) (pending.Open kept)
+abbrev pub open_call : Outcome (List (List ℕ × StoreUri)) (List (List ℕ × Decision (Unit {0}))) ChannelDataLoadMessage → LoadOutcome
+open_call (Replies sendings) = Replies sendings
+open_call (Calls uris kept) = Calls (call.Meta uris) (pending.Open kept)
 
 abbrev pub open_outcome : List (List ℕ × List ℕ) → LoadOutcome
-open_outcome uris = open_called (plain_outcome object_uri open_response uris)
+open_outcome uris = open_call (plain_outcome object_uri open_response uris)
 
 -- of an open channel new points are wanted first, and data changes are accepted
 abbrev pub open_info : ChannelMetadataRecord → OpenChannelInfo
@@ -99,13 +99,13 @@ load_called (Granted (p ∷ ps)) = Calls (call.Append (p ∷ ps)) pending.Load
 
 -- ---- ReplaceRange: its channels, its ends and its items are tested in this order
 
-abbrev pub replace_called : ℤ → List ℤ → ℤ × ℤ → Decision (List ChannelPoint) → LoadOutcome
-replace_called at channels ends (Refused code) = Replies (refusal_alone code)
-replace_called at channels ends (Granted ps) = Calls (call.Replace channels ends.0 ends.1 ps) (pending.Replace at)
+abbrev pub replace_call : ℤ → List ℤ → ℤ × ℤ → Decision (List ChannelPoint) → LoadOutcome
+replace_call at channels ends (Refused code) = Replies (refusal_alone code)
+replace_call at channels ends (Granted ps) = Calls (call.Replace channels ends.0 ends.1 ps) (pending.Replace at)
 
 abbrev pub replace_within : List Bool → ℤ → ReplaceRange → Option (ℤ × ℤ) → LoadOutcome
 replace_within opens at m None = Replies (refusal_alone InvalidIndexKind)
-replace_within opens at m (Some ends) = replace_called at m.channel_ids ends (loaded opens None m.payload)
+replace_within opens at m (Some ends) = replace_call at m.channel_ids ends (loaded opens None m.payload)
 
 abbrev pub replace_outcome : List Bool → ℤ → ReplaceRange → LoadOutcome
 replace_outcome opens at m =
@@ -125,12 +125,12 @@ cutting_at channel (Some end) = Granted (record { channel = channel; end = end }
 abbrev pub checked_cutting : List Bool → TruncateInfo → Decision Cutting
 checked_cutting opens x = if is_open opens x.channel_id then cutting_at x.channel_id (long_in x.new_end_index) else Refused NotFound
 
-abbrev pub truncate_called : ℤ → Outcome (List (List ℕ × Cutting)) (List (List ℕ × Decision (Unit {0}))) ChannelDataLoadMessage → LoadOutcome
-truncate_called at (Replies sendings) = Replies sendings
-truncate_called at (Calls items kept) = Calls (call.Truncate items) (pending.Truncate at kept)
+abbrev pub truncate_call : ℤ → Outcome (List (List ℕ × Cutting)) (List (List ℕ × Decision (Unit {0}))) ChannelDataLoadMessage → LoadOutcome
+truncate_call at (Replies sendings) = Replies sendings
+truncate_call at (Calls items kept) = Calls (call.Truncate items) (pending.Truncate at kept)
 
 abbrev pub truncate_outcome : List Bool → ℤ → List (List ℕ × TruncateInfo) → LoadOutcome
-truncate_outcome opens at items = truncate_called at (plain_outcome (checked_cutting opens) truncate_response items)
+truncate_outcome opens at items = truncate_call at (plain_outcome (checked_cutting opens) truncate_response items)
 
 -- what the store decided about a key: the moment, or a refusal
 abbrev pub truncate_verdict : ℤ → Verdict → Decision ℤ

@@ -67,12 +67,12 @@ leaves subs outcome = record { subs = subs; outcome = outcome }
 abbrev pub metadata_response : List (List ℕ × ChannelMetadataRecord) → ChannelSubscribeMessage
 metadata_response metadata = message.GetChannelMetadataResponse (record { metadata = metadata })
 
-abbrev pub metadata_called : Outcome (List (List ℕ × StoreUri)) (List (List ℕ × Decision (Unit {0}))) ChannelSubscribeMessage → SubscribeOutcome
-metadata_called (Replies sendings) = Replies sendings
-metadata_called (Calls uris kept) = Calls (call.Meta uris) (pending.Metadata kept)
+abbrev pub metadata_call : Outcome (List (List ℕ × StoreUri)) (List (List ℕ × Decision (Unit {0}))) ChannelSubscribeMessage → SubscribeOutcome
+metadata_call (Replies sendings) = Replies sendings
+metadata_call (Calls uris kept) = Calls (call.Meta uris) (pending.Metadata kept)
 
 abbrev pub metadata_outcome : List (List ℕ × List ℕ) → SubscribeOutcome
-metadata_outcome uris = metadata_called (plain_outcome object_uri metadata_response uris)
+metadata_outcome uris = metadata_call (plain_outcome object_uri metadata_response uris)
 
 abbrev pub metadata_found : List ChannelDef → List ℕ × MetaReply → Decision ChannelMetadataRecord
 metadata_found defs found = metadata_by defs found.1
@@ -119,12 +119,12 @@ none_named = record { named = []; going = 0 }
 abbrev pub subscribe_response : List (List ℕ × List ℕ) → ChannelSubscribeMessage
 subscribe_response success = message.SubscribeChannelsResponse (record { success = success })
 
-abbrev pub subscribe_called : Outcome (List (List ℕ × StartAsk)) (List (List ℕ × Decision StartAsk)) ChannelSubscribeMessage → SubscribeOutcome
-subscribe_called (Replies sendings) = Replies sendings
-subscribe_called (Calls items kept) = Calls (call.Subscribe items) (pending.Subscribe kept)
+abbrev pub subscribe_call : Outcome (List (List ℕ × StartAsk)) (List (List ℕ × Decision StartAsk)) ChannelSubscribeMessage → SubscribeOutcome
+subscribe_call (Replies sendings) = Replies sendings
+subscribe_call (Calls items kept) = Calls (call.Subscribe items) (pending.Subscribe kept)
 
 abbrev pub begin_outcome : List Sub → List (List ℕ × ChannelSubscribeInfo) → SubscribeOutcome
-begin_outcome subs items = subscribe_called (request_outcome (λ a. a) (λ a. a) subscribe_response (checked (subscribe_one subs) none_named items))
+begin_outcome subs items = subscribe_call (request_outcome (λ a. a) (λ a. a) subscribe_response (checked (subscribe_one subs) none_named items))
 
 -- the points that a subscription starts with, if there are any
 abbrev pub first_notices : ℤ → List Point → List ChannelSubscribeMessage

@@ -5,7 +5,7 @@ ghost use Rattle.keyed_requests.specs.Keys.{keys_refusal};
 ghost use Rattle.keyed_requests.specs.Plain.{nothing};
 ghost use Rattle.keyed_requests.specs.Sending.{unless_refused};
 ghost use Rattle.keyed_requests.specs.Uris.{object_uri};
-ghost use Rattle.channel_rows.specs.Loads.{close_one, close_outcome, close_response, open_called, open_one, open_outcome, open_response, opened_as, unless_leaving};
+ghost use Rattle.channel_rows.specs.Loads.{close_one, close_outcome, close_response, open_call, open_one, open_outcome, open_response, opened_as, unless_leaving};
 
 use crate::loads::{LoadOutcome, LoadPending};
 use crate::metadata::metadata_by;
@@ -115,10 +115,10 @@ fn opened_as(
     }
 }
 
-fn open_called(
+fn open_call(
     outcome: Outcome<Named<StoreUri>, Named<Decision<()>>, ChannelDataLoadMessage>,
 ) -> LoadOutcome
-    ensures { result ≡ open_called outcome }
+    ensures { result ≡ open_call outcome }
 {
     match outcome {
         Outcome::Replies(sendings) => Outcome::Replies(sendings),
@@ -153,7 +153,7 @@ fn open_outcome(
 {
     let reply = OpenChannelsReply { defs };
     let outcome = request_outcome(alloc, &Plain(OpenChannels), &reply, &mut (), uris)?;
-    Ok(open_called(outcome))
+    Ok(open_call(outcome))
 }
 
 /// The reply to an OpenChannels, by what the store knows.

@@ -1,6 +1,6 @@
 //! ReplaceRange.
 ghost use Rattle.std.specs.Prelude.{◌≡◌, IfOk};
-ghost use Rattle.channel_rows.specs.Loads.{replace_called, replace_outcome};
+ghost use Rattle.channel_rows.specs.Loads.{replace_call, replace_outcome};
 
 use crate::items::{ends_of, loaded};
 use crate::loads::{LoadOutcome, LoadPending};
@@ -11,14 +11,14 @@ use msg_channel::ReplaceRange;
 use std::alloc::Global;
 use store_machine::StoreCall;
 
-fn replace_called(
+fn replace_call(
     alloc: Global,
     moment: i64,
     channels: List<i64>,
     ends: (i64, i64),
     points: Decision<List<ChannelPoint>>,
 ) -> Result<LoadOutcome, NoMemory>
-    ensures { IfOk result (λ o. o ≡ replace_called moment channels ends points) }
+    ensures { IfOk result (λ o. o ≡ replace_call moment channels ends points) }
 {
     match points {
         Decision::Granted(points) => Ok(Outcome::Calls {
@@ -58,5 +58,5 @@ pub(crate) fn replace_outcome(
         ..
     } = message;
     let points = loaded(alloc, opens, payload)?;
-    replace_called(alloc, moment, channel_ids, ends, points)
+    replace_call(alloc, moment, channel_ids, ends, points)
 }

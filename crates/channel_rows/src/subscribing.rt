@@ -6,7 +6,7 @@ ghost use Rattle.keyed_requests.specs.Keyed.{finished, finished_state, request_r
 ghost use Rattle.keyed_requests.specs.Keys.{keys_refusal};
 ghost use Rattle.keyed_requests.specs.Sending.{unless_refused};
 ghost use Rattle.subscribe_core.specs.Subscriptions.{has_sub};
-ghost use Rattle.channel_rows.specs.Subscriptions.{begin_one, beginning, begins, first_notices, is_full, is_taken, names, start_at, subscribe_called, subscribe_one, begin_outcome, subscribe_response, subscribe_with};
+ghost use Rattle.channel_rows.specs.Subscriptions.{begin_one, beginning, begins, first_notices, is_full, is_taken, names, start_at, subscribe_call, subscribe_one, begin_outcome, subscribe_response, subscribe_with};
 ghost use Rattle.keyed_requests.specs.declared.sending.Sending.TheVariants.{Notice};
 
 use crate::notices::append_notice;
@@ -279,10 +279,10 @@ fn begins(
     }
 }
 
-fn subscribe_called(
+fn subscribe_call(
     outcome: Outcome<Named<StartAsk>, Named<Decision<StartAsk>>, ChannelSubscribeMessage>,
 ) -> SubscribeOutcome
-    ensures { result ≡ subscribe_called outcome }
+    ensures { result ≡ subscribe_call outcome }
 {
     match outcome {
         Outcome::Replies(sendings) => Outcome::Replies(sendings),
@@ -324,7 +324,7 @@ fn begin_outcome(
     let reply = SubscribeReply { mark: 0 };
     let request = SubscribeChannels { subs };
     let outcome = request_outcome(alloc, &request, &reply, &mut naming, items)?;
-    Ok(subscribe_called(outcome))
+    Ok(subscribe_call(outcome))
 }
 
 /// Notices after a reply.

@@ -4,7 +4,7 @@ ghost use Rattle.keyed_requests.specs.Keys.{keys_refusal};
 ghost use Rattle.keyed_requests.specs.Plain.{plain_reply};
 ghost use Rattle.keyed_requests.specs.Sending.{refusal_alone, unless_refused};
 ghost use Rattle.keyed_requests.specs.Uris.{object_uri};
-ghost use Rattle.channel_rows.specs.Subscriptions.{metadata_called, metadata_found, metadata_outcome, metadata_response, metas_reply, news_call, news_reply, points_reply, started_reply, subscribe_reply, subscribe_outcome};
+ghost use Rattle.channel_rows.specs.Subscriptions.{metadata_call, metadata_found, metadata_outcome, metadata_response, metas_reply, news_call, news_reply, points_reply, started_reply, subscribe_reply, subscribe_outcome};
 
 use crate::items::channel_items;
 use crate::metadata::metadata_by;
@@ -92,10 +92,10 @@ impl<'a> PlainReply for GetChannelMetadataReply<'a> {
     }
 }
 
-fn metadata_called(
+fn metadata_call(
     outcome: Outcome<Named<StoreUri>, Named<Decision<()>>, ChannelSubscribeMessage>,
 ) -> SubscribeOutcome
-    ensures { result ≡ metadata_called outcome }
+    ensures { result ≡ metadata_call outcome }
 {
     match outcome {
         Outcome::Replies(sendings) => Outcome::Replies(sendings),
@@ -131,7 +131,7 @@ fn metadata_outcome(
     let request = Plain(GetChannelMetadata);
     let reply = Plain(GetChannelMetadataReply { defs });
     let outcome = request_outcome(alloc, &request, &reply, &mut (), uris)?;
-    Ok(metadata_called(outcome))
+    Ok(metadata_call(outcome))
 }
 
 /// What comes of a message of the ChannelSubscribe protocol, in a session with these subscriptions, of a server whose channels are

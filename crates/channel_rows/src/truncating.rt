@@ -3,7 +3,7 @@ ghost use Rattle.std.specs.Prelude.{◌≡◌, IfOk};
 ghost use Rattle.keyed_requests.specs.Keys.{keys_refusal};
 ghost use Rattle.keyed_requests.specs.Plain.{plain_reply};
 ghost use Rattle.keyed_requests.specs.Sending.{unless_refused};
-ghost use Rattle.channel_rows.specs.Loads.{checked_cutting, truncate_called, truncate_decided, truncate_outcome, truncate_response};
+ghost use Rattle.channel_rows.specs.Loads.{checked_cutting, truncate_call, truncate_decided, truncate_outcome, truncate_response};
 
 use crate::items::long_in;
 use crate::loads::{LoadOutcome, LoadPending};
@@ -77,11 +77,11 @@ impl PlainReply for TruncateReply {
     }
 }
 
-fn truncate_called(
+fn truncate_call(
     moment: i64,
     outcome: Outcome<Named<Cutting>, Named<Decision<()>>, ChannelDataLoadMessage>,
 ) -> LoadOutcome
-    ensures { result ≡ truncate_called moment outcome }
+    ensures { result ≡ truncate_call moment outcome }
 {
     match outcome {
         Outcome::Replies(sendings) => Outcome::Replies(sendings),
@@ -123,7 +123,7 @@ fn truncate_outcome(
     let request = Plain(TruncateChannels { opens });
     let reply = Plain(TruncateReply { moment });
     let outcome = request_outcome(alloc, &request, &reply, &mut (), items)?;
-    Ok(truncate_called(moment, outcome))
+    Ok(truncate_call(moment, outcome))
 }
 
 /// The reply to a TruncateChannels, by the store's verdicts.

@@ -65,13 +65,13 @@ abbrev pub moment_in : Message → Option ℤ
 moment_in (message.Core x) = core_moment x
 moment_in _ = None
 
-abbrev pub dataspace_granted : DataspaceMessage → Bool
-dataspace_granted (dataspace.PutDataspacesResponse x) = is_granted x.success
-dataspace_granted _ = false
+abbrev pub is_dataspace_granted : DataspaceMessage → Bool
+is_dataspace_granted (dataspace.PutDataspacesResponse x) = is_granted x.success
+is_dataspace_granted _ = false
 
 -- a message says that the dataspace is put
 abbrev pub grants_space : Message → Bool
-grants_space (message.Dataspace x) = dataspace_granted x
+grants_space (message.Dataspace x) = is_dataspace_granted x
 grants_space _ = false
 
 abbrev pub store_granted : StoreMessage → Bool

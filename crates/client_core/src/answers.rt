@@ -1,6 +1,6 @@
 //! What ends an ask.
 ghost use Rattle.std.specs.Prelude.{◌≡◌, map, option_map, IfOk};
-ghost use Rattle.client_core.specs.Answers.{answer, at_key, channel_in, core_moment, core_session, dataspace_granted, dataspace_spaces, done, grants_object, grants_space, grants_subscription, is_granted, load_channel, load_cut, load_replaced, meta_of, moment_in, object_in, opened_in, points_in, says_cut, says_deleted, says_replaced, session_in, space_of, spaces_in, store_deleted, store_granted, store_object, subscribe_channel, subscribe_granted, subscribe_points};
+ghost use Rattle.client_core.specs.Answers.{answer, at_key, channel_in, core_moment, core_session, dataspace_spaces, done, grants_object, grants_space, grants_subscription, is_dataspace_granted, is_granted, load_channel, load_cut, load_replaced, meta_of, moment_in, object_in, opened_in, points_in, says_cut, says_deleted, says_replaced, session_in, space_of, spaces_in, store_deleted, store_granted, store_object, subscribe_channel, subscribe_granted, subscribe_points};
 ghost use Rattle.client_core.specs.declared.got.Got.TheVariants as got;
 ghost use Rattle.msg_channel.specs.ChannelRecords.{channel_data_kind_place};
 
@@ -120,8 +120,8 @@ fn pong(message: &Message) -> Option<Got>
 
 // ---- what is granted
 
-fn dataspace_granted(message: &DataspaceMessage) -> bool
-    ensures { result ≡ dataspace_granted message.now }
+fn is_dataspace_granted(message: &DataspaceMessage) -> bool
+    ensures { result ≡ is_dataspace_granted message.now }
 {
     match message {
         DataspaceMessage::PutDataspacesResponse(reply) => is_granted(&reply.success),
@@ -133,7 +133,7 @@ fn grants_space(message: &Message) -> bool
     ensures { result ≡ grants_space message.now }
 {
     match message {
-        Message::Dataspace(message) => dataspace_granted(message.get()),
+        Message::Dataspace(message) => is_dataspace_granted(message.get()),
         _ => false,
     }
 }

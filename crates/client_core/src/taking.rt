@@ -209,7 +209,7 @@ impl Hearing {
     }
 
     /// Refuses a message that is not looked at.
-    fn turn_away(&mut self, message: Message, error: ClientError) -> Answer
+    fn refuse_unseen(&mut self, message: Message, error: ClientError) -> Answer
         ensures answer { result ≡ (fails error self.old).result }
         ensures state { self.new ≡ (fails error self.old).state }
     {
@@ -245,7 +245,7 @@ impl Hearing {
         ensures state { OnOk result (self.new ≡ (on_read header.now message self.old).state) }
     {
         if !is_fresh(self.last, header.id) {
-            return Ok(self.turn_away(message, ClientError::Id(header.id)));
+            return Ok(self.refuse_unseen(message, ClientError::Id(header.id)));
         }
         self.last = header.id;
         self.on_message(alloc, header, message)
@@ -268,7 +268,7 @@ impl Hearing {
             return nothing(alloc, message);
         }
         if !may_come(self.phase, &message) {
-            return Ok(self.turn_away(message, ClientError::State));
+            return Ok(self.refuse_unseen(message, ClientError::State));
         }
         self.in_order(alloc, header, message)
     }
@@ -284,7 +284,7 @@ impl Hearing {
         ensures state { OnOk result (self.new ≡ (in_order header.now message self.old).state) }
     {
         if is_broken(&self.kept, header, &message) {
-            return Ok(self.turn_away(message, ClientError::Join(JoinError::Interleaved)));
+            return Ok(self.refuse_unseen(message, ClientError::Join(JoinError::Interleaved)));
         }
         if has_objects(&message) {
             return self.on_objects(alloc, header, message);

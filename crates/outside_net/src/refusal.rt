@@ -82,7 +82,8 @@ impl Refusal {
             Refusal::NoUpgrade => "the request asks for no WebSocket over HTTP/1.1",
             Refusal::Version => "Sec-WebSocket-Version is not 13",
             Refusal::Versions => "Sec-WebSocket-Version is there twice",
-            Refusal::Key => "Sec-WebSocket-Key is missing, there twice, or not the base64 of 16 bytes",
+            Refusal::Key =>
+                "Sec-WebSocket-Key is missing, there twice, or not the base64 of 16 bytes",
             Refusal::NoPlace => "there is no place for a further connection",
             Refusal::Left => "the peer left before its handshake was done",
         }

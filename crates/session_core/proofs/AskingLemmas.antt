@@ -76,13 +76,13 @@ module _ (ts : List Touch) (x : Transaction) where
 
   get_same : (uris : List (List ℕ × List ℕ)) (f : Option Format) → objects.get_outcome (Some (retouched ts x)) uris f ≡ objects.get_outcome (Some x) uris f
   get_same uris None = refl
-  get_same uris (Some f) = ap (λ (N : List ℕ → Decision StoreUri). objects.get_called f (request_outcome (λ u. u) want.Object objects.get_response (checked (λ s uri. (s, N uri)) nothing uris))) named
+  get_same uris (Some f) = ap (λ (N : List ℕ → Decision StoreUri). objects.get_call f (request_outcome (λ u. u) want.Object objects.get_response (checked (λ s uri. (s, N uri)) nothing uris))) named
 
   put_same : (formats : List Format) (types : Option (List (List ℕ))) (at : ℤ) (xs : List (List ℕ × DataObject)) → objects.put_outcome formats types (Some (retouched ts x)) at xs ≡ objects.put_outcome formats types (Some x) at xs
-  put_same formats types at xs = ap (λ (N : List ℕ → Decision StoreUri). objects.staged_put_called at (request_outcome (λ r. r) objects.put_wants objects.put_response (checked (λ s o. (s, put_at formats types o (N o.resource.uri))) nothing xs))) named
+  put_same formats types at xs = ap (λ (N : List ℕ → Decision StoreUri). objects.staged_put_call at (request_outcome (λ r. r) objects.put_wants objects.put_response (checked (λ s o. (s, put_at formats types o (N o.resource.uri))) nothing xs))) named
 
   delete_same : (at : ℤ) (uris : List (List ℕ × List ℕ)) → objects.delete_outcome (Some (retouched ts x)) at uris ≡ objects.delete_outcome (Some x) at uris
-  delete_same at uris = ap (λ (N : List ℕ → Decision StoreUri). objects.staged_delete_called at (request_outcome (λ u. u) want.Known objects.delete_response (checked (λ s uri. (s, N uri)) nothing uris))) named
+  delete_same at uris = ap (λ (N : List ℕ → Decision StoreUri). objects.staged_delete_call at (request_outcome (λ u. u) want.Known objects.delete_response (checked (λ s uri. (s, N uri)) nothing uris))) named
 
   pub objects_same : (formats : List Format) (types : Option (List (List ℕ))) (at : ℤ) (m : StoreMessage) → objects.object_outcome formats types (Some (retouched ts x)) at m ≡ objects.object_outcome formats types (Some x) at m
   objects_same formats types at (object.GetDataObjects m) = ap (λ (o : objects.ObjectOutcome). unless_refused (keys_refusal m.uris) o) (get_same m.uris (session_format formats m.format))
@@ -190,7 +190,7 @@ module _ (x : Transaction) where
   array_has id = array_at_has id.path_in_resource (object_uri id.uri)
 
   -- ---- objects
-  got : (f : Format) (items : List (List ℕ × Decision StoreUri)) (ws : List (List ℕ × Want)) → AllByRecursion (λ y. InSpaces y.1) ws → OnCalls (objects.get_called f (called objects.get_response items ws))
+  got : (f : Format) (items : List (List ℕ × Decision StoreUri)) (ws : List (List ℕ × Want)) → AllByRecursion (λ y. InSpaces y.1) ws → OnCalls (objects.get_call f (called objects.get_response items ws))
   got f items [] all = tt
   got f items (w ∷ ws) all = values-all InSpaces (w ∷ ws) all
 
@@ -209,7 +209,7 @@ module _ (x : Transaction) where
   put_at_has formats types o (Refused code) is = tt
   put_at_has formats types o (Granted u) is = if_refused (λ r. Has r.uri.space) _ (put_in_format u o (session_format formats o.format)) (not (is_kept types u)) (in_format_has u o (session_format formats o.format) is)
 
-  put_objects_called : (at : ℤ) (items : List (List ℕ × Decision ObjectRecord)) (ws : List (List ℕ × List Want)) → AllByRecursion (λ y. AllByRecursion InSpaces y.1) ws → OnCalls (objects.staged_put_called at (called objects.put_response items ws))
+  put_objects_called : (at : ℤ) (items : List (List ℕ × Decision ObjectRecord)) (ws : List (List ℕ × List Want)) → AllByRecursion (λ y. AllByRecursion InSpaces y.1) ws → OnCalls (objects.staged_put_call at (called objects.put_response items ws))
   put_objects_called at items [] all = tt
   put_objects_called at items (w ∷ ws) all = joined-all InSpaces (w ∷ ws) all
 
@@ -220,14 +220,14 @@ module _ (x : Transaction) where
       (sent-all objects.put_wants (λ r. Has r.uri.space) (λ ws. AllByRecursion InSpaces ws) (λ r is. (is, (is, tt))) items
       (checked-all (λ s o. (s, checked_object formats types (Some x) o)) (λ r. Has r.uri.space) (λ s o. put_at_has formats types o (named_object (Some x) o.resource.uri) (object_has o.resource.uri)) nothing xs))
 
-  delete_called : (at : ℤ) (items : List (List ℕ × Decision StoreUri)) (ws : List (List ℕ × Want)) → AllByRecursion (λ y. InSpaces y.1) ws → OnCalls (objects.staged_delete_called at (called objects.delete_response items ws))
-  delete_called at items [] all = tt
-  delete_called at items (w ∷ ws) all = values-all InSpaces (w ∷ ws) all
+  delete_call : (at : ℤ) (items : List (List ℕ × Decision StoreUri)) (ws : List (List ℕ × Want)) → AllByRecursion (λ y. InSpaces y.1) ws → OnCalls (objects.staged_delete_call at (called objects.delete_response items ws))
+  delete_call at items [] all = tt
+  delete_call at items (w ∷ ws) all = values-all InSpaces (w ∷ ws) all
 
   delete_objects : (at : ℤ) (uris : List (List ℕ × List ℕ)) → OnCalls (objects.delete_outcome (Some x) at uris)
   delete_objects at uris =
       let items = checked (λ s uri. (s, named_object (Some x) uri)) nothing uris in
-      delete_called at (kept (λ u. u) items) (sent want.Known items)
+      delete_call at (kept (λ u. u) items) (sent want.Known items)
       (sent-all want.Known (λ u. Has u.space) InSpaces (λ u is. is) items (checked-all (λ s uri. (s, named_object (Some x) uri)) (λ u. Has u.space) (λ s uri. object_has uri) nothing uris))
 
   pub objects_look : (formats : List Format) (types : Option (List (List ℕ))) (at : ℤ) (m : StoreMessage) → OnCalls (objects.object_outcome formats types (Some x) at m)

@@ -43,11 +43,11 @@ unless (Some code) o of = tt
 unless None o of = of
 
 -- ---- ChannelDataLoad
-open_channels : (o : Outcome (List (List ℕ × StoreUri)) (List (List ℕ × Decision (Unit {0}))) ChannelDataLoadMessage) → CallsOfChannels (loads.open_called o)
+open_channels : (o : Outcome (List (List ℕ × StoreUri)) (List (List ℕ × Decision (Unit {0}))) ChannelDataLoadMessage) → CallsOfChannels (loads.open_call o)
 open_channels (Replies sendings) = tt
 open_channels (Calls c p) = tt
 
-truncate_channels : (at : ℤ) (o : Outcome (List (List ℕ × Cutting)) (List (List ℕ × Decision (Unit {0}))) ChannelDataLoadMessage) → CallsOfChannels (loads.truncate_called at o)
+truncate_channels : (at : ℤ) (o : Outcome (List (List ℕ × Cutting)) (List (List ℕ × Decision (Unit {0}))) ChannelDataLoadMessage) → CallsOfChannels (loads.truncate_call at o)
 truncate_channels at (Replies sendings) = tt
 truncate_channels at (Calls c p) = tt
 
@@ -56,7 +56,7 @@ load_points (Refused code) = tt
 load_points (Granted []) = tt
 load_points (Granted (p ∷ ps)) = tt
 
-replace_points : (at : ℤ) (channels : List ℤ) (ends : ℤ × ℤ) (d : Decision (List ChannelPoint)) → CallsOfChannels (loads.replace_called at channels ends d)
+replace_points : (at : ℤ) (channels : List ℤ) (ends : ℤ × ℤ) (d : Decision (List ChannelPoint)) → CallsOfChannels (loads.replace_call at channels ends d)
 replace_points at channels ends (Refused code) = tt
 replace_points at channels ends (Granted ps) = tt
 
@@ -98,11 +98,11 @@ of_load_message opens at (load.ReplaceRangeResponse m) = tt
 of_load_message opens at (load.TruncateChannelsResponse m) = tt
 
 -- ---- ChannelSubscribe
-channel_metadata : (o : Outcome (List (List ℕ × StoreUri)) (List (List ℕ × Decision (Unit {0}))) ChannelSubscribeMessage) → CallsOfChannels (subscribes.metadata_called o)
+channel_metadata : (o : Outcome (List (List ℕ × StoreUri)) (List (List ℕ × Decision (Unit {0}))) ChannelSubscribeMessage) → CallsOfChannels (subscribes.metadata_call o)
 channel_metadata (Replies sendings) = tt
 channel_metadata (Calls c p) = tt
 
-subscribe_channels : (o : Outcome (List (List ℕ × StartAsk)) (List (List ℕ × Decision StartAsk)) ChannelSubscribeMessage) → CallsOfChannels (subscribes.subscribe_called o)
+subscribe_channels : (o : Outcome (List (List ℕ × StartAsk)) (List (List ℕ × Decision StartAsk)) ChannelSubscribeMessage) → CallsOfChannels (subscribes.subscribe_call o)
 subscribe_channels (Replies sendings) = tt
 subscribe_channels (Calls c p) = tt
 

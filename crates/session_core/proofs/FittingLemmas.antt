@@ -74,7 +74,7 @@ use Rattle.msg_store.specs.declared.store_messages.StoreMessage.{StoreMessage}
 use Rattle.msg_store.specs.declared.store_messages.StoreMessage.TheVariants as object
 use Rattle.object_store.specs.declared.records.ObjectRecord.{ObjectRecord}
 use Rattle.request_scope.specs.Scope.{is_read_only}
-use Rattle.session_rows.specs.Dataspaces.{DataspaceOutcome, change_refusal, changeable_path, checked_put, dataspace_outcome, delete_called, delete_response, put_called, put_response}
+use Rattle.session_rows.specs.Dataspaces.{DataspaceOutcome, change_refusal, changeable_path, checked_put, dataspace_outcome, delete_call, delete_response, put_call, put_response}
 use Rattle.session_rows.specs.ObjectChecks.{checked_object, named_object, session_format}
 use Rattle.session_rows.specs.Objects as objects
 use Rattle.session_rows.specs.Opening.{opening_of}
@@ -210,11 +210,11 @@ module _ (config : Config) (h : List Entry) where
   delete_or_full true items paths same = names-verdicts DropSpace (changes_of h) paths ∙ same
   delete_or_full false items paths same = tt
 
-  put : (items : List (List ℕ × Decision (Unit {0}))) (puts : List (List ℕ × SpacePut)) → keys_of puts ≡ keys_of (granted items) → DataspacesFit (put_called (called put_response items puts))
+  put : (items : List (List ℕ × Decision (Unit {0}))) (puts : List (List ℕ × SpacePut)) → keys_of puts ≡ keys_of (granted items) → DataspacesFit (put_call (called put_response items puts))
   put items [] same = tt
   put items (x ∷ xs) same = put_or_full (has_room config h (wanted config h (call.PutSpaces (x ∷ xs)))) items (x ∷ xs) same
 
-  delete : (items : List (List ℕ × Decision (Unit {0}))) (paths : List (List ℕ × List ℕ)) → keys_of paths ≡ keys_of (granted items) → DataspacesFit (delete_called (called delete_response items paths))
+  delete : (items : List (List ℕ × Decision (Unit {0}))) (paths : List (List ℕ × List ℕ)) → keys_of paths ≡ keys_of (granted items) → DataspacesFit (delete_call (called delete_response items paths))
   delete items [] same = tt
   delete items (x ∷ xs) same = delete_or_full (has_room config h (wanted config h (call.DropSpaces (x ∷ xs)))) items (x ∷ xs) same
 
@@ -222,11 +222,11 @@ module _ (config : Config) (h : List Entry) where
   dataspaces (space.GetDataspaces x) b = tt
   dataspaces (space.PutDataspaces x) b =
       let items = checked (λ s d. (s, checked_put d)) nothing x.dataspaces in
-      unless_spaces (change_refusal b x.dataspaces) (put_called (plain_outcome checked_put put_response x.dataspaces))
+      unless_spaces (change_refusal b x.dataspaces) (put_call (plain_outcome checked_put put_response x.dataspaces))
       (put (kept (λ put. nothing) items) (sent (λ put. put) items) (keys-sent (λ put. nothing) (λ put. put) items))
   dataspaces (space.DeleteDataspaces x) b =
       let items = checked (λ s uri. (s, changeable_path uri)) nothing x.uris in
-      unless_spaces (change_refusal b x.uris) (delete_called (plain_outcome changeable_path delete_response x.uris))
+      unless_spaces (change_refusal b x.uris) (delete_call (plain_outcome changeable_path delete_response x.uris))
       (delete (kept (λ path. nothing) items) (sent (λ path. path) items) (keys-sent (λ path. nothing) (λ path. path) items))
   dataspaces (space.GetDataspacesResponse x) b = tt
   dataspaces (space.PutDataspacesResponse x) b = tt
@@ -252,7 +252,7 @@ module _ (config : Config) (h : List Entry) where
   unless_objects (Some code) o fits = tt
   unless_objects None o fits = fits
 
-  got : (f : Format) (items : List (List ℕ × Decision StoreUri)) (wants : List (List ℕ × Want)) → length wants ≡ length (granted items) → ObjectsFit (objects.get_called f (called objects.get_response items wants))
+  got : (f : Format) (items : List (List ℕ × Decision StoreUri)) (wants : List (List ℕ × Want)) → length wants ≡ length (granted items) → ObjectsFit (objects.get_call f (called objects.get_response items wants))
   got f items [] same = tt
   got f items (x ∷ xs) same = looks-length h (values_of (x ∷ xs)) ∙ values-length (x ∷ xs) ∙ same
 
@@ -262,11 +262,11 @@ module _ (config : Config) (h : List Entry) where
       let items = checked (λ s uri. (s, named_object stage uri)) nothing uris in
       got f (kept (λ u. u) items) (sent want.Object items) (sent-length (λ u. u) want.Object items)
 
-  put_called_fits : (items : List (List ℕ × Decision (Unit {0}))) (ops : List (List ℕ × Op)) → keys_of ops ≡ keys_of (granted items) → ObjectsFit (objects.put_called (called objects.put_response items ops))
+  put_called_fits : (items : List (List ℕ × Decision (Unit {0}))) (ops : List (List ℕ × Op)) → keys_of ops ≡ keys_of (granted items) → ObjectsFit (objects.put_call (called objects.put_response items ops))
   put_called_fits items [] same = tt
   put_called_fits items (x ∷ xs) same = ops_or_full (has_room config h (wanted config h (call.Put (x ∷ xs)))) items (x ∷ xs) same
 
-  staged_put_fits : (at : ℤ) (items : List (List ℕ × Decision ObjectRecord)) (wants : List (List ℕ × List Want)) → length (flat_map (λ x. x.1) wants) ≡ 2 * length (granted items) → ObjectsFit (objects.staged_put_called at (called objects.put_response items wants))
+  staged_put_fits : (at : ℤ) (items : List (List ℕ × Decision ObjectRecord)) (wants : List (List ℕ × List Want)) → length (flat_map (λ x. x.1) wants) ≡ 2 * length (granted items) → ObjectsFit (objects.staged_put_call at (called objects.put_response items wants))
   staged_put_fits at items [] same = tt
   staged_put_fits at items (x ∷ xs) same = looks-length h (flat_map (λ x. x.1) (x ∷ xs)) ∙ same
 
@@ -278,11 +278,11 @@ module _ (config : Config) (h : List Entry) where
       let items = checked (λ s o. (s, checked_object formats types (Some x) o)) nothing xs in
       staged_put_fits at (kept (λ r. r) items) (sent objects.put_wants items) (joined-length (λ r. want.Space r.uri.space) (λ r. want.Known r.uri) items)
 
-  delete_called_fits : (items : List (List ℕ × Decision StoreUri)) (ops : List (List ℕ × Op)) → keys_of ops ≡ keys_of (granted items) → ObjectsFit (objects.delete_called (called objects.delete_response items ops))
+  delete_called_fits : (items : List (List ℕ × Decision StoreUri)) (ops : List (List ℕ × Op)) → keys_of ops ≡ keys_of (granted items) → ObjectsFit (objects.delete_call (called objects.delete_response items ops))
   delete_called_fits items [] same = tt
   delete_called_fits items (x ∷ xs) same = ops_or_full (has_room config h (wanted config h (call.Put (x ∷ xs)))) items (x ∷ xs) same
 
-  staged_delete_fits : (at : ℤ) (items : List (List ℕ × Decision StoreUri)) (wants : List (List ℕ × Want)) → length wants ≡ length (granted items) → ObjectsFit (objects.staged_delete_called at (called objects.delete_response items wants))
+  staged_delete_fits : (at : ℤ) (items : List (List ℕ × Decision StoreUri)) (wants : List (List ℕ × Want)) → length wants ≡ length (granted items) → ObjectsFit (objects.staged_delete_call at (called objects.delete_response items wants))
   staged_delete_fits at items [] same = tt
   staged_delete_fits at items (x ∷ xs) same = looks-length h (values_of (x ∷ xs)) ∙ values-length (x ∷ xs) ∙ same
 
@@ -336,7 +336,7 @@ module _ (config : Config) (h : List Entry) where
   staged_patches_got at items [] same = tt
   staged_patches_got at items (x ∷ xs) same = looks-length h (values_of (x ∷ xs)) ∙ values-length (x ∷ xs) ∙ same
 
-  ops_called_fits : (what : ArrayChange) (items : List (List ℕ × Decision (Unit {0}))) (ops : List (List ℕ × Op)) → keys_of ops ≡ keys_of (granted items) → ArraysFit (arrays.ops_called what (called (change_response what) items ops))
+  ops_called_fits : (what : ArrayChange) (items : List (List ℕ × Decision (Unit {0}))) (ops : List (List ℕ × Op)) → keys_of ops ≡ keys_of (granted items) → ArraysFit (arrays.ops_call what (called (change_response what) items ops))
   ops_called_fits what items [] same = tt
   ops_called_fits what items (x ∷ xs) same = ops_or_full (has_room config h (wanted config h (call.Put (x ∷ xs)))) items (x ∷ xs) same
 
@@ -456,7 +456,7 @@ module _ (config : Config) (h : List Entry) where
   unless_loads (Some code) o fits = tt
   unless_loads None o fits = fits
 
-  open_fits : (items : List (List ℕ × Decision (Unit {0}))) (uris : List (List ℕ × StoreUri)) → keys_of uris ≡ keys_of (granted items) → LoadsFit (loads.open_called (called loads.open_response items uris))
+  open_fits : (items : List (List ℕ × Decision (Unit {0}))) (uris : List (List ℕ × StoreUri)) → keys_of uris ≡ keys_of (granted items) → LoadsFit (loads.open_call (called loads.open_response items uris))
   open_fits items [] same = tt
   open_fits items (x ∷ xs) same = names-metas (channels_of config h) (x ∷ xs) ∙ same
 
@@ -465,7 +465,7 @@ module _ (config : Config) (h : List Entry) where
   cut_or_full true at items cuts same = names-cuts (channels_of config h) [] cuts ∙ same
   cut_or_full false at items cuts same = tt
 
-  truncate_fits : (at : ℤ) (items : List (List ℕ × Decision (Unit {0}))) (cuts : List (List ℕ × Cutting)) → keys_of cuts ≡ keys_of (granted items) → LoadsFit (loads.truncate_called at (called loads.truncate_response items cuts))
+  truncate_fits : (at : ℤ) (items : List (List ℕ × Decision (Unit {0}))) (cuts : List (List ℕ × Cutting)) → keys_of cuts ≡ keys_of (granted items) → LoadsFit (loads.truncate_call at (called loads.truncate_response items cuts))
   truncate_fits at items [] same = tt
   truncate_fits at items (x ∷ xs) same = cut_or_full (has_room config h (wanted config h (call.Truncate (x ∷ xs)))) at items (x ∷ xs) same
 
@@ -479,7 +479,7 @@ module _ (config : Config) (h : List Entry) where
   append_fits (Granted []) = tt
   append_fits (Granted (p ∷ ps)) = points_or_full (has_room config h (wanted config h (call.Append (p ∷ ps)))) (option_map code_of (append_refusal (channels_of config h) (p ∷ ps)))
 
-  replace_called_fits : (at : ℤ) (channels : List ℤ) (ends : ℤ × ℤ) (d : Decision (List ChannelPoint)) → LoadsFit (loads.replace_called at channels ends d)
+  replace_called_fits : (at : ℤ) (channels : List ℤ) (ends : ℤ × ℤ) (d : Decision (List ChannelPoint)) → LoadsFit (loads.replace_call at channels ends d)
   replace_called_fits at channels ends (Refused code) = tt
   replace_called_fits at channels ends (Granted ps) =
       points_or_full (has_room config h (wanted config h (call.Replace channels ends.0 ends.1 ps))) (option_map code_of (replace_refusal (channels_of config h) channels ends.0 ends.1 ps))
@@ -527,11 +527,11 @@ module _ (config : Config) (h : List Entry) where
   unless_subscriptions (Some code) o fits = tt
   unless_subscriptions None o fits = fits
 
-  metadata_fits : (items : List (List ℕ × Decision (Unit {0}))) (uris : List (List ℕ × StoreUri)) → keys_of uris ≡ keys_of (granted items) → SubscriptionsFit (subscribes.metadata_called (called subscribes.metadata_response items uris))
+  metadata_fits : (items : List (List ℕ × Decision (Unit {0}))) (uris : List (List ℕ × StoreUri)) → keys_of uris ≡ keys_of (granted items) → SubscriptionsFit (subscribes.metadata_call (called subscribes.metadata_response items uris))
   metadata_fits items [] same = tt
   metadata_fits items (x ∷ xs) same = names-metas (channels_of config h) (x ∷ xs) ∙ same
 
-  subscribe_fits : (items : List (List ℕ × Decision StartAsk)) (asks : List (List ℕ × StartAsk)) → keys_of asks ≡ keys_of (granted items) → SubscriptionsFit (subscribes.subscribe_called (called subscribes.subscribe_response items asks))
+  subscribe_fits : (items : List (List ℕ × Decision StartAsk)) (asks : List (List ℕ × StartAsk)) → keys_of asks ≡ keys_of (granted items) → SubscriptionsFit (subscribes.subscribe_call (called subscribes.subscribe_response items asks))
   unfolding starts_after
   subscribe_fits items [] same = tt
   subscribe_fits items (x ∷ xs) same = keys-started (channels_of config h) whole_room (x ∷ xs) ∙ same

@@ -83,24 +83,24 @@ module _ (h : List Entry) where
   unless None o asks = asks
 
   -- ---- Dataspace
-  put_spaces : (o : Outcome (List (List ℕ × SpacePut)) (List (List ℕ × Decision (Unit {0}))) DataspaceMessage) → CallsAsk (rows.put_called o)
+  put_spaces : (o : Outcome (List (List ℕ × SpacePut)) (List (List ℕ × Decision (Unit {0}))) DataspaceMessage) → CallsAsk (rows.put_call o)
   put_spaces (Replies sendings) = tt
   put_spaces (Calls c p) = tt
 
-  delete_spaces : (o : Outcome (List (List ℕ × List ℕ)) (List (List ℕ × Decision (Unit {0}))) DataspaceMessage) → CallsAsk (rows.delete_called o)
+  delete_spaces : (o : Outcome (List (List ℕ × List ℕ)) (List (List ℕ × Decision (Unit {0}))) DataspaceMessage) → CallsAsk (rows.delete_call o)
   delete_spaces (Replies sendings) = tt
   delete_spaces (Calls c p) = tt
 
   dataspaces : (m : DataspaceMessage) (in_transaction : Bool) → CallsAsk (rows.dataspace_outcome m in_transaction)
   dataspaces (space.GetDataspaces x) b = tt
-  dataspaces (space.PutDataspaces x) b = unless (rows.change_refusal b x.dataspaces) (rows.put_called (plain_outcome rows.checked_put rows.put_response x.dataspaces)) (put_spaces (plain_outcome rows.checked_put rows.put_response x.dataspaces))
-  dataspaces (space.DeleteDataspaces x) b = unless (rows.change_refusal b x.uris) (rows.delete_called (plain_outcome rows.changeable_path rows.delete_response x.uris)) (delete_spaces (plain_outcome rows.changeable_path rows.delete_response x.uris))
+  dataspaces (space.PutDataspaces x) b = unless (rows.change_refusal b x.dataspaces) (rows.put_call (plain_outcome rows.checked_put rows.put_response x.dataspaces)) (put_spaces (plain_outcome rows.checked_put rows.put_response x.dataspaces))
+  dataspaces (space.DeleteDataspaces x) b = unless (rows.change_refusal b x.uris) (rows.delete_call (plain_outcome rows.changeable_path rows.delete_response x.uris)) (delete_spaces (plain_outcome rows.changeable_path rows.delete_response x.uris))
   dataspaces (space.GetDataspacesResponse x) b = tt
   dataspaces (space.PutDataspacesResponse x) b = tt
   dataspaces (space.DeleteDataspacesResponse x) b = tt
 
   -- ---- Store
-  got : (f : Format) (o : Outcome (List (List ℕ × Want)) (List (List ℕ × Decision StoreUri)) StoreMessage) → CallsAsk (objects.get_called f o)
+  got : (f : Format) (o : Outcome (List (List ℕ × Want)) (List (List ℕ × Decision StoreUri)) StoreMessage) → CallsAsk (objects.get_call f o)
   got f (Replies sendings) = tt
   got f (Calls c p) = tt
 
@@ -108,29 +108,29 @@ module _ (h : List Entry) where
   get_objects stage uris None = tt
   get_objects stage uris (Some f) = got f _
 
-  put_objects_called : (o : Outcome (List (List ℕ × Op)) (List (List ℕ × Decision (Unit {0}))) StoreMessage) → CallsAsk (objects.put_called o)
+  put_objects_called : (o : Outcome (List (List ℕ × Op)) (List (List ℕ × Decision (Unit {0}))) StoreMessage) → CallsAsk (objects.put_call o)
   put_objects_called (Replies sendings) = tt
   put_objects_called (Calls c p) = tt
 
-  staged_put_called : (at : ℤ) (o : Outcome (List (List ℕ × List Want)) (List (List ℕ × Decision ObjectRecord)) StoreMessage) → CallsAsk (objects.staged_put_called at o)
-  staged_put_called at (Replies sendings) = tt
-  staged_put_called at (Calls c p) = tt
+  staged_put_call : (at : ℤ) (o : Outcome (List (List ℕ × List Want)) (List (List ℕ × Decision ObjectRecord)) StoreMessage) → CallsAsk (objects.staged_put_call at o)
+  staged_put_call at (Replies sendings) = tt
+  staged_put_call at (Calls c p) = tt
 
   put_objects : (formats : List Format) (types : Option (List (List ℕ))) (stage : Option Transaction) (at : ℤ) (xs : List (List ℕ × DataObject)) → CallsAsk (objects.put_outcome formats types stage at xs)
   put_objects formats types None at xs = put_objects_called _
-  put_objects formats types (Some x) at xs = staged_put_called at _
+  put_objects formats types (Some x) at xs = staged_put_call at _
 
-  delete_objects_called : (o : Outcome (List (List ℕ × Op)) (List (List ℕ × Decision StoreUri)) StoreMessage) → CallsAsk (objects.delete_called o)
+  delete_objects_called : (o : Outcome (List (List ℕ × Op)) (List (List ℕ × Decision StoreUri)) StoreMessage) → CallsAsk (objects.delete_call o)
   delete_objects_called (Replies sendings) = tt
   delete_objects_called (Calls c p) = tt
 
-  staged_delete_called : (at : ℤ) (o : Outcome (List (List ℕ × Want)) (List (List ℕ × Decision StoreUri)) StoreMessage) → CallsAsk (objects.staged_delete_called at o)
-  staged_delete_called at (Replies sendings) = tt
-  staged_delete_called at (Calls c p) = tt
+  staged_delete_call : (at : ℤ) (o : Outcome (List (List ℕ × Want)) (List (List ℕ × Decision StoreUri)) StoreMessage) → CallsAsk (objects.staged_delete_call at o)
+  staged_delete_call at (Replies sendings) = tt
+  staged_delete_call at (Calls c p) = tt
 
   delete_objects : (stage : Option Transaction) (at : ℤ) (uris : List (List ℕ × List ℕ)) → CallsAsk (objects.delete_outcome stage at uris)
   delete_objects None at uris = delete_objects_called _
-  delete_objects (Some x) at uris = staged_delete_called at _
+  delete_objects (Some x) at uris = staged_delete_call at _
 
   of_object_message : (formats : List Format) (types : Option (List (List ℕ))) (stage : Option Transaction) (at : ℤ) (m : StoreMessage) → CallsAsk (objects.object_outcome formats types stage at m)
   of_object_message formats types stage at (object.GetDataObjects m) = unless _ _ (get_objects stage m.uris (session_format formats m.format))
@@ -150,9 +150,9 @@ module _ (h : List Entry) where
   joined_called keep (Replies sendings) = tt
   joined_called keep (Calls c p) = tt
 
-  ops_called : (what : ArrayChange) (o : Outcome (List (List ℕ × Op)) (List (List ℕ × Decision (Unit {0}))) DataArrayMessage) → CallsAsk (arrays.ops_called what o)
-  ops_called what (Replies sendings) = tt
-  ops_called what (Calls c p) = tt
+  ops_call : (what : ArrayChange) (o : Outcome (List (List ℕ × Op)) (List (List ℕ × Decision (Unit {0}))) DataArrayMessage) → CallsAsk (arrays.ops_call what o)
+  ops_call what (Replies sendings) = tt
+  ops_call what (Calls c p) = tt
 
   slices : (stage : Option Transaction) (xs : List (List ℕ × GetDataSubarraysType)) → CallsAsk (arrays.slice_outcome stage xs)
   slices None xs = looks_called _ _
@@ -163,15 +163,15 @@ module _ (h : List Entry) where
   metadata (Some x) xs = looks_called _ _
 
   put_arrays : (stage : Option Transaction) (at : ℤ) (xs : List (List ℕ × PutDataArraysType)) → CallsAsk (arrays.put_outcome stage at xs)
-  put_arrays None at xs = ops_called _ _
+  put_arrays None at xs = ops_call _ _
   put_arrays (Some x) at xs = joined_called _ _
 
   patch_arrays : (stage : Option Transaction) (at : ℤ) (xs : List (List ℕ × PutDataSubarraysType)) → CallsAsk (arrays.patch_outcome stage at xs)
-  patch_arrays None at xs = ops_called _ _
+  patch_arrays None at xs = ops_call _ _
   patch_arrays (Some x) at xs = looks_called _ _
 
   make_arrays : (stage : Option Transaction) (at : ℤ) (xs : List (List ℕ × PutUninitializedDataArrayType)) → CallsAsk (arrays.make_outcome stage at xs)
-  make_arrays None at xs = ops_called _ _
+  make_arrays None at xs = ops_call _ _
   make_arrays (Some x) at xs = joined_called _ _
 
   get_arrays : (stage : Option Transaction) (ids : List (List ℕ × DataArrayIdentifier)) → CallsAsk (arrays.get_outcome stage ids)

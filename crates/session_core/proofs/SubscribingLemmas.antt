@@ -7,7 +7,7 @@ use Rattle.std.proofs.lemmas.Bool.Decides.{nat_tests}
 use lib.Signed.{mag}
 use Rattle.server_config.specs.declared.config.Config.{Config}
 use Rattle.channel_rows.specs.Notices.{Told, ids_of, news_told, notice, notice_of, reason_of, stop_response}
-use Rattle.channel_rows.specs.Subscriptions.{SubscribeOutcome, asks_of, begin_one, beginning, lag_cause, metadata_called, metadata_outcome, metadata_response, news_call, news_from, none_named, ranges_refusal, replied, started_reply, stop_one, stop_outcome, subscribe_called, subscribe_one, begin_outcome, subscribe_outcome, subscribe_response, unless_leaving}
+use Rattle.channel_rows.specs.Subscriptions.{SubscribeOutcome, asks_of, begin_one, beginning, lag_cause, metadata_call, metadata_outcome, metadata_response, news_call, news_from, none_named, ranges_refusal, replied, started_reply, stop_one, stop_outcome, subscribe_call, subscribe_one, begin_outcome, subscribe_outcome, subscribe_response, unless_leaving}
 use Rattle.channel_rows.specs.declared.subscribing.Beginning.{Beginning}
 use Rattle.channel_rows.specs.declared.subscriptions.SubscribePending.{SubscribePending}
 use Rattle.channel_rows.specs.declared.subscriptions.SubscribePending.TheVariants as keeps_subscription
@@ -197,7 +197,7 @@ module _ (config : Config) (h : List Entry) (last : ℕ) (sent : List Outgoing) 
       (record { config = q.config; subs = t.subs ∙ q.subs; unheard = q.unheard }))
 
   metadata_leads : (r : Request) (items : List (List ℕ × Decision (Unit {0}))) (uris : _) (m : State) → Hushed s m
-      → GoesTo (on_outcome message.ChannelSubscribe pending.Subscriptions r (metadata_called (called metadata_response items uris)) m)
+      → GoesTo (on_outcome message.ChannelSubscribe pending.Subscriptions r (metadata_call (called metadata_response items uris)) m)
   metadata_leads r items [] m q = replies_lead r (unasked metadata_response items) m (quiet_replies metadata_response (λ g. (refl, refl)) [] (refused_keys items)) q
   metadata_leads r items (x ∷ xs) m q = aside_leads r (call.Meta (x ∷ xs)) (keeps_subscription.Metadata items) m tt q
 
@@ -290,7 +290,7 @@ module _ (config : Config) (h : List Entry) (last : ℕ) (sent : List Outgoing) 
           (λ i. (sym mark i, e i))
           (begins_after r m.subs items (record m { pending = None }) p q.subs (record { config = q.config; subs = q.subs; unheard = q.unheard }) le top))
 
-      by : (asks : List (List ℕ × StartAsk)) → sent_keys (λ a. a) (asked_of m.subs items) ≡ asks → GoesTo (on_outcome message.ChannelSubscribe pending.Subscriptions r (subscribe_called (called subscribe_response ds asks)) m)
+      by : (asks : List (List ℕ × StartAsk)) → sent_keys (λ a. a) (asked_of m.subs items) ≡ asks → GoesTo (on_outcome message.ChannelSubscribe pending.Subscriptions r (subscribe_call (called subscribe_response ds asks)) m)
       by [] e = replies_lead r (unasked subscribe_response ds) m (quiet_replies subscribe_response (λ g. (refl, refl)) [] (refused_keys ds)) q
       by (x ∷ xs) e = (record { config = q.config; subs = q.subs; unheard = q.unheard }, λ p le top. at_place p (x ∷ xs) e le top)
 

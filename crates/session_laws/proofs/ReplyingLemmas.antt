@@ -6,7 +6,7 @@ use Rattle.array_rows.specs.Arrays.{ArrayOutcome, ArraysAnswered, array_outcome,
 use Rattle.server_config.specs.declared.config.ChannelDef.{ChannelDef}
 use Rattle.channel_rows.specs.Loads.{LoadOutcome, Loaded, load_outcome, load_reply}
 use Rattle.channel_rows.specs.Notices.{Told, ids_of, news_told, notice, stop_response}
-use Rattle.channel_rows.specs.Subscriptions.{SubscribeOutcome, asks_of, begin_one, beginning, metadata_called, metadata_outcome, metadata_response, news_call, news_from, none_named, ranges_refusal, replied, started_reply, stop_one, stop_outcome, subscribe_called, subscribe_one, begin_outcome, subscribe_outcome, subscribe_response, unless_leaving}
+use Rattle.channel_rows.specs.Subscriptions.{SubscribeOutcome, asks_of, begin_one, beginning, metadata_call, metadata_outcome, metadata_response, news_call, news_from, none_named, ranges_refusal, replied, started_reply, stop_one, stop_outcome, subscribe_call, subscribe_one, begin_outcome, subscribe_outcome, subscribe_response, unless_leaving}
 use Rattle.channel_rows.specs.declared.subscribing.Beginning.{Beginning}
 use Rattle.channel_rows.specs.declared.subscriptions.SubscribePending.TheVariants as keeps_subscription
 use Rattle.channel_store.specs.Points.{view}
@@ -370,7 +370,7 @@ module _ (e : Event) (v : Subbed) (known : Option (List Entry)) where
   ranges_says defs limit r mark (answer.Refused code) m q live = told_aside r (replied defs limit mark m.subs keeps_subscription.Ranges (answer.Refused code)) m q.subs ((refl, refl), tt) q live
   ranges_says defs limit r mark a m q live = told_aside r (replied defs limit mark m.subs keeps_subscription.Ranges a) m q.subs tt q live
 
-  metadata_leads : (r : Request) (items : List (List ℕ × Decision (Unit {0}))) (uris : _) (m : State) → IsQuiet v m → LeadsTo (on_outcome message.ChannelSubscribe pending.Subscriptions r (metadata_called (called metadata_response items uris)) m)
+  metadata_leads : (r : Request) (items : List (List ℕ × Decision (Unit {0}))) (uris : _) (m : State) → IsQuiet v m → LeadsTo (on_outcome message.ChannelSubscribe pending.Subscriptions r (metadata_call (called metadata_response items uris)) m)
   metadata_leads r items [] m q = replies_lead r (unasked metadata_response items) m (aside_replies metadata_response (λ g. refl) [] (refused_keys items)) q
   metadata_leads r items (x ∷ xs) m q = (
     record { subs = q.subs; out = q.out },
@@ -477,7 +477,7 @@ module _ (e : Event) (v : Subbed) (known : Option (List Entry)) where
   begins_lead hd x m read q = by (sent_keys (λ a. a) (asked_of m.subs x)) refl
     where
       by : (asks : List (List ℕ × StartAsk)) → sent_keys (λ a. a) (asked_of m.subs x) ≡ asks
-          → LeadsTo (on_outcome message.ChannelSubscribe pending.Subscriptions (request_of hd) (subscribe_called (called subscribe_response (kept (λ a. a) (asked_of m.subs x)) asks)) m)
+          → LeadsTo (on_outcome message.ChannelSubscribe pending.Subscriptions (request_of hd) (subscribe_call (called subscribe_response (kept (λ a. a) (asked_of m.subs x)) asks)) m)
       by [] f = replies_lead (request_of hd) (unasked subscribe_response (kept (λ a. a) (asked_of m.subs x))) m (unasked_aside (refused_keys (kept (λ a. a) (asked_of m.subs x)))) q
       by (y ∷ ys) f = (
         record { subs = q.subs; out = q.out },

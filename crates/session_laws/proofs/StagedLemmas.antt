@@ -97,7 +97,7 @@ unless None o looks = looks
 
 module _ (x : Transaction) where
   -- ---- Store
-  got : (f : Format) (o : Outcome (List (List ℕ × Want)) (List (List ℕ × Decision StoreUri)) StoreMessage) → OnlyLooks (objects.get_called f o)
+  got : (f : Format) (o : Outcome (List (List ℕ × Want)) (List (List ℕ × Decision StoreUri)) StoreMessage) → OnlyLooks (objects.get_call f o)
   got f (Replies sendings) = tt
   got f (Calls c p) = tt
 
@@ -105,11 +105,11 @@ module _ (x : Transaction) where
   get_objects uris None = tt
   get_objects uris (Some f) = got f _
 
-  put_objects : (at : ℤ) (o : Outcome (List (List ℕ × List Want)) (List (List ℕ × Decision ObjectRecord)) StoreMessage) → OnlyLooks (objects.staged_put_called at o)
+  put_objects : (at : ℤ) (o : Outcome (List (List ℕ × List Want)) (List (List ℕ × Decision ObjectRecord)) StoreMessage) → OnlyLooks (objects.staged_put_call at o)
   put_objects at (Replies sendings) = tt
   put_objects at (Calls c p) = tt
 
-  delete_objects : (at : ℤ) (o : Outcome (List (List ℕ × Want)) (List (List ℕ × Decision StoreUri)) StoreMessage) → OnlyLooks (objects.staged_delete_called at o)
+  delete_objects : (at : ℤ) (o : Outcome (List (List ℕ × Want)) (List (List ℕ × Decision StoreUri)) StoreMessage) → OnlyLooks (objects.staged_delete_call at o)
   delete_objects at (Replies sendings) = tt
   delete_objects at (Calls c p) = tt
 

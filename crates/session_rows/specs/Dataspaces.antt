@@ -95,14 +95,14 @@ abbrev pub DataspaceOutcome : Type 0
 DataspaceOutcome = Outcome StoreCall DataspacePending DataspaceMessage
 
 -- the granted puts make one call
-abbrev pub put_called : Outcome (List (List ℕ × SpacePut)) (List (List ℕ × Decision (Unit {0}))) DataspaceMessage → DataspaceOutcome
-put_called (Replies sendings) = Replies sendings
-put_called (Calls items kept) = Calls (call.PutSpaces items) (pending.Put kept)
+abbrev pub put_call : Outcome (List (List ℕ × SpacePut)) (List (List ℕ × Decision (Unit {0}))) DataspaceMessage → DataspaceOutcome
+put_call (Replies sendings) = Replies sendings
+put_call (Calls items kept) = Calls (call.PutSpaces items) (pending.Put kept)
 
 -- the granted removals make one call
-abbrev pub delete_called : Outcome (List (List ℕ × List ℕ)) (List (List ℕ × Decision (Unit {0}))) DataspaceMessage → DataspaceOutcome
-delete_called (Replies sendings) = Replies sendings
-delete_called (Calls items kept) = Calls (call.DropSpaces items) (pending.Delete kept)
+abbrev pub delete_call : Outcome (List (List ℕ × List ℕ)) (List (List ℕ × Decision (Unit {0}))) DataspaceMessage → DataspaceOutcome
+delete_call (Replies sendings) = Replies sendings
+delete_call (Calls items kept) = Calls (call.DropSpaces items) (pending.Delete kept)
 
 -- a change of dataspaces isn't accepted while a transaction is open
 abbrev pub change_refusal : {A : Type 0} → Bool → List (List ℕ × A) → Option ErrorCode
@@ -112,8 +112,8 @@ change_refusal false items = keys_refusal items
 -- what comes of a message, by whether a transaction is open
 abbrev pub dataspace_outcome : DataspaceMessage → Bool → DataspaceOutcome
 dataspace_outcome (message.GetDataspaces m) in_transaction = Calls (call.Spaces m.store_last_write_filter) pending.Get
-dataspace_outcome (message.PutDataspaces m) in_transaction = unless_refused (change_refusal in_transaction m.dataspaces) (put_called (plain_outcome checked_put put_response m.dataspaces))
-dataspace_outcome (message.DeleteDataspaces m) in_transaction = unless_refused (change_refusal in_transaction m.uris) (delete_called (plain_outcome changeable_path delete_response m.uris))
+dataspace_outcome (message.PutDataspaces m) in_transaction = unless_refused (change_refusal in_transaction m.dataspaces) (put_call (plain_outcome checked_put put_response m.dataspaces))
+dataspace_outcome (message.DeleteDataspaces m) in_transaction = unless_refused (change_refusal in_transaction m.uris) (delete_call (plain_outcome changeable_path delete_response m.uris))
 dataspace_outcome (message.GetDataspacesResponse m) in_transaction = Replies (refusal_alone InvalidMessageType)
 dataspace_outcome (message.PutDataspacesResponse m) in_transaction = Replies (refusal_alone InvalidMessageType)
 dataspace_outcome (message.DeleteDataspacesResponse m) in_transaction = Replies (refusal_alone InvalidMessageType)

@@ -65,14 +65,14 @@ abbrev pub get_response : List (List ℕ × DataObject) → StoreMessage
 get_response objects = message.GetDataObjectsResponse (record { data_objects = objects })
 
 -- the looks make one call
-abbrev pub get_called : Format → Outcome (List (List ℕ × Want)) (List (List ℕ × Decision StoreUri)) StoreMessage → ObjectOutcome
-get_called f (Replies sendings) = Replies sendings
-get_called f (Calls wants kept) = Calls (call.Look (values_of wants)) (pending.Get f kept)
+abbrev pub get_call : Format → Outcome (List (List ℕ × Want)) (List (List ℕ × Decision StoreUri)) StoreMessage → ObjectOutcome
+get_call f (Replies sendings) = Replies sendings
+get_call f (Calls wants kept) = Calls (call.Look (values_of wants)) (pending.Get f kept)
 
 -- objects in a format of the session, if it is one
 abbrev pub get_outcome : Option Transaction → List (List ℕ × List ℕ) → Option Format → ObjectOutcome
 get_outcome stage uris None = Replies (refusal_alone NoSupportedFormats)
-get_outcome stage uris (Some f) = get_called f (request_outcome (λ u. u) want.Object get_response (checked (λ s uri. (s, named_object stage uri)) nothing uris))
+get_outcome stage uris (Some f) = get_call f (request_outcome (λ u. u) want.Object get_response (checked (λ s uri. (s, named_object stage uri)) nothing uris))
 
 -- a status by its place
 abbrev pub status_of : ℕ → ActiveStatusKind
@@ -148,21 +148,21 @@ set_checked at (Refused code) = Refused code
 abbrev pub put_wants : ObjectRecord → List Want
 put_wants r = want.Space r.uri.space ∷ want.Known r.uri ∷ []
 
-abbrev pub put_called : Outcome (List (List ℕ × Op)) (List (List ℕ × Decision (Unit {0}))) StoreMessage → ObjectOutcome
-put_called (Replies sendings) = Replies sendings
-put_called (Calls ops kept) = Calls (call.Put ops) (pending.Put kept)
+abbrev pub put_call : Outcome (List (List ℕ × Op)) (List (List ℕ × Decision (Unit {0}))) StoreMessage → ObjectOutcome
+put_call (Replies sendings) = Replies sendings
+put_call (Calls ops kept) = Calls (call.Put ops) (pending.Put kept)
 
-abbrev pub staged_put_called : ℤ → Outcome (List (List ℕ × List Want)) (List (List ℕ × Decision ObjectRecord)) StoreMessage → ObjectOutcome
-staged_put_called at (Replies sendings) = Replies sendings
-staged_put_called at (Calls wants kept) = Calls (call.Look (flat_map (λ x. x.1) wants)) (pending.StagedPut at kept)
+abbrev pub staged_put_call : ℤ → Outcome (List (List ℕ × List Want)) (List (List ℕ × Decision ObjectRecord)) StoreMessage → ObjectOutcome
+staged_put_call at (Replies sendings) = Replies sendings
+staged_put_call at (Calls wants kept) = Calls (call.Look (flat_map (λ x. x.1) wants)) (pending.StagedPut at kept)
 
 -- outside a transaction the granted objects make one call
 abbrev pub put_outside : List Format → Option (List (List ℕ)) → Option Transaction → ℤ → List (List ℕ × DataObject) → ObjectOutcome
-put_outside formats types stage at objects = put_called (plain_outcome (λ o. set_checked at (checked_object formats types stage o)) put_response objects)
+put_outside formats types stage at objects = put_call (plain_outcome (λ o. set_checked at (checked_object formats types stage o)) put_response objects)
 
 -- inside one they are looked for first
 abbrev pub put_inside : List Format → Option (List (List ℕ)) → Option Transaction → ℤ → List (List ℕ × DataObject) → ObjectOutcome
-put_inside formats types stage at objects = staged_put_called at (request_outcome (λ r. r) put_wants put_response (checked (λ s o. (s, checked_object formats types stage o)) nothing objects))
+put_inside formats types stage at objects = staged_put_call at (request_outcome (λ r. r) put_wants put_response (checked (λ s o. (s, checked_object formats types stage o)) nothing objects))
 
 abbrev pub put_outcome : List Format → Option (List (List ℕ)) → Option Transaction → ℤ → List (List ℕ × DataObject) → ObjectOutcome
 put_outcome formats types None at objects = put_outside formats types None at objects
@@ -203,21 +203,21 @@ remove_object at u = record { key = Object u; what = Gone; at = at }
 abbrev pub removed : StoreUri → ArrayOfString
 removed u = record { values = plain_uri u ∷ [] }
 
-abbrev pub delete_called : Outcome (List (List ℕ × Op)) (List (List ℕ × Decision StoreUri)) StoreMessage → ObjectOutcome
-delete_called (Replies sendings) = Replies sendings
-delete_called (Calls ops kept) = Calls (call.Put ops) (pending.Delete kept)
+abbrev pub delete_call : Outcome (List (List ℕ × Op)) (List (List ℕ × Decision StoreUri)) StoreMessage → ObjectOutcome
+delete_call (Replies sendings) = Replies sendings
+delete_call (Calls ops kept) = Calls (call.Put ops) (pending.Delete kept)
 
-abbrev pub staged_delete_called : ℤ → Outcome (List (List ℕ × Want)) (List (List ℕ × Decision StoreUri)) StoreMessage → ObjectOutcome
-staged_delete_called at (Replies sendings) = Replies sendings
-staged_delete_called at (Calls wants kept) = Calls (call.Look (values_of wants)) (pending.StagedDelete at kept)
+abbrev pub staged_delete_call : ℤ → Outcome (List (List ℕ × Want)) (List (List ℕ × Decision StoreUri)) StoreMessage → ObjectOutcome
+staged_delete_call at (Replies sendings) = Replies sendings
+staged_delete_call at (Calls wants kept) = Calls (call.Look (values_of wants)) (pending.StagedDelete at kept)
 
 -- outside a transaction the removals make one call
 abbrev pub delete_outside : Option Transaction → ℤ → List (List ℕ × List ℕ) → ObjectOutcome
-delete_outside stage at uris = delete_called (request_outcome (λ u. u) (remove_object at) delete_response (checked (λ s uri. (s, named_object stage uri)) nothing uris))
+delete_outside stage at uris = delete_call (request_outcome (λ u. u) (remove_object at) delete_response (checked (λ s uri. (s, named_object stage uri)) nothing uris))
 
 -- inside one the objects are looked for first
 abbrev pub delete_inside : Option Transaction → ℤ → List (List ℕ × List ℕ) → ObjectOutcome
-delete_inside stage at uris = staged_delete_called at (request_outcome (λ u. u) want.Known delete_response (checked (λ s uri. (s, named_object stage uri)) nothing uris))
+delete_inside stage at uris = staged_delete_call at (request_outcome (λ u. u) want.Known delete_response (checked (λ s uri. (s, named_object stage uri)) nothing uris))
 
 abbrev pub delete_outcome : Option Transaction → ℤ → List (List ℕ × List ℕ) → ObjectOutcome
 delete_outcome None at uris = delete_outside None at uris

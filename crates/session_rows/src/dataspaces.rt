@@ -2,7 +2,7 @@
 ghost use Rattle.std.specs.Prelude.{◌≡◌, [], IfOk};
 ghost use Rattle.keyed_requests.specs.Plain.{plain_outcome, plain_reply};
 ghost use Rattle.keyed_requests.specs.Sending.{refusal_alone};
-ghost use Rattle.session_rows.specs.Dataspaces.{change_refusal, changeable_path, checked_put, dataspace_of, dataspace_outcome, dataspace_reply, decided, decided_found, delete_called, delete_response, is_custom_large, listed, path_granted, put_called, put_response, records_reply, verdicts_reply};
+ghost use Rattle.session_rows.specs.Dataspaces.{change_refusal, changeable_path, checked_put, dataspace_of, dataspace_outcome, dataspace_reply, decided, decided_found, delete_call, delete_response, is_custom_large, listed, path_granted, put_call, put_response, records_reply, verdicts_reply};
 
 use crate::spaces::space_path;
 use etp_schema::encoded_size;
@@ -162,10 +162,10 @@ impl PlainReply for DeleteDataspaces {
     }
 }
 
-fn put_called(
+fn put_call(
     outcome: Outcome<Named<SpacePut>, Named<Decision<()>>, DataspaceMessage>,
 ) -> DataspaceOutcome
-    ensures { result ≡ put_called outcome }
+    ensures { result ≡ put_call outcome }
 {
     match outcome {
         Outcome::Replies(sendings) => Outcome::Replies(sendings),
@@ -178,7 +178,7 @@ fn put_called(
 
 fn put_outcome(alloc: Global, items: Named<Dataspace>) -> Result<DataspaceOutcome, NoMemory>
     ensures { let outcome = plain_outcome checked_put put_response items in
-        IfOk result (λ o. o ≡ put_called outcome) }
+        IfOk result (λ o. o ≡ put_call outcome) }
 {
     let outcome = request_outcome(
         alloc,
@@ -187,13 +187,13 @@ fn put_outcome(alloc: Global, items: Named<Dataspace>) -> Result<DataspaceOutcom
         &mut (),
         items,
     )?;
-    Ok(put_called(outcome))
+    Ok(put_call(outcome))
 }
 
-fn delete_called(
+fn delete_call(
     outcome: Outcome<Named<Text>, Named<Decision<()>>, DataspaceMessage>,
 ) -> DataspaceOutcome
-    ensures { result ≡ delete_called outcome }
+    ensures { result ≡ delete_call outcome }
 {
     match outcome {
         Outcome::Replies(sendings) => Outcome::Replies(sendings),
@@ -206,7 +206,7 @@ fn delete_called(
 
 fn delete_outcome(alloc: Global, items: Named<Text>) -> Result<DataspaceOutcome, NoMemory>
     ensures { let outcome = plain_outcome changeable_path delete_response items in
-        IfOk result (λ o. o ≡ delete_called outcome) }
+        IfOk result (λ o. o ≡ delete_call outcome) }
 {
     let outcome = request_outcome(
         alloc,
@@ -215,7 +215,7 @@ fn delete_outcome(alloc: Global, items: Named<Text>) -> Result<DataspaceOutcome,
         &mut (),
         items,
     )?;
-    Ok(delete_called(outcome))
+    Ok(delete_call(outcome))
 }
 
 /// Why a change of dataspaces is refused as a whole: a transaction is open, or its keys exceed the limits.

@@ -4,7 +4,7 @@ ghost use Rattle.keyed_requests.specs.Keyed.{checked, finished, request_outcome,
 ghost use Rattle.keyed_requests.specs.Plain.{nothing};
 ghost use Rattle.request_scope.specs.Reply.{scoped_reply};
 ghost use Rattle.session_rows.specs.ObjectChecks.{named_object};
-ghost use Rattle.session_rows.specs.Objects.{delete_called, delete_decided, delete_inside, delete_one, delete_outcome, delete_outside, delete_response, remove_object, removed, staged_delete, staged_delete_called};
+ghost use Rattle.session_rows.specs.Objects.{delete_call, delete_decided, delete_inside, delete_one, delete_outcome, delete_outside, delete_response, remove_object, removed, staged_delete, staged_delete_call};
 ghost use Rattle.tx_stage.specs.declared.look.Want.TheVariants as want;
 
 use crate::objects::checking::named_object;
@@ -241,10 +241,10 @@ impl KeyedReply for StagedDeleteReply {
     }
 }
 
-fn delete_called(
+fn delete_call(
     outcome: Outcome<Named<Op>, Named<Decision<StoreUri>>, StoreMessage>,
 ) -> ObjectOutcome
-    ensures { result ≡ delete_called outcome }
+    ensures { result ≡ delete_call outcome }
 {
     match outcome {
         Outcome::Replies(sendings) => Outcome::Replies(sendings),
@@ -255,12 +255,12 @@ fn delete_called(
     }
 }
 
-fn staged_delete_called(
+fn staged_delete_call(
     alloc: Global,
     moment: i64,
     outcome: Outcome<Named<Want>, Named<Decision<StoreUri>>, StoreMessage>,
 ) -> Result<ObjectOutcome, NoMemory>
-    ensures { IfOk result (λ o. o ≡ staged_delete_called moment outcome) }
+    ensures { IfOk result (λ o. o ≡ staged_delete_call moment outcome) }
 {
     match outcome {
         Outcome::Replies(sendings) => Ok(Outcome::Replies(sendings)),
@@ -286,7 +286,7 @@ fn delete_outside(
 {
     let request = DeleteObjects { stage, moment };
     let outcome = request_outcome(alloc, &request, &DeleteObjectsReply, &mut (), uris)?;
-    Ok(delete_called(outcome))
+    Ok(delete_call(outcome))
 }
 
 fn delete_inside(
@@ -300,7 +300,7 @@ fn delete_inside(
     let request = StagedDelete { stage };
     let reply = StagedDeleteReply { moment };
     let outcome = request_outcome(alloc, &request, &reply, &mut (), uris)?;
-    staged_delete_called(alloc, moment, outcome)
+    staged_delete_call(alloc, moment, outcome)
 }
 
 /// What comes of a DeleteDataObjects that isn't refused as a whole.

@@ -3,7 +3,7 @@ ghost use Rattle.std.specs.Prelude.{◌≡◌, IfOk, OnOk, Some};
 ghost use Rattle.keyed_requests.specs.Keyed.{checked, request_outcome};
 ghost use Rattle.request_scope.specs.Reply.{scoped_reply};
 ghost use Rattle.session_rows.specs.ObjectChecks.{named_object};
-ghost use Rattle.session_rows.specs.Objects.{get_called, get_given, get_one, get_outcome, get_response, object_of, object_seen, object_there, status_of};
+ghost use Rattle.session_rows.specs.Objects.{get_call, get_given, get_one, get_outcome, get_response, object_of, object_seen, object_there, status_of};
 ghost use Rattle.tx_stage.specs.declared.look.Want.TheVariants as want;
 
 use crate::formats::Format;
@@ -224,12 +224,12 @@ fn object_of(alloc: Global, object: ObjectRecord) -> Result<DataObject, NoMemory
     })
 }
 
-fn get_called(
+fn get_call(
     alloc: Global,
     format: Format,
     outcome: Outcome<Named<Want>, Named<Decision<StoreUri>>, StoreMessage>,
 ) -> Result<ObjectOutcome, NoMemory>
-    ensures { IfOk result (λ o. o ≡ get_called format outcome) }
+    ensures { IfOk result (λ o. o ≡ get_call format outcome) }
 {
     match outcome {
         Outcome::Replies(sendings) => Ok(Outcome::Replies(sendings)),
@@ -260,7 +260,7 @@ pub(crate) fn get_outcome(
     let request = GetObjects { stage };
     let reply = GetObjectsReply { format };
     let outcome = request_outcome(alloc, &request, &reply, &mut (), uris)?;
-    get_called(alloc, format, outcome)
+    get_call(alloc, format, outcome)
 }
 
 /// The reply to a GetDataObjects, by what was seen.

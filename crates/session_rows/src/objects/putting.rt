@@ -5,7 +5,7 @@ ghost use Rattle.keyed_requests.specs.Plain.{plain_reply};
 ghost use Rattle.request_scope.specs.Finding.{found_refusal, putting};
 ghost use Rattle.request_scope.specs.Reply.{scoped_reply};
 ghost use Rattle.session_rows.specs.ObjectChecks.{checked_object};
-ghost use Rattle.session_rows.specs.Objects.{none_contained, put_called, put_decided, put_inside, put_outcome, put_outside, put_response, put_wants, set_checked, set_object, staged_put, staged_put_called};
+ghost use Rattle.session_rows.specs.Objects.{none_contained, put_call, put_decided, put_inside, put_outcome, put_outside, put_response, put_wants, set_checked, set_object, staged_put, staged_put_call};
 
 use crate::formats::Format;
 use crate::objects::checking::checked_object;
@@ -253,8 +253,8 @@ fn granted_unless(alloc: Global, refusal: Option<ErrorCode>) -> Decision<PutResp
     }
 }
 
-fn put_called(outcome: Outcome<Named<Op>, Named<Decision<()>>, StoreMessage>) -> ObjectOutcome
-    ensures { result ≡ put_called outcome }
+fn put_call(outcome: Outcome<Named<Op>, Named<Decision<()>>, StoreMessage>) -> ObjectOutcome
+    ensures { result ≡ put_call outcome }
 {
     match outcome {
         Outcome::Replies(sendings) => Outcome::Replies(sendings),
@@ -265,12 +265,12 @@ fn put_called(outcome: Outcome<Named<Op>, Named<Decision<()>>, StoreMessage>) ->
     }
 }
 
-fn staged_put_called(
+fn staged_put_call(
     alloc: Global,
     moment: i64,
     outcome: Outcome<Named<List<Want>>, Named<Decision<ObjectRecord>>, StoreMessage>,
 ) -> Result<ObjectOutcome, NoMemory>
-    ensures { IfOk result (λ o. o ≡ staged_put_called moment outcome) }
+    ensures { IfOk result (λ o. o ≡ staged_put_call moment outcome) }
 {
     match outcome {
         Outcome::Replies(sendings) => Ok(Outcome::Replies(sendings)),
@@ -304,7 +304,7 @@ fn put_outside(
     });
     let reply = Plain(PutObjectsReply);
     let outcome = request_outcome(alloc, &request, &reply, &mut (), objects)?;
-    Ok(put_called(outcome))
+    Ok(put_call(outcome))
 }
 
 fn put_inside(
@@ -324,7 +324,7 @@ fn put_inside(
     };
     let reply = StagedPutReply { moment };
     let outcome = request_outcome(alloc, &request, &reply, &mut (), objects)?;
-    staged_put_called(alloc, moment, outcome)
+    staged_put_call(alloc, moment, outcome)
 }
 
 /// What comes of a PutDataObjects that isn't refused as a whole.
