@@ -702,6 +702,7 @@ class Run(unittest.IsolatedAsyncioTestCase):
 
     async def begin(self, keys=""):
         """Starts etpd with a configuration of two channels and these keys."""
+        self.begun = time.time()
         folder = self.enterContext(tempfile.TemporaryDirectory())
         config = Server(folder).config
         config.write_text(keys + config.read_text() + f'[[channel]]\nuri = "{TEXTS}"\nname = "Lithology"\nkind = "string"\n')
@@ -930,11 +931,13 @@ class Lines(Run):
         return peer
 
     async def line(self):
-        """The next line, without its moment, which has to be now."""
+        """The next line, without its moment, which lies between the start of etpd and now."""
         line = (await asyncio.wait_for(self.process.stderr.readline(), 60 * PATIENCE)).decode()
         self.assertRegex(line, MOMENT)
         moment, said = line[:29], line[30:].removesuffix("\n")
-        self.assertLess(abs(email.utils.parsedate_to_datetime(moment).timestamp() - time.time()), 3 + 10 * (PATIENCE - 1))
+        at = email.utils.parsedate_to_datetime(moment).timestamp()
+        # a line has whole seconds
+        self.assertTrue(int(self.begun) <= at <= time.time(), (self.begun, at))
         return said
 
     async def test_the_end_of_a_session_has_a_line(self):

@@ -258,10 +258,10 @@ class WithEtpd(Followed, Case):
         self.assertTrue(now - 300 <= first / SECOND <= time.time() - 299, first)
         # The newest point is of the second before `now`. The page says how old it is in whole seconds, once a second.
         before = time.time() - (now - 1)
-        await asyncio.sleep(1.5)
+        await page.until(f"parseInt(document.getElementById('behind').textContent) >= {int(before)}")
         told = await seconds_behind(page)
         behind = time.time() - (now - 1)
-        self.assertTrue(before - 2.5 * browser.TIMES <= told <= behind + 0.5, (before, told, behind))
+        self.assertLessEqual(told, behind + 0.5)
 
 
 async def seconds_behind(page):

@@ -97,7 +97,7 @@ class LoopThread:
         async def start():
             return await asyncio.start_server(noted, "127.0.0.1", port, limit=1 << 20)
 
-        self.server = asyncio.run_coroutine_threadsafe(start(), self.loop).result(10)
+        self.server = asyncio.run_coroutine_threadsafe(start(), self.loop).result(120)
         self.port = self.server.sockets[0].getsockname()[1]
         self.url = f"ws://127.0.0.1:{self.port}/"
 
@@ -111,7 +111,7 @@ class LoopThread:
                 task.cancel()
             await asyncio.sleep(0.02)
 
-        asyncio.run_coroutine_threadsafe(end(), self.loop).result(10)
+        asyncio.run_coroutine_threadsafe(end(), self.loop).result(120)
         self.loop.call_soon_threadsafe(self.loop.stop)
         self.thread.join(5)
         self.loop.close()

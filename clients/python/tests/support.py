@@ -114,6 +114,6 @@ class ServerCase(unittest.TestCase):
     def connect(self, **how):
         import colmjurr
 
-        store = colmjurr.connect(self.server.url, **{"ask_timeout": 30 * PATIENCE, "timeout": 20 * PATIENCE, **how})
+        store = colmjurr.connect(self.server.url, **{"ask_timeout": 120 * PATIENCE, "timeout": 60 * PATIENCE, **how})
         self.addCleanup(store.close)
         return store

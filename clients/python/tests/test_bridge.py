@@ -18,8 +18,8 @@ from test_links import Proxy
 import colmjurr
 from colmjurr import bridge
 
-WAIT = 60 * max(1, support.PATIENCE)
-HOW = {"ask_timeout": 30 * support.PATIENCE, "timeout": 20 * support.PATIENCE}
+WAIT = 180 * max(1, support.PATIENCE)
+HOW = {"ask_timeout": 120 * support.PATIENCE, "timeout": 60 * support.PATIENCE}
 CHANNELS = [dict(uri=channel_uri(number), name=f"c{number}", kind=kind, uom="") for number, kind in enumerate(("double", "long", "string"))]
 
 

@@ -17,7 +17,7 @@ import support
 from support import CHANNELS, HERE, PATIENCE, ROOT, ServerCase, channel_uri, well_uri
 import colmjurr
 
-WAIT = 60 * max(1, PATIENCE)
+WAIT = 180 * max(1, PATIENCE)
 
 
 def environment():
@@ -353,7 +353,7 @@ class Exporting(unittest.TestCase):
             time.sleep(0.05)
 
     def begin(self, url, *words):
-        process = begin_command("exporter", url, "--listen", "127.0.0.1:0", "--every", "0.1", "--timeout", str(2 * max(1, PATIENCE)), *words)
+        process = begin_command("exporter", url, "--listen", "127.0.0.1:0", "--every", "0.1", "--timeout", str(WAIT), "--ask-timeout", str(WAIT), *words)
         self.addCleanup(process.stdin.close)
         self.addCleanup(process.stdout.close)
         self.addCleanup(process.stderr.close)

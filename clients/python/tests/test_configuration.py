@@ -6,7 +6,7 @@ import unittest
 from pathlib import Path
 
 import support
-from support import channel_uri, program
+from support import PATIENCE, channel_uri, program
 from colmjurr import ConfigError
 from colmjurr.configuration import catalog, read_configuration
 
@@ -94,13 +94,13 @@ class Configurations(unittest.TestCase):
             path = Path(folder, "server.toml")
             for text, _, _, number, channel in CASES:
                 path.write_text(text)
-                done = subprocess.run([etpd, str(path), "127.0.0.1:0"], capture_output=True, text=True, timeout=60)
+                done = subprocess.run([etpd, str(path), "127.0.0.1:0"], capture_output=True, text=True, timeout=60 * max(1, PATIENCE))
                 self.assertEqual(done.returncode, 2, text)
                 told = re.search(r"key (\d+) of channel (\d+)", done.stderr)
                 self.assertEqual((int(told[1]), int(told[2])), (number, channel), (text, done.stderr))
             for text, _, _ in OTHERS:
                 path.write_text(text)
-                self.assertEqual(subprocess.run([etpd, str(path), "127.0.0.1:0"], capture_output=True, timeout=60).returncode, 2, text)
+                self.assertEqual(subprocess.run([etpd, str(path), "127.0.0.1:0"], capture_output=True, timeout=60 * max(1, PATIENCE)).returncode, 2, text)
 
 
 if __name__ == "__main__":

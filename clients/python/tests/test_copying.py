@@ -23,7 +23,7 @@ class Copies(unittest.TestCase):
         self.servers = [support.start_server() for _ in range(2)]
         for server in self.servers:
             self.addCleanup(server.close)
-        self.source, self.target = (colmjurr.connect(server.url, ask_timeout=30 * support.PATIENCE) for server in self.servers)
+        self.source, self.target = (colmjurr.connect(server.url, ask_timeout=120 * support.PATIENCE) for server in self.servers)
         self.addCleanup(self.source.close)
         self.addCleanup(self.target.close)
         folder = tempfile.TemporaryDirectory()
@@ -35,7 +35,7 @@ class Copies(unittest.TestCase):
     def copy(self, status=0):
         return run(
             "copy", self.servers[0].url, self.servers[1].url, "--catalog", self.folder / "server.toml", "--objects", self.folder / "objects",
-            "--ask-timeout", 30 * support.PATIENCE, status=status)
+            "--ask-timeout", 120 * support.PATIENCE, status=status)
 
     @unittest.skipIf(numpy is None, "numpy is not there")
     def test_copies(self):
@@ -79,7 +79,7 @@ class Copies(unittest.TestCase):
         runs, lines = 0, []
 
         async def copied(url):
-            how = {"ask_timeout": 30 * support.PATIENCE, "timeout": 20 * support.PATIENCE}
+            how = {"ask_timeout": 120 * support.PATIENCE, "timeout": 60 * support.PATIENCE}
             async with colmjurr.aio.connect(self.servers[0].url, **how) as one, colmjurr.aio.connect(url, **how, patience=0.0) as other:
                 named = [copying.Named(uri, []) for uri in objects]
                 await copying.copy(one, other, [channel_uri(0), channel_uri(2)], named, lines.append, lambda done, of: steps.append((done, of)))

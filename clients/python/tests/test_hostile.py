@@ -587,7 +587,7 @@ class Secure(Peer):
         loop = outside_server.LoopThread(serve)
         self.addCleanup(loop.close)
         start = lambda: asyncio.start_server(serve, "127.0.0.1", 0, ssl=context)
-        server = asyncio.run_coroutine_threadsafe(start(), loop.loop).result(10)
+        server = asyncio.run_coroutine_threadsafe(start(), loop.loop).result(120)
         return f"wss://localhost:{server.sockets[0].getsockname()[1]}/"
 
     async def talk(self, reader, writer):

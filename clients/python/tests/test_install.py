@@ -30,7 +30,7 @@ class Installed(unittest.TestCase):
             self.assertEqual({path.name for path in (target / "colmjurr").iterdir()} - {"__pycache__"}, here)
             self.assertIn("py.typed", here)
             environment = {**os.environ, "PYTHONPATH": str(target)}
-            done = subprocess.run([target / "bin" / "colmjurr", "--version"], capture_output=True, text=True, env=environment, cwd=folder, timeout=60)
+            done = subprocess.run([target / "bin" / "colmjurr", "--version"], capture_output=True, text=True, env=environment, cwd=folder, timeout=60 * max(1, PATIENCE))
             version = (PACKAGE / "src" / "colmjurr" / "version.py").read_text().split('"')[1]
             self.assertEqual((done.returncode, done.stdout), (0, version + "\n"), done.stderr)
 

@@ -377,12 +377,12 @@ class Loading(Case):
         with other.channel(channel_uri(0)).watch() as watch:
             with channel.loader(every=0.05, most=1000) as load:
                 load(1, 1.0)
-                self.assertEqual(list(watch.next(30 * support.PATIENCE).points), [(1, 1.0)])
+                self.assertEqual(list(watch.next(120 * support.PATIENCE).points), [(1, 1.0)])
             self.assertEqual(load.taken, 1)
             with channel.loader(every=None, most=5) as load:
                 for index in range(2, 7):
                     load(index, float(index))
-                self.assertEqual(list(watch.next(30 * support.PATIENCE).points), [(index, float(index)) for index in range(2, 7)])
+                self.assertEqual(list(watch.next(120 * support.PATIENCE).points), [(index, float(index)) for index in range(2, 7)])
             self.assertEqual(load.taken, 5)
 
     def test_a_refusal_is_told_with_its_first_index(self):
@@ -447,7 +447,7 @@ class Asyncio(Case):
         asyncio.run(self.calls())
 
     async def calls(self):
-        how = {"ask_timeout": 30 * support.PATIENCE, "timeout": 20 * support.PATIENCE}
+        how = {"ask_timeout": 120 * support.PATIENCE, "timeout": 60 * support.PATIENCE}
         async with colmjurr.aio.connect(self.server.url, **how) as store:
             self.assertEqual(store.info.name, "wd")
             self.assertGreater(await store.ping(), 0)

@@ -171,10 +171,10 @@ class Window(Cursor):
 
 
 class Point(NamedTuple):
-    """A point of a channel, as an entry has it."""
+    """A point of a channel, as an entry has it, with its index `at`."""
 
     channel: int
-    index: int
+    at: int
     value: Any
 
 
@@ -543,8 +543,8 @@ class Journal:
                     if entry.act != act:
                         break
                     for point in item.value if item.field == "points" else ():
-                        if point.channel == channel and edits.last(point.index) <= entry.place:
-                            yield point.index, point.value
+                        if point.channel == channel and edits.last(point.at) <= entry.place:
+                            yield point.at, point.value
         except JournalError:
             # it was met when the edits were read, and is raised after the points
             return

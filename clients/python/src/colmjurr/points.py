@@ -5,7 +5,7 @@ import csv
 import datetime
 import io
 import os
-from typing import Any, Iterator, NamedTuple, Optional, TextIO, Union
+from typing import Any, Iterable, Iterator, NamedTuple, Optional, TextIO, Union
 
 from .errors import ValueRefused
 
