@@ -5,10 +5,10 @@ use Rattle.client_forms.proofs.program.run_program.Goals as goal
 
 pub returns-clause-ran : goal.returns-clause-ran
 returns-clause-ran g c = IfOk-weaker c.args.words _ _ (λ ws h. record {
-  status = c.run_words-status.result.0;
+  status = c.run_words-streams.result.0;
   ran = h;
   ends = record { number_is = c.finish.ensures.number; is_told = c.finish.ensures.told };
-}) c.run_words-status.ensures.ran
+}) c.run_words-streams.ensures.ran
 
 pub returns-clause-wordless : goal.returns-clause-wordless
-returns-clause-wordless g c = IfErr-weaker c.args.words _ _ (λ status h. (h.0, subst (λ s. EndsWith s _ _ _ _ _) h.1 (record { number_is = c.finish.ensures.number; is_told = c.finish.ensures.told }))) c.run_words-status.ensures.wordless
+returns-clause-wordless g c = IfErr-weaker c.args.words _ _ (λ status h. (h.0, subst (λ s. EndsWith s _ _ _ _ _) h.1 (record { number_is = c.finish.ensures.number; is_told = c.finish.ensures.told }))) c.run_words-streams.ensures.wordless
