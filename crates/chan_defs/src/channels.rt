@@ -9,14 +9,11 @@ ghost use Rattle.chan_defs.specs.Config.{or_else, channel_of, put_channel, chann
 use crate::error::DefsError;
 use crate::keys::{kind, name, text, unit};
 use etp_values::{Copied, List, NoMemory, StoreUri, Text, UriError};
-use server_config::ChannelDef;
+use server_config::{ChannelDef, MAX_CHANNELS};
 use std::alloc::Global;
 use std::collections::HashSet;
 use std::marker::Model;
 use toml::Table;
-
-/// The greatest number of channels.
-const MAX_CHANNELS: usize = 4_096;
 
 /// The URI of a channel, which has to be an object's URI.
 fn read_uri(alloc: Global, channel: u64, text: &str) -> Result<StoreUri, DefsError>

@@ -7,17 +7,17 @@ use Rattle.etp_values.specs.declared.point.Point.{Point}
 use Rattle.etp_values.specs.declared.point.ChannelPoint.{ChannelPoint}
 use Rattle.etp_values.proofs.EachLemmas.{all-weaker}
 use Rattle.channel_store.specs.declared.change.What.{What}
-use Rattle.channel_store.specs.declared.change.What.TheVariants.{Replace, Truncate}
+use Rattle.channel_store.specs.declared.change.What.TheVariants.{Replace, Truncate, Retired}
 use Rattle.channel_store.specs.declared.error.ChannelError.{ChannelError}
 use Rattle.channel_store.specs.declared.error.ChannelError.TheVariants.{Order}
 use Rattle.channel_store.specs.Channels.{Channel}
-use Rattle.channel_store.specs.Laws.{AllRise, AppendsRise, ReplacesRise, ReplacesWithin, TruncatesRise, LiesWithin}
+use Rattle.channel_store.specs.Laws.{AllRise, AppendsRise, ReplacesRise, ReplacesWithin, RetiresRise, TruncatesRise, LiesWithin}
 use Rattle.channel_store.specs.Points.{Rises, at_most, is_within, follows}
 use Rattle.std.specs.Ordering.{int_eq}
 use Rattle.etp_values.proofs.IntLemmas.{int_eq_is}
 use Rattle.channel_store.specs.Refusals.{channel_at, is_listed, points_at, points_in, points_of, first_refusal, item_refusal, inside_refusal, disorder, channels_refusal, interval_refusal, replace_refusal, or_else}
 use Rattle.channel_store.specs.Rows.{Fits}
-use Rattle.channel_store.specs.Store.{by_number, happens, append_some, appended, replaced, truncated}
+use Rattle.channel_store.specs.Store.{by_number, happens, append_some, appended, replaced, retired, truncated}
 use Rattle.channel_store.proofs.EndedLemmas.{first-none, none-refused, inside-facts}
 use Rattle.channel_store.proofs.PointLemmas.{rises-after, rises-follows}
 use Rattle.channel_store.proofs.StagedLemmas.{points_of-own, points_of-other}
@@ -142,3 +142,14 @@ truncates-rise cs cuts place at all =
     rise-each place at (truncated cuts) 0 cs
     (λ k m c e there rises. happens-rises place (pos m) at c (truncated cuts (pos m)) rises (λ w g. cut-fits c.points cuts (pos m) w g))
     all
+
+-- ---- retire
+
+pub retires-rise : RetiresRise
+retires-rise cs ids place at all =
+    rise-each place at (retired ids) 0 cs
+    (λ k m c e there rises. happens-rises place (pos m) at c (retired ids (pos m)) rises (λ w g. gone-fits c.points (is_listed ids (pos m)) w g)) all
+  where
+    gone-fits : (xs : List Point) (b : Bool) (w : What) → cond b (Some Retired) None ≡ Some w → Fits xs w
+    gone-fits xs true w g = subst (FitsIn xs) g tt
+    gone-fits xs false w g = cc

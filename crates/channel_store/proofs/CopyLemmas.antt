@@ -9,7 +9,7 @@ use Rattle.std.proofs.lemmas.List.Elements.{filter-append}
 use Rattle.std.proofs.lemmas.List.Sums.{fold-append}
 use Rattle.etp_values.specs.declared.point.Point.{Point}
 use Rattle.channel_store.specs.declared.change.What.{What}
-use Rattle.channel_store.specs.declared.change.What.TheVariants.{Append, Replace, Truncate}
+use Rattle.channel_store.specs.declared.change.What.TheVariants.{Append, Replace, Truncate, Retired}
 use Rattle.channel_store.specs.Points.{at_most, put_below, outside, after, copy, past, append_of, view, stream, IsWithin}
 
 -- the tests on one index: i against the start s, and the ends
@@ -73,6 +73,7 @@ after-append_of ys (x ∷ xs) = refl
 pub past-after : (s : ℤ) (xs : List Point) (w : What) → IsWithin w → past s (after xs w) ≡ fold after (past s xs) (view s true w)
 past-after s xs (Append points) h = filter-append (λ x. at_most s x.index) xs points ∙ sym (after-append_of (past s xs) (past s points))
 past-after s xs (Truncate end) h = filter-swap (λ x. at_most x.index end) (λ x. at_most s x.index) (λ x. at_most x.index (int_max end (s -ℤ pos 1))) (λ x k. cut_test s end x.index k) xs
+past-after s xs Retired h = refl
 past-after s xs (Replace from to points) h = by (int_lt to s) refl
   where
     by : (b : Bool) → int_lt to s ≡ b → past s (put_below to points (outside from to xs)) ≡ fold after (past s xs) (if b then [] else Replace (int_max from s) to (past s points) ∷ [])

@@ -11,18 +11,18 @@ use Rattle.channel_store.specs.declared.change.What.{What}
 use Rattle.channel_store.specs.declared.change.ChannelChange.{ChannelChange}
 use Rattle.server_config.specs.declared.config.ChannelDef.{ChannelDef}
 use Rattle.etp_values.specs.Gives.{Gives}
-use Rattle.channel_store.specs.declared.change.What.TheVariants.{Replace, Truncate}
-use Rattle.channel_store.specs.declared.draft.Way.TheVariants.{Between, UpTo}
+use Rattle.channel_store.specs.declared.change.What.TheVariants.{Replace, Truncate, Retired}
+use Rattle.channel_store.specs.declared.draft.Way.TheVariants.{Between, UpTo, Gone}
 use Rattle.channel_store.specs.Points.{is_within}
 use Rattle.channel_store.specs.Channels.{Channel, IsPastAll, fresh}
 use Rattle.channel_store.specs.Rows.{Row, plain, done, done_by, Due, IsAppending}
 use Rattle.std.specs.Ordering.{int_eq}
-use Rattle.channel_store.specs.Refusals.{channel_at, points_at, points_of, is_listed, or_else, first_refusal, unless, verdict, in_range, suits, item_refusal, disorder, append_refusal, channels_refusal, interval_refusal, inside_refusal, replace_refusal, cut_refusal, truncate_refusal}
-use Rattle.channel_store.specs.Store.{by_number, happens, changed, append_some, appended, replaced, truncated, IsNewPlace}
-use Rattle.channel_store.specs.Sweeps.{EndsAs, shown_of, IsIdle, row_at, next_rows, steps, append_item, add_item, opened, open_channel, open_cut, unless_refused, shown_in, is_staged, item_refusal_in, inside_refusal_in, staged_by, outcome, all_done, ids_of, AllAppending, AllDue}
+use Rattle.channel_store.specs.Refusals.{channel_at, if_known, slot_at, points_at, points_of, is_listed, or_else, first_refusal, unless, verdict, in_range, suits, item_refusal, disorder, append_refusal, channels_refusal, interval_refusal, inside_refusal, replace_refusal, cut_refusal, truncate_refusal}
+use Rattle.channel_store.specs.Store.{by_number, happens, changed, append_some, appended, defined, replaced, retired, truncated, Defines, IsNewPlace}
+use Rattle.channel_store.specs.Sweeps.{EndsAs, shown_of, IsIdle, known_in, known_row, row_at, next_rows, steps, append_item, add_item, opened, open_channel, open_cut, unless_refused, shown_in, is_staged, item_refusal_in, inside_refusal_in, staged_by, outcome, all_done, ids_of, AllAppending, AllDue}
 use Rattle.etp_values.proofs.EachLemmas.{all-push, all-weaker}
 use Rattle.channel_store.proofs.NumberedLemmas.{by_number-same, by_number-map, get-by_number, get-none, by_number-after, map-by_number}
-use Rattle.channel_store.proofs.StagedLemmas.{step_at-ok, step_at-err, step_at-absent, append-steps, open-steps, add-steps, IsInside}
+use Rattle.channel_store.proofs.StagedLemmas.{step_known-ok, step_known-err, step_known-absent, append-steps, open-steps, add-steps, IsInside}
 use Rattle.etp_values.proofs.IntLemmas.{int_eq_self}
 
 -- ---- truncate
@@ -76,15 +76,15 @@ cut_row cut b r = cond b (opened cut.0 (UpTo cut.1) r) (Err (Index cut.0))
 
 cut-step : (cs : List Channel) (earlier : List (ℤ × ℤ)) (cut : ℤ × ℤ) (o : Option Channel) (b : Bool) (t : Option What) → channel_at cs cut.0 ≡ o → in_range cut.1 ≡ b → truncated earlier cut.0 ≡ t
     → open_cut (staged_by (truncated earlier) cs) cut ≡ outcome (or_else (unless (is_some o) (NoChannel cut.0)) (or_else (unless b (Index cut.0)) (unless (not (is_some t)) (Doubled cut.0)))) (staged_by (truncated (earlier ++ cut ∷ [])) cs)
-cut-step cs earlier cut None b t there h k = step_at-absent cut.0 (λ r. cut_row cut (in_range cut.1) r) (truncated earlier) cs there
+cut-step cs earlier cut None b t there h k = step_known-absent cut.0 (λ r. cut_row cut (in_range cut.1) r) (truncated earlier) cs there
 cut-step cs earlier cut (Some c) false t there h k =
-    step_at-err cut.0 (λ r. cut_row cut (in_range cut.1) r) (truncated earlier) (Index cut.0) cs c there
+    step_known-err cut.0 (λ r. cut_row cut (in_range cut.1) r) (truncated earlier) (Index cut.0) cs c there
     (λ x e. ap (λ b. cut_row cut b (record { shown = x; staged = truncated earlier cut.0 })) h)
 cut-step cs earlier cut (Some c) true (Some w) there h k =
-    step_at-err cut.0 (λ r. cut_row cut (in_range cut.1) r) (truncated earlier) (Doubled cut.0) cs c there
+    step_known-err cut.0 (λ r. cut_row cut (in_range cut.1) r) (truncated earlier) (Doubled cut.0) cs c there
     (λ x e j. cut_row cut (h j) (record { shown = x; staged = k j }))
 cut-step cs earlier cut (Some c) true None there h k =
-    step_at-ok cut.0 (λ r. cut_row cut (in_range cut.1) r) (truncated earlier) (truncated (earlier ++ cut ∷ [])) cs c there
+    step_known-ok cut.0 (λ r. cut_row cut (in_range cut.1) r) (truncated earlier) (truncated (earlier ++ cut ∷ [])) cs c there
     (λ x e. (λ j. cut_row cut (h j) (record { shown = x; staged = k j })) ∙ ap (λ o. Ok (record { shown = x; staged = o })) (truncated-own earlier cut k))
     (λ j l. truncated-other earlier cut j l)
 
@@ -120,21 +120,32 @@ plain-staged cs = sym (by_number-map plain 0 cs)
 
 -- ---- the tests of items
 
-pub row_at-staged : (what : ℤ → Option What) (cs : List Channel) (id : ℤ) (o : Option Channel) → channel_at cs id ≡ o → row_at (staged_by what cs) id ≡ option_map (λ c. record { shown = c; staged = what id }) o
+pub row_at-staged : (what : ℤ → Option What) (cs : List Channel) (id : ℤ) (o : Option Channel) → slot_at cs id ≡ o → row_at (staged_by what cs) id ≡ option_map (λ c. record { shown = c; staged = what id }) o
 row_at-staged what cs (pos k) None h = get-none (λ n c. record { shown = c; staged = what (pos n) }) 0 k cs h
 row_at-staged what cs (pos k) (Some c) h = get-by_number (λ n c. record { shown = c; staged = what (pos n) }) 0 k k cs c (zero-add k) h
 row_at-staged what cs (negsuc k) None h = refl
 row_at-staged what cs (negsuc k) (Some c) h = cc
 
+known_in-staged : (w : Option What) (o : Option Channel) → known_in (option_map (λ c. record { shown = c; staged = w }) o) ≡ option_map (λ c. record { shown = c; staged = w }) (if_known o)
+known_in-staged w None = refl
+known_in-staged w (Some c) = by c.known
+  where
+    by : (b : Bool) → cond b (Some (record { shown = c; staged = w })) None ≡ option_map (λ x. record { shown = x; staged = w }) (cond b (Some c) None)
+    by true = refl
+    by false = refl
+
+known_row-staged : (what : ℤ → Option What) (cs : List Channel) (id : ℤ) → known_row (staged_by what cs) id ≡ option_map (λ c. record { shown = c; staged = what id }) (channel_at cs id)
+known_row-staged what cs id = ap known_in (row_at-staged what cs id (slot_at cs id) refl) ∙ known_in-staged (what id) (slot_at cs id)
+
 item_refusal_in-is : (cs : List Channel) (i : ChannelPoint) → item_refusal_in (staged_by (λ id. None) cs) i ≡ item_refusal (channel_at cs i.channel) i
-item_refusal_in-is cs i = ap (λ r. item_refusal (shown_in r) i) (row_at-staged (λ id. None) cs i.channel (channel_at cs i.channel) refl) ∙ by (channel_at cs i.channel)
+item_refusal_in-is cs i = ap (λ r. item_refusal (shown_in r) i) (known_row-staged (λ id. None) cs i.channel) ∙ by (channel_at cs i.channel)
   where
     by : (o : Option Channel) → item_refusal (shown_in (option_map (λ c. record { shown = c; staged = None }) o)) i ≡ item_refusal o i
     by None = refl
     by (Some c) = refl
 
 inside_refusal_in-is : (cs : List Channel) (ids : List ℤ) (from to : ℤ) (i : ChannelPoint) → inside_refusal_in (staged_by (replaced ids from to []) cs) from to i ≡ inside_refusal (is_listed ids i.channel) (channel_at cs i.channel) from to i
-inside_refusal_in-is cs ids from to i = ap (λ r. inside_refusal (is_staged r) (shown_in r) from to i) (row_at-staged (replaced ids from to []) cs i.channel (channel_at cs i.channel) refl) ∙ by (channel_at cs i.channel) (is_listed ids i.channel)
+inside_refusal_in-is cs ids from to i = ap (λ r. inside_refusal (is_staged r) (shown_in r) from to i) (known_row-staged (replaced ids from to []) cs i.channel) ∙ by (channel_at cs i.channel) (is_listed ids i.channel)
   where
     by : (o : Option Channel) (b : Bool) → inside_refusal (is_staged (option_map (λ c. record { shown = c; staged = cond b (Some (Replace from to [])) None }) o)) (shown_in (option_map (λ c. record { shown = c; staged = cond b (Some (Replace from to [])) None }) o)) from to i ≡ inside_refusal b o from to i
     by None true = refl
@@ -168,7 +179,7 @@ pub inside-facts : (b : Bool) (o : Option Channel) (from to : ℤ) (i : ChannelP
 inside-facts false o from to i h = cc
 inside-facts true None from to i h = cc
 inside-facts true (Some c) from to i h =
-    let parts = first-none (unless (suits c.kind i.point.value) (Kind i.channel)) (unless (is_within from to i.point.index) (Outside i.channel)) h in
+    let parts = first-none (unless (suits c.def.kind i.point.value) (Kind i.channel)) (unless (is_within from to i.point.index) (Outside i.channel)) h in
     (refl, refl, unless-holds (is_within from to i.point.index) (Outside i.channel) parts.1)
 
 -- ---- outcomes
@@ -208,7 +219,10 @@ append-outcome cs rows items idle h =
 -- ---- replace
 
 pub open-outcome : (cs : List Channel) (rows : List Row) (ids : List ℤ) (from to : ℤ) → rows ≡ map plain cs → steps (open_channel (Between from to)) rows ids ≡ outcome (channels_refusal cs [] ids) (staged_by (replaced ids from to []) cs)
-open-outcome cs rows ids from to idle = ap (λ r. steps (open_channel (Between from to)) r ids) (idle ∙ plain-staged cs) ∙ open-steps cs [] ids from to
+open-outcome cs rows ids from to idle = ap (λ r. steps (open_channel (Between from to)) r ids) (idle ∙ plain-staged cs) ∙ open-steps cs [] ids (Between from to)
+
+pub retire-outcome : (cs : List Channel) (rows : List Row) (ids : List ℤ) → rows ≡ map plain cs → steps (open_channel Gone) rows ids ≡ outcome (channels_refusal cs [] ids) (staged_by (retired ids) cs)
+retire-outcome cs rows ids idle = ap (λ r. steps (open_channel Gone) r ids) (idle ∙ plain-staged cs) ∙ open-steps cs [] ids Gone
 
 pub inside-refusals : (cs : List Channel) (ids : List ℤ) (from to : ℤ) (rows : List Row) (items : List ChannelPoint) → rows ≡ staged_by (replaced ids from to []) cs → first_refusal (inside_refusal_in rows from to) items ≡ first_refusal (λ i. inside_refusal (is_listed ids i.channel) (channel_at cs i.channel) from to i) items
 inside-refusals cs ids from to rows items e = ap (λ r. first_refusal (inside_refusal_in r from to) items) e ∙ first_refusal-same _ _ items (inside_refusal_in-is cs ids from to)
@@ -289,6 +303,9 @@ appended-none items j h = ap append_some (points_of-none j items h)
 pub replaced-none : (ids : List ℤ) (from to : ℤ) (items : List ChannelPoint) (j : ℤ) → is_listed ids j ≡ false → replaced ids from to items j ≡ None
 replaced-none ids from to items j h = ap (λ b. cond b (Some (Replace from to (points_of j items))) None) h
 
+pub retired-none : (ids : List ℤ) (j : ℤ) → is_listed ids j ≡ false → retired ids j ≡ None
+retired-none ids j h = ap (λ b. cond b (Some Retired) None) h
+
 none_of : (o : Option What) → is_some o ≡ false → o ≡ None
 none_of None h = refl
 none_of (Some w) h = absurd (false≢true (sym h))
@@ -320,6 +337,13 @@ new-later place later (c ∷ cs) h new = (past-later place later c.changes h new
 pub new-fresh : (place : ℕ) (defs : List ChannelDef) → IsNewPlace place (map fresh defs)
 new-fresh place [] = tt
 new-fresh place (d ∷ ds) = (tt, new-fresh place ds)
+
+pub new-defined : (place : ℕ) (defs : List ChannelDef) (cs : List Channel) → IsNewPlace place cs → IsNewPlace place (defined defs cs)
+new-defined place defs [] new = new-fresh place defs
+new-defined place defs (c ∷ cs) new = (new.0, new-defined place defs cs new.1)
+
+pub new-still : (place later : ℕ) (cs : List Channel) → place < later → IsNewPlace place cs → IsNewPlace later cs
+new-still place later cs h new = new-later place later cs h new
 
 -- ---- the end of a call, as the store's contracts say it
 

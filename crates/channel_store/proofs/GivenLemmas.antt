@@ -12,7 +12,7 @@ use Rattle.channel_store.specs.declared.error.ChannelError.{ChannelError}
 use Rattle.channel_store.specs.Channels.{Channel}
 use Rattle.channel_store.specs.Rows.{Row, Becomes}
 use Rattle.std.specs.Ordering.{int_eq}
-use Rattle.channel_store.specs.Refusals.{channel_at, is_listed, points_of, Refuses, verdict}
+use Rattle.channel_store.specs.Refusals.{slot_at, is_listed, points_of, Refuses, verdict}
 use Rattle.channel_store.specs.Store.{append_some, appended, replaced}
 use Rattle.channel_store.specs.Sweeps.{Tells, row_at, staged_by, outcome}
 use Rattle.channel_store.specs.Told.{IfGiven, told_by}
@@ -38,7 +38,7 @@ given-is (Some zs) xs ys e h = let same : xs ≡ zs = cc in same ∙ h
 -- ---- what is returned once a call is ready
 
 tells-staged : (what : ℤ → Option What) (cs : List Channel) (id : ℤ) (points : List Point) → IfGiven (option_map told_by (what id)) (λ xs. xs ≡ points) → Tells (row_at (staged_by what cs) id) points
-tells-staged what cs id points h = subst (λ o. Tells o points) (sym (row_at-staged what cs id (channel_at cs id) refl)) (by (channel_at cs id))
+tells-staged what cs id points h = subst (λ o. Tells o points) (sym (row_at-staged what cs id (slot_at cs id) refl)) (by (slot_at cs id))
   where
     by : (o : Option Channel) → Tells (option_map (λ c. record { shown = c; staged = what id }) o) points
     by None = tt

@@ -2,6 +2,7 @@ pub mod AcceptedLemmas
 pub mod CallLemmas
 pub mod ChangeLemmas
 pub mod CopyLemmas
+pub mod DefiningLemmas
 pub mod EndedLemmas
 pub mod FrontLemmas
 pub mod GivenLemmas
@@ -10,6 +11,7 @@ pub mod MarkLemmas
 pub mod NumberedLemmas
 pub mod PointLemmas
 pub mod RowLemmas
+pub mod SettledLemmas
 pub mod StagedLemmas
 pub mod TableLemmas
 pub mod TrackLemmas

@@ -1,33 +1,69 @@
 -- What is looked up in the rows of a store.
-use Rattle.std.proofs.Common.{refl, ℕ, zero, suc, ◌≡◌, Bool, true, not, List, [], ◌∷◌, ap, sym, ◌∙◌, Option, Some, Ok}
+use Rattle.std.proofs.Common.{refl, ℕ, zero, suc, ◌≡◌, Bool, true, false, cond, not, List, [], ◌∷◌, ap, sym, ◌∙◌, Option, Some, None, Ok, Err}
 use Rattle.std.specs.Prelude.{ℤ, pos, negsuc, slice_get, is_some}
 use Rattle.channel_store.specs.declared.error.ChannelError.TheVariants.{NoChannel, Index, Doubled, Interval}
 use Rattle.channel_store.specs.Channels.{Channel}
 use Rattle.channel_store.specs.Points.{at_most, inside, past}
 use Rattle.channel_store.specs.Rows.{Row}
-use Rattle.channel_store.specs.Refusals.{channel_at, cut_refusal, in_range, is_listed, or_else, points_in, range_refusal, unless, verdict}
+use Rattle.channel_store.specs.Refusals.{channel_at, cut_refusal, if_known, in_range, is_listed, or_else, points_at, points_in, range_refusal, slot_at, unless, verdict}
 use Rattle.channel_store.specs.Store.{range_in, range_of, tail_in, tail_of}
-use Rattle.channel_store.specs.Sweeps.{shown_of, shown_in, row_at}
+use Rattle.channel_store.specs.Sweeps.{known_in, known_row, shown_of, shown_in, row_at}
 
 get-shown : (rows : List Row) (k : ℕ) → slice_get (shown_of rows) k ≡ shown_in (slice_get rows k)
 get-shown [] k = refl
 get-shown (r ∷ rs) zero = refl
 get-shown (r ∷ rs) (suc k) = get-shown rs k
 
-pub channel_at-shown : (rows : List Row) (id : ℤ) → channel_at (shown_of rows) id ≡ shown_in (row_at rows id)
-channel_at-shown rows (pos k) = get-shown rows k
-channel_at-shown rows (negsuc k) = refl
+pub slot_at-shown : (rows : List Row) (id : ℤ) → slot_at (shown_of rows) id ≡ shown_in (row_at rows id)
+slot_at-shown rows (pos k) = get-shown rows k
+slot_at-shown rows (negsuc k) = refl
 
-there : (rows : List Row) (id : ℤ) (o : Option Row) → row_at rows id ≡ o → channel_at (shown_of rows) id ≡ shown_in o
+known-shown : (o : Option Row) → if_known (shown_in o) ≡ shown_in (known_in o)
+known-shown None = refl
+known-shown (Some r) = by r.shown.known
+  where
+    by : (b : Bool) → cond b (Some r.shown) None ≡ shown_in (cond b (Some r) None)
+    by true = refl
+    by false = refl
+
+pub channel_at-shown : (rows : List Row) (id : ℤ) → channel_at (shown_of rows) id ≡ shown_in (known_row rows id)
+channel_at-shown rows id = ap if_known (slot_at-shown rows id) ∙ known-shown (row_at rows id)
+
+there : (rows : List Row) (id : ℤ) (o : Option Row) → known_row rows id ≡ o → channel_at (shown_of rows) id ≡ shown_in o
 there rows id o h = channel_at-shown rows id ∙ ap shown_in h
 
-pub range-ok : (rows : List Row) (id from to : ℤ) (r : Row) → row_at rows id ≡ Some r → at_most from to ≡ true → range_of (shown_of rows) id from to ≡ Ok (inside from to r.shown.points)
+-- the row of a known channel
+pub known-is : (o : Option Row) (r : Row) → known_in o ≡ Some r → (o ≡ Some r) × (r.shown.known ≡ true)
+known-is None r h = cc
+known-is (Some q) r h = by q.shown.known refl h
+  where
+    by : (b : Bool) → q.shown.known ≡ b → cond b (Some q) None ≡ Some r → (Some q ≡ Some r) × (r.shown.known ≡ true)
+    by true e g =
+        let same : q ≡ r = cc in
+        (g, ap (λ x. x.shown.known) (sym same) ∙ e)
+    by false e g = cc
+
+pub slot-known : (rows : List Row) (id : ℤ) (r : Row) → known_row rows id ≡ Some r → slot_at (shown_of rows) id ≡ Some r.shown
+slot-known rows id r h = slot_at-shown rows id ∙ ap shown_in (known-is (row_at rows id) r h).0
+
+pub range-ok : (rows : List Row) (id from to : ℤ) (r : Row) → known_row rows id ≡ Some r → at_most from to ≡ true → range_of (shown_of rows) id from to ≡ Ok (inside from to r.shown.points)
 range-ok rows id from to r h k =
-    ap (λ o. range_in (range_refusal o id from to) (inside from to (points_in o))) (there rows id (Some r) h)
+    (λ j. range_in (range_refusal (there rows id (Some r) h j) id from to) (inside from to (points_in (slot-known rows id r h j))))
     ∙ ap (λ b. range_in (unless b Interval) (inside from to r.shown.points)) k
 
-pub tail-ok : (rows : List Row) (id start : ℤ) (r : Row) → row_at rows id ≡ Some r → tail_of (shown_of rows) id start ≡ Ok (past start r.shown.points)
+pub range-unknown : (rows : List Row) (id from to : ℤ) → known_row rows id ≡ None → range_of (shown_of rows) id from to ≡ Err (NoChannel id)
+range-unknown rows id from to h = ap (λ o. range_in (range_refusal o id from to) (inside from to (points_at (shown_of rows) id))) (there rows id None h)
+
+pub range-reversed : (rows : List Row) (id from to : ℤ) (r : Row) → known_row rows id ≡ Some r → at_most from to ≡ false → range_of (shown_of rows) id from to ≡ Err Interval
+range-reversed rows id from to r h k =
+    ap (λ o. range_in (range_refusal o id from to) (inside from to (points_at (shown_of rows) id))) (there rows id (Some r) h)
+    ∙ ap (λ b. range_in (unless b Interval) (inside from to (points_at (shown_of rows) id))) k
+
+pub tail-ok : (rows : List Row) (id start : ℤ) (r : Row) → known_row rows id ≡ Some r → tail_of (shown_of rows) id start ≡ Ok (past start r.shown.points)
 tail-ok rows id start r h = ap (λ o. tail_in o id start) (there rows id (Some r) h)
+
+pub tail-unknown : (rows : List Row) (id start : ℤ) → known_row rows id ≡ None → tail_of (shown_of rows) id start ≡ Err (NoChannel id)
+tail-unknown rows id start h = ap (λ o. tail_in o id start) (there rows id None h)
 
 pub cut-is : (cs : List Channel) (earlier : List ℤ) (id end : ℤ) (known ranged listed : Bool) → is_some (channel_at cs id) ≡ known → in_range end ≡ ranged → is_listed earlier id ≡ listed
     → verdict (or_else (unless known (NoChannel id)) (or_else (unless ranged (Index id)) (unless (not listed) (Doubled id)))) ≡ verdict (cut_refusal cs earlier (id, end))

@@ -6,7 +6,7 @@ use Rattle.std.proofs.lemmas.Int.{ints}
 use Rattle.std.proofs.lemmas.List.{drop-drop, drop_all, take-take, take_all}
 use Rattle.etp_values.specs.declared.point.Point.{Point}
 use Rattle.channel_store.specs.declared.change.What.{What}
-use Rattle.channel_store.specs.declared.change.What.TheVariants.{Append, Replace, Truncate}
+use Rattle.channel_store.specs.declared.change.What.TheVariants.{Append, Replace, Truncate, Retired}
 use Rattle.channel_store.specs.declared.change.ChannelChange.{ChannelChange}
 use Rattle.channel_store.specs.declared.error.ChannelError.TheVariants.{Order, Outside}
 use Rattle.channel_store.specs.Points.{at_most, is_within, put_below, outside, inside, after, Rises, follows}
@@ -54,6 +54,7 @@ pub fits-with_point : (xs : List Point) (w : What) (p : Point) → Fits xs w →
 fits-with_point xs (Append points) p fits h k = subst Rises (append_assoc xs points (p ∷ [])) (rises-follows (xs ++ points) p fits k)
 fits-with_point xs (Replace from to points) p fits h k = (rises-follows points p fits.0 k, all-push _ points p fits.1 h)
 fits-with_point xs (Truncate end) p fits h k = tt
+fits-with_point xs Retired p fits h k = tt
 
 -- ---- an interval of points
 
@@ -156,6 +157,7 @@ pub rises-after : (xs : List Point) (w : What) → Rises xs → Fits xs w → Ri
 rises-after xs (Append points) rises fits = fits
 rises-after xs (Replace from to points) rises fits = rises-put from to points xs rises fits.0 fits.1
 rises-after xs (Truncate end) rises fits = rises-filter _ (λ x. at_most x.index end) xs rises
+rises-after xs Retired rises fits = rises
 
 fold-push : (start : List Point) (changes : List ChannelChange) (x : ChannelChange) → fold after start (whats_of (changes ++ x ∷ [])) ≡ after (fold after start (whats_of changes)) x.what
 fold-push start [] x = refl

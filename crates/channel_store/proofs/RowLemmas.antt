@@ -1,6 +1,6 @@
 -- How the code's writes to one row affect all.
 use Rattle.std.proofs.Common.{refl, ℕ, zero, suc, ◌≡◌, ◌<◌, ◌≤◌, ◌+◌, Bool, true, false, cond, ◌||◌, List, [], ◌∷◌, ◌++◌, length, map, take, drop, append-nil, get_or, ap, sym, ◌∙◌, arith, subst, zero-add, add-one, Option, Some, None, Ok, Err}
-use Rattle.std.specs.Prelude.{ℤ, pos, negsuc, slice_get, slice_set, Result, nat_lt, int_lt, zip}
+use Rattle.std.specs.Prelude.{ℤ, pos, negsuc, is_some, slice_get, slice_set, Result, nat_lt, int_lt, zip}
 use Rattle.std.proofs.Math.IntN.{nat_abs}
 use Rattle.std.proofs.lemmas.List.{take_all, drop_all, drop_more}
 use Rattle.std.proofs.lemmas.Option.{slice_get_past}
@@ -16,7 +16,7 @@ use Rattle.channel_store.specs.Rows.{Row, plain, cleared, done, done_by, IsAppen
 use Rattle.std.specs.Ordering.{int_eq}
 use Rattle.channel_store.specs.Refusals.{is_listed, or_else, first_refusal, verdict}
 use Rattle.channel_store.specs.Store.{by_number}
-use Rattle.channel_store.specs.Sweeps.{shown_of, place_in, row_at, step_row, step_at, before_rows, with_row, modify, modify_at, all_done, AllAppending, AllDue, AreReady, IsNextIn, ids_ready, next_rows, steps}
+use Rattle.channel_store.specs.Sweeps.{shown_of, known_in, known_row, of_known, place_in, place_known, row_at, step_row, step_at, step_known, before_rows, with_row, modify, modify_at, all_done, AllAppending, AllDue, AreReady, IsNextIn, ids_ready, next_rows, steps}
 use Rattle.channel_store.proofs.EndedLemmas.{verdict-ok, verdict-err}
 use Rattle.channel_points.proofs.OrderedLemmas.{all-at}
 use Rattle.channel_store.proofs.NumberedLemmas.{by_number-same, by_number-modify, step_row-set, step_row-fails, step_row-beyond, shown-set, modify-set, modify-beyond}
@@ -83,6 +83,84 @@ pub modify-there : (rows : List Row) (id : ℤ) (k : ℕ) (f : Row → Row) (r :
 modify-there rows id k f r h at =
     let found = place-some (length rows) id k h in
     modify-set f k rows r found.1 at ∙ ap (λ i. modify_at i f rows) (sym found.0)
+
+-- ---- the end of a step
+
+pub becomes-there : (end : Result (Unit {0}) ChannelError) (rows : List Row) (id : ℤ) (k : ℕ) (f : Row → Result Row ChannelError) (r new : Row) → place_in (length rows) id ≡ Some k → r ≡ get_or rows k r → Becomes end new (f r) → Becomes end (slice_set rows k new) (step_at id f rows)
+becomes-there (Ok u) rows id k f r new h at e = step-there rows id k f r new h at e
+becomes-there (Err why) rows id k f r new h at e = λ m. step-fails rows id k f r why h at (e m)
+
+-- ---- a write to the row of an id whose channel is known
+
+row-stops : (f : Row → Result Row ChannelError) (absent why : ChannelError) (k : ℕ) (rows : List Row) (r : Row) → slice_get rows k ≡ Some r → f r ≡ Err why → step_row k f absent rows ≡ Err why
+row-stops f absent why k [] r there h = cc
+row-stops f absent why zero (x ∷ xs) r there h =
+    let same : x ≡ r = cc in
+    ap (λ q. before_rows q xs) (ap f same ∙ h)
+row-stops f absent why (suc k) (x ∷ xs) r there h = ap (with_row x) (row-stops f absent why k xs r there h)
+
+step-stops : (rows : List Row) (id : ℤ) (f : Row → Result Row ChannelError) (r : Row) (why : ChannelError) → row_at rows id ≡ Some r → f r ≡ Err why → step_at id f rows ≡ Err why
+step-stops rows (pos k) f r why there h = row-stops f (NoChannel (pos k)) why k rows r there h
+step-stops rows (negsuc k) f r why there h = cc
+
+none-there : (rows : List Row) (k : ℕ) → slice_get rows k ≡ None → length rows ≤ k
+none-there [] k h = omega arith
+none-there (x ∷ xs) zero h = cc
+none-there (x ∷ xs) (suc k) h = let rest = none-there xs k h in omega (arith, rest)
+
+step-nowhere : (rows : List Row) (id : ℤ) (f : Row → Result Row ChannelError) → row_at rows id ≡ None → step_at id f rows ≡ Err (NoChannel id)
+step-nowhere rows (pos k) f h = step_row-beyond f (NoChannel (pos k)) k rows (none-there rows k h)
+step-nowhere rows (negsuc k) f h = refl
+
+abbrev of_test : ℤ → (Row → Result Row ChannelError) → Row → Bool → Result Row ChannelError
+of_test id f r b = cond b (f r) (Err (NoChannel id))
+
+-- a row by whether its channel is known
+unknown-row : (r : Row) → is_some (known_in (Some r)) ≡ false → r.shown.known ≡ false
+unknown-row r h = by r.shown.known refl h
+  where
+    by : (b : Bool) → r.shown.known ≡ b → is_some (cond b (Some r) None) ≡ false → r.shown.known ≡ false
+    by true e g = cc
+    by false e g = e
+
+known-row : (r : Row) → is_some (known_in (Some r)) ≡ true → r.shown.known ≡ true
+known-row r h = by r.shown.known refl h
+  where
+    by : (b : Bool) → r.shown.known ≡ b → is_some (cond b (Some r) None) ≡ true → r.shown.known ≡ true
+    by true e g = e
+    by false e g = absurd (false≢true g)
+
+pub place-known : (rows : List Row) (id : ℤ) (k : ℕ) → place_known rows id ≡ Some k → (is_some (known_row rows id) ≡ true) × (place_in (length rows) id ≡ Some k)
+place-known rows id k h = by (is_some (known_row rows id)) refl h
+  where
+    by : (b : Bool) → is_some (known_row rows id) ≡ b → cond b (place_in (length rows) id) None ≡ Some k → (is_some (known_row rows id) ≡ true) × (place_in (length rows) id ≡ Some k)
+    by true e g = (e, g)
+    by false e g = cc
+
+unknown-step : (rows : List Row) (id : ℤ) (f : Row → Result Row ChannelError) (o : Option Row) → row_at rows id ≡ o → is_some (known_in o) ≡ false → step_known id f rows ≡ Err (NoChannel id)
+unknown-step rows id f None there h = step-nowhere rows id (of_known id f) there
+unknown-step rows id f (Some r) there h = step-stops rows id (of_known id f) r (NoChannel id) there (ap (of_test id f r) (unknown-row r h))
+
+pub known-absent : (rows : List Row) (id : ℤ) (f : Row → Result Row ChannelError) → place_known rows id ≡ None → step_known id f rows ≡ Err (NoChannel id)
+known-absent rows id f h = by (is_some (known_row rows id)) refl h
+  where
+    by : (b : Bool) → is_some (known_row rows id) ≡ b → cond b (place_in (length rows) id) None ≡ None → step_known id f rows ≡ Err (NoChannel id)
+    by true e g = step-absent rows id (of_known id f) g
+    by false e g = unknown-step rows id f (row_at rows id) refl e
+
+known-stops : (rows : List Row) (id : ℤ) (f : Row → Result Row ChannelError) (why : ChannelError) (o : Option Row) → row_at rows id ≡ o → is_some (known_in o) ≡ true → ((r : Row) → f r ≡ Err why) → step_known id f rows ≡ Err why
+known-stops rows id f why None there h e = absurd (false≢true h)
+known-stops rows id f why (Some r) there h e = step-stops rows id (of_known id f) r why there (ap (of_test id f r) (known-row r h) ∙ e r)
+
+pub known-fails : (rows : List Row) (id : ℤ) (k : ℕ) (f : Row → Result Row ChannelError) (why : ChannelError) → place_known rows id ≡ Some k → ((r : Row) → f r ≡ Err why) → step_known id f rows ≡ Err why
+known-fails rows id k f why h e = known-stops rows id f why (row_at rows id) refl (place-known rows id k h).0 e
+
+pub becomes-known : (end : Result (Unit {0}) ChannelError) (rows : List Row) (id : ℤ) (k : ℕ) (f : Row → Result Row ChannelError) (r new : Row) → place_known rows id ≡ Some k → r ≡ get_or rows k r → Becomes end new (f r) → Becomes end (slice_set rows k new) (step_known id f rows)
+becomes-known end rows id k f r new h at e =
+    let found = place-known rows id k h in
+    let there : row_at rows id ≡ Some r = row-there rows id k r found.1 at in
+    let known : r.shown.known ≡ true = known-row r (subst (λ o. is_some (known_in o) ≡ true) there found.0) in
+    becomes-there end rows id k (of_known id f) r new found.1 at (subst (Becomes end new) (sym (ap (of_test id f r) known)) e)
 
 -- ---- what is done to each row of a list of ids
 
@@ -208,11 +286,7 @@ zip-here (a ∷ rest) [] k x y same h ex ey = absurd (omega arith)
 zip-here (a ∷ rest) (b ∷ bs) zero x y same h ex ey = (λ j. (ex j, ey j) ∷ zip rest bs)
 zip-here (a ∷ rest) (b ∷ bs) (suc k) x y same h ex ey = zip-here rest bs k x y (omega arith) (omega arith) ex ey
 
--- ---- the end of a step
-
-pub becomes-there : (end : Result (Unit {0}) ChannelError) (rows : List Row) (id : ℤ) (k : ℕ) (f : Row → Result Row ChannelError) (r new : Row) → place_in (length rows) id ≡ Some k → r ≡ get_or rows k r → Becomes end new (f r) → Becomes end (slice_set rows k new) (step_at id f rows)
-becomes-there (Ok u) rows id k f r new h at e = step-there rows id k f r new h at e
-becomes-there (Err why) rows id k f r new h at e = λ m. step-fails rows id k f r why h at (e m)
+-- ---- no step is left
 
 pub drop-end : {X : Type 0} (xs : List X) (k : ℕ) → length xs ≤ k → drop k xs ≡ []
 drop-end xs k h = drop_all k xs h

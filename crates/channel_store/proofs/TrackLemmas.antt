@@ -4,12 +4,12 @@ use Rattle.std.specs.Prelude.{ℤ, Result, Ok, Err}
 use Rattle.etp_values.specs.declared.point.Point.{Point}
 use Rattle.channel_points.specs.Chunks.{Held, all_added, settled}
 use Rattle.channel_store.specs.declared.change.What.{What}
-use Rattle.channel_store.specs.declared.change.What.TheVariants.{Append, Replace, Truncate}
+use Rattle.channel_store.specs.declared.change.What.TheVariants.{Append, Replace, Truncate, Retired}
 use Rattle.channel_store.specs.declared.error.ChannelError.{ChannelError}
 use Rattle.channel_store.specs.declared.error.ChannelError.TheVariants.{Order, Outside}
 use Rattle.channel_store.specs.declared.draft.Way.{Way}
-use Rattle.channel_store.specs.declared.draft.Way.TheVariants.{Behind, Between, UpTo}
-use Rattle.channel_store.specs.Channels.{Channel, IsPastAll}
+use Rattle.channel_store.specs.declared.draft.Way.TheVariants.{Behind, Between, UpTo, Gone}
+use Rattle.channel_store.specs.Channels.{Channel, IsPastAll, known_after}
 use Rattle.channel_store.specs.Drafts.{IsReady, appends, held_with}
 use Rattle.channel_store.specs.Points.{Rises, after, follows}
 use Rattle.channel_store.specs.Rows.{Due, Fits, Follows, IsAppending, Row, added, added_by, before_next, joins, staged_as, takes, what_by}
@@ -35,11 +35,13 @@ appends-none : (way : Way) → appends (what_by way []) ≡ []
 appends-none Behind = refl
 appends-none (Between from to) = refl
 appends-none (UpTo end) = refl
+appends-none Gone = refl
 
 fits-none : (points : List Point) (way : Way) → Rises points → Fits points (what_by way [])
 fits-none points Behind rises = subst Rises (sym (append-nil points)) rises
 fits-none points (Between from to) rises = (tt, tt)
 fits-none points (UpTo end) rises = tt
+fits-none points Gone rises = tt
 
 pub ready-begun : (points : List Point) (h : Held) (w : What) (way : Way) → Rises points → h ≡ settled points → w ≡ what_by way [] → IsReady h w
 ready-begun points h w way rises e begun =
@@ -71,11 +73,13 @@ pub held-points : (w : What) (p : Point) (h : Held) → (held_with w p h).points
 held-points (Append points) p h = refl
 held-points (Replace from to points) p h = refl
 held-points (Truncate end) p h = refl
+held-points Retired p h = refl
 
 same-with : (w : What) (p : Point) (h : Held) → h.added ≡ appends w → (held_with w p h).added ≡ appends (with_point p w)
 same-with (Append points) p h e = ap (λ l. l ++ p ∷ []) e
 same-with (Replace from to points) p h e = e
 same-with (Truncate end) p h e = e
+same-with Retired p h e = e
 
 pub ready-with : (w v : What) (p : Point) (h k : Held) → IsReady h w → takes w p ≡ true → follows (before_next h.points w) p.index ≡ true → v ≡ with_point p w → k ≡ held_with w p h → IsReady k v
 ready-with w v p h k ready taken past ev ek =
@@ -90,3 +94,11 @@ pub appended-all : (h k : Held) (w : What) → IsReady h w → IsAppending (Some
 appended-all h k (Append points) ready appending e = e ∙ ap (λ l. settled (h.points ++ l)) ready.same
 appended-all h k (Replace from to points) ready appending e = absurd appending
 appended-all h k (Truncate end) ready appending e = absurd appending
+appended-all h k Retired ready appending e = absurd appending
+
+-- an append leaves a channel known
+pub known-appending : (known : Bool) (w : What) → IsAppending (Some w) → known_after known w ≡ known
+known-appending known (Append points) appending = refl
+known-appending known (Replace from to points) appending = absurd appending
+known-appending known (Truncate end) appending = absurd appending
+known-appending known Retired appending = absurd appending

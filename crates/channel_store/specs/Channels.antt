@@ -1,29 +1,35 @@
 -- The channels of a store.
-use Rattle.std.specs.Prelude.{ℕ, ℤ, ◌≡◌, ◌<◌, List, [], ◌∷◌, ◌++◌, map}
+use Rattle.std.specs.Prelude.{ℕ, ℤ, ◌≡◌, ◌<◌, Bool, true, false, List, [], ◌∷◌, ◌++◌, map}
 use Rattle.std.specs.List.{AllByRecursion}
 use Rattle.etp_values.specs.declared.point.Point.{Point}
-use Rattle.etp_values.specs.declared.uri.StoreUri.{StoreUri}
 use Rattle.server_config.specs.declared.config.ChannelDef.{ChannelDef}
-use Rattle.server_config.specs.declared.config.ValueKind.{ValueKind}
 use Rattle.channel_store.specs.declared.change.What.{What}
+use Rattle.channel_store.specs.declared.change.What.TheVariants.{Append, Replace, Truncate, Retired}
 use Rattle.channel_store.specs.declared.change.ChannelChange.{ChannelChange}
 use Rattle.channel_store.specs.Points.{after, copy, Rises}
 use Rattle.channel_store.specs.Splits.{RisesBy}
 
--- a channel: its object, the kind of its values, its points, and its changes in order
+-- a channel that was ever known: its definition, whether it is known still, its points, and its changes in order
 pub record Channel : Type 0 where
-  pub uri : StoreUri
-  pub kind : ValueKind
+  pub def : ChannelDef
+  pub known : Bool
   pub points : List Point
   pub changes : List ChannelChange
 
 -- the channel of a definition, before any change
 abbrev pub fresh : ChannelDef → Channel
-fresh def = record { uri = def.uri; kind = def.kind; points = []; changes = [] }
+fresh def = record { def = def; known = true; points = []; changes = [] }
+
+-- a change leaves a channel known, unless it retires it
+abbrev pub known_after : Bool → What → Bool
+known_after known (Append points) = known
+known_after known (Replace from to points) = known
+known_after known (Truncate end) = known
+known_after known Retired = false
 
 -- a channel after something happened to it
 abbrev pub happened : ℕ → ℤ → ℤ → Channel → What → Channel
-happened place id at c w = record c { points = after c.points w; changes = c.changes ++ record { place = place; channel = id; at = at; what = w } ∷ [] }
+happened place id at c w = record c { known = known_after c.known w; points = after c.points w; changes = c.changes ++ record { place = place; channel = id; at = at; what = w } ∷ [] }
 
 -- what happened to a channel, in order
 abbrev pub whats_of : List ChannelChange → List What

@@ -6,7 +6,7 @@ use Rattle.channel_store.specs.declared.change.What.{What}
 use Rattle.channel_store.specs.Channels.{Channel}
 use Rattle.channel_store.specs.Points.{Rises, IsWithin}
 use Rattle.channel_store.specs.Refusals.{append_refusal, replace_refusal}
-use Rattle.channel_store.specs.Store.{appended, changed, replaced, truncated}
+use Rattle.channel_store.specs.Store.{appended, changed, replaced, retired, truncated}
 
 -- the points of every channel rise
 abbrev pub AllRise : List Channel → Type 0
@@ -23,6 +23,10 @@ ReplacesRise = (cs : List Channel) (ids : List ℤ) (from to : ℤ) (items : Lis
 -- after a truncation
 abbrev pub TruncatesRise : Type 0
 TruncatesRise = (cs : List Channel) (cuts : List (ℤ × ℤ)) (place : ℕ) (at : ℤ) → AllRise cs → AllRise (changed place at (truncated cuts) cs)
+
+-- after channels were retired
+abbrev pub RetiresRise : Type 0
+RetiresRise = (cs : List Channel) (ids : List ℤ) (place : ℕ) (at : ℤ) → AllRise cs → AllRise (changed place at (retired ids) cs)
 
 -- a change, if there is one, is within its interval
 abbrev pub LiesWithin : Option What → Type 0

@@ -5,7 +5,7 @@ use Rattle.std.specs.List.{flat_map, AllByRecursion}
 use Rattle.etp_values.specs.declared.point.Point.{Point}
 pub use Rattle.channel_points.specs.Order.{Rises, first_of, last_of}
 use Rattle.channel_store.specs.declared.change.What.{What}
-use Rattle.channel_store.specs.declared.change.What.TheVariants.{Append, Replace, Truncate}
+use Rattle.channel_store.specs.declared.change.What.TheVariants.{Append, Replace, Truncate, Retired}
 
 -- the first is not above the second
 abbrev pub at_most : ℤ → ℤ → Bool
@@ -35,11 +35,12 @@ abbrev pub up_to : ℤ → List Point → List Point
 up_to end xs = filter (λ x. at_most x.index end) xs
 
 -- the points after a change: an append adds after the last one, a replacement clears its interval and fills it, a truncation drops what is
--- above its end
+-- above its end, and a retired channel keeps its points
 abbrev pub after : List Point → What → List Point
 after xs (Append points) = xs ++ points
 after xs (Replace from to points) = put_below to points (outside from to xs)
 after xs (Truncate end) = up_to end xs
+after xs Retired = xs
 
 -- the points that a list of changes leaves
 abbrev pub copy : List What → List Point
@@ -56,13 +57,15 @@ abbrev pub append_of : List Point → List What
 append_of [] = []
 append_of (x ∷ xs) = Append (x ∷ xs) ∷ []
 
--- a change as it is sent from `start` on, or nothing; `all` is false if replacements and truncations are left out
+-- a change as it is sent from `start` on, or nothing; `all` is false if replacements and truncations are left out. That the channel is
+-- retired is always sent
 abbrev pub view : ℤ → Bool → What → List What
 view start all (Append points) = append_of (past start points)
 view start true (Replace from to points) = if int_lt to start then [] else Replace (int_max from start) to (past start points) ∷ []
 view start false (Replace from to points) = []
 view start true (Truncate end) = Truncate (int_max end (start -ℤ pos 1)) ∷ []
 view start false (Truncate end) = []
+view start all Retired = Retired ∷ []
 
 -- the stream from `start`: the points that are there, and then the later changes
 abbrev pub stream : ℤ → Bool → List Point → List What → List What
@@ -73,6 +76,7 @@ abbrev pub IsWithin : What → Type 0
 IsWithin (Append points) = Unit {0}
 IsWithin (Replace from to points) = AllByRecursion (λ x. at_most x.index to ≡ true) points
 IsWithin (Truncate end) = Unit {0}
+IsWithin Retired = Unit {0}
 
 -- the copy of a stream is the channel's points from its start on
 abbrev pub CopyIsPoints : Type 0

@@ -16,19 +16,28 @@ use Rattle.channel_store.specs.Channels.{Channel}
 
 -- ---- channels and items
 
--- the channel of an id, which is its index
+-- the channel of an id, which is its index, whether it is known still or not
+abbrev pub slot_at : List Channel → ℤ → Option Channel
+slot_at cs (pos k) = slice_get cs k
+slot_at cs (negsuc k) = None
+
+-- a channel, if it is known
+abbrev pub if_known : Option Channel → Option Channel
+if_known None = None
+if_known (Some c) = if c.known then Some c else None
+
+-- the known channel of an id
 abbrev pub channel_at : List Channel → ℤ → Option Channel
-channel_at cs (pos k) = slice_get cs k
-channel_at cs (negsuc k) = None
+channel_at cs id = if_known (slot_at cs id)
 
 -- the points of a channel, if there is one
 abbrev pub points_in : Option Channel → List Point
 points_in None = []
 points_in (Some c) = c.points
 
--- the points of the channel of an id
+-- the points of the channel of an id; a channel that is retired keeps them
 abbrev pub points_at : List Channel → ℤ → List Point
-points_at cs id = points_in (channel_at cs id)
+points_at cs id = points_in (slot_at cs id)
 
 -- the points of a channel among items
 abbrev pub points_of : ℤ → List ChannelPoint → List Point
@@ -109,7 +118,7 @@ suits k (value.AnySparseArray slices) = false
 -- the channel is known, the index in range, the value null or of the channel's kind
 abbrev pub item_refusal : Option Channel → ChannelPoint → Option ChannelError
 item_refusal None i = Some (NoChannel i.channel)
-item_refusal (Some c) i = or_else (unless (in_range i.point.index) (Index i.channel)) (unless (suits c.kind i.point.value) (Kind i.channel))
+item_refusal (Some c) i = or_else (unless (in_range i.point.index) (Index i.channel)) (unless (suits c.def.kind i.point.value) (Kind i.channel))
 
 -- the first item whose index is not past the last of those before it: the points of its channel that count, and earlier items
 abbrev pub disorder : (ℤ → List Point) → List ChannelPoint → List ChannelPoint → Option ChannelError
@@ -135,7 +144,7 @@ interval_refusal from to = unless (at_most from to && in_range from && in_range 
 abbrev pub inside_refusal : Bool → Option Channel → ℤ → ℤ → ChannelPoint → Option ChannelError
 inside_refusal false c from to i = Some (Outside i.channel)
 inside_refusal true None from to i = Some (Outside i.channel)
-inside_refusal true (Some c) from to i = or_else (unless (suits c.kind i.point.value) (Kind i.channel)) (unless (is_within from to i.point.index) (Outside i.channel))
+inside_refusal true (Some c) from to i = or_else (unless (suits c.def.kind i.point.value) (Kind i.channel)) (unless (is_within from to i.point.index) (Outside i.channel))
 
 -- all channels, then the interval, then all items by themselves, and then their order
 abbrev pub replace_refusal : List Channel → List ℤ → ℤ → ℤ → List ChannelPoint → Option ChannelError

@@ -3,11 +3,11 @@ use Rattle.std.specs.Prelude.{ℕ, ℤ, ◌≡◌, ◌≢◌, Bool, true, false,
 use Rattle.std.specs.List.{AllByRecursion}
 use Rattle.etp_values.specs.declared.point.Point.{Point}
 use Rattle.channel_store.specs.declared.change.What.{What}
-use Rattle.channel_store.specs.declared.change.What.TheVariants.{Append, Replace, Truncate}
+use Rattle.channel_store.specs.declared.change.What.TheVariants.{Append, Replace, Truncate, Retired}
 use Rattle.channel_store.specs.declared.error.ChannelError.{ChannelError}
 use Rattle.channel_store.specs.declared.error.ChannelError.TheVariants.{Order, Outside, NoMemory}
 use Rattle.channel_store.specs.declared.draft.Way.{Way}
-use Rattle.channel_store.specs.declared.draft.Way.TheVariants.{Behind, Between, UpTo}
+use Rattle.channel_store.specs.declared.draft.Way.TheVariants.{Behind, Between, UpTo, Gone}
 use Rattle.channel_points.specs.Chunks.{Held, settled}
 use Rattle.channel_store.specs.Points.{after, is_within, follows, Rises}
 use Rattle.channel_store.specs.Channels.{Channel, happened, IsPastAll}
@@ -31,6 +31,7 @@ abbrev pub what_by : Way → List Point → What
 what_by Behind points = Append points
 what_by (Between from to) points = Replace from to points
 what_by (UpTo end) points = Truncate end
+what_by Gone points = Retired
 
 -- an append begins, if nothing has begun
 abbrev pub begun : Option What → What
@@ -42,12 +43,14 @@ abbrev pub before_next : List Point → What → List Point
 before_next points (Append more) = points ++ more
 before_next points (Replace from to more) = more
 before_next points (Truncate end) = []
+before_next points Retired = []
 
 -- a change may have such a point
 abbrev pub takes : What → Point → Bool
 takes (Append points) p = true
 takes (Replace from to points) p = is_within from to p.index
 takes (Truncate end) p = false
+takes Retired p = false
 
 -- a point joins what is about to happen to the channel `id`, which may have it, if it follows
 abbrev pub joins : ℤ → List Point → What → Point → Result What ChannelError
@@ -90,6 +93,7 @@ abbrev pub Fits : List Point → What → Type 0
 Fits xs (Append points) = Rises (xs ++ points)
 Fits xs (Replace from to points) = Rises points × AllByRecursion (λ x. is_within from to x.index ≡ true) points
 Fits xs (Truncate end) = Unit {0}
+Fits xs Retired = Unit {0}
 
 -- what is about to happen, if anything is, only adds points after the last one
 abbrev pub IsAppending : Option What → Type 0
@@ -97,6 +101,7 @@ IsAppending None = Unit {0}
 IsAppending (Some (Append points)) = Unit {0}
 IsAppending (Some (Replace from to points)) = ⊥
 IsAppending (Some (Truncate end)) = ⊥
+IsAppending (Some Retired) = ⊥
 
 -- these are the points of a channel after what is about to happen, if anything is
 abbrev pub Follows : Channel → Option What → Held → Type 0

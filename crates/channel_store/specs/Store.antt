@@ -1,19 +1,20 @@
 -- What a call does to the channels of a store.
-use Rattle.std.specs.Prelude.{ℕ, suc, ℤ, pos, ◌≡◌, Bool, List, [], ◌∷◌, Option, Some, None, Result, Ok, Err, MatchResult, if◌then◌else◌}
+use Rattle.std.specs.Prelude.{ℕ, suc, ℤ, pos, ◌≡◌, ◌&&◌, Bool, List, [], ◌∷◌, ◌++◌, map, Option, Some, None, Result, Ok, Err, MatchResult, if◌then◌else◌}
 use Rattle.std.specs.List.{AllByRecursion}
 use Rattle.etp_values.specs.declared.point.Point.{Point}
 use Rattle.etp_values.specs.declared.point.ChannelPoint.{ChannelPoint}
 use Rattle.etp_values.specs.declared.uri.StoreUri.{StoreUri}
 use Rattle.etp_values.specs.SameUri.{same_uri}
 use Rattle.channel_store.specs.declared.change.What.{What}
-use Rattle.channel_store.specs.declared.change.What.TheVariants.{Append, Replace, Truncate}
+use Rattle.channel_store.specs.declared.change.What.TheVariants.{Append, Replace, Truncate, Retired}
 use Rattle.channel_store.specs.declared.change.ChannelChange.{ChannelChange}
 use Rattle.channel_store.specs.declared.error.ChannelError.{ChannelError}
 use Rattle.channel_store.specs.declared.error.ChannelError.TheVariants.{NoChannel}
 use Rattle.channel_store.specs.Points.{inside, past}
-use Rattle.channel_store.specs.Channels.{Channel, happened, IsPastAll}
+use Rattle.server_config.specs.declared.config.ChannelDef.{ChannelDef}
+use Rattle.channel_store.specs.Channels.{Channel, fresh, happened, IsPastAll}
 use Rattle.std.specs.Ordering.{int_eq}
-use Rattle.channel_store.specs.Refusals.{is_listed, points_of, points_at, channel_at, range_refusal}
+use Rattle.channel_store.specs.Refusals.{is_listed, points_of, points_at, slot_at, channel_at, range_refusal}
 
 -- each item of a list with its number
 abbrev pub by_number : {X Y : Type 0} → (ℕ → X → Y) → ℕ → List X → List Y
@@ -51,6 +52,18 @@ abbrev pub truncated : List (ℤ × ℤ) → ℤ → Option What
 truncated [] id = None
 truncated (cut ∷ cuts) id = if int_eq id cut.0 then Some (Truncate cut.1) else truncated cuts id
 
+-- each channel that is listed is retired
+abbrev pub retired : List ℤ → ℤ → Option What
+retired ids id = if is_listed ids id then Some Retired else None
+
+-- the channels with those of definitions after them
+abbrev pub defined : List ChannelDef → List Channel → List Channel
+defined defs cs = cs ++ map fresh defs
+
+-- a call added channels, or was refused and left the channels as they were
+abbrev pub Defines : Result (Unit {0}) ChannelError → List ChannelDef → List Channel → List Channel → Type 0
+Defines result defs old new = MatchResult result (λ _. new ≡ defined defs old) (λ _. new ≡ old)
+
 -- a place is past those of all changes so far
 abbrev pub IsNewPlace : ℕ → List Channel → Type 0
 IsNewPlace place cs = AllByRecursion (λ c. IsPastAll place c.changes) cs
@@ -60,9 +73,13 @@ abbrev pub first_place : {X : Type 0} → (X → Bool) → ℕ → List X → Op
 first_place p place [] = None
 first_place p place (x ∷ xs) = if p x then Some (pos place) else first_place p (suc place) xs
 
--- the id of the channel that is this object
+-- a channel is known, and is this object
+abbrev pub is_known : StoreUri → Channel → Bool
+is_known uri c = c.known && same_uri uri c.def.uri
+
+-- the id of the known channel that is this object
 abbrev pub id_of : StoreUri → List Channel → Option ℤ
-id_of uri cs = first_place (λ c. same_uri uri c.uri) 0 cs
+id_of uri cs = first_place (is_known uri) 0 cs
 
 -- the points of a channel from `from` to `to`, or the refusal
 abbrev pub range_in : Option ChannelError → List Point → Result (List Point) ChannelError
@@ -89,4 +106,4 @@ changes_in (Some c) = c.changes
 
 -- the changes of the channel of an id
 abbrev pub changes_at : List Channel → ℤ → List ChannelChange
-changes_at cs id = changes_in (channel_at cs id)
+changes_at cs id = changes_in (slot_at cs id)

@@ -1,5 +1,5 @@
 -- Steps over the rows of a store during a call.
-use Rattle.std.specs.Prelude.{ℕ, zero, suc, ℤ, pos, negsuc, ◌≡◌, ◌≢◌, Bool, false, List, [], ◌∷◌, map, Option, Some, None, is_some, option_map, Result, Ok, Err, if◌then◌else◌, slice_get, nat_lt}
+use Rattle.std.specs.Prelude.{ℕ, zero, suc, ℤ, pos, negsuc, ◌≡◌, ◌≢◌, Bool, false, List, [], ◌∷◌, length, map, Option, Some, None, is_some, option_map, Result, Ok, Err, if◌then◌else◌, slice_get, nat_lt}
 use Rattle.std.specs.List.{AllByRecursion}
 use Rattle.etp_values.specs.declared.point.Point.{Point}
 use Rattle.etp_values.specs.declared.point.ChannelPoint.{ChannelPoint}
@@ -86,13 +86,25 @@ opened_by id way r (Some w) = Err (Doubled id)
 abbrev pub opened : ℤ → Way → Row → Result Row ChannelError
 opened id way r = opened_by id way r r.staged
 
--- one begins in the row of an id
-abbrev pub open_channel : Way → List Row → ℤ → Result (List Row) ChannelError
-open_channel way rows id = step_at id (opened id way) rows
+-- a step of a row, if its channel is known
+abbrev pub of_known : ℤ → (Row → Result Row ChannelError) → Row → Result Row ChannelError
+of_known id f r = if r.shown.known then f r else Err (NoChannel id)
 
--- a truncation begins in the row of an id, if its end is in range
+-- a step of the row of an id, if its channel is known
+abbrev pub step_known : ℤ → (Row → Result Row ChannelError) → List Row → Result (List Row) ChannelError
+step_known id f rows = step_at id (of_known id f) rows
+
+-- a change begins in the row of an id
+abbrev pub open_channel : Way → List Row → ℤ → Result (List Row) ChannelError
+open_channel way rows id = step_known id (opened id way) rows
+
+-- a truncation begins in a row, if its end is in range
+abbrev pub cut_open : ℤ × ℤ → Row → Result Row ChannelError
+cut_open cut r = if in_range cut.1 then opened cut.0 (UpTo cut.1) r else Err (Index cut.0)
+
+-- one begins in the row of an id
 abbrev pub open_cut : List Row → ℤ × ℤ → Result (List Row) ChannelError
-open_cut rows cut = step_at cut.0 (λ r. if in_range cut.1 then opened cut.0 (UpTo cut.1) r else Err (Index cut.0)) rows
+open_cut rows cut = step_known cut.0 (cut_open cut) rows
 
 -- ---- refusals of items
 
@@ -101,6 +113,19 @@ abbrev pub shown_in : Option Row → Option Channel
 shown_in None = None
 shown_in (Some r) = Some r.shown
 
+-- a row, if its channel is known
+abbrev pub known_in : Option Row → Option Row
+known_in None = None
+known_in (Some r) = if r.shown.known then Some r else None
+
+-- the row of an id whose channel is known
+abbrev pub known_row : List Row → ℤ → Option Row
+known_row rows id = known_in (row_at rows id)
+
+-- its index
+abbrev pub place_known : List Row → ℤ → Option ℕ
+place_known rows id = if is_some (known_row rows id) then place_in (length rows) id else None
+
 -- something is about to happen to a row
 abbrev pub is_staged : Option Row → Bool
 is_staged None = false
@@ -108,11 +133,11 @@ is_staged (Some r) = is_some r.staged
 
 -- why an item of an append is refused by itself
 abbrev pub item_refusal_in : List Row → ChannelPoint → Option ChannelError
-item_refusal_in rows i = item_refusal (shown_in (row_at rows i.channel)) i
+item_refusal_in rows i = item_refusal (shown_in (known_row rows i.channel)) i
 
 -- why an item of a replacement is refused by itself, once its channels have begun
 abbrev pub inside_refusal_in : List Row → ℤ → ℤ → ChannelPoint → Option ChannelError
-inside_refusal_in rows from to i = inside_refusal (is_staged (row_at rows i.channel)) (shown_in (row_at rows i.channel)) from to i
+inside_refusal_in rows from to i = inside_refusal (is_staged (known_row rows i.channel)) (shown_in (known_row rows i.channel)) from to i
 
 -- ---- all rows of a list of ids
 

@@ -4,21 +4,23 @@ use Rattle.etp_values.specs.declared.point.Point.{Point}
 use Rattle.etp_values.specs.Weight.{capped, weigh}
 use Rattle.channel_points.specs.Bytes.{point_bytes}
 use Rattle.channel_store.specs.declared.change.What.{What}
-use Rattle.channel_store.specs.declared.change.What.TheVariants.{Append, Replace, Truncate}
+use Rattle.channel_store.specs.declared.change.What.TheVariants.{Append, Replace, Truncate, Retired}
 use Rattle.channel_store.specs.declared.change.ChannelChange.{ChannelChange}
 use Rattle.channel_store.specs.declared.points.PointSize.{PointSize}
 
--- the points of a change; a truncation has none
+-- the points of a change; a truncation and a retirement have none
 abbrev pub told_by : What → List Point
 told_by (Append points) = points
 told_by (Replace from to points) = points
 told_by (Truncate end) = []
+told_by Retired = []
 
--- a change with one more point; a truncation has none
+-- a change with one more point; a truncation and a retirement have none
 abbrev pub with_point : Point → What → What
 with_point p (Append points) = Append (points ++ p ∷ [])
 with_point p (Replace from to points) = Replace from to (points ++ p ∷ [])
 with_point p (Truncate end) = Truncate end
+with_point p Retired = Retired
 
 -- what the points of a change count
 abbrev pub change_bytes : ChannelChange → ℕ

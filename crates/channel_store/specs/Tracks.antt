@@ -9,7 +9,7 @@ use Rattle.channel_store.specs.Rows.{Row}
 
 -- the channel that is kept this way
 abbrev pub channel_of : Inside → Channel
-channel_of t = record { uri = t.uri; kind = t.kind; points = t.points.points; changes = t.changes.items }
+channel_of t = record { def = t.def; known = t.known; points = t.points.points; changes = t.changes.items }
 
 -- the same with what is about to happen to it
 abbrev pub row_of : Inside → Row

@@ -3,10 +3,11 @@
 //! `stage_..` tests a call and stages it in the channels, and `share_..` returns its items for the journal too. `prepare_replace` and
 //! `ready_truncate` also make the points that the channels will have. `.._all` does that and then the change; `test_..` stages and clears again.
 ghost use Rattle.std.specs.Prelude.{◌≡◌, [], IfOk, Ok, length, zip};
-ghost use Rattle.channel_store.specs.Refusals.{Refuses, append_refusal, first_refusal, interval_refusal, replace_refusal, truncate_refusal};
+ghost use Rattle.channel_store.specs.Refusals.{Refuses, append_refusal, channels_refusal, first_refusal, interval_refusal, replace_refusal, truncate_refusal};
 ghost use Rattle.channel_store.specs.Rows.{Becomes};
-ghost use Rattle.channel_store.specs.Store.{IsNewPlace, appended, changed, replaced, truncated};
-ghost use Rattle.channel_store.specs.Sweeps.{AllDue, AreReady, EndsAs, IsIdle, add_item, all_done, ids_ready, inside_refusal_in, open_cut, outcome, shown_of, staged_by, steps, unless_refused};
+ghost use Rattle.channel_store.specs.declared.draft.Way.TheVariants.{Gone};
+ghost use Rattle.channel_store.specs.Store.{IsNewPlace, appended, changed, replaced, retired, truncated};
+ghost use Rattle.channel_store.specs.Sweeps.{AllDue, AreReady, EndsAs, IsIdle, add_item, all_done, ids_ready, inside_refusal_in, open_channel, open_cut, outcome, shown_of, staged_by, steps, unless_refused};
 ghost use Rattle.channel_store.specs.Told.{ending};
 
 use crate::checks::{check_all_inside, check_interval, check_items};
@@ -327,6 +328,51 @@ pub fn truncate_all(
         (changed place at (truncated (zip channels.now ends.now)) (shown_of tracks.old.items)) }
 {
     match ready_truncate(alloc, tracks, channels, ends) {
+        Err(error) => {
+            clear_all(tracks);
+            Err(error)
+        }
+        Ok(readies) => {
+            commit_channels(tracks, place, at, readies);
+            Ok(())
+        }
+    }
+}
+
+/// Begins to retire all channels or none, and makes the points that they will have.
+fn ready_retire(
+    alloc: Global,
+    tracks: &mut Vec<Track>,
+    channels: &[i64],
+) -> Result<Vec<Ready>, ChannelError>
+    ensures answer { Becomes (ending result) tracks.new.items
+        (steps (open_channel Gone) tracks.old.items channels.now) }
+    ensures kept { shown_of tracks.new.items ≡ shown_of tracks.old.items }
+    ensures channels { IfOk result (λ r. ids_ready r.items ≡ channels.now) }
+    ensures ready { IfOk result (λ r. AreReady tracks.new.items r.items) }
+{
+    if let Err(error) = open_channels(alloc, tracks, Way::Gone, channels) {
+        return Err(error);
+    }
+    let readies = ready_channels(alloc, tracks.as_slice(), channels)?;
+    Ok(readies)
+}
+
+/// Retires all channels or none.
+pub fn retire_all(
+    alloc: Global,
+    tracks: &mut Vec<Track>,
+    place: u64,
+    at: i64,
+    channels: &[i64],
+) -> Result<(), ChannelError>
+    requires idle { IsIdle tracks.old.items }
+    requires new { IsNewPlace place (shown_of tracks.old.items) }
+    ensures { EndsAs result tracks.old.items tracks.new.items
+        (channels_refusal (shown_of tracks.old.items) [] channels.now)
+        (changed place at (retired channels.now) (shown_of tracks.old.items)) }
+{
+    match ready_retire(alloc, tracks, channels) {
         Err(error) => {
             clear_all(tracks);
             Err(error)

@@ -23,6 +23,8 @@ pub enum What {
     Truncate {
         end: i64,
     },
+    /// The channel was retired. It keeps its points, and nothing happens to it any more.
+    Retired,
 }
 
 /// A change of a channel: the place of its entry in the journal, the channel's id, the moment, and what happened.
@@ -44,6 +46,7 @@ impl Copied for What {
                 points: points.copy(alloc)?,
             }),
             What::Truncate { end } => Ok(What::Truncate { end: *end }),
+            What::Retired => Ok(What::Retired),
         }
     }
 }
@@ -60,7 +63,7 @@ impl Copied for ChannelChange {
 }
 
 impl What {
-    /// Adds a point after the last one. A truncation has none.
+    /// Adds a point after the last one. A truncation and a retirement have none.
     pub(crate) fn push(&mut self, alloc: Global, point: Point) -> Result<(), NoMemory>
         ensures ok { OnOk result (self.new ≡ with_point point self.old) }
         ensures err { OnErr result (self.new ≡ self.old) }
@@ -69,6 +72,7 @@ impl What {
             What::Append(points) => points.push(alloc, point),
             What::Replace { points, .. } => points.push(alloc, point),
             What::Truncate { .. } => Ok(()),
+            What::Retired => Ok(()),
         }
     }
 
@@ -78,6 +82,7 @@ impl What {
             What::Append(points) => points.is_sealed(),
             What::Replace { points, .. } => points.get().is_sealed(),
             What::Truncate { .. } => true,
+            What::Retired => true,
         }
     }
 
@@ -93,6 +98,7 @@ impl What {
                 points: points.sealed(alloc)?,
             }),
             What::Truncate { end } => Ok(What::Truncate { end }),
+            What::Retired => Ok(What::Retired),
         }
     }
 
@@ -104,6 +110,7 @@ impl What {
             What::Append(points) => points.copy(alloc),
             What::Replace { points, .. } => points.get().copy(alloc),
             What::Truncate { .. } => Ok(Points::none()),
+            What::Retired => Ok(Points::none()),
         }
     }
 
@@ -115,6 +122,7 @@ impl What {
             What::Append(points) => points.bytes(),
             What::Replace { points, .. } => points.get().bytes(),
             What::Truncate { .. } => 0,
+            What::Retired => 0,
         }
     }
 }

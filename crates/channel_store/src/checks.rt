@@ -2,7 +2,7 @@
 ghost use Rattle.std.specs.Prelude.{◌≡◌};
 ghost use Rattle.std.specs.Option.{option_copied};
 ghost use Rattle.channel_store.specs.Refusals.{cut_refusal, first_refusal, in_range, interval_refusal, is_listed, suits, verdict};
-ghost use Rattle.channel_store.specs.Sweeps.{inside_refusal_in, item_refusal_in, place_in, row_at, shown_of};
+ghost use Rattle.channel_store.specs.Sweeps.{inside_refusal_in, item_refusal_in, known_row, place_in, place_known, row_at, shown_of};
 
 use crate::error::ChannelError;
 use crate::track::Track;
@@ -63,10 +63,33 @@ pub fn track_at(tracks: &[Track], channel: i64) -> Option<&Track>
     Some(&tracks[place])
 }
 
+/// The track of a channel's id, if the channel is known.
+pub fn known_at(tracks: &[Track], channel: i64) -> Option<&Track>
+    ensures { option_copied result ≡ known_row tracks.now channel }
+{
+    let Some(track) = track_at(tracks, channel) else {
+        return None;
+    };
+    if track.is_known() {
+        return Some(track);
+    }
+    None
+}
+
+/// The index of a channel's id, if the channel is known.
+pub fn known_place(tracks: &[Track], channel: i64) -> Option<usize>
+    ensures { result ≡ place_known tracks.now channel }
+{
+    let Some(_track) = known_at(tracks, channel) else {
+        return None;
+    };
+    place_of(tracks.len(), channel)
+}
+
 fn check_item(tracks: &[Track], item: &ChannelPoint) -> Result<(), ChannelError>
     ensures { result ≡ verdict (item_refusal_in tracks.now item.now) }
 {
-    let Some(track) = track_at(tracks, item.channel) else {
+    let Some(track) = known_at(tracks, item.channel) else {
         return Err(ChannelError::NoChannel(item.channel));
     };
     if !in_range(item.point.index) {
@@ -108,7 +131,7 @@ fn check_inside(
 ) -> Result<(), ChannelError>
     ensures { result ≡ verdict (inside_refusal_in tracks.now from to item.now) }
 {
-    let Some(track) = track_at(tracks, item.channel) else {
+    let Some(track) = known_at(tracks, item.channel) else {
         return Err(ChannelError::Outside(item.channel));
     };
     if !track.is_staged() {
@@ -161,7 +184,7 @@ pub fn check_cut(
 ) -> Result<(), ChannelError>
     ensures { result ≡ verdict (cut_refusal (shown_of tracks.now) earlier.now (channel, end)) }
 {
-    let Some(_track) = track_at(tracks, channel) else {
+    let Some(_track) = known_at(tracks, channel) else {
         return Err(ChannelError::NoChannel(channel));
     };
     if !in_range(end) {

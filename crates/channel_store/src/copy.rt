@@ -93,6 +93,7 @@ fn fold_in(points: &mut Vec<Point>, what: &What, mut more: Vec<Point>)
         }
         What::Replace { from, to, .. } => put_instead(points, *from, *to, more),
         What::Truncate { end } => keep_up_to(points, *end),
+        What::Retired => {}
     }
 }
 

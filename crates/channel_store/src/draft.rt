@@ -17,6 +17,7 @@ pub enum Way {
     Behind,
     Between { from: i64, to: i64 },
     UpTo { end: i64 },
+    Gone,
 }
 
 impl Way {
@@ -32,6 +33,7 @@ impl Way {
                 points: BoxedPoints::new(alloc, Points::none())?,
             }),
             Way::UpTo { end } => Ok(What::Truncate { end }),
+            Way::Gone => Ok(What::Retired),
         }
     }
 }
@@ -45,6 +47,7 @@ fn last_before(points: &Chunks, what: &What) -> Option<i64>
         What::Append(_) => points.last_added(),
         What::Replace { points, .. } => points.get().last_index(),
         What::Truncate { .. } => None,
+        What::Retired => None,
     }
 }
 
@@ -56,6 +59,7 @@ fn takes(what: &What, point: &Point) -> bool
         What::Append(_) => true,
         What::Replace { from, to, .. } => *from <= point.index && point.index <= *to,
         What::Truncate { .. } => false,
+        What::Retired => false,
     }
 }
 
@@ -95,6 +99,7 @@ fn hold(alloc: Global, points: &mut Chunks, what: &What, point: &Point) -> Resul
         }
         What::Replace { .. } => Ok(()),
         What::Truncate { .. } => Ok(()),
+        What::Retired => Ok(()),
     }
 }
 

@@ -29,6 +29,12 @@ pub enum ChannelError {
     /// An item is not of a channel that is replaced, or is outside the interval.
     #[error("an item of channel {0} is outside the replaced interval")]
     Outside(i64),
+    /// This channel has the object of a channel that is to be defined.
+    #[error("channel {0} has this object already")]
+    Taken(i64),
+    /// There are as many channels as a store may have, retired ones included.
+    #[error("there are 4096 channels already")]
+    TooMany,
     /// Out of memory.
     #[error("out of memory")]
     NoMemory,

@@ -1,5 +1,5 @@
 //! Laws for those who take in the changes of a store, or keep a journal of its calls.
-ghost use Rattle.channel_store.specs.Laws.{AppendsRise, ReplacesRise, ReplacesWithin, TruncatesRise};
+ghost use Rattle.channel_store.specs.Laws.{AppendsRise, ReplacesRise, ReplacesWithin, RetiresRise, TruncatesRise};
 ghost use Rattle.channel_store.specs.Points.{CopyIsPoints};
 
 /// Whoever takes in the stream of a channel from an index on has the channel's points from there on.
@@ -12,5 +12,6 @@ pub fn accepted_calls()
     ensures appends { AppendsRise }
     ensures replaces { ReplacesRise }
     ensures truncates { TruncatesRise }
+    ensures retires { RetiresRise }
     ensures within { ReplacesWithin }
 {}

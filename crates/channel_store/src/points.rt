@@ -159,6 +159,7 @@ pub fn apply(alloc: Global, points: &Chunks, what: &What) -> Result<Chunks, NoMe
             points: more,
         } => put_between(alloc, points, *from, *to, more.get()),
         What::Truncate { end } => cut(alloc, points, *end),
+        What::Retired => points.front(alloc, points.len()),
     }
 }
 

@@ -3,7 +3,7 @@ ghost use Rattle.std.specs.Prelude.{◌≡◌, Some, map, zip, length};
 ghost use Rattle.channel_store.specs.Rows.{Becomes, added, begun, done, plain};
 ghost use Rattle.channel_store.specs.Sweeps.{AllAppending, AllDue, AreReady, IsNextIn, add_item, all_done, append_item, ids_of, ids_ready, modify_at, open_channel, open_cut, opened, row_at, shown_of, steps};
 
-use crate::checks::{in_range, place_of};
+use crate::checks::{in_range, known_place, place_of};
 use crate::draft::Way;
 use crate::error::ChannelError;
 use crate::ready::Ready;
@@ -100,7 +100,7 @@ fn open_channel(
     ensures answer { Becomes result tracks.new.items (open_channel way tracks.old.items channel) }
     ensures kept { shown_of tracks.new.items ≡ shown_of tracks.old.items }
 {
-    let Some(place) = place_of(tracks.len(), channel) else {
+    let Some(place) = known_place(tracks.as_slice(), channel) else {
         return Err(ChannelError::NoChannel(channel));
     };
     open(alloc, &mut tracks[place], way, channel)
@@ -134,7 +134,7 @@ fn open_cut(
     ensures answer { Becomes result tracks.new.items (open_cut tracks.old.items (channel, end)) }
     ensures kept { shown_of tracks.new.items ≡ shown_of tracks.old.items }
 {
-    let Some(place) = place_of(tracks.len(), channel) else {
+    let Some(place) = known_place(tracks.as_slice(), channel) else {
         return Err(ChannelError::NoChannel(channel));
     };
     if !in_range(end) {

@@ -1,29 +1,33 @@
 //! The store of the channels.
-ghost use Rattle.std.specs.Prelude.{◌≡◌, ◌<◌, ◌==◌, [], ℕ, IfOk, find, length, map, nat_le, option_map, zip};
+ghost use Rattle.std.specs.Prelude.{◌≡◌, ◌<◌, ◌+◌, ◌==◌, [], ℕ, pos, IfOk, find, length, map, nat_le, option_map, zip};
 ghost use Rattle.std.specs.Option.{option_copied};
 ghost use Rattle.etp_values.specs.Gives.{Gives};
 ghost use Rattle.channel_store.specs.Channels.{fresh};
-ghost use Rattle.channel_store.specs.Refusals.{Refuses, append_refusal, cut_refusal, points_at, replace_refusal, truncate_refusal, verdict};
+ghost use Rattle.channel_store.specs.Defining.{define_all_refusal, define_refusal, id_or, ids_from};
+ghost use Rattle.channel_store.specs.Refusals.{Refuses, append_refusal, channels_refusal, cut_refusal, points_at, replace_refusal, slot_at, truncate_refusal, verdict};
 ghost use Rattle.channel_store.specs.Marks.{marked};
 ghost use Rattle.channel_store.specs.Points.{Rises, first_of, index_from_end, last_of};
-ghost use Rattle.channel_store.specs.Store.{Changes, IsNewPlace, appended, changes_at, id_of, range_of, replaced, tail_of, truncated};
+ghost use Rattle.channel_store.specs.Store.{Changes, Defines, IsNewPlace, appended, changes_at, id_of, range_of, replaced, retired, tail_of, truncated};
 ghost use Rattle.channel_store.specs.Told.{ending, sized, sized_within};
 
 use crate::calls::{append_all, replace_all, test_append, test_replace, truncate_all};
 use crate::change::ChannelChange;
-use crate::checks::{check_cut, track_at};
+use crate::checks::{check_cut, known_at, track_at};
+use crate::defining::{Defining, test_def};
 use crate::error::ChannelError;
 use crate::points::PointSize;
+use crate::settled::{define_settled, retire_settled};
 use crate::track::Track;
 use crate::tracks::{fresh_tracks, id_in, ids_by_uri};
 use channel_points::{ChannelPoints, PointRun};
 use etp_values::{ChannelPoint, List, NoMemory, Point, StoreUri};
 use indexmap::IndexMap;
-use server_config::Config;
+use server_config::{ChannelDef, Config};
 use std::alloc::Global;
 use std::marker::Model;
 
-/// The channels of a configuration with their points and changes. A channel's id is its index in the configuration.
+/// The channels of a configuration, and those that were defined later, with their points and changes. A channel's id is its index among
+/// them, whether it is retired or not.
 ///
 /// A contract sees the list of the channels. A call that changes the store takes effect completely or not at all: after any error the store
 /// is as before.
@@ -222,6 +226,68 @@ impl ChannelStore {
         )
     }
 
+    /// Adds the channels of these definitions by the entry at `place`, and returns their ids in order. It changes no other channel, so neither
+    /// the place nor the moment is read.
+    ///
+    /// `Taken` is returned for the first definition whose object a known channel has, or an earlier definition, whose id it then would get;
+    /// `TooMany` where there would be more than 4,096 channels, retired ones included.
+    pub fn define(
+        &mut self,
+        place: u64,
+        at: i64,
+        defs: &List<ChannelDef>,
+    ) -> Result<List<i64>, ChannelError>
+        requires { IsNewPlace place self.old }
+        ensures answer { Refuses (ending result) (define_all_refusal self.old [] defs.now) }
+        ensures store { Defines (ending result) defs.now self.old self.new }
+        ensures ids { IfOk result (λ ids. ids ≡ ids_from (length self.old) defs.now) }
+        ensures places { (later : ℕ) → place < later → IsNewPlace later self.new }
+    {
+        let _ = (place, at);
+        define_settled(self.alloc, &mut self.tracks, &mut self.ids, defs.as_slice())
+    }
+
+    /// The id that a channel of this object would get after earlier definitions, or why it is refused.
+    pub fn test_define(&self, earlier: &Defining, uri: &StoreUri) -> Result<i64, ChannelError>
+        ensures { result ≡ id_or (pos (length self.now + length earlier.now)) (define_refusal self.now earlier.now uri.now) }
+    {
+        test_def(&self.ids, self.tracks.as_slice(), earlier, uri)
+    }
+
+    /// Retires the channels, as the changes of the entry at `place`. A retired channel is unknown, and its object may get a new one.
+    pub fn retire(&mut self, place: u64, at: i64, channels: &List<i64>) -> Result<(), ChannelError>
+        requires { IsNewPlace place self.old }
+        ensures answer { Refuses result (channels_refusal self.old [] channels.now) }
+        ensures store { Changes result place at (retired channels.now) self.old self.new }
+        ensures places { (later : ℕ) → place < later → IsNewPlace later self.new }
+    {
+        retire_settled(
+            self.alloc,
+            &mut self.tracks,
+            &mut self.ids,
+            place,
+            at,
+            channels.as_slice(),
+        )
+    }
+
+    /// How many channels there are, retired ones included.
+    pub fn channels(&self) -> u64
+        ensures { result ≡ length self.now }
+    {
+        self.tracks.len() as u64
+    }
+
+    /// The definition of a channel, retired or not.
+    pub fn def_of(&self, channel: i64) -> Option<&ChannelDef>
+        ensures { option_copied result ≡ option_map (λ c. c.def) (slot_at self.now channel) }
+    {
+        let Some(track) = track_at(self.tracks.as_slice(), channel) else {
+            return None;
+        };
+        Some(track.def())
+    }
+
     /// Whether a channel would be refused this end, if these channels come before it in the call.
     pub fn test_cut(&self, earlier: &[i64], channel: i64, end: i64) -> Result<(), ChannelError>
         ensures { result ≡ verdict (cut_refusal self.now earlier.now (channel, end)) }
@@ -233,7 +299,7 @@ impl ChannelStore {
     pub fn range(&self, channel: i64, from: i64, to: i64) -> Result<List<Point>, ChannelError>
         ensures { Gives ChannelError.NoMemory result (range_of self.now channel from to) }
     {
-        let Some(track) = track_at(self.tracks.as_slice(), channel) else {
+        let Some(track) = known_at(self.tracks.as_slice(), channel) else {
             return Err(ChannelError::NoChannel(channel));
         };
         if from > to {
@@ -246,7 +312,7 @@ impl ChannelStore {
     pub fn range_size(&self, channel: i64, from: i64, to: i64) -> Result<PointSize, ChannelError>
         ensures { result ≡ sized (range_of self.now channel from to) }
     {
-        let Some(track) = track_at(self.tracks.as_slice(), channel) else {
+        let Some(track) = known_at(self.tracks.as_slice(), channel) else {
             return Err(ChannelError::NoChannel(channel));
         };
         if from > to {
@@ -266,7 +332,7 @@ impl ChannelStore {
     ) -> Result<Option<PointSize>, ChannelError>
         ensures { result ≡ sized_within most (range_of self.now channel from to) }
     {
-        let Some(track) = track_at(self.tracks.as_slice(), channel) else {
+        let Some(track) = known_at(self.tracks.as_slice(), channel) else {
             return Err(ChannelError::NoChannel(channel));
         };
         if from > to {
@@ -279,7 +345,7 @@ impl ChannelStore {
     pub fn tail(&self, channel: i64, start: i64) -> Result<PointRun, ChannelError>
         ensures { Gives ChannelError.NoMemory result (tail_of self.now channel start) }
     {
-        let Some(track) = track_at(self.tracks.as_slice(), channel) else {
+        let Some(track) = known_at(self.tracks.as_slice(), channel) else {
             return Err(ChannelError::NoChannel(channel));
         };
         Ok(track.tail(self.alloc, start)?)
@@ -289,7 +355,7 @@ impl ChannelStore {
     pub fn tail_size(&self, channel: i64, start: i64) -> Result<PointSize, ChannelError>
         ensures { result ≡ sized (tail_of self.now channel start) }
     {
-        let Some(track) = track_at(self.tracks.as_slice(), channel) else {
+        let Some(track) = known_at(self.tracks.as_slice(), channel) else {
             return Err(ChannelError::NoChannel(channel));
         };
         Ok(track.tail_size(start))
@@ -305,7 +371,7 @@ impl ChannelStore {
     ) -> Result<Option<PointSize>, ChannelError>
         ensures { result ≡ sized_within most (tail_of self.now channel start) }
     {
-        let Some(track) = track_at(self.tracks.as_slice(), channel) else {
+        let Some(track) = known_at(self.tracks.as_slice(), channel) else {
             return Err(ChannelError::NoChannel(channel));
         };
         Ok(track.tail_size_within(start, most))

@@ -1,9 +1,10 @@
 //! One channel: its points, its changes, and what is about to happen to it.
 ghost use Rattle.std.specs.Prelude.{◌≡◌, ◌==◌, [], IfOk, OnOk, Some, find, is_some, nat_le, option_map};
 ghost use Rattle.std.specs.Option.{option_copied};
-ghost use Rattle.channel_store.specs.Channels.{fresh, IsKept};
+ghost use Rattle.channel_store.specs.Channels.{fresh, known_after, IsKept};
 ghost use Rattle.channel_store.specs.Marks.{marked};
 ghost use Rattle.channel_store.specs.Points.{Rises, first_of, index_from_end, inside, last_of, past};
+ghost use Rattle.channel_store.specs.Store.{is_known};
 ghost use Rattle.channel_store.specs.Told.{size_of, size_within, told_by};
 ghost use Rattle.channel_store.specs.Rows.{Becomes, IsAppending, IsDue, IsNext, added, begun, cleared, done, plain, what_by};
 
@@ -22,9 +23,21 @@ use std::alloc::Global;
 use std::marker::Model;
 use std::mem;
 
+/// Whether a channel is known after a change.
+fn stays_known(known: bool, what: &What) -> bool
+    ensures { result ≡ known_after known what.now }
+{
+    match what {
+        What::Append(_) => known,
+        What::Replace { .. } => known,
+        What::Truncate { .. } => known,
+        What::Retired => false,
+    }
+}
+
 pub struct Track {
-    uri: StoreUri,
-    kind: ValueKind,
+    def: ChannelDef,
+    known: bool,
     points: Chunks,
     changes: Rows<ChannelChange>,
     staged: Option<What>,
@@ -34,13 +47,13 @@ pub struct Track {
 impl Drop for Track {
     fn drop(self) {
         let Track {
-            uri,
-            kind: _,
+            def,
+            known: _,
             points,
             changes,
             staged,
         } = self;
-        drop(uri);
+        drop(def);
         drop(points);
         drop(changes);
         drop(staged);
@@ -64,25 +77,39 @@ impl Track {
         ensures { IfOk result (λ r. r ≡ plain (fresh def.now)) }
     {
         Ok(Track {
-            uri: def.uri.copy(alloc)?,
-            kind: def.kind,
+            def: def.copy(alloc)?,
+            known: true,
             points: Chunks::new(alloc),
             changes: Rows::new(alloc),
             staged: None,
         })
     }
 
-    pub fn uri(&self) -> &StoreUri
-        ensures { result.now ≡ self.now.shown.uri }
+    pub fn def(&self) -> &ChannelDef
+        ensures { result.now ≡ self.now.shown.def }
     {
-        &self.uri
+        &self.def
+    }
+
+    /// Whether the channel is not retired.
+    pub fn is_known(&self) -> bool
+        ensures { result ≡ self.now.shown.known }
+    {
+        self.known
+    }
+
+    /// Whether the channel is not retired, and is this object.
+    pub fn is_known_as(&self, uri: &StoreUri) -> bool
+        ensures { result ≡ is_known uri.now self.now.shown }
+    {
+        self.known && uri.same(&self.def.uri)
     }
 
     pub fn kind(&self) -> ValueKind
-        ensures value { result ≡ self.now.shown.kind }
+        ensures value { result ≡ self.now.shown.def.kind }
         ensures kept { IsKept self.now.shown }
     {
-        self.kind
+        self.def.kind
     }
 
     /// The index of the last point.
@@ -301,6 +328,7 @@ impl Track {
             return;
         };
         drop(mem::replace(&mut self.points, points));
+        self.known = stays_known(self.known, &what);
         self.changes.push_reserved(ChannelChange {
             place,
             channel,

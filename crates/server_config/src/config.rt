@@ -8,6 +8,9 @@ pub const MAX_LAG: u64 = 65_536;
 /// The greatest number of entries of a journal, and the default if a configuration gives none.
 pub const MAX_JOURNAL: u64 = 4_194_304;
 
+/// The greatest number of channels that a store ever has, retired ones included.
+pub const MAX_CHANNELS: usize = 4_096;
+
 /// What a channel's values are.
 #[derive(Clone, Copy, Debug, PartialEq, Eq)]
 pub enum ValueKind {
@@ -21,7 +24,7 @@ pub enum ValueKind {
 }
 
 /// A channel: its object, its name, the kind of its values, and their unit of measure.
-#[derive(Debug, Drop)]
+#[derive(Debug, Drop, PartialEq, Eq)]
 pub struct ChannelDef {
     pub uri: StoreUri,
     pub name: Text,

@@ -5,4 +5,4 @@
 
 mod config;
 
-pub use config::{ChannelDef, Config, MAX_JOURNAL, MAX_LAG, ValueKind};
+pub use config::{ChannelDef, Config, MAX_CHANNELS, MAX_JOURNAL, MAX_LAG, ValueKind};

@@ -5,7 +5,7 @@ use Rattle.std.specs.Option.{option_copied}
 use Rattle.std.proofs.lemmas.Int.{ints}
 use Rattle.channel_store.specs.Points.{at_most, inside}
 use Rattle.channel_store.specs.Store.{range_of}
-use Rattle.channel_store.specs.Sweeps.{row_at}
+use Rattle.channel_store.specs.Sweeps.{known_row}
 use Rattle.channel_store.specs.Told.{size_of, sized}
 use Rattle.channel_store.proofs.LookLemmas.{range-ok}
 use Rattle.channel_store.proofs.store.ChannelStore.range_size.Goals as goal
@@ -18,7 +18,7 @@ returns c =
     let from : to_z w64 (of_z w64 c.args.from) ≡ c.args.from = to_z-of_z w64 c.args.from c.ranges.from in
     let to : to_z w64 (of_z w64 c.args.to) ≡ c.args.to = to_z-of_z w64 c.args.to c.ranges.to in
     let there : c.as_slice.result.now ≡ rows = c.as_slice.ensures.value in
-    let row : row_at rows c.args.channel ≡ Some r = (λ j. row_at (sym there j) (sym channel j)) ∙ sym c.track_at.ensures ∙ ap option_copied c.in-Some.is in
+    let row : known_row rows c.args.channel ≡ Some r = (λ j. known_row (sym there j) (sym channel j)) ∙ sym c.known_at.ensures ∙ ap option_copied c.in-Some.is in
     let ordered : at_most c.args.from c.args.to ≡ true = grind (arith, ints) in
     ap Ok (c.range_size.ensures ∙ (λ j. size_of (inside (from j) (to j) r.shown.points)))
     ∙ ap sized (sym ((λ j. range_of (sym c.self.view_is j) c.args.channel c.args.from c.args.to) ∙ range-ok rows c.args.channel c.args.from c.args.to r row ordered))

@@ -3,7 +3,7 @@ use Rattle.std.proofs.lemmas.Int.{to_z-of_z}
 use Rattle.std.specs.Option.{option_copied}
 use Rattle.channel_store.specs.Points.{past}
 use Rattle.channel_store.specs.Store.{tail_of}
-use Rattle.channel_store.specs.Sweeps.{row_at}
+use Rattle.channel_store.specs.Sweeps.{known_row}
 use Rattle.channel_store.specs.Told.{size_of, sized}
 use Rattle.channel_store.proofs.LookLemmas.{tail-ok}
 use Rattle.channel_store.proofs.store.ChannelStore.tail_size.Goals as goal
@@ -15,6 +15,6 @@ returns c =
     let channel : to_z w64 (of_z w64 c.args.channel) ≡ c.args.channel = to_z-of_z w64 c.args.channel c.ranges.channel in
     let start : to_z w64 (of_z w64 c.args.start) ≡ c.args.start = to_z-of_z w64 c.args.start c.ranges.start in
     let there : c.as_slice.result.now ≡ rows = c.as_slice.ensures.value in
-    let row : row_at rows c.args.channel ≡ Some r = (λ j. row_at (sym there j) (sym channel j)) ∙ sym c.track_at.ensures ∙ ap option_copied c.in-Some.is in
+    let row : known_row rows c.args.channel ≡ Some r = (λ j. known_row (sym there j) (sym channel j)) ∙ sym c.known_at.ensures ∙ ap option_copied c.in-Some.is in
     ap Ok (c.tail_size.ensures ∙ (λ j. size_of (past (start j) r.shown.points)))
     ∙ ap sized (sym ((λ j. tail_of (sym c.self.view_is j) c.args.channel c.args.start) ∙ tail-ok rows c.args.channel c.args.start r row))

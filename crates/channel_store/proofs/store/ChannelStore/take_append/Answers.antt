@@ -1,7 +1,7 @@
 use Rattle.std.proofs.Common.{sym, subst, w64}
 use Rattle.std.proofs.lemmas.Int.{to_z-of_z}
 use Rattle.channel_store.specs.Store.{IsNewPlace}
-use Rattle.channel_store.proofs.TableLemmas.{is-store}
+use Rattle.channel_store.proofs.TableLemmas.{is-store, appended-keeps}
 use Rattle.channel_store.proofs.CallLemmas.{append-called}
 use Rattle.channel_store.proofs.store.ChannelStore.take_append.Goals as goal
 
@@ -10,7 +10,7 @@ append_all-requires-clause-new c = subst (IsNewPlace c.args.place) (sym c.self.v
 
 pub invariant_of-self : goal.invariant_of-self
 invariant_of-self c =
-    is-store c.self.inside.ids.entries c.self.inside.tracks.items c.self.invariant c.self.view_is
+    is-store c.self.inside.ids.entries c.self.inside.tracks.items c.self.invariant c.self.view_is (appended-keeps c.args.items.now)
     (append-called c.self.view_is (to_z-of_z w64 c.args.at c.ranges.at) c.self.invariant.idle c.requires c.as_slice.ensures c.append_all.ensures.ends)
 
 pub returns-clause-answer : goal.returns-clause-answer

@@ -35,7 +35,7 @@ returns-clause-answer c =
     let new : c.replace.new.self ≡ Some (with_point p w) = c.replace.ensures.after ∙ ap Some c.in_ok-joined.ensures.what in
     (λ j. added (sym same j) p (sym c.self.view_is j))
     ∙ added-ok (to_z w64 (of_z w64 c.args.channel)) p (row_of t) w _ staged c.in_default-check.ensures
-    ∙ ap Ok (λ j. record { shown = record { uri = t.uri; kind = t.kind; points = sym c.join.ensures.kept j; changes = t.changes.items }; staged = sym new j })
+    ∙ ap Ok (λ j. record { shown = record { def = t.def; known = t.known; points = sym c.join.ensures.kept j; changes = t.changes.items }; staged = sym new j })
 
 pub returns-in-Err-clause-answer : goal.returns-in-Err-clause-answer
 returns-in-Err-clause-answer c =

@@ -9,7 +9,7 @@ invariant_of-self c =
     let t = c.self.inside in
     let points : c.shed.new.self.points ≡ t.points.points = ap (λ h. h.points) c.shed.ensures in
     record {
-      kept = subst IsKept (λ j. record { uri = t.uri; kind = t.kind; points = sym points j; changes = t.changes.items }) c.self.invariant.kept;
+      kept = subst IsKept (λ j. record { def = t.def; known = t.known; points = sym points j; changes = t.changes.items }) c.self.invariant.kept;
       drafted = subst (IsDrafted c.shed.new.self t.changes.room) (sym c.take.ensures.after) tt;
     }
 
@@ -17,4 +17,4 @@ pub returns : goal.returns
 returns c =
     let t = c.self.inside in
     let points : c.shed.new.self.points ≡ t.points.points = ap (λ h. h.points) c.shed.ensures in
-    (λ j. record { shown = record { uri = t.uri; kind = t.kind; points = points j; changes = t.changes.items }; staged = c.take.ensures.after j }) ∙ ap cleared c.self.view_is
+    (λ j. record { shown = record { def = t.def; known = t.known; points = points j; changes = t.changes.items }; staged = c.take.ensures.after j }) ∙ ap cleared c.self.view_is

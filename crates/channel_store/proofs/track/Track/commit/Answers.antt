@@ -4,11 +4,11 @@ use mir.Val.{to_z, of_z}
 use Rattle.std.proofs.lemmas.Int.{to_z-of_z}
 use Rattle.channel_points.specs.Chunks.{settled}
 use Rattle.channel_store.specs.Points.{after}
-use Rattle.channel_store.specs.Channels.{IsKept, happened}
+use Rattle.channel_store.specs.Channels.{IsKept, happened, known_after}
 use Rattle.channel_store.specs.Rows.{IsAppending, IsDue, done, done_by}
 use Rattle.channel_store.specs.Tracks.{channel_of, IsDrafted}
 use Rattle.channel_store.proofs.PointLemmas.{kept-happened}
-use Rattle.channel_store.proofs.TrackLemmas.{appended-all, appending-some, drafted-some, due-some}
+use Rattle.channel_store.proofs.TrackLemmas.{appended-all, appending-some, known-appending, drafted-some, due-some}
 use Rattle.channel_store.proofs.track.Track.commit.Goals as goal
 
 pub invariant_of-self-2 : goal.invariant_of-self-2
@@ -24,8 +24,9 @@ invariant_of-self-2 c =
     let all : c.keep.new.self ≡ settled (after t.points.points w) = appended-all t.points c.keep.new.self w ready.0 appending c.keep.ensures in
     let points : c.keep.new.self.points ≡ after t.points.points w = ap (λ h. h.points) all in
     let changes : c.push_reserved.new.self.items ≡ (happened c.args.place id at (channel_of t) w).changes = c.push_reserved.ensures in
-    let same : happened c.args.place id at (channel_of t) w ≡ record { uri = t.uri; kind = t.kind; points = c.keep.new.self.points; changes = c.push_reserved.new.self.items } =
-    (λ j. record { uri = t.uri; kind = t.kind; points = sym points j; changes = sym changes j }) in
+    let known : known_after t.known w ≡ t.known = known-appending t.known w appending in
+    let same : happened c.args.place id at (channel_of t) w ≡ record { def = t.def; known = t.known; points = c.keep.new.self.points; changes = c.push_reserved.new.self.items } =
+    (λ j. record { def = t.def; known = known j; points = sym points j; changes = sym changes j }) in
     record {
       kept = subst IsKept same (kept-happened c.args.place id at (channel_of t) w c.self.invariant.kept ready.0.fits past);
       drafted = subst (IsDrafted c.keep.new.self c.push_reserved.new.self.room) (sym c.take.ensures.after) tt;
@@ -44,8 +45,9 @@ returns c =
     let all : c.keep.new.self ≡ settled (after t.points.points w) = appended-all t.points c.keep.new.self w ready.0 appending c.keep.ensures in
     let points : c.keep.new.self.points ≡ after t.points.points w = ap (λ h. h.points) all in
     let changes : c.push_reserved.new.self.items ≡ (happened c.args.place id at (channel_of t) w).changes = c.push_reserved.ensures in
-    let same : happened c.args.place id at (channel_of t) w ≡ record { uri = t.uri; kind = t.kind; points = c.keep.new.self.points; changes = c.push_reserved.new.self.items } =
-    (λ j. record { uri = t.uri; kind = t.kind; points = sym points j; changes = sym changes j }) in
+    let known : known_after t.known w ≡ t.known = known-appending t.known w appending in
+    let same : happened c.args.place id at (channel_of t) w ≡ record { def = t.def; known = t.known; points = c.keep.new.self.points; changes = c.push_reserved.new.self.items } =
+    (λ j. record { def = t.def; known = known j; points = sym points j; changes = sym changes j }) in
     let channel : id ≡ c.args.channel = to_z-of_z w64 c.args.channel c.ranges.channel in
     let moment : at ≡ c.args.at = to_z-of_z w64 c.args.at c.ranges.at in
     (λ j. record { shown = sym same j; staged = c.take.ensures.after j })

@@ -4,7 +4,7 @@ use mir.Val.{to_z, of_z}
 use Rattle.std.proofs.lemmas.Int.{to_z-of_z}
 use Rattle.channel_points.specs.Chunks.{settled}
 use Rattle.channel_store.specs.Points.{after}
-use Rattle.channel_store.specs.Channels.{IsKept, happened}
+use Rattle.channel_store.specs.Channels.{IsKept, happened, known_after}
 use Rattle.channel_store.specs.Rows.{IsDue, IsNext, done, done_by}
 use Rattle.channel_store.specs.Tracks.{channel_of, IsDrafted}
 use Rattle.channel_store.proofs.PointLemmas.{kept-happened}
@@ -24,8 +24,9 @@ invariant_of-self-2 c =
     let all : c.replace.new.dest ≡ settled (after t.points.points w) = c.replace.ensures.after ∙ next in
     let points : c.replace.new.dest.points ≡ after t.points.points w = ap (λ h. h.points) all in
     let changes : c.push_reserved.new.self.items ≡ (happened c.args.place id at (channel_of t) w).changes = c.push_reserved.ensures in
-    let same : happened c.args.place id at (channel_of t) w ≡ record { uri = t.uri; kind = t.kind; points = c.replace.new.dest.points; changes = c.push_reserved.new.self.items } =
-    (λ j. record { uri = t.uri; kind = t.kind; points = sym points j; changes = sym changes j }) in
+    let known : known_after t.known w ≡ c.stays_known.result = sym c.stays_known.ensures in
+    let same : happened c.args.place id at (channel_of t) w ≡ record { def = t.def; known = c.stays_known.result; points = c.replace.new.dest.points; changes = c.push_reserved.new.self.items } =
+    (λ j. record { def = t.def; known = known j; points = sym points j; changes = sym changes j }) in
     record {
       kept = subst IsKept same (kept-happened c.args.place id at (channel_of t) w c.self.invariant.kept ready.0.fits past);
       drafted = subst (IsDrafted c.replace.new.dest c.push_reserved.new.self.room) (sym c.take.ensures.after) tt;
@@ -44,8 +45,9 @@ returns c =
     let all : c.replace.new.dest ≡ settled (after t.points.points w) = c.replace.ensures.after ∙ next in
     let points : c.replace.new.dest.points ≡ after t.points.points w = ap (λ h. h.points) all in
     let changes : c.push_reserved.new.self.items ≡ (happened c.args.place id at (channel_of t) w).changes = c.push_reserved.ensures in
-    let same : happened c.args.place id at (channel_of t) w ≡ record { uri = t.uri; kind = t.kind; points = c.replace.new.dest.points; changes = c.push_reserved.new.self.items } =
-    (λ j. record { uri = t.uri; kind = t.kind; points = sym points j; changes = sym changes j }) in
+    let known : known_after t.known w ≡ c.stays_known.result = sym c.stays_known.ensures in
+    let same : happened c.args.place id at (channel_of t) w ≡ record { def = t.def; known = c.stays_known.result; points = c.replace.new.dest.points; changes = c.push_reserved.new.self.items } =
+    (λ j. record { def = t.def; known = known j; points = sym points j; changes = sym changes j }) in
     let channel : id ≡ c.args.channel = to_z-of_z w64 c.args.channel c.ranges.channel in
     let moment : at ≡ c.args.at = to_z-of_z w64 c.args.at c.ranges.at in
     (λ j. record { shown = sym same j; staged = c.take.ensures.after j })
