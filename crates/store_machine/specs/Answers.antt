@@ -22,13 +22,14 @@ use Rattle.store_machine.specs.declared.call.Reply.TheVariants as replied
 use Rattle.store_machine.specs.declared.call.Reply.TheVariants.{Entered, Spaces, Verdicts, Looked, JournalFull, Metas}
 use Rattle.store_machine.specs.declared.call.Answer.{Answer}
 use Rattle.store_machine.specs.declared.journal.Act.{Act}
-use Rattle.store_machine.specs.declared.journal.Act.TheVariants.{Enter, PutSpaces, DropSpaces, Put, Commit, Append, Replace, Truncate}
+use Rattle.store_machine.specs.declared.journal.Act.TheVariants.{Enter, PutSpaces, DropSpaces, Put, Commit, Append, Replace, Truncate, Define, Retire}
 use Rattle.store_machine.specs.declared.journal.Entry.{Entry}
 use Rattle.store_machine.specs.History.{Change, SetSpace, DropSpace, Operate, is_default, value, set_space, changes_of, value_after}
 use Rattle.store_machine.specs.Dataspaces.{dataspaces, is_newer}
 use Rattle.store_machine.specs.Counted.{counted, is_room}
 use Rattle.store_machine.specs.Channels.{channels_of, code_of}
 use Rattle.store_machine.specs.Cuts.{cut_verdicts, cuts_accepted}
+use Rattle.store_machine.specs.Defs.{define_replies, defs_accepted, ids_accepted, retire_verdicts, uris_accepted}
 use Rattle.store_machine.specs.declared.call.StartAsk.{StartAsk}
 use Rattle.store_machine.specs.Clash.{commit_of, conflict}
 use Rattle.store_machine.specs.News.{news_after}
@@ -102,6 +103,8 @@ granted config history (Append items) = act_of Append (all_or_none (append_refus
 granted config history (Replace channels from to items) =
     act_of (λ ids. Replace ids from to items) (all_or_none (replace_refusal (channels_of config history) channels from to items) channels)
 granted config history (Truncate cuts) = act_of Truncate (cuts_accepted (channels_of config history) [] cuts)
+granted config history (Define defs) = act_of Define (defs_accepted (channels_of config history) [] defs)
+granted config history (Retire ids) = act_of Retire (ids_accepted (channels_of config history) ids)
 
 -- what a call would do: one act or none. A call that only reads does nothing
 abbrev pub wanted : Config → List Entry → StoreCall → List Act
@@ -113,6 +116,8 @@ wanted config history (call.Commit staged) = granted config history (Commit stag
 wanted config history (call.Append items) = granted config history (Append items)
 wanted config history (call.Replace channels from to items) = granted config history (Replace channels from to items)
 wanted config history (call.Truncate items) = granted config history (Truncate (values_of items))
+wanted config history (call.Define items) = granted config history (Define (values_of items))
+wanted config history (call.Retire items) = act_of Retire (uris_accepted (channels_of config history) (values_of items))
 wanted config history _ = []
 
 -- whether the journal accepts a further entry of this act
@@ -173,6 +178,8 @@ reply config history (call.Commit staged) = commit_reply (conflict staged.touche
 reply config history (call.Append items) = written (option_map code_of (append_refusal (channels_of config history) items))
 reply config history (call.Replace channels from to items) = written (option_map code_of (replace_refusal (channels_of config history) channels from to items))
 reply config history (call.Truncate items) = Verdicts (cut_verdicts (channels_of config history) [] items)
+reply config history (call.Define items) = replied.Defined (define_replies (channels_of config history) [] items)
+reply config history (call.Retire items) = Verdicts (retire_verdicts (channels_of config history) [] items)
 reply config history (call.Range asks) = ranges_after config history asks
 reply config history (call.Meta items) = Metas (map (meta_under (channels_of config history)) items)
 reply config history (call.Subscribe items) = starts_after config history items

@@ -1,6 +1,8 @@
 -- The bytes that entries count against the limit of a journal.
 use Rattle.std.specs.Prelude.{ℕ, Bool, ◌+◌, ◌*◌, ◌&&◌, List, Option, Some, None, if◌then◌else◌, length, nat_lt, nat_le}
 use Rattle.etp_values.specs.Weight.{weigh, custom_weight_of}
+use Rattle.etp_values.specs.Uri.{plain_uri}
+use Rattle.server_config.specs.declared.config.ChannelDef.{ChannelDef}
 use Rattle.channel_points.specs.Handles.{item_bytes}
 use Rattle.tx_stage.specs.Counted.{op_bytes, touch_bytes}
 use Rattle.store_machine.specs.declared.call.SpacePut.{SpacePut}
@@ -16,7 +18,11 @@ put_bytes p = 64 + (length p.path + custom_weight_of p.custom)
 abbrev pub drop_bytes : List ℕ → ℕ
 drop_bytes path = 64 + length path
 
--- the items of an act; a channel whose points are replaced counts 32, and one that is truncated 16
+-- a definition the channel's URI, its name and its unit
+abbrev pub def_bytes : ChannelDef → ℕ
+def_bytes d = 64 + (length (plain_uri d.uri) + (length d.name + length d.uom))
+
+-- the items of an act; a channel whose points are replaced counts 32, and one that is truncated or retired 16
 abbrev pub act_bytes : Act → ℕ
 act_bytes act.Enter = 0
 act_bytes (act.PutSpaces puts) = weigh put_bytes puts
@@ -26,6 +32,8 @@ act_bytes (act.Commit staged) = weigh op_bytes staged.ops + weigh touch_bytes st
 act_bytes (act.Append items) = weigh item_bytes items
 act_bytes (act.Replace channels from to items) = 32 * length channels + weigh item_bytes items
 act_bytes (act.Truncate cuts) = 16 * length cuts
+act_bytes (act.Define defs) = weigh def_bytes defs
+act_bytes (act.Retire ids) = 16 * length ids
 
 -- an entry of this act: 64 and its items
 abbrev pub counted_act : Act → ℕ

@@ -58,6 +58,8 @@ changes_by at (act.Commit staged) = map Operate staged.ops
 changes_by at (act.Append items) = []
 changes_by at (act.Replace channels from to items) = []
 changes_by at (act.Truncate cuts) = []
+changes_by at (act.Define defs) = []
+changes_by at (act.Retire ids) = []
 
 abbrev pub entry_changes : Entry → List Change
 entry_changes e = changes_by e.at e.act

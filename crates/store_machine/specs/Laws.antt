@@ -118,19 +118,37 @@ StreamIsCopied = (config : Config) (history : List Entry) (id start : ℤ) (m : 
 
 -- news never go past the end of the journal
 abbrev pub NewsStayWithin : Type 0
-NewsStayWithin = (config : Config) (history : List Entry) (subs : List Sub) (cursor : ℕ)
-    → cursor ≤ length history → cursor + length (taken 0 0 (dues config subs cursor (drop cursor history))) ≤ length history
+NewsStayWithin = (n : ℕ) (history : List Entry) (subs : List Sub) (cursor : ℕ)
+    → cursor ≤ length history → cursor + length (taken 0 0 (dues n subs cursor (drop cursor history))) ≤ length history
 
 -- what is sent are the due changes of the entries from the cursor on that were taken
 abbrev pub NewsAreTheDue : Type 0
-NewsAreTheDue = (config : Config) (history : List Entry) (subs : List Sub) (cursor : ℕ)
-    → joined (taken 0 0 (dues config subs cursor (drop cursor history)))
-    ≡ joined (dues config subs cursor (take (length (taken 0 0 (dues config subs cursor (drop cursor history)))) (drop cursor history)))
+NewsAreTheDue = (n : ℕ) (history : List Entry) (subs : List Sub) (cursor : ℕ)
+    → joined (taken 0 0 (dues n subs cursor (drop cursor history)))
+    ≡ joined (dues n subs cursor (take (length (taken 0 0 (dues n subs cursor (drop cursor history)))) (drop cursor history)))
 
 -- for one channel they are its changes that are due
 abbrev pub NewsOfEach : Type 0
-NewsOfEach = (config : Config) (subs : List Sub) (k place : ℕ) (entries : List Entry)
-    → k < length config.channels → filter (λ (c : ChannelChange). int_eq c.channel (pos k)) (joined (dues config subs place entries)) ≡ filter (is_due subs) (changes_from place (pos k) entries)
+NewsOfEach = (n : ℕ) (subs : List Sub) (k place : ℕ) (entries : List Entry)
+    → k < n → filter (λ (c : ChannelChange). int_eq c.channel (pos k)) (joined (dues n subs place entries)) ≡ filter (is_due subs) (changes_from place (pos k) entries)
+
+-- ---- the channels
+
+-- of an id that a legal history has not given nothing is told
+abbrev pub UnknownAreUntouched : Type 0
+UnknownAreUntouched = (config : Config) (history : List Entry) (k : ℕ) → Legal config history → known_ids config history ≤ k → channel_changes (pos k) history ≡ []
+
+-- a channel is known exactly if no entry retired it
+abbrev pub KnownAreNotRetired : Type 0
+KnownAreNotRetired = (id : ℤ) (history : List Entry) → known_by (whats_of (channel_changes id history)) ≡ not (is_retired id history)
+
+-- the list of channels only grows
+abbrev pub IdsGrow : Type 0
+IdsGrow = (config : Config) (earlier later : List Entry) → known_ids config earlier ≤ known_ids config (earlier ++ later)
+
+-- it has no more than the configuration has, or than 4,096
+abbrev pub IdsAreFew : Type 0
+IdsAreFew = (config : Config) (history : List Entry) → Legal config history → known_ids config history ≤ max (length config.channels) 4096
 
 -- ---- transactions
 

@@ -52,6 +52,8 @@ IsRefusedBy (fault.Doubled id) code = code ≡ code_of (fault.Doubled id)
 IsRefusedBy fault.Interval code = code ≡ code_of fault.Interval
 IsRefusedBy (fault.Order id) code = code ≡ code_of (fault.Order id)
 IsRefusedBy (fault.Outside id) code = code ≡ code_of (fault.Outside id)
+IsRefusedBy (fault.Taken id) code = code ≡ code_of (fault.Taken id)
+IsRefusedBy fault.TooMany code = code ≡ code_of fault.TooMany
 IsRefusedBy fault.NoMemory code = ⊥
 
 -- an entry was added and did to the channels what it does, or a refusal left everything as it was

@@ -13,22 +13,22 @@ use Rattle.channel_store.specs.Told.{change_bytes}
 use Rattle.store_machine.specs.declared.call.Reply.{Reply}
 use Rattle.store_machine.specs.declared.call.Reply.TheVariants as replied
 use Rattle.store_machine.specs.declared.journal.Entry.{Entry}
-use Rattle.store_machine.specs.Channels.{change_by, changes_from, channel_points}
+use Rattle.store_machine.specs.Channels.{change_by, changes_from, channel_points, known_ids}
 
 -- ---- what is due
 
--- the changes of the entry at a place, in the order of the channels' ids
-abbrev pub changes_at_entry : Config → ℕ → Entry → List ChannelChange
-changes_at_entry config place e = flat_map (λ k. change_by place (pos k) e) (range_with_len 0 (length config.channels))
+-- the changes of the entry at a place, in the order of the channels' ids, if there are `n` channels
+abbrev pub changes_at_entry : ℕ → ℕ → Entry → List ChannelChange
+changes_at_entry n place e = flat_map (λ k. change_by place (pos k) e) (range_with_len 0 n)
 
 -- a change is due if some subscription is for its channel and is sent changes at its place
 abbrev pub is_due : List Sub → ChannelChange → Bool
 is_due subs c = list_any (λ (s : Sub). int_eq s.channel c.channel && nat_le s.from c.place) subs
 
 -- the due changes of entries in order, entry by entry; the first is at `place`
-abbrev pub dues : Config → List Sub → ℕ → List Entry → List (List ChannelChange)
-dues config subs place [] = []
-dues config subs place (e ∷ es) = filter (is_due subs) (changes_at_entry config place e) ∷ dues config subs (place + 1) es
+abbrev pub dues : ℕ → List Sub → ℕ → List Entry → List (List ChannelChange)
+dues n subs place [] = []
+dues n subs place (e ∷ es) = filter (is_due subs) (changes_at_entry n place e) ∷ dues n subs (place + 1) es
 
 abbrev pub is_some_due : List ChannelChange → Bool
 is_some_due [] = false
@@ -64,7 +64,7 @@ news_by limit from mark ds =
 -- the same after a history, from a cursor on
 unfoldable pub news_after : Config → List Entry → ℕ → List Sub → Reply
 news_after config history cursor subs =
-    news_by config.lag (min cursor (length history)) (length history) (dues config subs (min cursor (length history)) (drop (min cursor (length history)) history))
+    news_by config.lag (min cursor (length history)) (length history) (dues (known_ids config history) subs (min cursor (length history)) (drop (min cursor (length history)) history))
 
 -- ---- streams
 

@@ -11,7 +11,7 @@ use Rattle.channel_points.specs.Handles.{of_channel}
 use Rattle.channel_store.specs.declared.error.ChannelError.{ChannelError}
 use Rattle.channel_store.specs.Channels.{Channel}
 use Rattle.channel_store.specs.Points.{first_of, last_of}
-use Rattle.channel_store.specs.Refusals.{points_at}
+use Rattle.channel_store.specs.Refusals.{slot_at}
 use Rattle.channel_store.specs.Store.{id_of, range_of}
 use Rattle.store_machine.specs.declared.call.MetaReply.{MetaReply}
 use Rattle.store_machine.specs.declared.call.MetaReply.TheVariants as meta
@@ -62,10 +62,15 @@ range_reply (Err code) = replied.Refused code
 
 -- ---- what is known about channels
 
--- the channel of an id: the indexes of its first and last points
+-- the channel of an id: the indexes of its first and last points, and its definition
+abbrev pub meta_in : ℤ → Option Channel → MetaReply
+meta_in id None = meta.Refused NotFound
+meta_in id (Some c) = meta.Known id (first_of c.points) (last_of c.points) c.def
+
+-- the same, if there is an id
 abbrev pub meta_of : List Channel → Option ℤ → MetaReply
 meta_of cs None = meta.Refused NotFound
-meta_of cs (Some id) = meta.Known id (first_of (points_at cs id)) (last_of (points_at cs id))
+meta_of cs (Some id) = meta_in id (slot_at cs id)
 
 -- the channel of a URI, under a name
 abbrev pub meta_under : List Channel → List ℕ × StoreUri → List ℕ × MetaReply

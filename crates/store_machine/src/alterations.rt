@@ -146,6 +146,8 @@ impl Altered {
             Act::Append(_) => Ok(Altered::none(alloc)),
             Act::Replace { .. } => Ok(Altered::none(alloc)),
             Act::Truncate(_) => Ok(Altered::none(alloc)),
+            Act::Define(_) => Ok(Altered::none(alloc)),
+            Act::Retire(_) => Ok(Altered::none(alloc)),
         }
     }
 }

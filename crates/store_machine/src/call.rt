@@ -5,6 +5,7 @@ use etp_values::{
     ChannelPoint, Copied, DataValue, ErrorCode, List, Named, NoMemory, StoreUri, Text,
 };
 use object_store::SpaceRecord;
+use server_config::ChannelDef;
 use std::alloc::Global;
 use tx_stage::{Looked, Op, Staged, Want};
 
@@ -93,6 +94,14 @@ pub enum StoreCall {
     Truncate {
         items: Named<Cutting>,
     },
+    /// Defines channels.
+    Define {
+        items: Named<ChannelDef>,
+    },
+    /// Retires the channels of these objects.
+    Retire {
+        items: Named<StoreUri>,
+    },
     /// Returns the points of intervals.
     Range {
         items: List<RangeAsk>,
@@ -123,14 +132,23 @@ pub enum Verdict {
     Refused(ErrorCode),
 }
 
-/// What is known about a channel: its id, and the indexes of its first and last points.
-#[derive(Clone, Copy, Debug, Drop, PartialEq, Eq)]
+/// What is known about a channel: its id, the indexes of its first and last points, and its definition.
+#[derive(Debug, Drop, PartialEq, Eq)]
 pub enum MetaReply {
     Known {
         channel: i64,
         first: Option<i64>,
         last: Option<i64>,
+        def: ChannelDef,
     },
+    Refused(ErrorCode),
+}
+
+/// What becomes of a definition: the id of the channel, or why there is none. It is refused by `RequestDenied` if a known channel has its object,
+/// and by `LimitExceeded` if there are as many channels as a store may have.
+#[derive(Clone, Copy, Debug, Drop, PartialEq, Eq)]
+pub enum DefineReply {
+    Id(i64),
     Refused(ErrorCode),
 }
 
@@ -166,6 +184,8 @@ pub enum Reply {
     Points(List<ChannelPoint>),
     /// What is known about each channel.
     Metas(Named<MetaReply>),
+    /// What became of each definition.
+    Defined(Named<DefineReply>),
     /// Where each subscription starts.
     Started(Named<StartReply>),
     /// The changes of the entries up to the place `upto`, and how many entries have due changes.

@@ -21,6 +21,8 @@ pub(crate) fn refusal_code(error: ChannelError) -> Result<ErrorCode, NoMemory>
         ChannelError::Interval => Ok(ErrorCode::InvalidArgument),
         ChannelError::Order(_) => Ok(ErrorCode::InvalidAppend),
         ChannelError::Outside(_) => Ok(ErrorCode::InvalidArgument),
+        ChannelError::Taken(_) => Ok(ErrorCode::RequestDenied),
+        ChannelError::TooMany => Ok(ErrorCode::LimitExceeded),
         ChannelError::NoMemory => Err(NoMemory),
     }
 }

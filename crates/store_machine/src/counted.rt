@@ -2,14 +2,15 @@
 ghost use Rattle.std.specs.Prelude.{◌≡◌, ◌≤◌, ◌+◌, ◌*◌, length};
 ghost use Rattle.etp_values.specs.Weight.{capped, weigh};
 ghost use Rattle.channel_points.specs.Handles.{item_bytes};
-ghost use Rattle.store_machine.specs.Counted.{put_bytes, drop_bytes, act_bytes, bytes_with};
+ghost use Rattle.store_machine.specs.Counted.{put_bytes, def_bytes, drop_bytes, act_bytes, bytes_with};
 ghost use Rattle.store_machine.specs.declared.journal.Act.{Act as Acts};
 
 use crate::call::SpacePut;
 use crate::journal::Act;
 use channel_points::point_bytes;
 use etp_values::{ChannelPoint, List, Text, custom_weight};
-use tx_stage::{ops_bytes, touched_bytes};
+use server_config::ChannelDef;
+use tx_stage::{ops_bytes, touched_bytes, uri_bytes};
 
 /// The greatest number of bytes that the entries of a journal count.
 pub const MAX_JOURNAL_BYTES: u64 = 536_870_912;
@@ -44,8 +45,26 @@ fn paths_bytes(paths: &List<Text>) -> u64
 /// What a channel whose points are replaced counts.
 const REPLACED_BYTES: u64 = 32;
 
-/// What a channel that is truncated counts.
+/// What a channel that is truncated or retired counts.
 const CUT_BYTES: u64 = 16;
+
+fn def_bytes(def: &ChannelDef) -> u64
+    ensures { result ≡ capped (def_bytes def.now) }
+{
+    let texts = (def.name.len() as u64).saturating_add(def.uom.len() as u64);
+    ITEM_BYTES.saturating_add(uri_bytes(&def.uri).saturating_add(texts))
+}
+
+/// Channels that are defined.
+pub(crate) fn defs_bytes(defs: &List<ChannelDef>) -> u64
+    ensures { result ≡ capped (weigh def_bytes defs.now) }
+{
+    let mut sum = 0u64;
+    for def in defs.as_slice() {
+        sum = sum.saturating_add(def_bytes(def));
+    }
+    sum
+}
 
 /// Like `ChannelPoints::bytes`, for points that are not kept yet.
 pub(crate) fn points_bytes(items: &List<ChannelPoint>) -> u64
@@ -67,7 +86,7 @@ pub(crate) fn replaced_bytes(channels: &List<i64>, items: &List<ChannelPoint>) -
         .saturating_add(points_bytes(items))
 }
 
-/// This many channels that are truncated.
+/// This many channels that are truncated or retired.
 pub(crate) fn cuts_bytes(cuts: usize) -> u64
     ensures { result ≡ capped (16 * cuts) }
 {
@@ -95,6 +114,8 @@ fn items_bytes(act: &Act) -> u64
             .saturating_mul(channels.len() as u64)
             .saturating_add(items.get().bytes()),
         Act::Truncate(cuts) => cuts_bytes(cuts.len()),
+        Act::Define(defs) => defs_bytes(defs),
+        Act::Retire(ids) => cuts_bytes(ids.len()),
     }
 }
 

@@ -12,6 +12,7 @@ use crate::boxed::BoxedItems;
 use crate::call::{Cutting, SpacePut};
 use channel_points::ChannelPoints;
 use etp_values::{List, NoMemory, Text};
+use server_config::ChannelDef;
 use std::alloc::Global;
 use tx_stage::{Contents, Op, Plan, Staged};
 
@@ -36,6 +37,10 @@ pub enum Act {
     },
     /// Channels that lost the points above their ends.
     Truncate(List<Cutting>),
+    /// Channels that were defined.
+    Define(List<ChannelDef>),
+    /// Channels that were retired.
+    Retire(List<i64>),
 }
 
 /// One entry: the session's number, how many entries of that session come before it, and the moment.

@@ -11,6 +11,7 @@ mod call;
 mod codes;
 mod counted;
 mod cuts;
+mod defining;
 mod draft;
 mod journal;
 mod laws;
@@ -25,8 +26,8 @@ mod watch;
 
 pub use boxed::BoxedItems;
 pub use call::{
-    Answer, Cutting, MetaReply, RangeAsk, Reply, SpacePut, Start, StartAsk, StartReply, StoreCall,
-    Verdict,
+    Answer, Cutting, DefineReply, MetaReply, RangeAsk, Reply, SpacePut, Start, StartAsk,
+    StartReply, StoreCall, Verdict,
 };
 pub use channel_store::Sub;
 pub use counted::MAX_JOURNAL_BYTES;

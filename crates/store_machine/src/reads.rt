@@ -162,16 +162,28 @@ pub(crate) fn ranges(
     Ok(Reply::Points(List::from_vec(items)))
 }
 
-fn meta(channels: &ChannelStore, uri: &StoreUri) -> MetaReply
-    ensures { result ≡ meta_of channels.now (id_of uri.now channels.now) }
+/// What is known about a channel: the indexes of its first and last points, and a copy of its definition.
+fn meta_in(alloc: Global, channels: &ChannelStore, channel: i64) -> Result<MetaReply, NoMemory>
+    ensures { IfOk result (λ m. m ≡ meta_in channel (slot_at channels.now channel)) }
+{
+    let Some(def) = channels.def_of(channel) else {
+        return Ok(MetaReply::Refused(ErrorCode::NotFound));
+    };
+    let def = def.copy(alloc)?;
+    Ok(MetaReply::Known {
+        channel,
+        first: channels.first_index(channel),
+        last: channels.last_index(channel),
+        def,
+    })
+}
+
+fn meta(alloc: Global, channels: &ChannelStore, uri: &StoreUri) -> Result<MetaReply, NoMemory>
+    ensures { IfOk result (λ m. m ≡ meta_of channels.now (id_of uri.now channels.now)) }
 {
     match channels.channel_of(uri) {
-        None => MetaReply::Refused(ErrorCode::NotFound),
-        Some(channel) => MetaReply::Known {
-            channel,
-            first: channels.first_index(channel),
-            last: channels.last_index(channel),
-        },
+        None => Ok(MetaReply::Refused(ErrorCode::NotFound)),
+        Some(channel) => meta_in(alloc, channels, channel),
     }
 }
 
@@ -186,7 +198,8 @@ pub(crate) fn metas(
     let mut metas = Vec::new(alloc);
     metas.reserve(items.len())?;
     for (name, uri) in items {
-        metas.push((name, meta(channels, &uri)))?;
+        let reply = meta(alloc, channels, &uri)?;
+        metas.push((name, reply))?;
     }
     Ok(metas)
 }

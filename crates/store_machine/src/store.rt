@@ -11,8 +11,9 @@ ghost use Rattle.store_machine.specs.declared.call.StoreCall.TheVariants as call
 
 use crate::alterations::Alterations;
 use crate::call::{Answer, Cutting, RangeAsk, Reply, SpacePut, StartAsk, StoreCall};
-use crate::counted::{ENTRY_BYTES, bytes_after, bytes_with, cuts_bytes};
+use crate::counted::{ENTRY_BYTES, bytes_after, bytes_with, cuts_bytes, defs_bytes};
 use crate::cuts::{add_cuts, draft_cuts};
+use crate::defining::{add_defs, add_retired, draft_defs, draft_retired};
 use crate::draft::{draft_drops, draft_ops, draft_puts, plan_ops};
 use crate::journal::{Act, Entry, add_entry, push_entry};
 use crate::load::{Load, add_load};
@@ -23,7 +24,7 @@ use crate::spaces::listed;
 use crate::starts::starts;
 use channel_store::{ChannelStore, Sub};
 use etp_values::{ErrorCode, List, Named, NoMemory, StoreUri, Text};
-use server_config::Config;
+use server_config::{ChannelDef, Config};
 use std::alloc::Global;
 use std::marker::Model;
 use tx_stage::{Contents, Op, Staged, Want};
@@ -156,6 +157,8 @@ impl Store {
                 self.load(alloc, by, nth, at, load)
             }
             StoreCall::Truncate { items } => self.truncate(alloc, by, nth, at, items),
+            StoreCall::Define { items } => self.define(alloc, by, nth, at, items),
+            StoreCall::Retire { items } => self.retire(alloc, by, nth, at, items),
             StoreCall::Range { items } => self.range(alloc, items),
             StoreCall::Meta { items } => self.meta(alloc, items),
             StoreCall::Subscribe { items } => self.subscribe(alloc, items),
@@ -600,6 +603,94 @@ impl Store {
         })
     }
 
+    /// Defines channels.
+    fn define(
+        &mut self,
+        alloc: Global,
+        by: u64,
+        nth: u64,
+        at: i64,
+        items: Named<ChannelDef>,
+    ) -> Result<Answer, NoMemory>
+        requires { IsNext self.old.journal by nth }
+        ensures answer { IfOk result (λ a.
+            a ≡ answer self.old.config self.old.journal (call.Define items)) }
+        ensures journal { OnOk result (
+            self.new.journal
+            ≡ self.old.journal ++ entries_of self.old.config self.old.journal by nth at (call.Define items)) }
+        ensures config { self.new.config ≡ self.old.config }
+        ensures legal { Legal self.new.config self.new.journal }
+        ensures err { OnErr result (self.new ≡ self.old) }
+    {
+        let mark = self.journal.len() as u64;
+        let draft = draft_defs(alloc, &self.channels, items.into_vec())?;
+        let replies = Named::from_sorted(draft.replies);
+        if draft.accepted.is_empty() {
+            return Ok(Answer {
+                mark,
+                reply: Reply::Defined(replies),
+            });
+        }
+        let defs = List::from_vec(draft.accepted);
+        let counted = defs_bytes(&defs);
+        let Some(bytes) = bytes_after(self.config.journal, mark, self.bytes, counted) else {
+            return Ok(Answer {
+                mark,
+                reply: Reply::JournalFull,
+            });
+        };
+        add_defs(&mut self.journal, &mut self.channels, by, nth, at, defs)?;
+        self.bytes = bytes;
+        Ok(Answer {
+            mark,
+            reply: Reply::Defined(replies),
+        })
+    }
+
+    /// Retires channels.
+    fn retire(
+        &mut self,
+        alloc: Global,
+        by: u64,
+        nth: u64,
+        at: i64,
+        items: Named<StoreUri>,
+    ) -> Result<Answer, NoMemory>
+        requires { IsNext self.old.journal by nth }
+        ensures answer { IfOk result (λ a.
+            a ≡ answer self.old.config self.old.journal (call.Retire items)) }
+        ensures journal { OnOk result (
+            self.new.journal
+            ≡ self.old.journal ++ entries_of self.old.config self.old.journal by nth at (call.Retire items)) }
+        ensures config { self.new.config ≡ self.old.config }
+        ensures legal { Legal self.new.config self.new.journal }
+        ensures err { OnErr result (self.new ≡ self.old) }
+    {
+        let mark = self.journal.len() as u64;
+        let draft = draft_retired(alloc, &self.channels, items.into_vec())?;
+        let verdicts = Named::from_sorted(draft.verdicts);
+        if draft.accepted.is_empty() {
+            return Ok(Answer {
+                mark,
+                reply: Reply::Verdicts(verdicts),
+            });
+        }
+        let counted = cuts_bytes(draft.accepted.len());
+        let Some(bytes) = bytes_after(self.config.journal, mark, self.bytes, counted) else {
+            return Ok(Answer {
+                mark,
+                reply: Reply::JournalFull,
+            });
+        };
+        let ids = List::from_vec(draft.accepted);
+        add_retired(&mut self.journal, &mut self.channels, by, nth, at, ids)?;
+        self.bytes = bytes;
+        Ok(Answer {
+            mark,
+            reply: Reply::Verdicts(verdicts),
+        })
+    }
+
     fn range(&self, alloc: Global, items: List<RangeAsk>) -> Result<Answer, NoMemory>
         ensures answer { IfOk result (λ a.
             a ≡ answer self.now.config self.now.journal (call.Range items)) }
@@ -646,7 +737,7 @@ impl Store {
         ensures legal { Legal self.new.config self.new.journal }
     {
         let mark = self.journal.len() as u64;
-        let ids = self.config.channels.get().len() as u64;
+        let ids = self.channels.channels();
         let reply = news(
             alloc,
             &self.channels,

@@ -65,7 +65,7 @@ fn space_len(path: &Text) -> u64
 }
 
 /// The length of the canonical text of a URI.
-fn uri_bytes(uri: &StoreUri) -> u64
+pub fn uri_bytes(uri: &StoreUri) -> u64
     ensures { result ≡ capped (length (plain_uri uri.now)) }
 {
     let space = space_len(&uri.space);

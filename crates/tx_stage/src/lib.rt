@@ -28,7 +28,7 @@ mod touch;
 mod value;
 
 pub use contents::Contents;
-pub use counted::{key_bytes, op_bytes, ops_bytes, touched_bytes};
+pub use counted::{key_bytes, op_bytes, ops_bytes, touched_bytes, uri_bytes};
 pub use error::StageError;
 pub use key::Key;
 pub use laws::{look_laws, overlay_laws};
