@@ -1,16 +1,17 @@
 //! What is read of channels.
 ghost use Rattle.std.specs.Prelude.{◌≡◌, ◌≤◌, ◌++◌, IfOk, IfSome, List as Items, Ok, OnOk, map};
 ghost use Rattle.channel_points.specs.Handles.{of_channel};
+ghost use Rattle.channel_store.specs.Refusals.{slot_at};
 ghost use Rattle.channel_store.specs.Store.{id_of, range_of};
 ghost use Rattle.channel_store.specs.Told.{size_of, size_within, sized_within};
 ghost use Rattle.etp_values.specs.declared.point.Point.{Point as APoint};
-ghost use Rattle.store_machine.specs.Reads.{meta_of, meta_under, range_reply, ranged, room_with, whole_room};
+ghost use Rattle.store_machine.specs.Reads.{meta_in, meta_of, meta_under, range_reply, ranged, room_with, whole_room};
 ghost use Rattle.store_machine.specs.Ranging.{JoinsRange};
 
 use crate::call::{MetaReply, RangeAsk, Reply};
 use crate::codes::refusal_code;
 use channel_store::{ChannelStore, PointSize};
-use etp_values::{ChannelPoint, ErrorCode, List, NoMemory, Point, StoreUri, Text};
+use etp_values::{ChannelPoint, Copied, ErrorCode, List, NoMemory, Point, StoreUri, Text};
 use std::alloc::Global;
 
 /// The greatest number of points in an answer.
