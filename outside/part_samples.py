@@ -28,7 +28,7 @@ GROWING = {
     "PutUninitializedDataArraysResponse": "success", "GetChannelMetadataResponse": "metadata", "SubscribeChannelsResponse": "success",
     "ChannelData": "data", "RangeReplaced": "data", "ChannelsTruncated": "channels", "SubscriptionsStopped": "channelIds",
     "GetRangesResponse": "data", "OpenChannelsResponse": "channels", "ChannelsClosed": "id",
-    "TruncateChannelsResponse": "channelsTruncatedTime",
+    "TruncateChannelsResponse": "channelsTruncatedTime", "DefineChannelsResponse": "ids", "RetireChannelsResponse": "success",
 }
 
 # --- the parts -----------------------------------------------------------------------------------------------------------

@@ -144,6 +144,10 @@ MESSAGES = """
 22 8 ReplaceRangeResponse S channelChangeTime:long
 22 9 TruncateChannels C channels:{TruncateInfo}
 22 10 TruncateChannelsResponse S channelsTruncatedTime:{long}
+22 11 DefineChannels C channels:{ChannelMetadataRecord}
+22 12 DefineChannelsResponse S ids:{long}
+22 13 RetireChannels C uris:{string}
+22 14 RetireChannelsResponse S success:{string}
 """
 
 # These are messages of every protocol.

@@ -97,7 +97,11 @@ channel_data_load_names =
     called 7 (codes "ChannelsClosed") ∷
     called 8 (codes "ReplaceRangeResponse") ∷
     called 9 (codes "TruncateChannels") ∷
-    called 10 (codes "TruncateChannelsResponse") ∷ common_names
+    called 10 (codes "TruncateChannelsResponse") ∷
+    called 11 (codes "DefineChannels") ∷
+    called 12 (codes "DefineChannelsResponse") ∷
+    called 13 (codes "RetireChannels") ∷
+    called 14 (codes "RetireChannelsResponse") ∷ common_names
 
 -- a protocol, by its number, and its messages
 pub record NamedProtocol : Type 0 where

@@ -194,7 +194,11 @@ table_names =
     of_message (codes "ReplaceRangeResponse") (codes "channelChangeTime" ∷ []) ∷
     nothing ∷
     of_message (codes "TruncateChannels") (codes "channels" ∷ []) ∷
-    of_message (codes "TruncateChannelsResponse") (codes "channelsTruncatedTime" ∷ []) ∷ []
+    of_message (codes "TruncateChannelsResponse") (codes "channelsTruncatedTime" ∷ []) ∷
+    of_message (codes "DefineChannels") (codes "channels" ∷ []) ∷
+    of_message (codes "DefineChannelsResponse") (codes "ids" ∷ []) ∷
+    of_message (codes "RetireChannels") (codes "uris" ∷ []) ∷
+    of_message (codes "RetireChannelsResponse") (codes "success" ∷ []) ∷ []
 
 -- the places that each node of the schema's table names
 abbrev pub table_children : List (List ℕ)
@@ -363,7 +367,11 @@ table_children =
     (3 ∷ []) ∷
     (79 ∷ []) ∷
     (162 ∷ []) ∷
-    (145 ∷ []) ∷ []
+    (145 ∷ []) ∷
+    (138 ∷ []) ∷
+    (145 ∷ []) ∷
+    (98 ∷ []) ∷
+    (98 ∷ []) ∷ []
 
 -- the names at a place
 unfoldable pub names_at : ℕ → Named

@@ -311,6 +311,10 @@ static NAMES: &[Names] = &[
     Nothing,
     Message("TruncateChannels", &["channels"]),
     Message("TruncateChannelsResponse", &["channelsTruncatedTime"]),
+    Message("DefineChannels", &["channels"]),
+    Message("DefineChannelsResponse", &["ids"]),
+    Message("RetireChannels", &["uris"]),
+    Message("RetireChannelsResponse", &["success"]),
 ];
 
 /// The names at each place of the schema's table.

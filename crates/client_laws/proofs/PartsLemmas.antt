@@ -259,6 +259,10 @@ load_ends limit (load.ChannelsClosed x) rise =
     (λ a. (refl, refl, refl, refl, refl, refl, refl, refl, refl, refl, refl, λ channel. refl, refl, refl))
 load_ends limit (load.TruncateChannelsResponse x) rise =
     names_end false (λ g. message.ChannelDataLoad (load.TruncateChannelsResponse (record x { channels_truncated_time = g }))) (λ g. (refl, refl, refl, refl, refl)) (entry_amount long_form) limit x.channels_truncated_time (λ a b. refl) rise
+load_ends limit (load.DefineChannelsResponse x) rise =
+    names_end false (λ g. message.ChannelDataLoad (load.DefineChannelsResponse (record x { ids = g }))) (λ g. (refl, refl, refl, refl, refl)) (entry_amount long_form) limit x.ids (λ a b. refl) rise
+load_ends limit (load.RetireChannelsResponse x) rise =
+    names_end false (λ g. message.ChannelDataLoad (load.RetireChannelsResponse (record x { success = g }))) (λ g. (refl, refl, refl, refl, refl)) (entry_amount text_form) limit x.success (λ a b. refl) rise
 load_ends limit x rise = alone (message.ChannelDataLoad x)
 
 parts_end : (limit number blobs : ℕ) (m : Message) → has_objects m ≡ false → Rises m → Parted (parts limit number blobs m) m

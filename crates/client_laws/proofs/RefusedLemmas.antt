@@ -140,6 +140,8 @@ load_shape : (limit : ℕ) (x : ChannelDataLoadMessage) → Shape (message.Chann
 load_shape limit (load.OpenChannelsResponse x) = in_groups (λ g. message.ChannelDataLoad (load.OpenChannelsResponse (record x { channels = g }))) (entry_amount open_channel_info_form) limit x.channels (λ g. (refl, refl, refl, refl))
 load_shape limit (load.ChannelsClosed x) = in_groups (λ g. message.ChannelDataLoad (load.ChannelsClosed (record x { id = g }))) (entry_amount long_form) limit x.id (λ g. (refl, refl, refl, refl))
 load_shape limit (load.TruncateChannelsResponse x) = in_groups (λ g. message.ChannelDataLoad (load.TruncateChannelsResponse (record x { channels_truncated_time = g }))) (entry_amount long_form) limit x.channels_truncated_time (λ g. (refl, refl, refl, refl))
+load_shape limit (load.DefineChannelsResponse x) = in_groups (λ g. message.ChannelDataLoad (load.DefineChannelsResponse (record x { ids = g }))) (entry_amount long_form) limit x.ids (λ g. (refl, refl, refl, refl))
+load_shape limit (load.RetireChannelsResponse x) = in_groups (λ g. message.ChannelDataLoad (load.RetireChannelsResponse (record x { success = g }))) (entry_amount text_form) limit x.success (λ g. (refl, refl, refl, refl))
 load_shape limit x = inl refl
 
 shape : (limit number blobs : ℕ) (m : Message) → has_objects m ≡ false → Shape m (parts limit number blobs m)

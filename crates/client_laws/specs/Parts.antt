@@ -117,6 +117,8 @@ SubscribeRises _ = Unit {0}
 abbrev pub LoadRises : ChannelDataLoadMessage → Type 0
 LoadRises (load.OpenChannelsResponse x) = Rise x.channels
 LoadRises (load.TruncateChannelsResponse x) = Rise x.channels_truncated_time
+LoadRises (load.DefineChannelsResponse x) = Rise x.ids
+LoadRises (load.RetireChannelsResponse x) = Rise x.success
 LoadRises _ = Unit {0}
 
 -- the names of a message that a client puts together by names rise, as they do in each message that is sent

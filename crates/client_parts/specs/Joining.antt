@@ -55,4 +55,6 @@ subscribe_joined x y = y
 abbrev pub load_joined : ChannelDataLoadMessage → ChannelDataLoadMessage → ChannelDataLoadMessage
 load_joined (load.OpenChannelsResponse x) (load.OpenChannelsResponse y) = load.OpenChannelsResponse (record x { channels = merged x.channels y.channels })
 load_joined (load.TruncateChannelsResponse x) (load.TruncateChannelsResponse y) = load.TruncateChannelsResponse (record x { channels_truncated_time = merged x.channels_truncated_time y.channels_truncated_time })
+load_joined (load.DefineChannelsResponse x) (load.DefineChannelsResponse y) = load.DefineChannelsResponse (record x { ids = merged x.ids y.ids })
+load_joined (load.RetireChannelsResponse x) (load.RetireChannelsResponse y) = load.RetireChannelsResponse (record x { success = merged x.success y.success })
 load_joined x y = y

@@ -17,8 +17,9 @@ ghost use Rattle.msg_store.specs.declared.store_messages.StoreMessage.TheVariant
 use etp_values::{List, Named, NoMemory, Text};
 use msg_channel::{
     ChannelData, ChannelDataLoadMessage, ChannelSubscribeMessage, ChannelsTruncated,
-    GetChannelMetadataResponse, GetRangesResponse, OpenChannelsResponse, RangeReplaced,
-    SubscribeChannelsResponse, SubscriptionsStopped, TruncateChannelsResponse,
+    DefineChannelsResponse, GetChannelMetadataResponse, GetRangesResponse, OpenChannelsResponse,
+    RangeReplaced, RetireChannelsResponse, SubscribeChannelsResponse, SubscriptionsStopped,
+    TruncateChannelsResponse,
 };
 use msg_core::{
     CoreMessage, DataspaceMessage, GetDataspacesResponse, ProtocolException, PutDataspacesResponse,
@@ -467,6 +468,44 @@ fn truncate_channels_response(
     }
 }
 
+fn define_channels_response(
+    alloc: Global,
+    first: ChannelDataLoadMessage,
+    more: DefineChannelsResponse,
+) -> Result<ChannelDataLoadMessage, NoMemory>
+    ensures { IfOk result (λ m. m ≡ load_joined first (load.DefineChannelsResponse more)) }
+{
+    match first {
+        ChannelDataLoadMessage::DefineChannelsResponse(first) => {
+            let ids = merged(alloc, first.ids, more.ids)?;
+            Ok(ChannelDataLoadMessage::DefineChannelsResponse(DefineChannelsResponse {
+                ids,
+                ..first
+            }))
+        }
+        other => Ok(later(other, ChannelDataLoadMessage::DefineChannelsResponse(more))),
+    }
+}
+
+fn retire_channels_response(
+    alloc: Global,
+    first: ChannelDataLoadMessage,
+    more: RetireChannelsResponse,
+) -> Result<ChannelDataLoadMessage, NoMemory>
+    ensures { IfOk result (λ m. m ≡ load_joined first (load.RetireChannelsResponse more)) }
+{
+    match first {
+        ChannelDataLoadMessage::RetireChannelsResponse(first) => {
+            let success = merged(alloc, first.success, more.success)?;
+            Ok(ChannelDataLoadMessage::RetireChannelsResponse(RetireChannelsResponse {
+                success,
+                ..first
+            }))
+        }
+        other => Ok(later(other, ChannelDataLoadMessage::RetireChannelsResponse(more))),
+    }
+}
+
 /// A further part of a message, appended to what there is of it.
 pub fn load_joined(
     alloc: Global,
@@ -480,6 +519,12 @@ pub fn load_joined(
             alloc, first, more,
         ),
         ChannelDataLoadMessage::TruncateChannelsResponse(more) => truncate_channels_response(
+            alloc, first, more,
+        ),
+        ChannelDataLoadMessage::DefineChannelsResponse(more) => define_channels_response(
+            alloc, first, more,
+        ),
+        ChannelDataLoadMessage::RetireChannelsResponse(more) => retire_channels_response(
             alloc, first, more,
         ),
         other => Ok(later(first, other)),

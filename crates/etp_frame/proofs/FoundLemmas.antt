@@ -108,6 +108,10 @@ own_channel_data_load (load.ChannelsClosed x) = refl
 own_channel_data_load (load.ReplaceRangeResponse x) = refl
 own_channel_data_load (load.TruncateChannels x) = refl
 own_channel_data_load (load.TruncateChannelsResponse x) = refl
+own_channel_data_load (load.DefineChannels x) = refl
+own_channel_data_load (load.DefineChannelsResponse x) = refl
+own_channel_data_load (load.RetireChannels x) = refl
+own_channel_data_load (load.RetireChannelsResponse x) = refl
 
 -- what is found after the messages of every protocol
 reads_behind : {M : Type 0} (whole : M → Message) (ks : List (Kind M)) (written : M → Body) (x : M) → is_some (kind_in common_kinds (pos (written x).number)) ≡ false → IsFound ks written x → Reads (written x) (whole x) (kind_in (common_kinds ++ under whole ks) (pos (written x).number))

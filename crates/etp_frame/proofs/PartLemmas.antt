@@ -63,6 +63,8 @@ channel_data_load_whole : (limit : ℕ) (x : ChannelDataLoadMessage) → whole (
 channel_data_load_whole limit (load.OpenChannelsResponse x) = all_parts (entry_amount open_channel_info_form) limit (λ g. m.ChannelDataLoad (load.OpenChannelsResponse (record x { channels = g }))) (λ a b. refl) x.channels
 channel_data_load_whole limit (load.ChannelsClosed x) = all_parts (entry_amount long_form) limit (λ g. m.ChannelDataLoad (load.ChannelsClosed (record x { id = g }))) (λ a b. refl) x.id
 channel_data_load_whole limit (load.TruncateChannelsResponse x) = all_parts (entry_amount long_form) limit (λ g. m.ChannelDataLoad (load.TruncateChannelsResponse (record x { channels_truncated_time = g }))) (λ a b. refl) x.channels_truncated_time
+channel_data_load_whole limit (load.DefineChannelsResponse x) = all_parts (entry_amount long_form) limit (λ g. m.ChannelDataLoad (load.DefineChannelsResponse (record x { ids = g }))) (λ a b. refl) x.ids
+channel_data_load_whole limit (load.RetireChannelsResponse x) = all_parts (entry_amount text_form) limit (λ g. m.ChannelDataLoad (load.RetireChannelsResponse (record x { success = g }))) (λ a b. refl) x.success
 channel_data_load_whole limit x = refl
 
 result_whole : (limit : ℕ) (x : StoreMessage) → whole (result_parts limit x) ≡ Some (m.Store x)

@@ -81,6 +81,8 @@ abbrev pub channel_data_load_parts : ℕ → ChannelDataLoadMessage → List Mes
 channel_data_load_parts limit (load.OpenChannelsResponse x) = map (λ g. m.ChannelDataLoad (load.OpenChannelsResponse (record x { channels = g }))) (groups (entry_amount open_channel_info_form) limit x.channels)
 channel_data_load_parts limit (load.ChannelsClosed x) = map (λ g. m.ChannelDataLoad (load.ChannelsClosed (record x { id = g }))) (groups (entry_amount long_form) limit x.id)
 channel_data_load_parts limit (load.TruncateChannelsResponse x) = map (λ g. m.ChannelDataLoad (load.TruncateChannelsResponse (record x { channels_truncated_time = g }))) (groups (entry_amount long_form) limit x.channels_truncated_time)
+channel_data_load_parts limit (load.DefineChannelsResponse x) = map (λ g. m.ChannelDataLoad (load.DefineChannelsResponse (record x { ids = g }))) (groups (entry_amount long_form) limit x.ids)
+channel_data_load_parts limit (load.RetireChannelsResponse x) = map (λ g. m.ChannelDataLoad (load.RetireChannelsResponse (record x { success = g }))) (groups (entry_amount text_form) limit x.success)
 channel_data_load_parts limit x = m.ChannelDataLoad x ∷ []
 
 -- The parts of a message that is sent if messages have at most `limit` bytes, in the session of a number, in which this many blobs were

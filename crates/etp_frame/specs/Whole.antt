@@ -64,6 +64,8 @@ abbrev pub channel_data_load_joined : ChannelDataLoadMessage → ChannelDataLoad
 channel_data_load_joined (load.OpenChannelsResponse x) (load.OpenChannelsResponse y) = load.OpenChannelsResponse (record x { channels = x.channels ++ y.channels })
 channel_data_load_joined (load.ChannelsClosed x) (load.ChannelsClosed y) = load.ChannelsClosed (record x { id = x.id ++ y.id })
 channel_data_load_joined (load.TruncateChannelsResponse x) (load.TruncateChannelsResponse y) = load.TruncateChannelsResponse (record x { channels_truncated_time = x.channels_truncated_time ++ y.channels_truncated_time })
+channel_data_load_joined (load.DefineChannelsResponse x) (load.DefineChannelsResponse y) = load.DefineChannelsResponse (record x { ids = x.ids ++ y.ids })
+channel_data_load_joined (load.RetireChannelsResponse x) (load.RetireChannelsResponse y) = load.RetireChannelsResponse (record x { success = x.success ++ y.success })
 channel_data_load_joined x y = x
 
 -- a message with a further part or chunk of it

@@ -115,7 +115,11 @@ channel_data_load_rows =
     body 7 by_server place.CHANNELS_CLOSED shape.channels_closed ∷
     body 8 by_server place.REPLACE_RANGE_RESPONSE shape.replace_range_response ∷
     body 9 by_client place.TRUNCATE_CHANNELS shape.truncate_channels ∷
-    body 10 by_server place.TRUNCATE_CHANNELS_RESPONSE shape.truncate_channels_response ∷ common
+    body 10 by_server place.TRUNCATE_CHANNELS_RESPONSE shape.truncate_channels_response ∷
+    body 11 by_client place.DEFINE_CHANNELS shape.define_channels ∷
+    body 12 by_server place.DEFINE_CHANNELS_RESPONSE shape.define_channels_response ∷
+    body 13 by_client place.RETIRE_CHANNELS shape.retire_channels ∷
+    body 14 by_server place.RETIRE_CHANNELS_RESPONSE shape.retire_channels_response ∷ common
 
 -- a protocol, and its messages
 pub record ProtocolRow : Type 0 where

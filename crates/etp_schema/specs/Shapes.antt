@@ -461,6 +461,22 @@ truncate_channels = record_of ((SMap truncate_info) ∷ [])
 abbrev pub truncate_channels_response : Schema
 truncate_channels_response = record_of ((SMap SLong) ∷ [])
 
+-- channels
+abbrev pub define_channels : Schema
+define_channels = record_of ((SMap channel_metadata_record) ∷ [])
+
+-- ids
+abbrev pub define_channels_response : Schema
+define_channels_response = record_of ((SMap SLong) ∷ [])
+
+-- uris
+abbrev pub retire_channels : Schema
+retire_channels = record_of ((SMap SText) ∷ [])
+
+-- success
+abbrev pub retire_channels_response : Schema
+retire_channels_response = record_of ((SMap SText) ∷ [])
+
 -- the schema at each place
 abbrev pub table_shapes : List Schema
 table_shapes =
@@ -491,7 +507,8 @@ table_shapes =
     range_replaced ∷ (SMap SLong) ∷ unsubscribe_channels ∷ subscriptions_stopped ∷ (SArray channel_range_info) ∷ get_ranges ∷
     get_ranges_response ∷ subscribe_channels_response ∷ (SArray truncate_info) ∷ channels_truncated ∷ open_channels ∷ (SMap open_channel_info) ∷
     open_channels_response ∷ close_channels ∷ load_channel_data ∷ replace_range ∷ channels_closed ∷ replace_range_response ∷
-    (SMap truncate_info) ∷ truncate_channels ∷ truncate_channels_response ∷ []
+    (SMap truncate_info) ∷ truncate_channels ∷ truncate_channels_response ∷ define_channels ∷ define_channels_response ∷ retire_channels ∷
+    retire_channels_response ∷ []
 
 -- the nodes of a table
 abbrev pub nodes_of : Table → List Node
@@ -499,7 +516,7 @@ nodes_of table = table.nodes.now
 
 -- how many nodes the schema has
 abbrev pub table_size : ℕ
-table_size = 165
+table_size = 169
 
 -- the schema at a place
 abbrev pub shape_at : ℕ → Schema

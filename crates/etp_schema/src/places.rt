@@ -353,3 +353,11 @@ pub const MAP_OF_TRUNCATE_INFO: u32 = 162;
 pub const TRUNCATE_CHANNELS: u32 = 163;
 /// channelsTruncatedTime: {long}.
 pub const TRUNCATE_CHANNELS_RESPONSE: u32 = 164;
+/// channels: {ChannelMetadataRecord}.
+pub const DEFINE_CHANNELS: u32 = 165;
+/// ids: {long}.
+pub const DEFINE_CHANNELS_RESPONSE: u32 = 166;
+/// uris: {string}.
+pub const RETIRE_CHANNELS: u32 = 167;
+/// success: {string}.
+pub const RETIRE_CHANNELS_RESPONSE: u32 = 168;

@@ -292,6 +292,10 @@ pub static TABLE: Table = Table {
         Node::Map(TRUNCATE_INFO),
         Node::Fields(&[MAP_OF_TRUNCATE_INFO]),
         Node::Fields(&[MAP_OF_LONG]),
+        Node::Fields(&[MAP_OF_CHANNEL_METADATA_RECORD]),
+        Node::Fields(&[MAP_OF_LONG]),
+        Node::Fields(&[MAP_OF_STRING]),
+        Node::Fields(&[MAP_OF_STRING]),
     ],
 };
 

@@ -9,8 +9,9 @@ use crate::record_fields::{fields_of, tree_of};
 use avro_bin::Tree;
 use etp_values::NoMemory;
 use msg_channel::{
-    ChannelDataLoadMessage, ChannelsClosed, CloseChannels, LoadChannelData, OpenChannelInfo,
-    OpenChannels, OpenChannelsResponse, ReplaceRange, ReplaceRangeResponse, TruncateChannels,
+    ChannelDataLoadMessage, ChannelsClosed, CloseChannels, DefineChannels, DefineChannelsResponse,
+    LoadChannelData, OpenChannelInfo, OpenChannels, OpenChannelsResponse, ReplaceRange,
+    ReplaceRangeResponse, RetireChannels, RetireChannelsResponse, TruncateChannels,
     TruncateChannelsResponse,
 };
 use std::alloc::Global;
@@ -178,6 +179,10 @@ impl BodyInTree for ChannelDataLoadMessage {
             ChannelDataLoadMessage::ReplaceRangeResponse(message) => message.to_tree(alloc),
             ChannelDataLoadMessage::TruncateChannels(message) => message.to_tree(alloc),
             ChannelDataLoadMessage::TruncateChannelsResponse(message) => message.to_tree(alloc),
+            ChannelDataLoadMessage::DefineChannels(message) => message.to_tree(alloc),
+            ChannelDataLoadMessage::DefineChannelsResponse(message) => message.to_tree(alloc),
+            ChannelDataLoadMessage::RetireChannels(message) => message.to_tree(alloc),
+            ChannelDataLoadMessage::RetireChannelsResponse(message) => message.to_tree(alloc),
         }
     }
 
@@ -213,6 +218,18 @@ impl BodyInTree for ChannelDataLoadMessage {
             )?))),
             10 => Ok(Some(ChannelDataLoadMessage::TruncateChannelsResponse(
                 TruncateChannelsResponse::from_tree(alloc, tree)?,
+            ))),
+            11 => Ok(Some(ChannelDataLoadMessage::DefineChannels(DefineChannels::from_tree(
+                alloc, tree,
+            )?))),
+            12 => Ok(Some(ChannelDataLoadMessage::DefineChannelsResponse(
+                DefineChannelsResponse::from_tree(alloc, tree)?,
+            ))),
+            13 => Ok(Some(ChannelDataLoadMessage::RetireChannels(RetireChannels::from_tree(
+                alloc, tree,
+            )?))),
+            14 => Ok(Some(ChannelDataLoadMessage::RetireChannelsResponse(
+                RetireChannelsResponse::from_tree(alloc, tree)?,
             ))),
             _ => Ok(None),
         }

@@ -26,6 +26,7 @@ mod array_records;
 mod array_types;
 mod body_in_tree;
 mod channel_data_load_messages;
+mod channel_defining;
 mod channel_ranges;
 mod channel_records;
 mod channel_subscribe_messages;

@@ -16,6 +16,10 @@ use Rattle.msg_channel.specs.declared.channel_data_load_messages.ChannelsClosed.
 use Rattle.msg_channel.specs.declared.channel_data_load_messages.ReplaceRangeResponse.{ReplaceRangeResponse}
 use Rattle.msg_channel.specs.declared.channel_data_load_messages.TruncateChannels.{TruncateChannels}
 use Rattle.msg_channel.specs.declared.channel_data_load_messages.TruncateChannelsResponse.{TruncateChannelsResponse}
+use Rattle.msg_channel.specs.declared.channel_defining.DefineChannels.{DefineChannels}
+use Rattle.msg_channel.specs.declared.channel_defining.DefineChannelsResponse.{DefineChannelsResponse}
+use Rattle.msg_channel.specs.declared.channel_defining.RetireChannels.{RetireChannels}
+use Rattle.msg_channel.specs.declared.channel_defining.RetireChannelsResponse.{RetireChannelsResponse}
 use Rattle.msg_channel.specs.declared.channel_data_load_messages.ChannelDataLoadMessage.{ChannelDataLoadMessage}
 use Rattle.msg_channel.specs.declared.channel_data_load_messages.ChannelDataLoadMessage.TheVariants as m
 
@@ -99,6 +103,38 @@ truncate_channels_response_form =
     (λ p. record { channels_truncated_time = p.0 })
     (λ x. refl) (λ p. refl)
 
+-- channels
+abbrev pub define_channels_form : Form DefineChannels
+define_channels_form =
+    fields ((named_form channel_metadata_record_form) & done)
+    (λ x. (x.channels, tt))
+    (λ p. record { channels = p.0 })
+    (λ x. refl) (λ p. refl)
+
+-- ids
+abbrev pub define_channels_response_form : Form DefineChannelsResponse
+define_channels_response_form =
+    fields ((named_form long_form) & done)
+    (λ x. (x.ids, tt))
+    (λ p. record { ids = p.0 })
+    (λ x. refl) (λ p. refl)
+
+-- uris
+abbrev pub retire_channels_form : Form RetireChannels
+retire_channels_form =
+    fields ((named_form text_form) & done)
+    (λ x. (x.uris, tt))
+    (λ p. record { uris = p.0 })
+    (λ x. refl) (λ p. refl)
+
+-- success
+abbrev pub retire_channels_response_form : Form RetireChannelsResponse
+retire_channels_response_form =
+    fields ((named_form text_form) & done)
+    (λ x. (x.success, tt))
+    (λ p. record { success = p.0 })
+    (λ x. refl) (λ p. refl)
+
 -- the messages by number
 abbrev pub channel_data_load_kinds : List (Kind ChannelDataLoadMessage)
 channel_data_load_kinds =
@@ -110,7 +146,11 @@ channel_data_load_kinds =
     message 7 channels_closed_form m.ChannelsClosed ∷
     message 8 replace_range_response_form m.ReplaceRangeResponse ∷
     message 9 truncate_channels_form m.TruncateChannels ∷
-    message 10 truncate_channels_response_form m.TruncateChannelsResponse ∷ []
+    message 10 truncate_channels_response_form m.TruncateChannelsResponse ∷
+    message 11 define_channels_form m.DefineChannels ∷
+    message 12 define_channels_response_form m.DefineChannelsResponse ∷
+    message 13 retire_channels_form m.RetireChannels ∷
+    message 14 retire_channels_response_form m.RetireChannelsResponse ∷ []
 
 -- the number, schema and value of a message's body
 abbrev pub channel_data_load_body : ChannelDataLoadMessage → Body
@@ -123,6 +163,10 @@ channel_data_load_body (m.ChannelsClosed x) = body 7 channels_closed_form x
 channel_data_load_body (m.ReplaceRangeResponse x) = body 8 replace_range_response_form x
 channel_data_load_body (m.TruncateChannels x) = body 9 truncate_channels_form x
 channel_data_load_body (m.TruncateChannelsResponse x) = body 10 truncate_channels_response_form x
+channel_data_load_body (m.DefineChannels x) = body 11 define_channels_form x
+channel_data_load_body (m.DefineChannelsResponse x) = body 12 define_channels_response_form x
+channel_data_load_body (m.RetireChannels x) = body 13 retire_channels_form x
+channel_data_load_body (m.RetireChannelsResponse x) = body 14 retire_channels_response_form x
 
 -- each message is found by its number, and read as it was
 pub channel_data_load_found : (x : ChannelDataLoadMessage) → IsFound channel_data_load_kinds channel_data_load_body x
@@ -135,8 +179,12 @@ channel_data_load_found (m.ChannelsClosed x) = (message 7 channels_closed_form m
 channel_data_load_found (m.ReplaceRangeResponse x) = (message 8 replace_range_response_form m.ReplaceRangeResponse, refl, refl, λ h. ap m.ReplaceRangeResponse (replace_range_response_form.back x h))
 channel_data_load_found (m.TruncateChannels x) = (message 9 truncate_channels_form m.TruncateChannels, refl, refl, λ h. ap m.TruncateChannels (truncate_channels_form.back x h))
 channel_data_load_found (m.TruncateChannelsResponse x) = (message 10 truncate_channels_response_form m.TruncateChannelsResponse, refl, refl, λ h. ap m.TruncateChannelsResponse (truncate_channels_response_form.back x h))
+channel_data_load_found (m.DefineChannels x) = (message 11 define_channels_form m.DefineChannels, refl, refl, λ h. ap m.DefineChannels (define_channels_form.back x h))
+channel_data_load_found (m.DefineChannelsResponse x) = (message 12 define_channels_response_form m.DefineChannelsResponse, refl, refl, λ h. ap m.DefineChannelsResponse (define_channels_response_form.back x h))
+channel_data_load_found (m.RetireChannels x) = (message 13 retire_channels_form m.RetireChannels, refl, refl, λ h. ap m.RetireChannels (retire_channels_form.back x h))
+channel_data_load_found (m.RetireChannelsResponse x) = (message 14 retire_channels_response_form m.RetireChannelsResponse, refl, refl, λ h. ap m.RetireChannelsResponse (retire_channels_response_form.back x h))
 
 -- what is read of a body is written as that body
 pub channel_data_load_again : AllByRecursion (IsAgain channel_data_load_body) channel_data_load_kinds
 channel_data_load_again =
-    (again 1 open_channels_form, (again 2 open_channels_response_form, (again 3 close_channels_form, (again 4 load_channel_data_form, (again 6 replace_range_form, (again 7 channels_closed_form, (again 8 replace_range_response_form, (again 9 truncate_channels_form, (again 10 truncate_channels_response_form, tt)))))))))
+    (again 1 open_channels_form, (again 2 open_channels_response_form, (again 3 close_channels_form, (again 4 load_channel_data_form, (again 6 replace_range_form, (again 7 channels_closed_form, (again 8 replace_range_response_form, (again 9 truncate_channels_form, (again 10 truncate_channels_response_form, (again 11 define_channels_form, (again 12 define_channels_response_form, (again 13 retire_channels_form, (again 14 retire_channels_response_form, tt)))))))))))))

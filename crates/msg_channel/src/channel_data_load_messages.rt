@@ -162,6 +162,10 @@ pub enum ChannelDataLoadMessage {
     ReplaceRangeResponse(ReplaceRangeResponse),
     TruncateChannels(TruncateChannels),
     TruncateChannelsResponse(TruncateChannelsResponse),
+    DefineChannels(DefineChannels),
+    DefineChannelsResponse(DefineChannelsResponse),
+    RetireChannels(RetireChannels),
+    RetireChannelsResponse(RetireChannelsResponse),
 }
 
 impl ChannelDataLoadMessage {
@@ -179,6 +183,10 @@ impl ChannelDataLoadMessage {
             ChannelDataLoadMessage::ReplaceRangeResponse(_) => 8,
             ChannelDataLoadMessage::TruncateChannels(_) => 9,
             ChannelDataLoadMessage::TruncateChannelsResponse(_) => 10,
+            ChannelDataLoadMessage::DefineChannels(_) => 11,
+            ChannelDataLoadMessage::DefineChannelsResponse(_) => 12,
+            ChannelDataLoadMessage::RetireChannels(_) => 13,
+            ChannelDataLoadMessage::RetireChannelsResponse(_) => 14,
         }
     }
 }

@@ -233,6 +233,10 @@ impl ChannelDataLoadMessage {
             8 => Ok(Some(ChannelDataLoadMessage::ReplaceRangeResponse(from.take()?))),
             9 => Ok(Some(ChannelDataLoadMessage::TruncateChannels(from.take()?))),
             10 => Ok(Some(ChannelDataLoadMessage::TruncateChannelsResponse(from.take()?))),
+            11 => Ok(Some(ChannelDataLoadMessage::DefineChannels(from.take()?))),
+            12 => Ok(Some(ChannelDataLoadMessage::DefineChannelsResponse(from.take()?))),
+            13 => Ok(Some(ChannelDataLoadMessage::RetireChannels(from.take()?))),
+            14 => Ok(Some(ChannelDataLoadMessage::RetireChannelsResponse(from.take()?))),
             _ => Ok(None),
         }
     }
@@ -254,6 +258,10 @@ impl ChannelDataLoadMessage {
             ChannelDataLoadMessage::ReplaceRangeResponse(message) => message.write(into),
             ChannelDataLoadMessage::TruncateChannels(message) => message.write(into),
             ChannelDataLoadMessage::TruncateChannelsResponse(message) => message.write(into),
+            ChannelDataLoadMessage::DefineChannels(message) => message.write(into),
+            ChannelDataLoadMessage::DefineChannelsResponse(message) => message.write(into),
+            ChannelDataLoadMessage::RetireChannels(message) => message.write(into),
+            ChannelDataLoadMessage::RetireChannelsResponse(message) => message.write(into),
         }
     }
 
@@ -271,6 +279,10 @@ impl ChannelDataLoadMessage {
             ChannelDataLoadMessage::ReplaceRangeResponse(message) => message.measure(),
             ChannelDataLoadMessage::TruncateChannels(message) => message.measure(),
             ChannelDataLoadMessage::TruncateChannelsResponse(message) => message.measure(),
+            ChannelDataLoadMessage::DefineChannels(message) => message.measure(),
+            ChannelDataLoadMessage::DefineChannelsResponse(message) => message.measure(),
+            ChannelDataLoadMessage::RetireChannels(message) => message.measure(),
+            ChannelDataLoadMessage::RetireChannelsResponse(message) => message.measure(),
         }
     }
 }

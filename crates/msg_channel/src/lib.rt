@@ -10,6 +10,8 @@
 
 mod channel_data_load_messages;
 mod channel_data_load_on_wire;
+mod channel_defining;
+mod channel_defining_on_wire;
 mod channel_ranges;
 mod channel_ranges_on_wire;
 mod channel_records;
@@ -26,6 +28,9 @@ pub use channel_data_load_messages::{
     ChannelDataLoadMessage, ChannelsClosed, CloseChannels, LoadChannelData, OpenChannelInfo,
     OpenChannels, OpenChannelsResponse, ReplaceRange, ReplaceRangeResponse, TruncateChannels,
     TruncateChannelsResponse, channel_data_load_laws,
+};
+pub use channel_defining::{
+    DefineChannels, DefineChannelsResponse, RetireChannels, RetireChannelsResponse,
 };
 pub use channel_ranges::{
     ChannelRangeInfo, ChannelsTruncated, GetRanges, GetRangesResponse, RangeReplaced,

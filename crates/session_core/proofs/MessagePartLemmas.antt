@@ -79,3 +79,7 @@ load_each P h limit (load.ChannelsClosed x) = all_map P _ (λ g. h (load.Channel
 load_each P h limit (load.ReplaceRangeResponse x) = (h (load.ReplaceRangeResponse x), tt)
 load_each P h limit (load.TruncateChannels x) = (h (load.TruncateChannels x), tt)
 load_each P h limit (load.TruncateChannelsResponse x) = all_map P _ (λ g. h (load.TruncateChannelsResponse (record x { channels_truncated_time = g }))) _
+load_each P h limit (load.DefineChannels x) = (h (load.DefineChannels x), tt)
+load_each P h limit (load.DefineChannelsResponse x) = all_map P _ (λ g. h (load.DefineChannelsResponse (record x { ids = g }))) _
+load_each P h limit (load.RetireChannels x) = (h (load.RetireChannels x), tt)
+load_each P h limit (load.RetireChannelsResponse x) = all_map P _ (λ g. h (load.RetireChannelsResponse (record x { success = g }))) _

@@ -10,8 +10,8 @@ use crate::message::Message;
 use crate::parting::{WithEntries, one_part, parts_of_entries};
 use etp_values::{Boxed, List, Named, NoMemory, Text};
 use msg_channel::{
-    ChannelDataLoadMessage, ChannelsClosed, OpenChannelInfo, OpenChannelsResponse,
-    TruncateChannelsResponse,
+    ChannelDataLoadMessage, ChannelsClosed, DefineChannelsResponse, OpenChannelInfo,
+    OpenChannelsResponse, RetireChannelsResponse, TruncateChannelsResponse,
 };
 use std::alloc::Global;
 
@@ -122,6 +122,70 @@ fn channel_data_load_truncate_channels_response(
     parts_of_entries(alloc, &rest, channels_truncated_time, limit)
 }
 
+impl WithEntries<i64> for DefineChannelsResponse {
+    ghost use Rattle.msg_channel.specs.declared.channel_data_load_messages.ChannelDataLoadMessage.TheVariants as load;
+    ghost use Rattle.etp_frame.specs.declared.message.Message.TheVariants as m;
+
+    ghost whole = { λ x g. m.ChannelDataLoad (load.DefineChannelsResponse (record x { ids = g })) };
+
+    fn with_entries(&self, alloc: Global, entries: Named<i64>) -> Result<Message, NoMemory>
+        ensures { IfOk result (λ x. x ≡ m.ChannelDataLoad (load.DefineChannelsResponse (record self.now { ids = entries }))) }
+    {
+        Ok(Message::ChannelDataLoad(Boxed::new(
+            alloc,
+            ChannelDataLoadMessage::DefineChannelsResponse(DefineChannelsResponse { ids: entries }),
+        )?))
+    }
+}
+
+/// The parts of this message.
+fn channel_data_load_define_channels_response(
+    alloc: Global,
+    message: DefineChannelsResponse,
+    limit: u64,
+) -> Result<List<Message>, NoMemory>
+    ensures { IfOk result (λ l. l ≡ channel_data_load_parts limit (load.DefineChannelsResponse message)) }
+{
+    let DefineChannelsResponse { ids } = message;
+    let rest = DefineChannelsResponse {
+        ids: Named::new(alloc),
+    };
+    parts_of_entries(alloc, &rest, ids, limit)
+}
+
+impl WithEntries<Text> for RetireChannelsResponse {
+    ghost use Rattle.msg_channel.specs.declared.channel_data_load_messages.ChannelDataLoadMessage.TheVariants as load;
+    ghost use Rattle.etp_frame.specs.declared.message.Message.TheVariants as m;
+
+    ghost whole = { λ x g. m.ChannelDataLoad (load.RetireChannelsResponse (record x { success = g })) };
+
+    fn with_entries(&self, alloc: Global, entries: Named<Text>) -> Result<Message, NoMemory>
+        ensures { IfOk result (λ x. x ≡ m.ChannelDataLoad (load.RetireChannelsResponse (record self.now { success = entries }))) }
+    {
+        Ok(Message::ChannelDataLoad(Boxed::new(
+            alloc,
+            ChannelDataLoadMessage::RetireChannelsResponse(RetireChannelsResponse {
+                success: entries,
+            }),
+        )?))
+    }
+}
+
+/// The parts of this message.
+fn channel_data_load_retire_channels_response(
+    alloc: Global,
+    message: RetireChannelsResponse,
+    limit: u64,
+) -> Result<List<Message>, NoMemory>
+    ensures { IfOk result (λ l. l ≡ channel_data_load_parts limit (load.RetireChannelsResponse message)) }
+{
+    let RetireChannelsResponse { success } = message;
+    let rest = RetireChannelsResponse {
+        success: Named::new(alloc),
+    };
+    parts_of_entries(alloc, &rest, success, limit)
+}
+
 /// The parts of a message.
 pub(crate) fn channel_data_load_parts(
     alloc: Global,
@@ -138,6 +202,10 @@ pub(crate) fn channel_data_load_parts(
         ),
         ChannelDataLoadMessage::TruncateChannelsResponse(message) =>
             channel_data_load_truncate_channels_response(alloc, message, limit),
+        ChannelDataLoadMessage::DefineChannelsResponse(message) =>
+            channel_data_load_define_channels_response(alloc, message, limit),
+        ChannelDataLoadMessage::RetireChannelsResponse(message) =>
+            channel_data_load_retire_channels_response(alloc, message, limit),
         other => one_part(alloc, Message::ChannelDataLoad(Boxed::new(alloc, other)?)),
     }
 }

@@ -2,7 +2,7 @@ use Rattle.std.proofs.Common.{◌≡◌, pos, arith}
 use Rattle.std.proofs.lemmas.Int.{ints}
 use Rattle.std.proofs.lemmas.Result.{err_from_is_err_and}
 use Rattle.etp_schema.proofs.KindLemmas.{kind_read, kind_fails}
-use Rattle.msg_channel.specs.ChannelDataLoad.{channels_closed_form, close_channels_form, load_channel_data_form, open_channels_form, open_channels_response_form, replace_range_form, replace_range_response_form, truncate_channels_form, truncate_channels_response_form}
+use Rattle.msg_channel.specs.ChannelDataLoad.{channels_closed_form, close_channels_form, define_channels_form, define_channels_response_form, load_channel_data_form, open_channels_form, open_channels_response_form, replace_range_form, replace_range_response_form, retire_channels_form, retire_channels_response_form, truncate_channels_form, truncate_channels_response_form}
 use Rattle.msg_channel.specs.declared.channel_data_load_messages.ChannelDataLoadMessage.TheVariants as m
 use Rattle.msg_channel.proofs.channel_data_load_messages.ChannelDataLoadMessage.read.Goals as goal
 
@@ -104,3 +104,47 @@ pub returns-in_ok-take-in-10 : goal.returns-in_ok-take-in-10
 returns-in_ok-take-in-10 c =
     let is : c.args.kind ≡ pos 10 = omega (arith, ints) in
     rw is (kind_read 10 truncate_channels_response_form m.TruncateChannelsResponse _ _ _ _ _ c.in_ok-take-in-10.ensures)
+
+pub returns-in_err-take-in-11 : goal.returns-in_err-take-in-11
+returns-in_err-take-in-11 c =
+    let is : c.args.kind ≡ pos 11 = omega (arith, ints) in
+    let p = err_from_is_err_and c.from_residual-in_err-take-in-11.result c.from_residual-in_err-take-in-11.ensures.1 in
+    rw (p.1, p.2, is) (kind_fails 11 define_channels_form m.DefineChannels _ _ c.in_err-take-in-11.field-0.0 c.in_err-take-in-11.ensures)
+
+pub returns-in_ok-take-in-11 : goal.returns-in_ok-take-in-11
+returns-in_ok-take-in-11 c =
+    let is : c.args.kind ≡ pos 11 = omega (arith, ints) in
+    rw is (kind_read 11 define_channels_form m.DefineChannels _ _ _ _ _ c.in_ok-take-in-11.ensures)
+
+pub returns-in_err-take-in-12 : goal.returns-in_err-take-in-12
+returns-in_err-take-in-12 c =
+    let is : c.args.kind ≡ pos 12 = omega (arith, ints) in
+    let p = err_from_is_err_and c.from_residual-in_err-take-in-12.result c.from_residual-in_err-take-in-12.ensures.1 in
+    rw (p.1, p.2, is) (kind_fails 12 define_channels_response_form m.DefineChannelsResponse _ _ c.in_err-take-in-12.field-0.0 c.in_err-take-in-12.ensures)
+
+pub returns-in_ok-take-in-12 : goal.returns-in_ok-take-in-12
+returns-in_ok-take-in-12 c =
+    let is : c.args.kind ≡ pos 12 = omega (arith, ints) in
+    rw is (kind_read 12 define_channels_response_form m.DefineChannelsResponse _ _ _ _ _ c.in_ok-take-in-12.ensures)
+
+pub returns-in_err-take-in-13 : goal.returns-in_err-take-in-13
+returns-in_err-take-in-13 c =
+    let is : c.args.kind ≡ pos 13 = omega (arith, ints) in
+    let p = err_from_is_err_and c.from_residual-in_err-take-in-13.result c.from_residual-in_err-take-in-13.ensures.1 in
+    rw (p.1, p.2, is) (kind_fails 13 retire_channels_form m.RetireChannels _ _ c.in_err-take-in-13.field-0.0 c.in_err-take-in-13.ensures)
+
+pub returns-in_ok-take-in-13 : goal.returns-in_ok-take-in-13
+returns-in_ok-take-in-13 c =
+    let is : c.args.kind ≡ pos 13 = omega (arith, ints) in
+    rw is (kind_read 13 retire_channels_form m.RetireChannels _ _ _ _ _ c.in_ok-take-in-13.ensures)
+
+pub returns-in_err-take-in-14 : goal.returns-in_err-take-in-14
+returns-in_err-take-in-14 c =
+    let is : c.args.kind ≡ pos 14 = omega (arith, ints) in
+    let p = err_from_is_err_and c.from_residual-in_err-take-in-14.result c.from_residual-in_err-take-in-14.ensures.1 in
+    rw (p.1, p.2, is) (kind_fails 14 retire_channels_response_form m.RetireChannelsResponse _ _ c.in_err-take-in-14.field-0.0 c.in_err-take-in-14.ensures)
+
+pub returns-in_ok-take-in-14 : goal.returns-in_ok-take-in-14
+returns-in_ok-take-in-14 c =
+    let is : c.args.kind ≡ pos 14 = omega (arith, ints) in
+    rw is (kind_read 14 retire_channels_response_form m.RetireChannelsResponse _ _ _ _ _ c.in_ok-take-in-14.ensures)
