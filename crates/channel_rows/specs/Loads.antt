@@ -1,6 +1,8 @@
 -- The requests of the ChannelDataLoad protocol: what a session answers, and what it asks of the store.
-use Rattle.std.specs.Prelude.{ℕ, ℤ, ◌==◌, Bool, true, not, List, [], ◌∷◌, Option, Some, None, codes, length, if◌then◌else◌}
+use Rattle.std.specs.Prelude.{ℕ, ℤ, ◌==◌, ◌&&◌, nat_le, nat_lt, Bool, true, not, List, [], ◌∷◌, Option, Some, None, codes, length, if◌then◌else◌}
 use Rattle.server_config.specs.declared.config.ChannelDef.{ChannelDef}
+use Rattle.server_config.specs.declared.config.ValueKind.{ValueKind}
+use Rattle.server_config.specs.declared.config.ValueKind.TheVariants as kind
 use Rattle.etp_values.specs.declared.code.ErrorCode.{ErrorCode}
 use Rattle.etp_values.specs.declared.code.ErrorCode.TheVariants.{InvalidArgument, InvalidIndexKind, InvalidMessageType, LimitExceeded, NotFound, RequestDenied}
 use Rattle.etp_values.specs.declared.point.ChannelPoint.{ChannelPoint}
@@ -19,9 +21,13 @@ use Rattle.msg_channel.specs.declared.channel_data_load_messages.ChannelDataLoad
 use Rattle.msg_channel.specs.declared.channel_data_load_messages.ChannelDataLoadMessage.TheVariants as message
 use Rattle.msg_channel.specs.declared.channel_data_load_messages.OpenChannelInfo.{OpenChannelInfo}
 use Rattle.msg_channel.specs.declared.channel_data_load_messages.ReplaceRange.{ReplaceRange}
+use Rattle.msg_channel.specs.declared.channel_records.ChannelDataKind.{ChannelDataKind}
+use Rattle.msg_channel.specs.declared.channel_records.ChannelDataKind.TheVariants as sent
 use Rattle.msg_channel.specs.declared.channel_records.ChannelMetadataRecord.{ChannelMetadataRecord}
 use Rattle.msg_channel.specs.declared.points.TruncateInfo.{TruncateInfo}
 use Rattle.store_machine.specs.declared.call.Cutting.{Cutting}
+use Rattle.store_machine.specs.declared.call.DefineReply.{DefineReply}
+use Rattle.store_machine.specs.declared.call.DefineReply.TheVariants as defined
 use Rattle.store_machine.specs.declared.call.MetaReply.{MetaReply}
 use Rattle.store_machine.specs.declared.call.Reply.{Reply}
 use Rattle.store_machine.specs.declared.call.Reply.TheVariants as answer
@@ -67,12 +73,12 @@ abbrev pub opened_as : List Bool → Decision ChannelMetadataRecord → List Boo
 opened_as opens (Refused code) = (opens, Refused code)
 opened_as opens (Granted m) = (opened opens m.id, Granted (open_info m))
 
-abbrev pub open_found : List ChannelDef → List Bool → List (List ℕ × MetaReply) → List Bool × Decision OpenChannelInfo
-open_found defs opens [] = (opens, Refused RequestDenied)
-open_found defs opens (x ∷ xs) = opened_as opens (metadata_by defs x.1)
+abbrev pub open_found : List Bool → List (List ℕ × MetaReply) → List Bool × Decision OpenChannelInfo
+open_found opens [] = (opens, Refused RequestDenied)
+open_found opens (x ∷ xs) = opened_as opens (metadata_by x.1)
 
-abbrev pub open_one : List ChannelDef → List Bool → List ℕ → Unit {0} → List (List ℕ × MetaReply) → List Bool × Decision OpenChannelInfo
-open_one defs opens key kept found = open_found defs opens found
+abbrev pub open_one : List Bool → List ℕ → Unit {0} → List (List ℕ × MetaReply) → List Bool × Decision OpenChannelInfo
+open_one opens key kept found = open_found opens found
 
 -- ---- CloseChannels: each key sees what the earlier ones closed
 
@@ -141,6 +147,77 @@ truncate_verdict at (verdict.Refused code) = Refused code
 abbrev pub truncate_decided : ℤ → List ℕ × Verdict → Decision ℤ
 truncate_decided at found = truncate_verdict at found.1
 
+-- ---- DefineChannels: of a record its URI, its name, its kind and its unit are read
+
+abbrev pub define_response : List (List ℕ × ℤ) → ChannelDataLoadMessage
+define_response ids = message.DefineChannelsResponse (record { ids = ids })
+
+-- the kind of values that is sent as this kind, if a channel may have it
+abbrev pub value_kind : ChannelDataKind → Option ValueKind
+value_kind sent.DateTime = None
+value_kind sent.ElapsedTime = None
+value_kind sent.MeasuredDepth = None
+value_kind sent.PassIndexedDepth = None
+value_kind sent.TrueVerticalDepth = None
+value_kind sent.TypeBoolean = Some kind.Boolean
+value_kind sent.TypeInt = Some kind.Int
+value_kind sent.TypeLong = Some kind.Long
+value_kind sent.TypeFloat = Some kind.Float
+value_kind sent.TypeDouble = Some kind.Double
+value_kind sent.TypeString = Some kind.String
+value_kind sent.TypeBytes = Some kind.Bytes
+
+-- a channel's name has 1 to 256 bytes, its unit at most 64
+abbrev pub has_sizes : ChannelMetadataRecord → Bool
+has_sizes m = nat_lt 0 (length m.channel_name) && (nat_le (length m.channel_name) 256 && nat_le (length m.uom) 64)
+
+abbrev pub def_with : ChannelMetadataRecord → StoreUri → Option ValueKind → Decision ChannelDef
+def_with m uri None = Refused InvalidArgument
+def_with m uri (Some k) = Granted (record { uri = uri; name = m.channel_name; kind = k; uom = m.uom })
+
+abbrev pub def_of : ChannelMetadataRecord → Decision StoreUri → Decision ChannelDef
+def_of m (Refused code) = Refused code
+def_of m (Granted uri) = if has_sizes m then def_with m uri (value_kind m.data_kind) else Refused InvalidArgument
+
+abbrev pub checked_def : ChannelMetadataRecord → Decision ChannelDef
+checked_def m = def_of m (object_uri m.uri)
+
+abbrev pub define_call : Outcome (List (List ℕ × ChannelDef)) (List (List ℕ × Decision (Unit {0}))) ChannelDataLoadMessage → LoadOutcome
+define_call (Replies sendings) = Replies sendings
+define_call (Calls items kept) = Calls (call.Define items) (pending.Define kept)
+
+abbrev pub define_outcome : List (List ℕ × ChannelMetadataRecord) → LoadOutcome
+define_outcome items = define_call (plain_outcome checked_def define_response items)
+
+-- what the store decided about a key: the id of the channel, or a refusal
+abbrev pub id_given : DefineReply → Decision ℤ
+id_given (defined.Id id) = Granted id
+id_given (defined.Refused code) = Refused code
+
+-- the same with its key
+abbrev pub defined_id : List ℕ × DefineReply → Decision ℤ
+defined_id found = id_given found.1
+
+-- ---- RetireChannels
+
+abbrev pub retire_response : List (List ℕ × List ℕ) → ChannelDataLoadMessage
+retire_response success = message.RetireChannelsResponse (record { success = success })
+
+abbrev pub retire_call : Outcome (List (List ℕ × StoreUri)) (List (List ℕ × Decision (Unit {0}))) ChannelDataLoadMessage → LoadOutcome
+retire_call (Replies sendings) = Replies sendings
+retire_call (Calls items kept) = Calls (call.Retire items) (pending.Retire kept)
+
+abbrev pub retire_outcome : List (List ℕ × List ℕ) → LoadOutcome
+retire_outcome uris = retire_call (plain_outcome object_uri retire_response uris)
+
+-- what the store decided about a key: the empty text, or a refusal
+abbrev pub retired_text : Verdict → Decision (List ℕ)
+retired_text verdict.Accepted = Granted []
+retired_text (verdict.Refused code) = Refused code
+
+abbrev pub retire_decided : List ℕ × Verdict → Decision (List ℕ)
+retire_decided found = retired_text found.1
+
 -- ---- what comes of a message
 
 -- what a message of the load comes to, with the channels that are open and the time
@@ -154,6 +231,10 @@ load_outcome opens at (message.OpenChannelsResponse m) = leaves opens (Replies (
 load_outcome opens at (message.ChannelsClosed m) = leaves opens (Replies (refusal_alone InvalidMessageType))
 load_outcome opens at (message.ReplaceRangeResponse m) = leaves opens (Replies (refusal_alone InvalidMessageType))
 load_outcome opens at (message.TruncateChannelsResponse m) = leaves opens (Replies (refusal_alone InvalidMessageType))
+load_outcome opens at (message.DefineChannels m) = leaves opens (unless_refused (keys_refusal m.channels) (define_outcome m.channels))
+load_outcome opens at (message.DefineChannelsResponse m) = leaves opens (Replies (refusal_alone InvalidMessageType))
+load_outcome opens at (message.RetireChannels m) = leaves opens (unless_refused (keys_refusal m.uris) (retire_outcome m.uris))
+load_outcome opens at (message.RetireChannelsResponse m) = leaves opens (Replies (refusal_alone InvalidMessageType))
 
 -- ---- what comes of the store's answer to its call; an answer that does not belong to the call has no reply
 
@@ -172,17 +253,23 @@ written_reply _ = []
 
 abbrev pub verdicts_reply : LoadPending → List (List ℕ × Verdict) → List (Sending ChannelDataLoadMessage)
 verdicts_reply (pending.Truncate at items) verdicts = plain_reply (truncate_decided at) truncate_response items verdicts
+verdicts_reply (pending.Retire items) verdicts = plain_reply retire_decided retire_response items verdicts
 verdicts_reply _ verdicts = []
 
-abbrev pub metas_reply : List ChannelDef → List Bool → LoadPending → List (List ℕ × MetaReply) → Loaded
-metas_reply defs opens (pending.Open items) metas = says (finished_state (open_one defs) 1 opens items metas) (request_reply open_response (finished (open_one defs) 1 opens items metas))
-metas_reply defs opens _ metas = says opens []
+abbrev pub defined_reply : LoadPending → List (List ℕ × DefineReply) → List (Sending ChannelDataLoadMessage)
+defined_reply (pending.Define items) replies = plain_reply defined_id define_response items replies
+defined_reply _ replies = []
+
+abbrev pub metas_reply : List Bool → LoadPending → List (List ℕ × MetaReply) → Loaded
+metas_reply opens (pending.Open items) metas = says (finished_state open_one 1 opens items metas) (request_reply open_response (finished open_one 1 opens items metas))
+metas_reply opens _ metas = says opens []
 
 -- what the session sends once the store has answered, and which channels are open then
-abbrev pub load_reply : List ChannelDef → List Bool → LoadPending → Reply → Loaded
-load_reply defs opens kept answer.Written = says opens (written_reply kept)
-load_reply defs opens kept (answer.Verdicts verdicts) = says opens (verdicts_reply kept verdicts)
-load_reply defs opens kept (answer.Metas metas) = metas_reply defs opens kept metas
-load_reply defs opens kept (answer.Refused code) = says opens (refusal_alone code)
-load_reply defs opens kept answer.JournalFull = says opens (refusal_alone LimitExceeded)
-load_reply defs opens kept _ = says opens []
+abbrev pub load_reply : List Bool → LoadPending → Reply → Loaded
+load_reply opens kept answer.Written = says opens (written_reply kept)
+load_reply opens kept (answer.Verdicts verdicts) = says opens (verdicts_reply kept verdicts)
+load_reply opens kept (answer.Defined replies) = says opens (defined_reply kept replies)
+load_reply opens kept (answer.Metas metas) = metas_reply opens kept metas
+load_reply opens kept (answer.Refused code) = says opens (refusal_alone code)
+load_reply opens kept answer.JournalFull = says opens (refusal_alone LimitExceeded)
+load_reply opens kept _ = says opens []

@@ -66,20 +66,7 @@ metadata_of channel first last d = record {
   custom_data = [];
 }
 
--- the configured channel at an index
-abbrev pub def_at : List ChannelDef → Option ℕ → Option ChannelDef
-def_at defs None = None
-def_at defs (Some n) = slice_get defs n
-
--- a configured channel by its id
-abbrev pub channel_at : List ChannelDef → ℤ → Option ChannelDef
-channel_at defs channel = def_at defs (place_of channel)
-
-abbrev pub said_of : ℤ → Option ℤ → Option ℤ → Option ChannelDef → Decision ChannelMetadataRecord
-said_of channel first last None = Refused NotFound
-said_of channel first last (Some d) = Granted (metadata_of channel first last d)
-
 -- what is reported about a channel, by what the store knows about it
-abbrev pub metadata_by : List ChannelDef → MetaReply → Decision ChannelMetadataRecord
-metadata_by defs (known.Known channel first last) = said_of channel first last (channel_at defs channel)
-metadata_by defs (known.Refused code) = Refused code
+abbrev pub metadata_by : MetaReply → Decision ChannelMetadataRecord
+metadata_by (known.Known channel first last def) = Granted (metadata_of channel first last def)
+metadata_by (known.Refused code) = Refused code

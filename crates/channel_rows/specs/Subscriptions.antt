@@ -74,8 +74,8 @@ metadata_call (Calls uris kept) = Calls (call.Meta uris) (pending.Metadata kept)
 abbrev pub metadata_outcome : List (List ℕ × List ℕ) → SubscribeOutcome
 metadata_outcome uris = metadata_call (plain_outcome object_uri metadata_response uris)
 
-abbrev pub metadata_found : List ChannelDef → List ℕ × MetaReply → Decision ChannelMetadataRecord
-metadata_found defs found = metadata_by defs found.1
+abbrev pub metadata_found : List ℕ × MetaReply → Decision ChannelMetadataRecord
+metadata_found found = metadata_by found.1
 
 -- ---- SubscribeChannels
 
@@ -226,9 +226,9 @@ news_call v front = news_from v.subs front (asked_from v)
 abbrev pub says : Subbed → List (Sending ChannelSubscribeMessage) → Told
 says v sendings = record { subs = v; sendings = sendings }
 
-abbrev pub metas_reply : List ChannelDef → SubscribePending → List (List ℕ × MetaReply) → List (Sending ChannelSubscribeMessage)
-metas_reply defs (pending.Metadata items) metas = plain_reply (metadata_found defs) metadata_response items metas
-metas_reply defs _ metas = []
+abbrev pub metas_reply : SubscribePending → List (List ℕ × MetaReply) → List (Sending ChannelSubscribeMessage)
+metas_reply (pending.Metadata items) metas = plain_reply metadata_found metadata_response items metas
+metas_reply _ metas = []
 
 abbrev pub points_reply : SubscribePending → List ChannelPoint → List (Sending ChannelSubscribeMessage)
 points_reply pending.Ranges points = reply_alone (message.GetRangesResponse (record { payload = channel_items points }))
@@ -249,14 +249,14 @@ news_reply cause v _ upto changes = says v []
 abbrev pub lag_cause : ℕ → ℕ → Option StopCause
 lag_cause limit lag = if nat_lt limit lag then Some (Lagged lag) else None
 
-abbrev pub replied : List ChannelDef → ℕ → ℕ → Subbed → SubscribePending → Reply → Told
-replied defs limit mark v kept (answer.Metas metas) = says v (metas_reply defs kept metas)
-replied defs limit mark v kept (answer.Points points) = says v (points_reply kept points)
-replied defs limit mark v kept (answer.Started started) = started_reply mark v kept started
-replied defs limit mark v kept (answer.News upto lag changes) = news_reply (lag_cause limit lag) v kept upto changes
-replied defs limit mark v kept (answer.Refused code) = says v (refusal_alone code)
-replied defs limit mark v kept _ = says v []
+abbrev pub replied : ℕ → ℕ → Subbed → SubscribePending → Reply → Told
+replied limit mark v kept (answer.Metas metas) = says v (metas_reply kept metas)
+replied limit mark v kept (answer.Points points) = says v (points_reply kept points)
+replied limit mark v kept (answer.Started started) = started_reply mark v kept started
+replied limit mark v kept (answer.News upto lag changes) = news_reply (lag_cause limit lag) v kept upto changes
+replied limit mark v kept (answer.Refused code) = says v (refusal_alone code)
+replied limit mark v kept _ = says v []
 
 -- the reply of a server whose channels are these, if this many entries may be left to send
-abbrev pub subscribe_reply : List ChannelDef → ℕ → Subbed → SubscribePending → Answer → Told
-subscribe_reply defs limit v kept a = replied defs limit a.mark v kept a.reply
+abbrev pub subscribe_reply : ℕ → Subbed → SubscribePending → Answer → Told
+subscribe_reply limit v kept a = replied limit a.mark v kept a.reply

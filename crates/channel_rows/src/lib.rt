@@ -5,6 +5,7 @@
 //! subscriptions. [`news_call`] is what a poll asks the store for; its answer goes to [`subscribe_reply`] too.
 #![tactic(auto)]
 
+mod defining;
 mod ids;
 mod items;
 mod loading;
@@ -15,6 +16,7 @@ mod open_flags;
 mod opening;
 mod ranges;
 mod replacing;
+mod retiring;
 mod subscribing;
 mod subscriptions;
 mod truncating;

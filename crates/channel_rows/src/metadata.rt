@@ -1,11 +1,9 @@
 //! What is reported about a channel.
 ghost use Rattle.std.specs.Prelude.{◌≡◌, IfOk};
-ghost use Rattle.std.specs.Option.{option_copied};
-ghost use Rattle.channel_rows.specs.Metadata.{channel_at, index_value, kind_of, metadata_by, metadata_of, time_index};
+ghost use Rattle.channel_rows.specs.Metadata.{index_value, kind_of, metadata_by, metadata_of, time_index};
 
-use crate::ids::place_of;
 use etp_schema::ActiveStatusKind;
-use etp_values::{Copied, ErrorCode, List, Named, NoMemory, Text};
+use etp_values::{Copied, List, Named, NoMemory, Text};
 use keyed_requests::Decision;
 use msg_channel::{
     ChannelDataKind, ChannelIndexKind, ChannelMetadataRecord, IndexDirection, IndexInterval,
@@ -94,36 +92,23 @@ fn metadata_of(
     })
 }
 
-/// A configured channel by its id.
-fn channel_at(defs: &[ChannelDef], channel: i64) -> Option<&ChannelDef>
-    ensures { option_copied result ≡ channel_at defs.now channel }
-{
-    match place_of(channel) {
-        Some(place) => defs.get(place),
-        None => None,
-    }
-}
-
 /// What is reported about a channel, by what the store knows about it.
 pub(crate) fn metadata_by(
     alloc: Global,
-    defs: &List<ChannelDef>,
     reply: &MetaReply,
 ) -> Result<Decision<ChannelMetadataRecord>, NoMemory>
-    ensures { IfOk result (λ d. d ≡ metadata_by defs.now reply.now) }
+    ensures { IfOk result (λ d. d ≡ metadata_by reply.now) }
 {
     match reply {
         MetaReply::Known {
             channel,
             first,
             last,
-        } => match channel_at(defs.as_slice(), *channel) {
-            Some(def) => {
-                let said = metadata_of(alloc, *channel, *first, *last, def)?;
-                Ok(Decision::Granted(said))
-            }
-            None => Ok(Decision::Refused(ErrorCode::NotFound)),
-        },
+            def,
+        } => {
+            let said = metadata_of(alloc, *channel, *first, *last, def)?;
+            Ok(Decision::Granted(said))
+        }
         MetaReply::Refused(code) => Ok(Decision::Refused(*code)),
     }
 }

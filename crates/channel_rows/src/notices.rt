@@ -1,9 +1,8 @@
 //! The notices about channels that a session sends its client.
-ghost use Rattle.std.specs.Prelude.{◌≡◌, ◌++◌, [], map, IfOk, OnOk};
-ghost use Rattle.std.specs.List.{flat_map};
+ghost use Rattle.std.specs.Prelude.{◌≡◌, ◌++◌, ◌∷◌, [], ℤ, None, fold, IfOk, MatchResult, OnOk};
 ghost use Rattle.channel_store.specs.declared.change.What.TheVariants as what;
-ghost use Rattle.subscribe_core.specs.Views.{shown, told};
-ghost use Rattle.channel_rows.specs.Notices.{append_notice, ids_of, interval_of, news_told, notice, notice_of, reason_of, stop_response};
+ghost use Rattle.subscribe_core.specs.Views.{shown};
+ghost use Rattle.channel_rows.specs.Notices.{after_told, hand, tell, append_notice, ids_of, interval_of, news_told, notice, notice_of, reason_of, stop_response};
 ghost use Rattle.keyed_requests.specs.declared.sending.Sending.TheVariants.{Notice};
 
 use crate::items::items_of;
@@ -49,7 +48,7 @@ fn replaced_notice(
     to: i64,
     points: List<Point>,
 ) -> Result<ChannelSubscribeMessage, NoMemory>
-    ensures { IfOk result (λ m. m ≡ notice_of at channel (what.Replace from to points)) }
+    ensures { IfOk result (λ m. m ≡ notice_of 0 at channel (what.Replace from to points)) }
 {
     let mut channel_ids = Vec::new(alloc);
     channel_ids.push(channel)?;
@@ -68,7 +67,7 @@ fn truncated_notice(
     channel: i64,
     end: i64,
 ) -> Result<ChannelSubscribeMessage, NoMemory>
-    ensures { IfOk result (λ m. m ≡ notice_of at channel (what.Truncate end)) }
+    ensures { IfOk result (λ m. m ≡ notice_of 0 at channel (what.Truncate end)) }
 {
     let mut channels = Vec::new(alloc);
     channels.push(TruncateInfo {
@@ -81,9 +80,23 @@ fn truncated_notice(
     }))
 }
 
+/// The notice that a channel was retired by the entry at a place, which ends its subscription.
+fn retired_notice(
+    alloc: Global,
+    place: u64,
+    channel: i64,
+) -> Result<ChannelSubscribeMessage, NoMemory>
+    ensures { IfOk result (λ m. (at : ℤ) → m ≡ notice_of place at channel what.Retired) }
+{
+    let mut ids = Vec::new(alloc);
+    let key = Text::from_string(format!(in alloc; "{channel}")?);
+    ids.push((key, channel))?;
+    stop_response(alloc, StopCause::Retired(place), Named::from_sorted(ids))
+}
+
 /// The notice of a change.
 fn change_notice(alloc: Global, told: &ToldChange) -> Result<ChannelSubscribeMessage, NoMemory>
-    ensures { IfOk result (λ m. m ≡ notice_of told.now.change.at told.now.change.channel (shown told.now).what) }
+    ensures { IfOk result (λ m. m ≡ notice_of told.now.change.place told.now.change.at told.now.change.channel (shown told.now).what) }
 {
     let points = told.points(alloc)?;
     let channel = told.change.channel;
@@ -92,6 +105,7 @@ fn change_notice(alloc: Global, told: &ToldChange) -> Result<ChannelSubscribeMes
         What::Append(_) => append_notice(alloc, channel, points),
         What::Replace { .. } => { replaced_notice(alloc, at, channel, told.from, told.end, points) }
         What::Truncate { .. } => truncated_notice(alloc, at, channel, told.end),
+        What::Retired => retired_notice(alloc, told.change.place, channel),
     }
 }
 
@@ -102,6 +116,7 @@ fn reason_of(alloc: Global, cause: StopCause) -> Result<Text, NoMemory>
     match cause {
         StopCause::Unsubscribed => Text::copy(alloc, "unsubscribed"),
         StopCause::Lagged(lag) => Ok(Text::from_string(format!(in alloc; "lagged {lag}")?)),
+        StopCause::Retired(place) => Ok(Text::from_string(format!(in alloc; "retired {place}")?)),
     }
 }
 
@@ -143,18 +158,47 @@ fn named(alloc: Global, held: BTreeMap<Text, i64>) -> Result<Named<i64>, NoMemor
     Ok(Named::from_sorted(items))
 }
 
+/// The subscriptions once a change is told: who is told that its channel is retired has none from there on.
+fn settle(subs: &mut Subs, told: &ToldChange)
+    ensures { subs.new ≡ after_told (shown told.now) subs.old }
+{
+    match told.change.what {
+        What::Append(_) => {}
+        What::Replace { .. } => {}
+        What::Truncate { .. } => {}
+        What::Retired => {
+            let _ = subs.remove(told.change.channel);
+        }
+    }
+}
+
+/// Adds the notice of a change. If its channel was retired, its subscription ends.
+fn hand(
+    alloc: Global,
+    subs: &mut Subs,
+    told: &ToldChange,
+    notices: &mut Vec<Sending<ChannelSubscribeMessage>>,
+) -> Result<(), NoMemory>
+    ensures subs { OnOk result (subs.new ≡ after_told (shown told.now) subs.old) }
+    ensures notices { OnOk result (notices.new.items ≡ notices.old.items ++ notice (shown told.now) ∷ []) }
+{
+    let message = change_notice(alloc, told)?;
+    notices.push(Sending::Notice(message))?;
+    settle(subs, told);
+    Ok(())
+}
+
 /// Adds a notice of each change that is pending.
 fn tell_pending(
     alloc: Global,
     subs: &mut Subs,
     notices: &mut Vec<Sending<ChannelSubscribeMessage>>,
 ) -> Result<(), NoMemory>
-    ensures subs { OnOk result (subs.new ≡ record subs.old { pending = [] }) }
-    ensures notices { OnOk result (notices.new.items ≡ notices.old.items ++ map notice subs.old.pending) }
+    ensures { OnOk result (record { subs = subs.new; sendings = notices.new.items }
+        ≡ fold hand (record { subs = record subs.old { pending = [] }; sendings = notices.old.items }) subs.old.pending) }
 {
     while let Some(told) = subs.next() {
-        let message = change_notice(alloc, &told)?;
-        notices.push(Sending::Notice(message))?;
+        hand(alloc, subs, &told, notices)?;
     }
     Ok(())
 }
@@ -167,9 +211,10 @@ fn tell_change(
     change: ChannelChange,
     notices: &mut Vec<Sending<ChannelSubscribeMessage>>,
 ) -> Result<(), NoMemory>
-    requires { subs.old.pending ≡ [] }
-    ensures subs { OnOk result (subs.new ≡ record subs.old { cursor = upto }) }
-    ensures notices { OnOk result (notices.new.items ≡ notices.old.items ++ map notice (told subs.old.subs change)) }
+    requires pending { subs.old.pending ≡ [] }
+    requires cursor { subs.old.cursor ≡ upto }
+    ensures { OnOk result (record { subs = subs.new; sendings = notices.new.items }
+        ≡ tell (record { subs = subs.old; sendings = notices.old.items }) change) }
 {
     let mut changes = Vec::new(alloc);
     changes.push(change)?;
@@ -184,8 +229,7 @@ fn tell_all(
     upto: u64,
     changes: List<ChannelChange>,
 ) -> Result<List<Sending<ChannelSubscribeMessage>>, NoMemory>
-    ensures subs { OnOk result (subs.new ≡ record subs.old { cursor = upto; pending = [] }) }
-    ensures notices { IfOk result (λ l. l ≡ map notice (subs.old.pending ++ flat_map (told subs.old.subs) changes)) }
+    ensures { MatchResult result (λ l. record { subs = subs.new; sendings = l } ≡ news_told None upto changes subs.old) (λ _. Unit {0}) }
 {
     let mut notices = Vec::new(alloc);
     tell_pending(alloc, subs, &mut notices)?;

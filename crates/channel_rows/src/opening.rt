@@ -20,7 +20,6 @@ use msg_channel::{
     ChannelDataLoadMessage, ChannelMetadataRecord, ChannelsClosed, OpenChannelInfo,
     OpenChannelsResponse,
 };
-use server_config::ChannelDef;
 use std::alloc::Global;
 use store_machine::{MetaReply, StoreCall};
 
@@ -42,11 +41,9 @@ impl PlainRequest for OpenChannels {
 
 /// The second half of OpenChannels: a known channel is open from then on.
 #[derive(Drop)]
-struct OpenChannelsReply<'a> {
-    defs: &'a List<ChannelDef>,
-}
+struct OpenChannelsReply;
 
-impl<'a> KeyedReply for OpenChannelsReply<'a> {
+impl KeyedReply for OpenChannelsReply {
     type Kept = ();
 
     type Found = (Text, MetaReply);
@@ -59,7 +56,7 @@ impl<'a> KeyedReply for OpenChannelsReply<'a> {
 
     ghost width = { 1 };
 
-    ghost finish = { λ reply opens key kept found. open_one reply.defs.now opens key kept found };
+    ghost finish = { λ reply opens key kept found. open_one opens key kept found };
 
     ghost response = { λ reply channels. open_response channels };
 
@@ -75,12 +72,12 @@ impl<'a> KeyedReply for OpenChannelsReply<'a> {
         _kept: (),
         found: List<(Text, MetaReply)>,
     ) -> Result<Decision<OpenChannelInfo>, NoMemory>
-        ensures decision { IfOk result (λ d. d ≡ (open_one self.now.defs.now state.old _key.now _kept found).1) }
-        ensures state { OnOk result (state.new ≡ (open_one self.now.defs.now state.old _key.now _kept found).0) }
+        ensures decision { IfOk result (λ d. d ≡ (open_one state.old _key.now _kept found).1) }
+        ensures state { OnOk result (state.new ≡ (open_one state.old _key.now _kept found).0) }
     {
         match found.as_slice().first() {
             Some(found) => {
-                let said = metadata_by(alloc, self.defs, &found.1)?;
+                let said = metadata_by(alloc, &found.1)?;
                 opened_as(state, said)
             }
             None => Ok(Decision::Refused(ErrorCode::RequestDenied)),
@@ -130,28 +127,20 @@ fn open_call(
 }
 
 /// What comes of an OpenChannels.
-pub(crate) fn open_request(
-    alloc: Global,
-    defs: &List<ChannelDef>,
-    uris: Named<Text>,
-) -> Result<LoadOutcome, NoMemory>
+pub(crate) fn open_request(alloc: Global, uris: Named<Text>) -> Result<LoadOutcome, NoMemory>
     ensures { IfOk result (λ o. o ≡ unless_refused (keys_refusal uris) (open_outcome uris)) }
 {
     match keys_refusal(&uris) {
         Some(code) => refused_outcome(alloc, code),
-        None => open_outcome(alloc, defs, uris),
+        None => open_outcome(alloc, uris),
     }
 }
 
 /// What comes of one whose keys are within the limits.
-fn open_outcome(
-    alloc: Global,
-    defs: &List<ChannelDef>,
-    uris: Named<Text>,
-) -> Result<LoadOutcome, NoMemory>
+fn open_outcome(alloc: Global, uris: Named<Text>) -> Result<LoadOutcome, NoMemory>
     ensures { IfOk result (λ o. o ≡ open_outcome uris) }
 {
-    let reply = OpenChannelsReply { defs };
+    let reply = OpenChannelsReply;
     let outcome = request_outcome(alloc, &Plain(OpenChannels), &reply, &mut (), uris)?;
     Ok(open_call(outcome))
 }
@@ -159,16 +148,15 @@ fn open_outcome(
 /// The reply to an OpenChannels, by what the store knows.
 pub(crate) fn open_reply(
     alloc: Global,
-    defs: &List<ChannelDef>,
     opens: &mut Opens,
     items: Named<Decision<()>>,
     metas: Named<MetaReply>,
 ) -> Result<List<Sending<ChannelDataLoadMessage>>, NoMemory>
-    ensures sendings { IfOk result (λ l. l ≡ request_reply open_response (finished (open_one defs.now) 1 opens.old items metas)) }
-    ensures state { OnOk result (opens.new ≡ finished_state (open_one defs.now) 1 opens.old items metas) }
+    ensures sendings { IfOk result (λ l. l ≡ request_reply open_response (finished open_one 1 opens.old items metas)) }
+    ensures state { OnOk result (opens.new ≡ finished_state open_one 1 opens.old items metas) }
 {
     let findings = Findings::from_vec(metas.into_vec());
-    request_reply(alloc, &OpenChannelsReply { defs }, opens, items, findings)
+    request_reply(alloc, &OpenChannelsReply, opens, items, findings)
 }
 
 /// CloseChannels, in which each key sees what the earlier ones closed.

@@ -21,7 +21,6 @@ use keyed_requests::{
 use msg_channel::{
     ChannelMetadataRecord, ChannelSubscribeMessage, GetChannelMetadataResponse, GetRangesResponse,
 };
-use server_config::ChannelDef;
 use std::alloc::Global;
 use store_machine::{Answer, MetaReply, Reply, StartAsk, StartReply, StoreCall};
 use subscribe_core::{StopCause, Subs, stop_cause};
@@ -60,18 +59,16 @@ impl PlainRequest for GetChannelMetadata {
 
 /// The second half of GetChannelMetadata.
 #[derive(Drop)]
-struct GetChannelMetadataReply<'a> {
-    defs: &'a List<ChannelDef>,
-}
+struct GetChannelMetadataReply;
 
-impl<'a> PlainReply for GetChannelMetadataReply<'a> {
+impl PlainReply for GetChannelMetadataReply {
     type Found = (Text, MetaReply);
 
     type Given = ChannelMetadataRecord;
 
     type Message = ChannelSubscribeMessage;
 
-    ghost decide = { λ reply found. metadata_found reply.defs.now found };
+    ghost decide = { λ reply found. metadata_found found };
 
     ghost response = { λ reply metadata. metadata_response metadata };
 
@@ -80,7 +77,7 @@ impl<'a> PlainReply for GetChannelMetadataReply<'a> {
         alloc: Global,
         found: &(Text, MetaReply),
     ) -> Result<Decision<ChannelMetadataRecord>, NoMemory> {
-        metadata_by(alloc, self.defs, &found.1)
+        metadata_by(alloc, &found.1)
     }
 
     fn response(&self, granted: Named<ChannelMetadataRecord>) -> ChannelSubscribeMessage
@@ -107,38 +104,28 @@ fn metadata_call(
 }
 
 /// What comes of a GetChannelMetadata.
-fn metadata_request(
-    alloc: Global,
-    defs: &List<ChannelDef>,
-    uris: Named<Text>,
-) -> Result<SubscribeOutcome, NoMemory>
+fn metadata_request(alloc: Global, uris: Named<Text>) -> Result<SubscribeOutcome, NoMemory>
     ensures { IfOk result (λ o. o ≡ unless_refused (keys_refusal uris) (metadata_outcome uris)) }
 {
     match keys_refusal(&uris) {
         Some(code) => refused_outcome(alloc, code),
-        None => metadata_outcome(alloc, defs, uris),
+        None => metadata_outcome(alloc, uris),
     }
 }
 
 /// What comes of one whose keys are within the limits.
-fn metadata_outcome(
-    alloc: Global,
-    defs: &List<ChannelDef>,
-    uris: Named<Text>,
-) -> Result<SubscribeOutcome, NoMemory>
+fn metadata_outcome(alloc: Global, uris: Named<Text>) -> Result<SubscribeOutcome, NoMemory>
     ensures { IfOk result (λ o. o ≡ metadata_outcome uris) }
 {
     let request = Plain(GetChannelMetadata);
-    let reply = Plain(GetChannelMetadataReply { defs });
+    let reply = Plain(GetChannelMetadataReply);
     let outcome = request_outcome(alloc, &request, &reply, &mut (), uris)?;
     Ok(metadata_call(outcome))
 }
 
-/// What comes of a message of the ChannelSubscribe protocol, in a session with these subscriptions, of a server whose channels are
-/// `defs`.
+/// What comes of a message of the ChannelSubscribe protocol, in a session with these subscriptions.
 pub fn subscribe_outcome(
     alloc: Global,
-    defs: &List<ChannelDef>,
     subs: &mut Subs,
     message: ChannelSubscribeMessage,
 ) -> Result<SubscribeOutcome, NoMemory>
@@ -147,7 +134,7 @@ pub fn subscribe_outcome(
 {
     match message {
         ChannelSubscribeMessage::GetChannelMetadata(request) => {
-            metadata_request(alloc, defs, request.uris)
+            metadata_request(alloc, request.uris)
         }
         ChannelSubscribeMessage::SubscribeChannels(request) => {
             begin_request(alloc, subs.list(), request.channels)
@@ -203,28 +190,26 @@ fn subs_copy(alloc: Global, subs: &[Sub]) -> Result<List<Sub>, NoMemory>
 /// The reply to a GetChannelMetadata, by what the store knows.
 fn metadata_reply(
     alloc: Global,
-    defs: &List<ChannelDef>,
     items: Named<Decision<()>>,
     metas: Named<MetaReply>,
 ) -> Result<List<Sending<ChannelSubscribeMessage>>, NoMemory>
-    ensures { let found = metadata_found defs.now in
+    ensures { let found = metadata_found in
         IfOk result (λ l. l ≡ plain_reply found metadata_response items metas) }
 {
     let findings = Findings::from_vec(metas.into_vec());
-    let reply = Plain(GetChannelMetadataReply { defs });
+    let reply = Plain(GetChannelMetadataReply);
     request_reply(alloc, &reply, &mut (), items, findings)
 }
 
 fn metas_reply(
     alloc: Global,
-    defs: &List<ChannelDef>,
     pending: SubscribePending,
     metas: Named<MetaReply>,
 ) -> Result<List<Sending<ChannelSubscribeMessage>>, NoMemory>
-    ensures { IfOk result (λ l. l ≡ metas_reply defs.now pending metas) }
+    ensures { IfOk result (λ l. l ≡ metas_reply pending metas) }
 {
     match pending {
-        SubscribePending::Metadata { items } => metadata_reply(alloc, defs, items, metas),
+        SubscribePending::Metadata { items } => metadata_reply(alloc, items, metas),
         SubscribePending::Subscribe { .. } | SubscribePending::Ranges | SubscribePending::News => {
             Ok(List::new(alloc))
         }
@@ -303,18 +288,17 @@ fn no_reply(alloc: Global, reply: Reply) -> List<Sending<ChannelSubscribeMessage
 /// to the call has no reply.
 pub fn subscribe_reply(
     alloc: Global,
-    defs: &List<ChannelDef>,
     limit: u64,
     subs: Subs,
     pending: SubscribePending,
     answer: Answer,
 ) -> Result<(Subs, List<Sending<ChannelSubscribeMessage>>), NoMemory>
-    ensures subs { IfOk result (λ r. r.0 ≡ (subscribe_reply defs.now limit subs pending answer).subs) }
-    ensures sendings { IfOk result (λ r. r.1 ≡ (subscribe_reply defs.now limit subs pending answer).sendings) }
+    ensures subs { IfOk result (λ r. r.0 ≡ (subscribe_reply limit subs pending answer).subs) }
+    ensures sendings { IfOk result (λ r. r.1 ≡ (subscribe_reply limit subs pending answer).sendings) }
 {
     let Answer { mark, reply } = answer;
     match reply {
-        Reply::Metas(metas) => Ok((subs, metas_reply(alloc, defs, pending, metas)?)),
+        Reply::Metas(metas) => Ok((subs, metas_reply(alloc, pending, metas)?)),
         Reply::Points(points) => Ok((subs, points_reply(alloc, pending, points)?)),
         Reply::Started(started) => started_reply(alloc, mark, subs, pending, started),
         Reply::News { upto, lag, changes } => news_reply(

@@ -10,7 +10,7 @@ use Rattle.std.proofs.lemmas.List.Filters.{length-filter_both}
 use Rattle.etp_values.specs.declared.point.Point.{Point}
 use Rattle.channel_store.specs.declared.change.ChannelChange.{ChannelChange}
 use Rattle.channel_store.specs.declared.change.What.{What}
-use Rattle.channel_store.specs.declared.change.What.TheVariants.{Append, Replace, Truncate}
+use Rattle.channel_store.specs.declared.change.What.TheVariants.{Append, Replace, Truncate, Retired}
 use Rattle.channel_store.specs.Points.{append_of, past, view}
 use Rattle.channel_store.specs.declared.subscription.Sub.{Sub}
 use Rattle.subscribe_core.specs.Views.{sub_of, told_to, told}
@@ -63,6 +63,8 @@ length-view start true (Replace from to points) = by (int_lt to start)
 length-view start false (Replace from to points) = omega arith
 length-view start true (Truncate end) = omega arith
 length-view start false (Truncate end) = omega arith
+length-view start true Retired = omega arith
+length-view start false Retired = omega arith
 
 length-told_to : (o : Option Sub) (c : ChannelChange) → length (told_to o c) ≤ 1
 length-told_to None c = omega arith

@@ -4,7 +4,7 @@ use Rattle.std.specs.List.{AllByRecursion}
 use Rattle.std.specs.Ordering.{int_eq}
 use Rattle.etp_values.specs.declared.point.Point.{Point}
 use Rattle.channel_store.specs.declared.change.What.{What}
-use Rattle.channel_store.specs.declared.change.What.TheVariants.{Append, Replace, Truncate}
+use Rattle.channel_store.specs.declared.change.What.TheVariants.{Append, Replace, Truncate, Retired}
 use Rattle.channel_store.specs.declared.change.ChannelChange.{ChannelChange}
 use Rattle.channel_store.specs.Points.{at_most, past, view}
 use Rattle.channel_store.specs.Told.{told_by}
@@ -38,6 +38,7 @@ abbrev pub clipped : ℤ → ℕ → ℤ → ℤ → What → What
 clipped start skip from end (Append points) = append_at start skip points
 clipped start skip from end (Replace first last points) = Replace from end (past start (drop skip points))
 clipped start skip from end (Truncate last) = Truncate end
+clipped start skip from end Retired = Retired
 
 -- the change that is sent
 abbrev pub shown : ToldChange → ChannelChange

@@ -39,7 +39,7 @@ struct Clip {
 }
 
 impl ToldChange {
-    /// Copies of the points that are sent, in their order. A truncation has none.
+    /// Copies of the points that are sent, in their order. A truncation and a retirement have none.
     pub fn points(&self, alloc: Global) -> Result<List<Point>, NoMemory>
         ensures { IfOk result (λ r. r ≡ told_by (shown self.now).what) }
     {
@@ -49,6 +49,7 @@ impl ToldChange {
                 copy_told(alloc, points.get(), self.skip, self.start)
             }
             What::Truncate { .. } => Ok(List::new(alloc)),
+            What::Retired => Ok(List::new(alloc)),
         }
     }
 }
@@ -126,6 +127,11 @@ fn clipped(what: &What, start: i64, all: bool) -> Option<Clip>
                 end: clip_end(*end, start),
             })
         }
+        What::Retired => Some(Clip {
+            skip: 0,
+            from: start,
+            end: start,
+        }),
     }
 }
 

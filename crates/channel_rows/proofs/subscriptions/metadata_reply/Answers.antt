@@ -7,4 +7,4 @@ use Rattle.channel_rows.proofs.subscriptions.metadata_reply.Goals as goal
 pub returns : goal.returns
 returns c =
     let all : c.from_vec-findings.result ≡ c.args.metas = c.from_vec-findings.ensures ∙ c.into_vec.ensures.items in
-    subst (λ found. IfOk c.request_reply.result (λ l. l ≡ plain_reply (metadata_found c.args.defs.now) metadata_response c.args.items found)) all c.request_reply.ensures.sendings
+    subst (λ found. IfOk c.request_reply.result (λ l. l ≡ plain_reply metadata_found metadata_response c.args.items found)) all c.request_reply.ensures.sendings
