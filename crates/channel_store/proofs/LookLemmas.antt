@@ -1,12 +1,15 @@
 -- What is looked up in the rows of a store.
-use Rattle.std.proofs.Common.{refl, ℕ, zero, suc, ◌≡◌, Bool, true, false, cond, not, List, [], ◌∷◌, ap, sym, ◌∙◌, Option, Some, None, Ok, Err}
+use Rattle.std.proofs.Common.{refl, ℕ, zero, suc, ◌≡◌, ◌<◌, ◌+◌, arith, zero-add, Bool, true, false, cond, not, List, [], ◌∷◌, ap, sym, ◌∙◌, Option, Some, None, Ok, Err}
 use Rattle.std.specs.Prelude.{ℤ, pos, negsuc, slice_get, is_some}
+use Rattle.std.proofs.lemmas.Bool.{and_parts}
+use Rattle.etp_values.specs.declared.uri.StoreUri.{StoreUri}
+use Rattle.etp_values.specs.SameUri.{same_uri}
 use Rattle.channel_store.specs.declared.error.ChannelError.TheVariants.{NoChannel, Index, Doubled, Interval}
 use Rattle.channel_store.specs.Channels.{Channel}
 use Rattle.channel_store.specs.Points.{at_most, inside, past}
 use Rattle.channel_store.specs.Rows.{Row}
 use Rattle.channel_store.specs.Refusals.{channel_at, cut_refusal, if_known, in_range, is_listed, or_else, points_at, points_in, range_refusal, slot_at, unless, verdict}
-use Rattle.channel_store.specs.Store.{range_in, range_of, tail_in, tail_of}
+use Rattle.channel_store.specs.Store.{first_place, id_of, is_known, range_in, range_of, tail_in, tail_of}
 use Rattle.channel_store.specs.Sweeps.{known_in, known_row, shown_of, shown_in, row_at}
 
 get-shown : (rows : List Row) (k : ℕ) → slice_get (shown_of rows) k ≡ shown_in (slice_get rows k)
@@ -68,3 +71,41 @@ tail-unknown rows id start h = ap (λ o. tail_in o id start) (there rows id None
 pub cut-is : (cs : List Channel) (earlier : List ℤ) (id end : ℤ) (known ranged listed : Bool) → is_some (channel_at cs id) ≡ known → in_range end ≡ ranged → is_listed earlier id ≡ listed
     → verdict (or_else (unless known (NoChannel id)) (or_else (unless ranged (Index id)) (unless (not listed) (Doubled id)))) ≡ verdict (cut_refusal cs earlier (id, end))
 cut-is cs earlier id end known ranged listed h k l = (λ j. verdict (or_else (unless (sym h j) (NoChannel id)) (or_else (unless (sym k j) (Index id)) (unless (not (sym l j)) (Doubled id)))))
+
+-- ---- the id of an object
+
+-- a number that is found is not below the first
+beyond-first : (uri : StoreUri) (n m : ℕ) (cs : List Channel) → m < n → first_place (is_known uri) n cs ≡ Some (pos m) → ⊥
+beyond-first uri n m [] below h = cc
+beyond-first uri n m (c ∷ cs) below h = by (is_known uri c) h
+  where
+    by : (b : Bool) → cond b (Some (pos n)) (first_place (is_known uri) (suc n) cs) ≡ Some (pos m) → ⊥
+    by true g = let same : n ≡ m = cc in omega (arith, same, below)
+    by false g = beyond-first uri (suc n) m cs (omega (arith, below)) g
+
+never-negative : (uri : StoreUri) (n : ℕ) (cs : List Channel) (k : ℕ) → first_place (is_known uri) n cs ≡ Some (negsuc k) → ⊥
+never-negative uri n [] k h = cc
+never-negative uri n (c ∷ cs) k h = by (is_known uri c) h
+  where
+    by : (b : Bool) → cond b (Some (pos n)) (first_place (is_known uri) (suc n) cs) ≡ Some (negsuc k) → ⊥
+    by true g = cc
+    by false g = never-negative uri (suc n) cs k g
+
+find-known : (uri : StoreUri) (n k m : ℕ) (cs : List Channel) → n + k ≡ m → first_place (is_known uri) n cs ≡ Some (pos m) → is_some (if_known (slice_get cs k)) ≡ true
+find-known uri n k m [] e h = cc
+find-known uri n k m (c ∷ cs) e h = by (is_known uri c) refl h k e
+  where
+    here : (b : Bool) → c.known ≡ b → is_some (cond b (Some c) None) ≡ true → is_some (if_known (Some c)) ≡ true
+    here b known g = ap (λ t. is_some (cond t (Some c) None)) known ∙ g
+
+    by : (b : Bool) → is_known uri c ≡ b → cond b (Some (pos n)) (first_place (is_known uri) (suc n) cs) ≡ Some (pos m) → (j : ℕ) → n + j ≡ m → is_some (if_known (slice_get (c ∷ cs) j)) ≡ true
+    by true is g zero e = here true (and_parts c.known (same_uri uri c.def.uri) is).0 refl
+    by true is g (suc j) e =
+        let same : n ≡ m = cc in
+        absurd (omega (arith, same))
+    by false is g zero e = absurd (beyond-first uri (suc n) m cs (omega arith) g)
+    by false is g (suc j) e = find-known uri (suc n) j m cs (omega arith) g
+
+pub id-known : (uri : StoreUri) (cs : List Channel) (id : ℤ) → id_of uri cs ≡ Some id → is_some (channel_at cs id) ≡ true
+id-known uri cs (pos k) h = find-known uri 0 k k cs (zero-add k) h
+id-known uri cs (negsuc k) h = absurd (never-negative uri 0 cs k h)

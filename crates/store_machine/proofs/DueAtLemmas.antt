@@ -25,7 +25,7 @@ use Rattle.store_machine.specs.declared.call.StoreCall.TheVariants as call
 use Rattle.store_machine.specs.declared.journal.Entry.{Entry}
 use Rattle.store_machine.specs.Answers.{answer}
 use Rattle.store_machine.specs.declared.news.Followed.{Followed}
-use Rattle.store_machine.specs.Channels.{change_by, change_list, changes_from, channel_by, channel_changes, channels_of, what_of}
+use Rattle.store_machine.specs.Channels.{change_by, change_list, changes_from, channel_by, channel_changes, channels_of, what_of, defs_of, known_ids}
 use Rattle.store_machine.specs.News.{changes_at_entry, dues, is_due, lag, news_after, news_by}
 use Rattle.store_machine.specs.Telling.{Follows, due_at, due_here, dues_at, followed_by, is_followed}
 use Rattle.store_machine.specs.Watching.{IsCounted, IsFresh, Knows, due_of, dues_over}
@@ -94,19 +94,19 @@ number-beyond f n k [] beyond = refl
 number-beyond f n zero (d ∷ ds) beyond = absurd (omega arith)
 number-beyond f n (suc k) (d ∷ ds) beyond = number-beyond f (suc n) k ds (omega arith)
 
-pub changes-there : (config : Config) (history : List Entry) (k : ℕ) → k < length config.channels → changes_at (channels_of config history) (pos k) ≡ channel_changes (pos k) history
+pub changes-there : (config : Config) (history : List Entry) (k : ℕ) → k < known_ids config history → changes_at (channels_of config history) (pos k) ≡ channel_changes (pos k) history
 unfolding channels_of
 changes-there config history k within =
     let here : 0 + k ≡ k = omega arith in
-    number-there (λ j d. channel_by d (channel_changes (pos j) history)) 0 k config.channels within (λ j. channel_changes (pos j) history) (λ j d. refl)
+    number-there (λ j d. channel_by d (channel_changes (pos j) history)) 0 k (defs_of config history) within (λ j. channel_changes (pos j) history) (λ j d. refl)
     ∙ ap (λ j. channel_changes (pos j) history) here
 
-pub changes-beyond : (config : Config) (history : List Entry) (k : ℕ) → length config.channels ≤ k → changes_at (channels_of config history) (pos k) ≡ []
+pub changes-beyond : (config : Config) (history : List Entry) (k : ℕ) → known_ids config history ≤ k → changes_at (channels_of config history) (pos k) ≡ []
 unfolding channels_of
-changes-beyond config history k beyond = number-beyond (λ j d. channel_by d (channel_changes (pos j) history)) 0 k config.channels beyond
+changes-beyond config history k beyond = number-beyond (λ j d. channel_by d (channel_changes (pos j) history)) 0 k (defs_of config history) beyond
 
 -- what the channels keep of the entry at a place
-pub kept-there : (config : Config) (history : List Entry) (k p : ℕ) → k < length config.channels
+pub kept-there : (config : Config) (history : List Entry) (k p : ℕ) → k < known_ids config history
     → option_to_list (find (λ (x : ChannelChange). x.place == p) (changes_at (channels_of config history) (pos k))) ≡ changed_by p (pos k) (slice_get history p)
 unfolding at_place
 kept-there config history k p within =
@@ -327,9 +327,9 @@ due-all cs p e n tie (f ∷ fs) rise = by f.channel refl (due-all cs p e n tie f
 -- ---- what is due, entry by entry
 
 pub due-entry : (config : Config) (history : List Entry) (fs : List Followed) (p : ℕ) (e : Entry) → Rise fs → slice_get history p ≡ Some e → due_at (channels_of config history) fs p ≡ filter (is_followed fs) (changes_at_entry config p e)
-due-entry config history fs p e rise at = due-all (channels_of config history) p e (length config.channels) tie fs rise
+due-entry config history fs p e rise at = due-all (channels_of config history) p e (known_ids config history) tie fs rise
   where
-    tie : Tie (channels_of config history) p e (length config.channels)
+    tie : Tie (channels_of config history) p e (known_ids config history)
     tie = record {
       here = λ k within. kept-there config history k p within ∙ ap (changed_by p (pos k)) at;
       beyond = λ k past. changes-beyond config history k past;
@@ -340,12 +340,12 @@ filter-same p q [] same = refl
 filter-same p q (x ∷ xs) same = (λ j. cond (same x j) (x ∷ filter-same p q xs same j) (filter-same p q xs same j))
 
 dues-from : (config : Config) (history : List Entry) (subs : List Sub) (fs : List Followed) → Follows subs fs → (place : ℕ) (es : List Entry) → ((k : ℕ) → slice_get history (place + k) ≡ slice_get es k)
-    → dues_at (channels_of config history) fs place (length es) ≡ dues config subs place es
+    → dues_at (channels_of config history) fs place (length es) ≡ dues (known_ids config history) subs place es
 dues-from config history subs fs f place [] at = refl
 dues-from config history subs fs f place (e ∷ es) at =
     let zeroth : place ≡ place + 0 = omega arith in
     let here : slice_get history place ≡ Some e = ap (slice_get history) zeroth ∙ at 0 in
-    let one = due-entry config history fs place e f.rise here ∙ filter-same (is_followed fs) (is_due subs) (changes_at_entry config place e) f.same in
+    let one = due-entry config history fs place e f.rise here ∙ filter-same (is_followed fs) (is_due subs) (changes_at_entry (known_ids config history) place e) f.same in
     let later = dues-from config history subs fs f (place + 1) es (λ k. ap (slice_get history) (shifted place k) ∙ at (suc k)) in
     (λ j. one j ∷ later j)
   where
@@ -358,7 +358,7 @@ get-drop [] (suc place) k = refl
 get-drop (x ∷ xs) (suc place) k = let e : suc place + k ≡ suc (place + k) = omega arith in ap (slice_get (x ∷ xs)) e ∙ get-drop xs place k
 
 pub dues-are : (config : Config) (history : List Entry) (subs : List Sub) (place : ℕ)
-    → dues_at (channels_of config history) (followed_by subs) place (length history - place) ≡ dues config subs place (drop place history)
+    → dues_at (channels_of config history) (followed_by subs) place (length history - place) ≡ dues (known_ids config history) subs place (drop place history)
 dues-are config history subs place =
     ap (dues_at (channels_of config history) (followed_by subs) place) (sym (length-drop place history))
     ∙ dues-from config history subs (followed_by subs) (follows subs) place (drop place history) (get-drop history place)
@@ -372,18 +372,18 @@ none-there (x ∷ xs) (suc k) h e = none-there xs k (omega (arith, h)) e
 
 -- what the channels keep of the entries of a part is what these entries did
 dues-there : (config : Config) (history : List Entry) (fs : List Followed) → Rise fs → (place count : ℕ) → place + count ≤ length history
-    → dues_at (channels_of config history) fs place count ≡ dues_over (length config.channels) fs history place count
+    → dues_at (channels_of config history) fs place count ≡ dues_over (known_ids config history) fs history place count
 dues-there config history fs rise place zero h = refl
 dues-there config history fs rise place (suc count) h =
     let later = dues-there config history fs rise (place + 1) count (omega (arith, h)) in
     (λ j. by (slice_get history place) refl j ∷ later j)
   where
-    by : (o : Option Entry) → slice_get history place ≡ o → due_at (channels_of config history) fs place ≡ due_of (length config.channels) fs place o
+    by : (o : Option Entry) → slice_get history place ≡ o → due_at (channels_of config history) fs place ≡ due_of (known_ids config history) fs place o
     by None e = absurd (none-there history place (omega (arith, h)) e)
     by (Some e) at = due-entry config history fs place e rise at
 
 -- so a watch says the same of the channels
-pub knows_all : (config : Config) (journal : List Entry) (cs : List Channel) (n : ℕ) (subs : List Sub) (ws : List Watch) → cs ≡ channels_of config journal → n ≡ length config.channels → All (IsCounted journal) ws
+pub knows_all : (config : Config) (journal : List Entry) (cs : List Channel) (n : ℕ) (subs : List Sub) (ws : List Watch) → cs ≡ channels_of config journal → n ≡ known_ids config journal → All (IsCounted journal) ws
     → All (Knows cs n (followed_by subs)) ws
 knows_all config journal cs n subs ws ch many all = All-weaker (IsCounted journal) (Knows cs n (followed_by subs)) knows ws all
   where
@@ -396,7 +396,7 @@ knows_all config journal cs n subs ws ch many all = All-weaker (IsCounted journa
         ∙ ap lag (sym (dues-there config journal (followed_by subs) (follows subs).rise w.from (w.mark - w.from) inside))
         ∙ ap (λ l. lag (dues_at l (followed_by subs) w.from (w.mark - w.from))) (sym ch)
 
-pub counted_fresh : (config : Config) (journal : List Entry) (cs : List Channel) (n : ℕ) (subs : List Sub) (mark : ℕ) → cs ≡ channels_of config journal → n ≡ length config.channels → mark ≡ length journal
+pub counted_fresh : (config : Config) (journal : List Entry) (cs : List Channel) (n : ℕ) (subs : List Sub) (mark : ℕ) → cs ≡ channels_of config journal → n ≡ known_ids config journal → mark ≡ length journal
     → (w : Watch) → IsFresh cs n (followed_by subs) mark w → IsCounted journal w
 counted_fresh config journal cs n subs mark ch many long w f =
     let b = f.begun in
@@ -420,3 +420,12 @@ news-answer config journal cs cursor subs reply mark m ch r =
     let told = r ∙ (λ j. news_by config.lag (min cursor (m j)) (m j) (dues_at (ch j) (followed_by subs) (min cursor (m j)) (m j - min cursor (m j))))
     ∙ ap (news_by config.lag (min cursor (length journal)) (length journal)) (dues-are config journal subs (min cursor (length journal))) in
     (λ j. record { mark = m j; reply = told j })
+
+count-from : (f : ℕ → ChannelDef → Channel) (n : ℕ) (ds : List ChannelDef) → length (by_number f n ds) ≡ length ds
+count-from f n [] = refl
+count-from f n (d ∷ ds) = ap suc (count-from f (suc n) ds)
+
+-- there are as many channels as were ever known
+pub channels-count : (config : Config) (history : List Entry) → length (channels_of config history) ≡ known_ids config history
+unfolding channels_of
+channels-count config history = count-from (λ k d. channel_by d (channel_changes (pos k) history)) 0 (defs_of config history)

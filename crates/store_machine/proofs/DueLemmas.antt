@@ -7,7 +7,6 @@ use Rattle.std.proofs.lemmas.List.{length-drop}
 use Rattle.std.proofs.lemmas.List.Elements.{filter-append}
 use Rattle.etp_values.proofs.IntLemmas.{int_eq_self, pos_apart}
 use Rattle.etp_values.specs.Weight.{weigh}
-use Rattle.server_config.specs.declared.config.Config.{Config}
 use Rattle.channel_store.specs.declared.change.ChannelChange.{ChannelChange}
 use Rattle.channel_store.specs.declared.change.What.{What}
 use Rattle.channel_store.specs.declared.subscription.Sub.{Sub}
@@ -18,14 +17,14 @@ use Rattle.store_machine.specs.News.{changes_at_entry, dues, fits_behind, is_due
 
 -- ---- what is taken is a front
 
-dues-length : (config : Config) (subs : List Sub) (place : ℕ) (es : List Entry) → length (dues config subs place es) ≡ length es
-dues-length config subs place [] = refl
-dues-length config subs place (e ∷ es) = ap suc (dues-length config subs (place + 1) es)
+dues-length : (n : ℕ) (subs : List Sub) (place : ℕ) (es : List Entry) → length (dues n subs place es) ≡ length es
+dues-length n subs place [] = refl
+dues-length n subs place (e ∷ es) = ap suc (dues-length n subs (place + 1) es)
 
-dues-take : (config : Config) (subs : List Sub) (k place : ℕ) (es : List Entry) → dues config subs place (take k es) ≡ take k (dues config subs place es)
-dues-take config subs zero place es = refl
-dues-take config subs (suc k) place [] = refl
-dues-take config subs (suc k) place (e ∷ es) = ap (λ l. filter (is_due subs) (changes_at_entry config place e) ∷ l) (dues-take config subs k (place + 1) es)
+dues-take : (n : ℕ) (subs : List Sub) (k place : ℕ) (es : List Entry) → dues n subs place (take k es) ≡ take k (dues n subs place es)
+dues-take n subs zero place es = refl
+dues-take n subs (suc k) place [] = refl
+dues-take n subs (suc k) place (e ∷ es) = ap (λ l. filter (is_due subs) (changes_at_entry n place e) ∷ l) (dues-take n subs k (place + 1) es)
 
 taken-front : (n b : ℕ) (ds : List (List ChannelChange)) → take (length (taken n b ds)) ds ≡ taken n b ds
 taken-front n b [] = refl
@@ -45,19 +44,19 @@ taken-within n b (d ∷ ds) = by (fits_behind n b d) (taken-within (n + length d
     by true rest = omega (arith, rest)
     by false rest = omega arith
 
-pub news-within : (config : Config) (history : List Entry) (subs : List Sub) (cursor : ℕ) → cursor ≤ length history → cursor + length (taken 0 0 (dues config subs cursor (drop cursor history))) ≤ length history
-news-within config history subs cursor within =
-    let few = taken-within 0 0 (dues config subs cursor (drop cursor history)) in
-    let long = dues-length config subs cursor (drop cursor history) in
+pub news-within : (n : ℕ) (history : List Entry) (subs : List Sub) (cursor : ℕ) → cursor ≤ length history → cursor + length (taken 0 0 (dues n subs cursor (drop cursor history))) ≤ length history
+news-within n history subs cursor within =
+    let few = taken-within 0 0 (dues n subs cursor (drop cursor history)) in
+    let long = dues-length n subs cursor (drop cursor history) in
     let rest = length-drop cursor history in
     omega (arith, within, few, long, rest)
 
-pub news-due : (config : Config) (history : List Entry) (subs : List Sub) (cursor : ℕ)
-    → joined (taken 0 0 (dues config subs cursor (drop cursor history)))
-    ≡ joined (dues config subs cursor (take (length (taken 0 0 (dues config subs cursor (drop cursor history)))) (drop cursor history)))
-news-due config history subs cursor =
-    let ds = dues config subs cursor (drop cursor history) in
-    ap joined (sym (dues-take config subs (length (taken 0 0 ds)) cursor (drop cursor history) ∙ taken-front 0 0 ds))
+pub news-due : (n : ℕ) (history : List Entry) (subs : List Sub) (cursor : ℕ)
+    → joined (taken 0 0 (dues n subs cursor (drop cursor history)))
+    ≡ joined (dues n subs cursor (take (length (taken 0 0 (dues n subs cursor (drop cursor history)))) (drop cursor history)))
+news-due n history subs cursor =
+    let ds = dues n subs cursor (drop cursor history) in
+    ap joined (sym (dues-take n subs (length (taken 0 0 ds)) cursor (drop cursor history) ∙ taken-front 0 0 ds))
 
 -- ---- the due changes of one channel
 
@@ -86,18 +85,18 @@ other-dropped j k place at None h = refl
 other-dropped j k place at (Some w) h = let x : ChannelChange = record { place = place; channel = pos j; at = at; what = w } in ap (λ b. cond b (x ∷ []) []) (pos_apart j k h)
 
 -- none of the ids past k
-none-past : (config : Config) (k place : ℕ) (e : Entry) (from count : ℕ) → k < from → filter (is_of k) (flat_map (λ j. change_by place (pos j) e) (range_with_len from count)) ≡ []
-none-past config k place e from zero past = refl
-none-past config k place e from (suc count) past =
+none-past : (n : ℕ) (k place : ℕ) (e : Entry) (from count : ℕ) → k < from → filter (is_of k) (flat_map (λ j. change_by place (pos j) e) (range_with_len from count)) ≡ []
+none-past n k place e from zero past = refl
+none-past n k place e from (suc count) past =
     filter-append (is_of k) (change_by place (pos from) e) (flat_map (λ j. change_by place (pos j) e) (range_with_len (from + 1) count))
-    ∙ (λ i. other-dropped from k place e.at (what_of e.act (pos from)) (λ q. omega (arith, q)) i ++ none-past config k place e (from + 1) count (omega arith) i)
+    ∙ (λ i. other-dropped from k place e.at (what_of e.act (pos from)) (λ q. omega (arith, q)) i ++ none-past n k place e (from + 1) count (omega arith) i)
 
 -- k among the ids from a number on
-one-among : (config : Config) (k place : ℕ) (e : Entry) (from count : ℕ) → from ≤ k → k < from + count
+one-among : (n : ℕ) (k place : ℕ) (e : Entry) (from count : ℕ) → from ≤ k → k < from + count
     → filter (is_of k) (flat_map (λ j. change_by place (pos j) e) (range_with_len from count)) ≡ change_by place (pos k) e
-one-among config k place e from zero low high = absurd (omega arith)
-one-among config k place e from (suc count) low high =
-    filter-append (is_of k) (change_by place (pos from) e) (flat_map (λ j. change_by place (pos j) e) (range_with_len (from + 1) count)) ∙ by (nat_le k from) refl (λ past. one-among config k place e (from + 1) count past (omega (arith, high)))
+one-among n k place e from zero low high = absurd (omega arith)
+one-among n k place e from (suc count) low high =
+    filter-append (is_of k) (change_by place (pos from) e) (flat_map (λ j. change_by place (pos j) e) (range_with_len (from + 1) count)) ∙ by (nat_le k from) refl (λ past. one-among n k place e (from + 1) count past (omega (arith, high)))
   where
     rest : List ChannelChange
     rest = filter (is_of k) (flat_map (λ j. change_by place (pos j) e) (range_with_len (from + 1) count))
@@ -105,17 +104,17 @@ one-among config k place e from (suc count) low high =
     by : (b : Bool) → nat_le k from ≡ b → (from + 1 ≤ k → rest ≡ change_by place (pos k) e) → filter (is_of k) (change_by place (pos from) e) ++ rest ≡ change_by place (pos k) e
     by true h later =
         let same : from ≡ k = grind (arith, h) in
-        (λ i. filter (is_of k) (change_by place (pos (same i)) e) ++ none-past config k place e (from + 1) count (grind (arith, h)) i)
+        (λ i. filter (is_of k) (change_by place (pos (same i)) e) ++ none-past n k place e (from + 1) count (grind (arith, h)) i)
         ∙ append-nil (filter (is_of k) (change_by place (pos k) e)) ∙ own-kept k place e.at (what_of e.act (pos k))
     by false h later =
         (λ i. other-dropped from k place e.at (what_of e.act (pos from)) (λ q. grind (arith, h, q)) i ++ rest) ∙ later (grind (arith, h))
 
-pub news-of_each : (config : Config) (subs : List Sub) (k place : ℕ) (entries : List Entry) → k < length config.channels
-    → filter (λ (c : ChannelChange). int_eq c.channel (pos k)) (joined (dues config subs place entries)) ≡ filter (is_due subs) (changes_from place (pos k) entries)
+pub news-of_each : (n : ℕ) (subs : List Sub) (k place : ℕ) (entries : List Entry) → k < n
+    → filter (λ (c : ChannelChange). int_eq c.channel (pos k)) (joined (dues n subs place entries)) ≡ filter (is_due subs) (changes_from place (pos k) entries)
 unfolding is_of
-news-of_each config subs k place [] within = refl
-news-of_each config subs k place (e ∷ es) within =
-    filter-append (is_of k) (filter (is_due subs) (changes_at_entry config place e)) (joined (dues config subs (place + 1) es))
-    ∙ (λ i. filter-swap (is_of k) (is_due subs) (changes_at_entry config place e) i ++ news-of_each config subs k (place + 1) es within i)
-    ∙ ap (λ l. filter (is_due subs) l ++ filter (is_due subs) (changes_from (place + 1) (pos k) es)) (one-among config k place e 0 (length config.channels) (omega arith) (omega (arith, within)))
+news-of_each n subs k place [] within = refl
+news-of_each n subs k place (e ∷ es) within =
+    filter-append (is_of k) (filter (is_due subs) (changes_at_entry n place e)) (joined (dues n subs (place + 1) es))
+    ∙ (λ i. filter-swap (is_of k) (is_due subs) (changes_at_entry n place e) i ++ news-of_each n subs k (place + 1) es within i)
+    ∙ ap (λ l. filter (is_due subs) l ++ filter (is_due subs) (changes_from (place + 1) (pos k) es)) (one-among n k place e 0 n (omega arith) (omega (arith, within)))
     ∙ sym (filter-append (is_due subs) (change_by place (pos k) e) (changes_from (place + 1) (pos k) es))

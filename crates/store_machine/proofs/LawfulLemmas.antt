@@ -2,11 +2,13 @@
 use Rattle.std.specs.Prelude.{ℕ, ℤ, pos, Bool, true, false, List, [], ◌∷◌, ◌++◌, ◌≡◌, ◌+◌, ◌≤◌, Option, Some, None, length, filter, map, refl, if◌then◌else◌}
 use Rattle.std.specs.Map.{values_of}
 use Rattle.std.proofs.Common.{ap, sym, ◌∙◌, subst, append_assoc, append-nil, arith, ◌⊎◌, inl, inr, ⊎_elim}
+use Rattle.etp_values.specs.declared.uri.StoreUri.{StoreUri}
+use Rattle.server_config.specs.declared.config.ChannelDef.{ChannelDef}
 use Rattle.server_config.specs.declared.config.Config.{Config}
 use Rattle.channel_store.specs.declared.error.ChannelError.{ChannelError}
 use Rattle.channel_store.specs.Channels.{Channel, fresh}
 use Rattle.channel_store.specs.Refusals.{append_refusal, replace_refusal}
-use Rattle.channel_store.specs.Store.{changed, truncated}
+use Rattle.channel_store.specs.Store.{changed, defined, retired, truncated}
 use Rattle.etp_values.specs.declared.point.ChannelPoint.{ChannelPoint}
 use Rattle.etp_values.specs.Weight.{capped}
 use Rattle.object_store.specs.declared.records.SpaceRecord.{SpaceRecord}
@@ -23,7 +25,7 @@ use Rattle.tx_stage.specs.State.{first, state_in, state_now}
 use Rattle.store_machine.specs.declared.alterations.Alterations.{Alterations}
 use Rattle.store_machine.specs.declared.call.SpacePut.{SpacePut}
 use Rattle.store_machine.specs.declared.journal.Act.{Act}
-use Rattle.store_machine.specs.declared.journal.Act.TheVariants.{Enter, PutSpaces, DropSpaces, Put, Commit, Append, Replace, Truncate}
+use Rattle.store_machine.specs.declared.journal.Act.TheVariants.{Enter, PutSpaces, DropSpaces, Put, Commit, Append, Replace, Truncate, Define, Retire}
 use Rattle.store_machine.specs.declared.journal.Entry.{Entry}
 use Rattle.store_machine.specs.History.{Change, DropSpace, Operate, set_space, changes_by, entry_changes, changes_of}
 use Rattle.store_machine.specs.declared.call.Reply.TheVariants as replied
@@ -31,17 +33,20 @@ use Rattle.store_machine.specs.declared.call.Reply.TheVariants.{Spaces}
 use Rattle.store_machine.specs.declared.call.StoreCall.{StoreCall}
 use Rattle.store_machine.specs.declared.call.StoreCall.TheVariants as call
 use Rattle.store_machine.specs.declared.call.Cutting.{Cutting}
-use Rattle.store_machine.specs.Channels.{channels_of, cut_of, what_of}
+use Rattle.store_machine.specs.Channels.{channels_of, cut_of, defs_by, what_of}
 use Rattle.store_machine.specs.Clash.{act_with, commit_of, conflict}
 use Rattle.store_machine.specs.Cuts.{cuts_accepted}
+use Rattle.store_machine.specs.Defs.{defs_accepted, ids_accepted, uris_accepted}
+use Rattle.store_machine.specs.Laws.{UnknownAreUntouched}
 use Rattle.store_machine.specs.Dataspaces.{dataspaces, is_newer}
 use Rattle.store_machine.specs.Counted.{act_bytes, counted_act, counted, is_room, bytes_with}
 use Rattle.store_machine.specs.Answers.{verdict, is_accepted, accepted, all_or_none, act_of, granted, has_room_for, entry, entered, entries_of, seen_after, answer}
 use Rattle.store_machine.specs.Legal.{IsNext, MayAct, MayAsk, Follows, LegalFrom, Legal, door}
 use Rattle.store_machine.specs.Kept.{Holds, Plans, Keeps}
 use Rattle.store_machine.specs.Marking.{Marks}
-use Rattle.store_machine.proofs.ChanneledLemmas.{channels-first, channels-frame, channels-step}
+use Rattle.store_machine.proofs.ChanneledLemmas.{channels-define, channels-first, channels-frame, channels-step}
 use Rattle.store_machine.proofs.CutLemmas.{cuts-again}
+use Rattle.store_machine.proofs.DefLemmas.{defs-again, ids-again, uris-again}
 use Rattle.store_machine.proofs.MarkedLemmas.{marks-frame}
 use Rattle.store_machine.proofs.ValueLemmas.{changes-push}
 
@@ -121,6 +126,12 @@ makes-replace config history by nth at from to items next = record {
 pub makes-cuts : (config : Config) (history : List Entry) (by nth : ℕ) (at : ℤ) → IsNext history by nth → Makes Truncate (cuts_accepted (channels_of config history) []) config history by nth at
 makes-cuts config history by nth at next = record { grants = λ xs. refl; again = cuts-again (channels_of config history); enters = λ xs. refl; may = λ xs. next }
 
+pub makes-defs : (config : Config) (history : List Entry) (by nth : ℕ) (at : ℤ) → IsNext history by nth → Makes Define (defs_accepted (channels_of config history) []) config history by nth at
+makes-defs config history by nth at next = record { grants = λ xs. refl; again = defs-again (channels_of config history) []; enters = λ xs. refl; may = λ xs. next }
+
+pub makes-ids : (config : Config) (history : List Entry) (by nth : ℕ) (at : ℤ) → IsNext history by nth → Makes Retire (ids_accepted (channels_of config history)) config history by nth at
+makes-ids config history by nth at next = record { grants = λ xs. refl; again = ids-again (channels_of config history); enters = λ xs. refl; may = λ xs. next }
+
 -- the entry of kept items follows, if there is room
 pub follows-items : {X : Type 0} (act : List X → Act) (kept : List X → List X) (config : Config) (history : List Entry) (by nth : ℕ) (at : ℤ) → Makes act kept config history by nth at
     → (asked : List X) (x : X) (xs : List X) → x ∷ xs ≡ kept asked → has_room_for config history (act (x ∷ xs)) ≡ true
@@ -185,6 +196,11 @@ legal-call config history by nth at (call.Replace channels from to items) legal 
     (makes-replace config history by nth at from to items may) channels legal
 legal-call config history by nth at (call.Truncate items) legal may =
     legal-granted Truncate (cuts_accepted (channels_of config history) []) config history by nth at (makes-cuts config history by nth at may) (values_of items) legal
+legal-call config history by nth at (call.Define items) legal may =
+    legal-granted Define (defs_accepted (channels_of config history) []) config history by nth at (makes-defs config history by nth at may) (values_of items) legal
+legal-call config history by nth at (call.Retire items) legal may =
+    let cs = channels_of config history in
+    legal-items Retire (ids_accepted cs) config history by nth at (makes-ids config history by nth at may) (uris_accepted cs (values_of items)) (uris_accepted cs (values_of items)) legal (sym (uris-again cs (values_of items)))
 legal-call config history by nth at _ legal may = subst (Legal config) (sym (append-nil history)) legal
 
 -- ---- counted bytes
@@ -216,7 +232,7 @@ pub keeps-enter : (config : Config) (journal : List Entry) (total : ℕ) (t : Co
 keeps-enter config journal total t cs a at k room = keeps-push config journal total t t cs cs a a (entry journal 0 0 at Enter) k
     (record { same = ap (λ b. if b then entry journal (length journal) 0 at Enter ∷ [] else []) room; may = tt }) room
     (subst (Holds t) (sym (append-nil (changes_of journal))) k.holds)
-    (k.channels ∙ sym (channels-frame config journal (entry journal 0 0 at Enter) (λ id. refl))) (marks-frame a journal (entry journal 0 0 at Enter) k.marks refl)
+    (k.channels ∙ sym (channels-frame config journal (entry journal 0 0 at Enter) refl (λ id. refl))) (marks-frame a journal (entry journal 0 0 at Enter) k.marks refl)
 
 -- a plan was done
 done : (t t' : Contents) (p : Plan) (changes : List Change) → ((key : Key) → state_in t' key ≡ state_now t p key) → Plans t p changes → Holds t' changes
@@ -224,15 +240,15 @@ done t t' p changes does pl = record { each = λ key. does key ∙ pl.each key }
 
 -- kept items make an entry, whose changes were planned
 keeps-items : {X : Type 0} (act : List X → Act) (kept : List X → List X) (config : Config) (journal : List Entry) (by nth : ℕ) (at : ℤ) → Makes act kept config journal by nth at
-    → ((xs : List X) (id : ℤ) → what_of (act xs) id ≡ None)
+    → ((xs : List X) → defs_by (act xs) ≡ []) → ((xs : List X) (id : ℤ) → what_of (act xs) id ≡ None)
     → (total : ℕ) (t t' : Contents) (cs : List Channel) (a a' : Alterations) (p : Plan) (asked xs : List X) → Keeps config journal total t cs a → xs ≡ kept asked → (xs ≡ [] → ⊥) → has_room_for config journal (act xs) ≡ true
     → ((key : Key) → state_in t' key ≡ state_now t p key) → Plans t p (changes_of journal ++ changes_by at (act xs)) → Marks a' (journal ++ record { by = by; nth = nth; at = at; act = act xs } ∷ [])
     → Keeps config (journal ++ record { by = by; nth = nth; at = at; act = act xs } ∷ []) (total + counted_act (act xs)) t' cs a'
-keeps-items act kept config journal by nth at m still total t t' cs a a' p asked [] k same some room does pl marks = absurd (some refl)
-keeps-items act kept config journal by nth at m still total t t' cs a a' p asked (x ∷ xs) k same some room does pl marks =
+keeps-items act kept config journal by nth at m none still total t t' cs a a' p asked [] k same some room does pl marks = absurd (some refl)
+keeps-items act kept config journal by nth at m none still total t t' cs a a' p asked (x ∷ xs) k same some room does pl marks =
     let e : Entry = record { by = by; nth = nth; at = at; act = act (x ∷ xs) } in
     keeps-push config journal total t t' cs cs a a' e k (follows-items act kept config journal by nth at m asked x xs same room) room
-    (done t t' p (changes_of journal ++ changes_by at (act (x ∷ xs))) does pl) (k.channels ∙ sym (channels-frame config journal e (still (x ∷ xs)))) marks
+    (done t t' p (changes_of journal ++ changes_by at (act (x ∷ xs))) does pl) (k.channels ∙ sym (channels-frame config journal e (none (x ∷ xs)) (still (x ∷ xs)))) marks
 
 -- dataspaces are put
 pub keeps-puts : (config : Config) (journal : List Entry) (by nth : ℕ) (at : ℤ) (total : ℕ) (t t' : Contents) (cs : List Channel) (a a' : Alterations) (p : Plan) (asked puts : List SpacePut)
@@ -240,7 +256,7 @@ pub keeps-puts : (config : Config) (journal : List Entry) (by nth : ℕ) (at : �
     → ((key : Key) → state_in t' key ≡ state_now t p key) → Marks a' (journal ++ record { by = by; nth = nth; at = at; act = PutSpaces puts } ∷ [])
     → Keeps config (journal ++ record { by = by; nth = nth; at = at; act = PutSpaces puts } ∷ []) (total + counted_act (PutSpaces puts)) t' cs a'
 keeps-puts config journal by nth at total t t' cs a a' p asked puts k next same pl some room does marks =
-    keeps-items PutSpaces (accepted (set_space (pos 0)) (changes_of journal)) config journal by nth at (makes-puts config journal by nth at next) (λ xs id. refl) total t t' cs a a' p asked puts k same some room does pl marks
+    keeps-items PutSpaces (accepted (set_space (pos 0)) (changes_of journal)) config journal by nth at (makes-puts config journal by nth at next) (λ xs. refl) (λ xs id. refl) total t t' cs a a' p asked puts k same some room does pl marks
 
 -- dataspaces are dropped
 pub keeps-drops : (config : Config) (journal : List Entry) (by nth : ℕ) (at : ℤ) (total : ℕ) (t t' : Contents) (cs : List Channel) (a a' : Alterations) (p : Plan) (asked paths : List (List ℕ))
@@ -248,7 +264,7 @@ pub keeps-drops : (config : Config) (journal : List Entry) (by nth : ℕ) (at : 
     → ((key : Key) → state_in t' key ≡ state_now t p key) → Marks a' (journal ++ record { by = by; nth = nth; at = at; act = DropSpaces paths } ∷ [])
     → Keeps config (journal ++ record { by = by; nth = nth; at = at; act = DropSpaces paths } ∷ []) (total + counted_act (DropSpaces paths)) t' cs a'
 keeps-drops config journal by nth at total t t' cs a a' p asked paths k next same pl some room does marks =
-    keeps-items DropSpaces (accepted DropSpace (changes_of journal)) config journal by nth at (makes-drops config journal by nth at next) (λ xs id. refl) total t t' cs a a' p asked paths k same some room does pl marks
+    keeps-items DropSpaces (accepted DropSpace (changes_of journal)) config journal by nth at (makes-drops config journal by nth at next) (λ xs. refl) (λ xs id. refl) total t t' cs a a' p asked paths k same some room does pl marks
 
 -- operations are applied
 pub keeps-ops : (config : Config) (journal : List Entry) (by nth : ℕ) (at : ℤ) (total : ℕ) (t t' : Contents) (cs : List Channel) (a a' : Alterations) (p : Plan) (asked ops : List Op)
@@ -256,28 +272,51 @@ pub keeps-ops : (config : Config) (journal : List Entry) (by nth : ℕ) (at : �
     → ((key : Key) → state_in t' key ≡ state_now t p key) → Marks a' (journal ++ record { by = by; nth = nth; at = at; act = Put ops } ∷ [])
     → Keeps config (journal ++ record { by = by; nth = nth; at = at; act = Put ops } ∷ []) (total + counted_act (Put ops)) t' cs a'
 keeps-ops config journal by nth at total t t' cs a a' p asked ops k next same pl some room does marks =
-    keeps-items Put (accepted Operate (changes_of journal)) config journal by nth at (makes-ops config journal by nth at next) (λ xs id. refl) total t t' cs a a' p asked ops k same some room does pl marks
+    keeps-items Put (accepted Operate (changes_of journal)) config journal by nth at (makes-ops config journal by nth at next) (λ xs. refl) (λ xs id. refl) total t t' cs a a' p asked ops k same some room does pl marks
 
 -- an act on channels was done
 pub keeps-channels : {X : Type 0} (act : List X → Act) (kept : List X → List X) (config : Config) (journal : List Entry) (by nth : ℕ) (at : ℤ) → Makes act kept config journal by nth at
-    → ((xs : List X) → changes_by at (act xs) ≡ [])
+    → ((xs : List X) → changes_by at (act xs) ≡ []) → ((xs : List X) → defs_by (act xs) ≡ [])
     → (total : ℕ) (t : Contents) (cs cs' : List Channel) (a : Alterations) (asked xs : List X) → Keeps config journal total t cs a → xs ≡ kept asked → (xs ≡ [] → ⊥) → has_room_for config journal (act xs) ≡ true
     → cs' ≡ changed (length journal) at (what_of (act xs)) cs
     → Keeps config (journal ++ record { by = by; nth = nth; at = at; act = act xs } ∷ []) (total + counted_act (act xs)) t cs' a
-keeps-channels act kept config journal by nth at m still total t cs cs' a asked [] k same some room does = absurd (some refl)
-keeps-channels act kept config journal by nth at m still total t cs cs' a asked (x ∷ xs) k same some room does =
+keeps-channels act kept config journal by nth at m still none total t cs cs' a asked [] k same some room does = absurd (some refl)
+keeps-channels act kept config journal by nth at m still none total t cs cs' a asked (x ∷ xs) k same some room does =
     let e : Entry = record { by = by; nth = nth; at = at; act = act (x ∷ xs) } in
     keeps-push config journal total t t cs cs' a a e k (follows-items act kept config journal by nth at m asked x xs same room) room
     (subst (Holds t) (sym (ap (λ l. changes_of journal ++ l) (still (x ∷ xs)) ∙ append-nil (changes_of journal))) k.holds)
-    (does ∙ ap (changed (length journal) at (what_of (act (x ∷ xs)))) k.channels ∙ channels-step config journal e) (marks-frame a journal e k.marks (still (x ∷ xs)))
+    (does ∙ ap (changed (length journal) at (what_of (act (x ∷ xs)))) k.channels ∙ channels-step config journal e (none (x ∷ xs))) (marks-frame a journal e k.marks (still (x ∷ xs)))
 
 -- channels are truncated
 pub keeps-cuts : (config : Config) (journal : List Entry) (by nth : ℕ) (at : ℤ) (total : ℕ) (t : Contents) (cs cs' : List Channel) (a : Alterations) (asked cuts : List Cutting) → Keeps config journal total t cs a → IsNext journal by nth
     → cuts ≡ cuts_accepted cs [] asked → (cuts ≡ [] → ⊥) → has_room_for config journal (Truncate cuts) ≡ true → cs' ≡ changed (length journal) at (truncated (map cut_of cuts)) cs
     → Keeps config (journal ++ record { by = by; nth = nth; at = at; act = Truncate cuts } ∷ []) (total + counted_act (Truncate cuts)) t cs' a
 keeps-cuts config journal by nth at total t cs cs' a asked cuts k next same some room does =
-    keeps-channels Truncate (cuts_accepted (channels_of config journal) []) config journal by nth at (makes-cuts config journal by nth at next) (λ xs. refl) total t cs cs' a asked cuts k
+    keeps-channels Truncate (cuts_accepted (channels_of config journal) []) config journal by nth at (makes-cuts config journal by nth at next) (λ xs. refl) (λ xs. refl) total t cs cs' a asked cuts k
     (same ∙ ap (λ (c : List Channel). cuts_accepted c [] asked) k.channels) some room does
+
+-- channels are retired
+pub keeps-retired : (config : Config) (journal : List Entry) (by nth : ℕ) (at : ℤ) (total : ℕ) (t : Contents) (cs cs' : List Channel) (a : Alterations) (asked : List StoreUri) (ids : List ℤ) → Keeps config journal total t cs a → IsNext journal by nth
+    → ids ≡ uris_accepted cs asked → (ids ≡ [] → ⊥) → has_room_for config journal (Retire ids) ≡ true → cs' ≡ changed (length journal) at (retired ids) cs
+    → Keeps config (journal ++ record { by = by; nth = nth; at = at; act = Retire ids } ∷ []) (total + counted_act (Retire ids)) t cs' a
+keeps-retired config journal by nth at total t cs cs' a asked ids k next same some room does =
+    let again : ids ≡ ids_accepted (channels_of config journal) ids =
+    let made : ids ≡ uris_accepted (channels_of config journal) asked = same ∙ ap (λ (c : List Channel). uris_accepted c asked) k.channels in
+    made ∙ sym (uris-again (channels_of config journal) asked) ∙ ap (ids_accepted (channels_of config journal)) (sym made) in
+    keeps-channels Retire (ids_accepted (channels_of config journal)) config journal by nth at (makes-ids config journal by nth at next) (λ xs. refl) (λ xs. refl) total t cs cs' a ids ids k again some room does
+
+-- channels are defined
+pub keeps-defined : UnknownAreUntouched → (config : Config) (journal : List Entry) (by nth : ℕ) (at : ℤ) (total : ℕ) (t : Contents) (cs cs' : List Channel) (a : Alterations) (asked defs : List ChannelDef) → Keeps config journal total t cs a → IsNext journal by nth
+    → defs ≡ defs_accepted cs [] asked → (defs ≡ [] → ⊥) → has_room_for config journal (Define defs) ≡ true → cs' ≡ defined defs cs
+    → Keeps config (journal ++ record { by = by; nth = nth; at = at; act = Define defs } ∷ []) (total + counted_act (Define defs)) t cs' a
+keeps-defined untouched config journal by nth at total t cs cs' a asked [] k next same some room does = absurd (some refl)
+keeps-defined untouched config journal by nth at total t cs cs' a asked (d ∷ ds) k next same some room does =
+    let e : Entry = record { by = by; nth = nth; at = at; act = Define (d ∷ ds) } in
+    let made : d ∷ ds ≡ defs_accepted (channels_of config journal) [] asked = same ∙ ap (λ (c : List Channel). defs_accepted c [] asked) k.channels in
+    keeps-push config journal total t t cs cs' a a e k
+    (follows-items Define (defs_accepted (channels_of config journal) []) config journal by nth at (makes-defs config journal by nth at next) asked d ds made room) room
+    (subst (Holds t) (sym (append-nil (changes_of journal))) k.holds)
+    (does ∙ ap (defined (d ∷ ds)) k.channels ∙ sym (channels-define config journal e (d ∷ ds) refl (λ id. refl) (λ n h. untouched config journal n k.legal h))) (marks-frame a journal e k.marks refl)
 
 -- a transaction is committed
 pub keeps-commit : (config : Config) (journal : List Entry) (by nth : ℕ) (at : ℤ) (total : ℕ) (t t' : Contents) (cs : List Channel) (a a' : Alterations) (p : Plan) (staged : Staged) → Keeps config journal total t cs a → IsNext journal by nth
@@ -287,7 +326,7 @@ pub keeps-commit : (config : Config) (journal : List Entry) (by nth : ℕ) (at :
 keeps-commit config journal by nth at total t t' cs a a' p staged k next one room pl does marks =
     let e : Entry = record { by = by; nth = nth; at = at; act = Commit staged } in
     keeps-push config journal total t t' cs cs a a' e k (record { same = ap (entered config journal by nth at) one ∙ ap (λ b. if b then e ∷ [] else []) room; may = next }) room
-    (done t t' p (changes_of journal ++ map Operate staged.ops) does pl) (k.channels ∙ sym (channels-frame config journal e (λ id. refl))) marks
+    (done t t' p (changes_of journal ++ map Operate staged.ops) does pl) (k.channels ∙ sym (channels-frame config journal e refl (λ id. refl))) marks
 
 -- nothing was added
 pub keeps-kept : (config : Config) (journal journal' : List Entry) (total : ℕ) (t t' : Contents) (cs cs' : List Channel) (a a' : Alterations) → Keeps config journal total t cs a → journal' ≡ journal

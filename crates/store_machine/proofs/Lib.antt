@@ -3,6 +3,8 @@ pub mod ChanneledLemmas
 pub mod CommittingLemmas
 pub mod ConflictLemmas
 pub mod CutLemmas
+pub mod DefLemmas
+pub mod DefinedLemmas
 pub mod DueLemmas
 pub mod DueAtLemmas
 pub mod FollowingLemmas
@@ -15,11 +17,14 @@ pub mod NumberLemmas
 pub mod PlaceLemmas
 pub mod RangedLemmas
 pub mod ReadingLemmas
+pub mod RetiredLemmas
+pub mod RetiringLemmas
 pub mod RoomLemmas
 pub mod SortingLemmas
 pub mod StandingLemmas
 pub mod StreamLemmas
 pub mod TakingLemmas
 pub mod TruncatingLemmas
+pub mod UntouchedLemmas
 pub mod ValueLemmas
 pub mod WatchLemmas

@@ -11,7 +11,7 @@ use Rattle.etp_values.proofs.ListLemmas.{below_length, drop_item}
 use Rattle.store_machine.specs.declared.call.StoreCall.{StoreCall}
 use Rattle.store_machine.specs.declared.call.StoreCall.TheVariants as call
 use Rattle.store_machine.specs.declared.journal.Act.{Act}
-use Rattle.store_machine.specs.declared.journal.Act.TheVariants.{Enter, PutSpaces, DropSpaces, Put, Commit, Append, Replace, Truncate}
+use Rattle.store_machine.specs.declared.journal.Act.TheVariants.{Enter, PutSpaces, DropSpaces, Put, Commit, Append, Replace, Truncate, Define, Retire}
 use Rattle.store_machine.specs.declared.journal.Entry.{Entry}
 use Rattle.store_machine.specs.History.{DropSpace, Operate, set_space, changes_of}
 use Rattle.store_machine.specs.Laws.{CallsAddOne, IsCallAt, IsEntryOf, IsNumber, OneOrNone, is_enter}
@@ -19,6 +19,7 @@ use Rattle.channel_store.specs.Refusals.{append_refusal, replace_refusal}
 use Rattle.store_machine.specs.Channels.{channels_of}
 use Rattle.store_machine.specs.Clash.{conflict}
 use Rattle.store_machine.specs.Cuts.{cuts_accepted}
+use Rattle.store_machine.specs.Defs.{defs_accepted, uris_accepted}
 use Rattle.store_machine.specs.Answers.{accepted, added, all_or_none, act_of, granted, has_room_for, entry, entered, entries_of}
 use Rattle.store_machine.specs.Legal.{own, IsNext, MayAct, MayAsk, LegalFrom, Legal}
 use Rattle.store_machine.proofs.LawfulLemmas.{committed}
@@ -93,6 +94,8 @@ entries-of_session config history by nth at (call.Append items) h = entered-of_s
 entries-of_session config history by nth at (call.Replace channels from to items) h =
     entered-of_session config history by nth at (λ ids. Replace ids from to items) (all_or_none (replace_refusal (channels_of config history) channels from to items) channels) (λ xs. refl)
 entries-of_session config history by nth at (call.Truncate items) h = entered-of_session config history by nth at Truncate (cuts_accepted (channels_of config history) [] (values_of items)) (λ xs. refl)
+entries-of_session config history by nth at (call.Define items) h = entered-of_session config history by nth at Define (defs_accepted (channels_of config history) [] (values_of items)) (λ xs. refl)
+entries-of_session config history by nth at (call.Retire items) h = entered-of_session config history by nth at Retire (uris_accepted (channels_of config history) (values_of items)) (λ xs. refl)
 entries-of_session config history by nth at _ h = tt
 
 one_if : {X : Type 0} (b : Bool) (x : X) → OneOrNone (if b then x ∷ [] else [])
@@ -118,6 +121,8 @@ entries-one config history by nth at (call.Append items) = entered-one config hi
 entries-one config history by nth at (call.Replace channels from to items) =
     entered-one config history by nth at (λ ids. Replace ids from to items) (all_or_none (replace_refusal (channels_of config history) channels from to items) channels)
 entries-one config history by nth at (call.Truncate items) = entered-one config history by nth at Truncate (cuts_accepted (channels_of config history) [] (values_of items))
+entries-one config history by nth at (call.Define items) = entered-one config history by nth at Define (defs_accepted (channels_of config history) [] (values_of items))
+entries-one config history by nth at (call.Retire items) = entered-one config history by nth at Retire (uris_accepted (channels_of config history) (values_of items))
 entries-one config history by nth at _ = tt
 
 pub added-one : CallsAddOne → (config : Config) (history : List Entry) (by nth : ℕ) (at : ℤ) (c : StoreCall) → OneOrNone (added config history by nth at c)

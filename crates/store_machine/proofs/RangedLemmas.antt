@@ -11,7 +11,7 @@ use Rattle.etp_values.specs.declared.point.Point.{Point}
 use Rattle.server_config.specs.declared.config.ChannelDef.{ChannelDef}
 use Rattle.server_config.specs.declared.config.Config.{Config}
 use Rattle.channel_store.specs.declared.change.What.{What}
-use Rattle.channel_store.specs.declared.change.What.TheVariants.{Append, Replace, Truncate}
+use Rattle.channel_store.specs.declared.change.What.TheVariants.{Append, Replace, Truncate, Retired}
 use Rattle.channel_store.specs.declared.error.ChannelError.TheVariants as fault
 use Rattle.channel_store.specs.Channels.{Channel}
 use Rattle.channel_store.specs.Points.{after, at_most, is_within, last_of, outside, put_below}
@@ -22,7 +22,7 @@ use Rattle.store_machine.specs.declared.journal.Act.{Act}
 use Rattle.store_machine.specs.declared.journal.Act.TheVariants as acts
 use Rattle.store_machine.specs.declared.journal.Entry.{Entry}
 use Rattle.store_machine.specs.Answers.{entered, granted}
-use Rattle.store_machine.specs.Channels.{channel_by, channel_changes, channel_points, channels_of, cut_of, what_of}
+use Rattle.store_machine.specs.Channels.{channel_by, channel_changes, channel_points, channels_of, cut_of, what_of, defs_of}
 use Rattle.store_machine.specs.Legal.{Legal, LegalFrom, door}
 use Rattle.store_machine.specs.Starts.{EndsInRange, IsEnded}
 use Rattle.store_machine.proofs.ChanneledLemmas.{after_some, points-push}
@@ -58,12 +58,14 @@ Brings None = Unit {0}
 Brings (Some (Append points)) = AreInRange points
 Brings (Some (Replace from to points)) = AreInRange points
 Brings (Some (Truncate end)) = Unit {0}
+Brings (Some Retired) = Unit {0}
 
 after-in : (xs : List Point) (w : What) → AreInRange xs → Brings (Some w) → AreInRange (after xs w)
 unfolding AreInRange Brings
 after-in xs (Append points) h brings = all-append (λ (q : Point). in_range q.index ≡ true) xs points h brings
 after-in xs (Replace from to points) h brings = put-in to points (outside from to xs) brings (kept-in (λ x. not (is_within from to x.index)) xs h)
 after-in xs (Truncate end) h brings = kept-in (λ x. at_most x.index end) xs h
+after-in xs Retired h brings = h
 
 last-in : (xs : List Point) → AreInRange xs → IsEnded (last_of xs)
 unfolding AreInRange
@@ -75,7 +77,7 @@ last-in (x ∷ y ∷ ys) h = last-in (y ∷ ys) h.1
 
 item-in : (o : Option Channel) (i : ChannelPoint) → item_refusal o i ≡ None → in_range i.point.index ≡ true
 item-in None i h = absurd (cc)
-item-in (Some c) i h = unless-holds (in_range i.point.index) (fault.Index i.channel) (first-none (unless (in_range i.point.index) (fault.Index i.channel)) (unless (suits c.kind i.point.value) (fault.Kind i.channel)) h).0
+item-in (Some c) i h = unless-holds (in_range i.point.index) (fault.Index i.channel) (first-none (unless (in_range i.point.index) (fault.Index i.channel)) (unless (suits c.def.kind i.point.value) (fault.Kind i.channel)) h).0
 
 ItemsInRange : List ChannelPoint → Type 0
 ItemsInRange items = AllByRecursion (λ (i : ChannelPoint). in_range i.point.index ≡ true) items
@@ -103,7 +105,7 @@ inside-in false o from to i low high h = absurd (cc)
 inside-in true None from to i low high h = absurd (cc)
 inside-in true (Some c) from to i low high h =
     between (negsuc 4611686018427387903) (pos 4611686018427387904) from to i.point.index low high
-    (unless-holds (is_within from to i.point.index) (fault.Outside i.channel) (first-none (unless (suits c.kind i.point.value) (fault.Kind i.channel)) (unless (is_within from to i.point.index) (fault.Outside i.channel)) h).1)
+    (unless-holds (is_within from to i.point.index) (fault.Outside i.channel) (first-none (unless (suits c.def.kind i.point.value) (fault.Kind i.channel)) (unless (is_within from to i.point.index) (fault.Outside i.channel)) h).1)
 
 replace-items : (cs : List Channel) (ids : List ℤ) (from to : ℤ) (items : List ChannelPoint) → in_range from ≡ true → in_range to ≡ true
     → first_refusal (λ (i : ChannelPoint). inside_refusal (is_listed ids i.channel) (channel_at cs i.channel) from to i) items ≡ None → ItemsInRange items
@@ -136,6 +138,11 @@ cut-brings (c ∷ cs) id = by (int_eq id c.0) (cut-brings cs id)
     by true rest = tt
     by false rest = rest
 
+gone-brings : (b : Bool) → Brings (if b then Some Retired else None)
+unfolding Brings
+gone-brings true = tt
+gone-brings false = tt
+
 replace-brings : (b : Bool) (from to : ℤ) (points : List Point) → AreInRange points → Brings (if b then Some (Replace from to points) else None)
 unfolding Brings
 replace-brings true from to points h = h
@@ -164,6 +171,8 @@ act-brings config history by nth at (acts.Replace ids from to items) id h =
     let inside = (first-none (first_refusal (λ (i : ChannelPoint). inside_refusal (is_listed ids i.channel) (channel_at cs i.channel) from to i) items) (disorder (λ x. []) [] items) parts.1).0 in
     replace-brings (is_listed ids id) from to (points_of id items) (points-in id items (replace-items cs ids from to items low ends.1 inside))
 act-brings config history by nth at (acts.Truncate cuts) id h = cut-brings (map cut_of cuts) id
+act-brings config history by nth at (acts.Define defs) id h = tt
+act-brings config history by nth at (acts.Retire ids) id h = gone-brings (is_listed ids id)
 
 -- ---- along a legal history
 
@@ -195,4 +204,4 @@ ends-from config history legal n (d ∷ ds) = (last-in (channel_points (pos n) h
 -- so the last index of each channel has a next one
 pub ends-in_range : (config : Config) (history : List Entry) → Legal config history → EndsInRange (channels_of config history)
 unfolding channels_of
-ends-in_range config history legal = ends-from config history legal 0 config.channels
+ends-in_range config history legal = ends-from config history legal 0 (defs_of config history)

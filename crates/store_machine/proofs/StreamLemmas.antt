@@ -8,11 +8,12 @@ use Rattle.etp_values.specs.declared.point.Point.{Point}
 use Rattle.server_config.specs.declared.config.Config.{Config}
 use Rattle.channel_store.specs.declared.change.ChannelChange.{ChannelChange}
 use Rattle.channel_store.specs.declared.change.What.{What}
-use Rattle.channel_store.specs.declared.change.What.TheVariants.{Truncate}
+use Rattle.channel_store.specs.declared.change.What.TheVariants.{Truncate, Retired}
 use Rattle.channel_store.specs.declared.error.ChannelError.{ChannelError}
 use Rattle.channel_store.specs.Channels.{whats_of}
 use Rattle.channel_store.specs.Laws.{LiesWithin, ReplacesWithin}
 use Rattle.channel_store.specs.Points.{CopyIsPoints, IsWithin, copy, past}
+use Rattle.channel_store.specs.Refusals.{is_listed}
 use Rattle.std.specs.Ordering.{int_eq}
 use Rattle.channel_store.specs.Refusals.{replace_refusal}
 use Rattle.channel_store.specs.Store.{append_some, truncated}
@@ -53,6 +54,10 @@ cut-within (c ∷ cs) id = by (int_eq id c.0) (cut-within cs id)
     by true rest = tt
     by false rest = rest
 
+gone-within : (b : Bool) → LiesWithin (if b then Some Retired else None)
+gone-within true = tt
+gone-within false = tt
+
 act-within : ReplacesWithin → (config : Config) (history : List Entry) (by nth : ℕ) (at : ℤ) (a : Act) (id : ℤ) → entered config history by nth at (granted config history a) ≡ record { by = by; nth = nth; at = at; act = a } ∷ []
     → LiesWithin (what_of a id)
 act-within law config history by nth at act.Enter id h = tt
@@ -65,6 +70,8 @@ act-within law config history by nth at (act.Replace channels from to items) id 
     law (channels_of config history) channels from to items
     (not_refused config history by nth at (λ ids. act.Replace ids from to items) (replace_refusal (channels_of config history) channels from to items) channels _ h) id
 act-within law config history by nth at (act.Truncate cuts) id h = cut-within (map cut_of cuts) id
+act-within law config history by nth at (act.Define defs) id h = tt
+act-within law config history by nth at (act.Retire ids) id h = gone-within (is_listed ids id)
 
 one-within : (place : ℕ) (id at : ℤ) (o : Option What) (rest : List ChannelChange) → LiesWithin o → AllByRecursion IsWithin (whats_of rest) → AllByRecursion IsWithin (whats_of (change_list place id at o ++ rest))
 one-within place id at None rest within all = all

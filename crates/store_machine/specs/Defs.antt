@@ -1,5 +1,6 @@
 -- Channels that are defined and retired: which are accepted, and the replies.
 use Rattle.std.specs.Prelude.{ℕ, ℤ, pos, ◌≡◌, ◌+◌, List, [], ◌∷◌, ◌++◌, Option, Some, None, if◌then◌else◌, is_some, length, map}
+use Rattle.std.specs.Map.{values_of}
 use Rattle.etp_values.specs.declared.code.ErrorCode.TheVariants.{NotFound}
 use Rattle.etp_values.specs.declared.uri.StoreUri.{StoreUri}
 use Rattle.server_config.specs.declared.config.ChannelDef.{ChannelDef}
@@ -99,9 +100,14 @@ pub record TakesDef (cs : List Channel) (name : List ℕ) (d : ChannelDef) (give
 -- the definitions judged so far and those left make the replies and the accepted ones of all
 pub record DefDrafting (cs : List Channel) (rest all : List (List ℕ × ChannelDef)) (given : List (List ℕ × DefineReply)) (taken : List ChannelDef) (uris : List StoreUri) : Type 0 where
   pub replies : given ++ define_replies cs uris rest ≡ define_replies cs [] all
-  pub items : taken ++ defs_accepted cs uris (map (λ i. i.1) rest) ≡ defs_accepted cs [] (map (λ i. i.1) all)
+  pub items : taken ++ defs_accepted cs uris (values_of rest) ≡ defs_accepted cs [] (values_of all)
 
 -- a retirement was judged, and taken if it is accepted
 pub record TakesId (cs : List Channel) (name : List ℕ) (uri : StoreUri) (given given' : List (List ℕ × Verdict)) (taken taken' : List ℤ) : Type 0 where
   pub told : given' ≡ given ++ (name, retire_verdict (found_before taken (id_of uri cs))) ∷ []
   pub ids : taken' ≡ ids_with (found_before taken (id_of uri cs)) taken
+
+-- the retirements judged so far and those left make the verdicts and the accepted ones of all
+pub record IdDrafting (cs : List Channel) (rest all : List (List ℕ × StoreUri)) (given : List (List ℕ × Verdict)) (taken : List ℤ) : Type 0 where
+  pub verdicts : given ++ retire_verdicts cs taken rest ≡ retire_verdicts cs [] all
+  pub ids : taken ++ each_once taken (map (λ u. id_of u cs) (values_of rest)) ≡ uris_accepted cs (values_of all)

@@ -1,5 +1,5 @@
 -- Laws on histories.
-use Rattle.std.specs.Prelude.{ℕ, ℤ, pos, ◌≡◌, ◌+◌, ◌≤◌, ◌<◌, Bool, true, false, List, [], ◌∷◌, ◌++◌, Option, Some, None, IsSomeAnd, slice_get, length, filter, take, drop}
+use Rattle.std.specs.Prelude.{ℕ, ℤ, pos, ◌≡◌, ◌+◌, ◌≤◌, ◌<◌, Bool, true, false, List, [], ◌∷◌, ◌++◌, not, Option, Some, None, IsSomeAnd, slice_get, length, filter, take, drop}
 use Rattle.std.specs.List.{Any, list_any, AllByRecursion}
 use Rattle.std.specs.Ordering.{int_eq}
 use Rattle.server_config.specs.declared.config.Config.{Config}
@@ -19,7 +19,8 @@ use Rattle.store_machine.specs.declared.journal.Entry.{Entry}
 use Rattle.store_machine.specs.History.{Change, alters, value, value_after, entry_alters}
 use Rattle.store_machine.specs.Answers.{entries_of, has_room_for}
 use Rattle.store_machine.specs.Legal.{own, IsNext, MayAsk, Legal}
-use Rattle.store_machine.specs.Channels.{changes_from, channel_points}
+use Rattle.store_machine.specs.Channels.{changes_from, channel_changes, channel_points, is_retired, known_by, known_ids}
+use Rattle.channel_store.specs.Channels.{whats_of}
 use Rattle.store_machine.specs.Clash.{clash, conflict}
 use Rattle.store_machine.specs.News.{dues, is_due, joined, stream, taken}
 
@@ -145,10 +146,6 @@ KnownAreNotRetired = (id : ℤ) (history : List Entry) → known_by (whats_of (c
 -- the list of channels only grows
 abbrev pub IdsGrow : Type 0
 IdsGrow = (config : Config) (earlier later : List Entry) → known_ids config earlier ≤ known_ids config (earlier ++ later)
-
--- it has no more than the configuration has, or than 4,096
-abbrev pub IdsAreFew : Type 0
-IdsAreFew = (config : Config) (history : List Entry) → Legal config history → known_ids config history ≤ max (length config.channels) 4096
 
 -- ---- transactions
 

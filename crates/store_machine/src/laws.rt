@@ -5,6 +5,7 @@ ghost use Rattle.store_machine.specs.Laws.{EntriesAreTheSessions, NextMayAsk, Ca
 ghost use Rattle.store_machine.specs.Laws.{ConflictIsFirst, NoConflictIsFree, ValuesStayBetween};
 ghost use Rattle.store_machine.specs.Laws.{FullStaysFull};
 ghost use Rattle.store_machine.specs.Laws.{NewsAreTheDue, NewsOfEach, NewsStayWithin, StreamIsCopied};
+ghost use Rattle.store_machine.specs.Laws.{IdsGrow, KnownAreNotRetired, UnknownAreUntouched};
 ghost use Rattle.store_machine.specs.Growth.{CallsKeepLegal};
 
 use channel_store::{accepted_calls, copy_is_points};
@@ -51,6 +52,13 @@ pub fn news_laws()
     ensures bound { NewsStayWithin }
     ensures segment { NewsAreTheDue }
     ensures each { NewsOfEach }
+{}
+
+/// The list of the channels only grows. Nothing happens to a channel before it is defined, and it is known as long as no entry retires it.
+pub fn channel_laws()
+    ensures grow { IdsGrow }
+    ensures untouched { UnknownAreUntouched }
+    ensures known { KnownAreNotRetired }
 {}
 
 /// Whoever takes in the stream of a channel has the channel's points.

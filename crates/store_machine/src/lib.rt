@@ -33,7 +33,8 @@ pub use channel_store::Sub;
 pub use counted::MAX_JOURNAL_BYTES;
 pub use journal::{Act, Entry};
 pub use laws::{
-    conflict_laws, growth_laws, news_laws, number_laws, room_laws, state_laws, stream_laws,
+    channel_laws, conflict_laws, growth_laws, news_laws, number_laws, room_laws, state_laws,
+    stream_laws,
 };
 pub use news::{MAX_CHANGE_BYTES, MAX_CHANGES};
 pub use reads::{MAX_POINT_BYTES, MAX_POINTS};

@@ -1,5 +1,5 @@
 use Rattle.std.proofs.Common.{◌≡◌, ◌<◌, ◌≤◌, ◌+◌, ◌∷◌, [], suc, length, ap, sym, subst, ◌∙◌, arith, rules, nil_from_length}
-use Rattle.std.specs.Vec.{into_iter_items}
+use Rattle.std.specs.Vec.Iter.{into_iter_items}
 use Rattle.std.specs.Map.{lookup}
 use Rattle.std.specs.Option.{option_or}
 use Rattle.indexmap.specs.IndexMap.{spare}
@@ -35,9 +35,9 @@ loop-uri-preserved c =
     let used : spare c.loop-uri.ids ≤ spare c.put_reserved.new.ids + 1 = c.put_reserved.ensures.room in
     record {
       put = λ u.
-      put-next u (lookup (same_uri u) c.loop-uri.ids.entries) n (n + 1) _ uri left (into_iter_items c.loop-uri.uri-iterator) (lookup (same_uri u) c.put_reserved.new.ids.entries)
-      split (omega arith) (search (arith, rules)) (c.put_reserved.ensures.put u)
-      ∙ c.loop-uri.invariant.put u;
+          put-next u (lookup (same_uri u) c.loop-uri.ids.entries) n (n + 1) _ uri left (into_iter_items c.loop-uri.uri-iterator) (lookup (same_uri u) c.put_reserved.new.ids.entries)
+          split (omega arith) (search (arith, rules)) (c.put_reserved.ensures.put u)
+          ∙ c.loop-uri.invariant.put u;
       room = omega (arith, room, used);
       few = omega (arith, few);
     }

@@ -8,4 +8,4 @@ pub returns-clause-segment : goal.returns-clause-segment
 returns-clause-segment c = news-due
 
 pub returns-clause-each : goal.returns-clause-each
-returns-clause-each c config subs k place entries within = news-of_each config subs k place entries within
+returns-clause-each c n subs k place entries within = news-of_each n subs k place entries within
