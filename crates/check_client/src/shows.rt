@@ -47,6 +47,7 @@ fn change_text(alloc: Global, change: &ChangeMsg) -> Result<String, NoMemory> {
             Ok(format!(in alloc; "replace {channel} from {from} to {to}{points}")?)
         }
         What::Truncate { end } => Ok(format!(in alloc; "truncate {channel} {end}")?),
+        What::Retired => Ok(format!(in alloc; "retired {channel}")?),
     }
 }
 

@@ -29,6 +29,8 @@ fn print_act(rt: &HostRuntime, act: &Act) -> io::Result<()> {
             items,
         } => print_replace(rt, channels, *from, *to, items),
         Act::Truncate(items) => println!(rt; "truncate {}", items.len()),
+        Act::Define(items) => println!(rt; "define {}", items.len()),
+        Act::Retire(ids) => println!(rt; "retire {}", ids.len()),
     }
 }
 

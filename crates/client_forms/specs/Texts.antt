@@ -4,7 +4,7 @@ use Rattle.std.specs.Fmt.{decimal, signed_decimal}
 use Rattle.std.specs.List.{flat_map}
 use Rattle.capture_text.specs.Points.{point_line}
 use Rattle.channel_store.specs.declared.change.What.{What}
-use Rattle.channel_store.specs.declared.change.What.TheVariants.{Append, Replace, Truncate}
+use Rattle.channel_store.specs.declared.change.What.TheVariants.{Append, Replace, Truncate, Retired}
 use Rattle.client_core.specs.declared.got.Space.{Space}
 use Rattle.etp_values.specs.Uri.{plain_uri}
 use Rattle.etp_values.specs.declared.point.Point.{Point}
@@ -42,8 +42,9 @@ interval_line from to = codes "replace " ++ signed_decimal from ++ codes " " ++ 
 abbrev pub end_line : ℤ → List ℕ
 end_line end = codes "truncate " ++ signed_decimal end ++ codes "\n"
 
--- a change: the points that are new; the interval that is replaced, and the points that are in it from then on; or the new last index
+-- a change: the points that are new; the interval that is replaced, and the points that are in it from then on; or the new last index. That a channel is retired is not said by a line
 abbrev pub change_lines : What → List ℕ
 change_lines (Append ps) = marked (codes "append ") ps
 change_lines (Replace from to ps) = interval_line from to ++ marked (codes "with ") ps
 change_lines (Truncate end) = end_line end
+change_lines Retired = []

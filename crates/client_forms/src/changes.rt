@@ -70,6 +70,7 @@ fn lines_of(alloc: Global, what: &What) -> Result<Vec<u8>, NoMemory>
         What::Append(points) => appended(alloc, points),
         What::Replace { from, to, points } => replaced(alloc, from, to, points.get()),
         What::Truncate { end } => truncated(alloc, end),
+        What::Retired => Ok(Vec::new(alloc)),
     }
 }
 

@@ -101,6 +101,12 @@ FitsLoads (loads.Replace at) r = FitsPoints r
 FitsLoads (loads.Truncate at items) (reply.Verdicts verdicts) = keys_of verdicts ≡ keys_of (granted items)
 FitsLoads (loads.Truncate at items) reply.JournalFull = Unit {0}
 FitsLoads (loads.Truncate at items) _ = ⊥
+FitsLoads (loads.Define items) (reply.Defined replies) = keys_of replies ≡ keys_of (granted items)
+FitsLoads (loads.Define items) reply.JournalFull = Unit {0}
+FitsLoads (loads.Define items) _ = ⊥
+FitsLoads (loads.Retire items) (reply.Verdicts verdicts) = keys_of verdicts ≡ keys_of (granted items)
+FitsLoads (loads.Retire items) reply.JournalFull = Unit {0}
+FitsLoads (loads.Retire items) _ = ⊥
 
 -- ranges are refused as a whole or not at all
 abbrev pub FitsSubscriptions : SubscribePending → Reply → Type 0

@@ -183,6 +183,11 @@ HasNews _ = Unit {0}
 abbrev pub IsToldTo : Subbed → ChannelChange → Type 0
 IsToldTo w c = HasNews c.what × (has_sub c.channel w.subs ≡ true)
 
+-- each of these changes is sent of a channel that has a subscription once those before it are told
+abbrev pub AreToldTo : Subbed → List ChannelChange → Type 0
+AreToldTo v [] = Unit {0}
+AreToldTo v (c ∷ cs) = IsToldTo v c × AreToldTo (after_told c v) cs
+
 -- a change is sent of a channel whose key is granted
 abbrev pub IsFirstOf : Subbed → List (List ℕ × ChannelSubscribeInfo) → List (List ℕ × Decision (List ℕ)) → ChannelChange → Type 0
 IsFirstOf w xs ds c = IsToldTo w c × IsGranted c.channel xs ds

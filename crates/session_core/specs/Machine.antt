@@ -291,8 +291,8 @@ given_to (Some (pending.Objects r p)) a s = on_objects_answered r (object_reply 
 given_to (Some (pending.Arrays r p)) a s = on_arrays_answered r (array_reply s.limit s.stage p a.reply) s
 given_to (Some (pending.Staged r keys p)) a s = on_staged_answered r keys p a s
 given_to (Some (pending.Transactions r p)) a s = said r (sayings_of message.Transaction (transaction_reply p a.reply)) s
-given_to (Some (pending.Loads r p)) a s = on_loads_answered r (load_reply s.config.channels s.opens p a.reply) s
-given_to (Some (pending.Subscriptions r p)) a s = on_subscriptions_answered r (subscribe_reply s.config.channels s.config.lag s.subs p a) s
+given_to (Some (pending.Loads r p)) a s = on_loads_answered r (load_reply s.opens p a.reply) s
+given_to (Some (pending.Subscriptions r p)) a s = on_subscriptions_answered r (subscribe_reply s.config.lag s.subs p a) s
 
 -- the second half step: what the store's answer makes of a session
 abbrev pub given : State → Answer → State

@@ -41,6 +41,8 @@ abbrev pub IsOfChannels : StoreCall → Type 0
 IsOfChannels (call.Append items) = Unit {0}
 IsOfChannels (call.Replace channels from to items) = Unit {0}
 IsOfChannels (call.Truncate items) = Unit {0}
+IsOfChannels (call.Define items) = Unit {0}
+IsOfChannels (call.Retire items) = Unit {0}
 IsOfChannels (call.Range items) = Unit {0}
 IsOfChannels (call.Meta items) = Unit {0}
 IsOfChannels (call.Subscribe items) = Unit {0}
@@ -79,6 +81,8 @@ changes_keys (act.Commit staged) = true
 changes_keys (act.Append items) = false
 changes_keys (act.Replace channels from to items) = false
 changes_keys (act.Truncate cuts) = false
+changes_keys (act.Define defs) = false
+changes_keys (act.Retire ids) = false
 
 -- those of a session's entries that change what is at keys
 abbrev pub key_entries : List (ℕ × Entry) → List (ℕ × Entry)

@@ -1,7 +1,7 @@
 -- What a client hears about a channel in the messages that a session sent, and what it is to hear: for a subscription the points that
 -- existed and each later change, in their order, of the one history.
 use Rattle.std.specs.Prelude.{ℕ, ℤ, ◌≡◌, ◌<◌, ◌^◌, Bool, true, false, List, [], ◌∷◌, ◌++◌, Option, Some, None, fold, length, take, drop, max, if◌then◌else◌}
-use Rattle.std.specs.List.{flat_map, list_any}
+use Rattle.std.specs.List.{AllByRecursion, flat_map, list_any}
 use Rattle.std.specs.Ordering.{int_eq}
 use mathlib.Core.List.{IsPrefix}
 use Rattle.etp_values.specs.Rising.{Rises}
@@ -23,12 +23,14 @@ use Rattle.msg_channel.specs.declared.indexes.IndexValue.{IndexValue}
 use Rattle.msg_channel.specs.declared.indexes.IndexValue.TheVariants as index
 use Rattle.msg_channel.specs.declared.points.DataItem.{DataItem}
 use Rattle.msg_channel.specs.declared.points.TruncateInfo.{TruncateInfo}
+use Rattle.entry_index.specs.Where.{first_where}
+use Rattle.store_machine.specs.Channels.{known_ids, retires}
 use Rattle.store_machine.specs.News.{dues, lag, stream}
 use Rattle.store_machine.specs.declared.journal.Entry.{Entry}
 use Rattle.subscribe_core.specs.Subscriptions.{Subbed}
 use Rattle.subscribe_core.specs.Views.{sub_of}
 use Rattle.subscribe_core.specs.declared.stop.StopCause.{StopCause}
-use Rattle.subscribe_core.specs.declared.stop.StopCause.TheVariants.{Unsubscribed, Lagged}
+use Rattle.subscribe_core.specs.declared.stop.StopCause.TheVariants.{Unsubscribed, Lagged, Retired}
 use Rattle.session_core.specs.declared.state.End.TheVariants as end
 use Rattle.session_core.specs.declared.state.Live.{Live}
 use Rattle.session_core.specs.declared.state.Outgoing.{Outgoing}
@@ -137,9 +139,9 @@ is_spent_phase _ = false
 abbrev pub is_spent_course : Course → Bool
 is_spent_course r = is_spent_phase r.state.phase
 
--- the channels have ids of 64 bits
-abbrev pub HasIds : Config → Type 0
-HasIds config = length config.channels < 2 ^ 63
+-- where a call is answered, the channels that were ever known have ids of 64 bits
+abbrev pub HasIds : Config → List Entry → List ℕ → Type 0
+HasIds config h places = AllByRecursion (λ p. known_ids config (take p h) < 2 ^ 63) places
 
 -- for each channel a session has sent what it owed, no more and no less, and each notice to its last part, as long as its ids last. So a
 -- subscription has been sent the stream from its own start and place on, and after its stop nothing is sent
@@ -148,23 +150,38 @@ HasTold config n h places es =
     let r = run config n h places es in
     is_spent_course r ≡ false → (channel : ℤ) → ((heard channel r.sent).told ≡ owed h r.state.subs channel) × ((heard channel r.sent).part ≡ [])
 
+-- the place of the first entry from the cursor before an event up to that after it that retires a channel
+abbrev pub retired_at : List Entry → Subbed → Subbed → ℤ → Option ℕ
+retired_at h v w channel = first_where (λ (e : Entry). retires channel e.act) v.cursor (drop v.cursor (take w.cursor h))
+
+abbrev pub place_or : ℕ → Option ℕ → ℕ
+place_or cursor None = cursor
+place_or cursor (Some place) = place
+
+-- up to where a subscription is told that an event ends: to the entry that retires its channel, or else to the cursor before the event
+abbrev pub stop_place : List Entry → Subbed → Subbed → ℤ → ℕ
+stop_place h v w channel = place_or v.cursor (retired_at h v w channel)
+
 -- a message of the client's stops subscriptions because it asks for that
 abbrev pub IsAsked : StopCause → Type 0
 IsAsked Unsubscribed = Unit {0}
 IsAsked (Lagged k) = ⊥
+IsAsked (Retired place) = ⊥
 
--- a poll stops them if more entries are left to send than may be, of those before the place at which it is answered
-abbrev pub IsLate : Config → List Entry → Subbed → List ℕ → StopCause → Type 0
-IsLate config h v [] cause = ⊥
-IsLate config h v (p ∷ ps) Unsubscribed = ⊥
-IsLate config h v (p ∷ ps) (Lagged k) = (k ≡ lag (dues config v.subs v.cursor (drop v.cursor (take p h)))) × (config.lag < k)
+-- a poll stops all if more entries are left to send than may be, of those before the place at which it is answered, and one of them if its
+-- channel is retired by an entry that is sent; `v` are the subscriptions before it, and `w` those after it
+abbrev pub IsPollCause : Config → List Entry → Subbed → Subbed → List ℕ → ℤ → StopCause → Type 0
+IsPollCause config h v w [] channel cause = ⊥
+IsPollCause config h v w (p ∷ ps) channel Unsubscribed = ⊥
+IsPollCause config h v w (p ∷ ps) channel (Lagged k) = (k ≡ lag (dues (known_ids config (take p h)) v.subs v.cursor (drop v.cursor (take p h)))) × (config.lag < k)
+IsPollCause config h v w (p ∷ ps) channel (Retired place) = retired_at h v w channel ≡ Some place
 
--- why an event stops a subscription, by the subscriptions and the places that are left before it
-abbrev pub IsStopCause : Config → List Entry → Subbed → List ℕ → Event → StopCause → Type 0
-IsStopCause config h v places (Receives bytes moment) cause = IsAsked cause
-IsStopCause config h v places (Polls front) cause = IsLate config h v places cause
+-- why an event stops the subscription of a channel, by the subscriptions before and after it and the places that are left before it
+abbrev pub IsStopCause : Config → List Entry → Subbed → Subbed → List ℕ → Event → ℤ → StopCause → Type 0
+IsStopCause config h v w places (Receives bytes moment) channel cause = IsAsked cause
+IsStopCause config h v w places (Polls front) channel cause = IsPollCause config h v w places channel cause
 
--- a subscription that one more event ends is stopped with its cause and what was sent up to then; any other is not stopped, and stays as it
+-- a subscription that one more event ends is stopped with its cause and what was sent up to the cause's place; any other is not stopped, and stays as it
 -- is
 abbrev pub IsStopped : (StopCause → Type 0) → Option Sub → Option Sub → List What → List Stopped → List Stopped → Type 0
 IsStopped Causes None after told old new = new ≡ old
@@ -176,11 +193,12 @@ abbrev pub HasStopped : Config → ℕ → List Entry → List ℕ → List Even
 HasStopped config n h places es e =
     let r = run config n h places es in let t = run config n h places (es ++ e ∷ []) in
     is_spent_course t ≡ false → (channel : ℤ)
-    → IsStopped (IsStopCause config h r.state.subs r.places e) (sub_of channel r.state.subs.subs) (sub_of channel t.state.subs.subs) (heard channel r.sent).told (heard channel r.sent).stops (heard channel t.sent).stops
+    → IsStopped (IsStopCause config h r.state.subs t.state.subs r.places e channel) (sub_of channel r.state.subs.subs) (sub_of channel t.state.subs.subs)
+    (owed_to h (stop_place h r.state.subs t.state.subs channel) (sub_of channel r.state.subs.subs)) (heard channel r.sent).stops (heard channel t.sent).stops
 
--- what a channel was owed at most by an event: by the cursor after it if it leaves a subscription, otherwise by the one before it
+-- what a channel was owed at most by an event: by the cursor after it if it leaves a subscription, otherwise up to where the event stops it
 abbrev pub owed_by : List Entry → Subbed → Subbed → Option Sub → ℤ → List What
-owed_by h before after None channel = owed h before channel
+owed_by h before after None channel = owed_to h (stop_place h before after channel) (sub_of channel before.subs)
 owed_by h before after (Some s) channel = stream_to h after.cursor s
 
 -- messages that end within what an event sends say no more than the event does, which led from this course to these subscriptions: what is
@@ -189,7 +207,8 @@ abbrev pub IsCut : Config → List Entry → Course → Event → Subbed → Lis
 IsCut config h r e after sent = (channel : ℤ)
     → IsPrefix (heard channel sent).told (owed_by h r.state.subs after (sub_of channel after.subs) channel)
     × ((all : List Stopped)
-    × IsStopped (IsStopCause config h r.state.subs r.places e) (sub_of channel r.state.subs.subs) (sub_of channel after.subs) (heard channel r.sent).told (heard channel r.sent).stops all
+    × IsStopped (IsStopCause config h r.state.subs after r.places e channel) (sub_of channel r.state.subs.subs) (sub_of channel after.subs)
+    (owed_to h (stop_place h r.state.subs after channel) (sub_of channel r.state.subs.subs)) (heard channel r.sent).stops all
     × IsPrefix (heard channel sent).stops all)
 
 -- if a run has used up its ids, one of its events did, and what was sent ends within what that event sends
@@ -207,9 +226,9 @@ pub record IsStreamed (config : Config) (n : ℕ) (h : List Entry) (places : Lis
   pub stops : (before later : List Event) (e : Event) → es ≡ before ++ e ∷ later → HasStopped config n h places before e
   pub spent : HasSpent config n h places es
 
--- if the channels have ids of 64 bits, and the places never fall and are within the history, that holds for each run
+-- if the channels have ids of 64 bits at each place, and the places never fall and are within the history, that holds for each run
 abbrev pub RunIsStreamed : Type 0
-RunIsStreamed = (config : Config) (n : ℕ) (h : List Entry) (places : List ℕ) (es : List Event) → HasIds config → Rises 0 places (length h) → IsStreamed config n h places es
+RunIsStreamed = (config : Config) (n : ℕ) (h : List Entry) (places : List ℕ) (es : List Event) → HasIds config h places → Rises 0 places (length h) → IsStreamed config n h places es
 
 -- if a poll among these events asks nothing, its front is what the session has seen of the history, and each subscription was sent its
 -- stream up to there
@@ -221,7 +240,7 @@ IsToldAtIdle config n h places es = (before later : List Event) (front : ℕ) �
 
 -- with such ids and places, if each poll reports no less than was seen before, the same holds for each run
 abbrev pub RunIsToldAtIdle : Type 0
-RunIsToldAtIdle = (config : Config) (n : ℕ) (h : List Entry) (places : List ℕ) (es : List Event) → HasIds config → Rises 0 places (length h) → Heeds config n h places es
+RunIsToldAtIdle = (config : Config) (n : ℕ) (h : List Entry) (places : List ℕ) (es : List Event) → HasIds config h places → Rises 0 places (length h) → Heeds config n h places es
     → IsToldAtIdle config n h places es
 
 -- a front of what the run of these events sends, as a link that fails leaves it, ends within what one of them sends, before which ids were
@@ -243,5 +262,5 @@ HasFront config n h places (e ∷ es) front = EndsWithin config n h places (e �
 
 -- with such ids and places, the same holds for each front of what a run sends
 abbrev pub FrontIsStreamed : Type 0
-FrontIsStreamed = (config : Config) (n : ℕ) (h : List Entry) (places : List ℕ) (es : List Event) (front : List Outgoing) → HasIds config → Rises 0 places (length h)
+FrontIsStreamed = (config : Config) (n : ℕ) (h : List Entry) (places : List ℕ) (es : List Event) (front : List Outgoing) → HasIds config h places → Rises 0 places (length h)
     → IsPrefix front (run config n h places es).sent → HasFront config n h places es front

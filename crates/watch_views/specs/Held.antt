@@ -4,7 +4,7 @@ use Rattle.circular_buffer.specs.Buffer.{keep_last}
 use Rattle.etp_values.specs.declared.point.Point.{Point}
 use Rattle.etp_values.specs.Weight.{capped}
 use Rattle.channel_store.specs.declared.change.What.{What}
-use Rattle.channel_store.specs.declared.change.What.TheVariants.{Append, Replace, Truncate}
+use Rattle.channel_store.specs.declared.change.What.TheVariants.{Append, Replace, Truncate, Retired}
 use Rattle.channel_store.specs.Points.{at_most, is_within, outside, up_to}
 
 -- what a view keeps: points of the channel, and numbers
@@ -23,6 +23,7 @@ abbrev pub points_after : ℕ → List Point → What → List Point
 points_after n xs (Append points) = keep_last n (xs ++ points)
 points_after n xs (Replace from to points) = outside from to xs
 points_after n xs (Truncate end) = up_to end xs
+points_after n xs Retired = xs
 
 -- a view of points
 abbrev pub window_step : ℕ → Held → What → Held
@@ -43,6 +44,7 @@ abbrev pub stays : What → ℤ → Bool
 stays (Append points) index = true
 stays (Replace from to points) index = not (is_within from to index)
 stays (Truncate end) index = at_most index end
+stays Retired index = true
 
 -- the points that a change leaves
 abbrev pub left_by : What → List Point → List Point

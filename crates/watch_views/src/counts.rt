@@ -44,6 +44,7 @@ impl Counts {
             }
             What::Replace { .. } => self.replaces = self.replaces.saturating_add(1),
             What::Truncate { .. } => self.truncates = self.truncates.saturating_add(1),
+            What::Retired => {}
         }
     }
 

@@ -25,6 +25,7 @@ pub fn stays(what: &What, index: i64) -> bool
         What::Append(_) => true,
         What::Replace { from, to, .. } => !(*from <= index && index <= *to),
         What::Truncate { end } => index <= *end,
+        What::Retired => true,
     }
 }
 

@@ -141,11 +141,10 @@ impl Machine {
         pending: LoadPending,
         reply: Reply,
     ) -> Result<(), NoMemory>
-        ensures { let loaded = load_reply self.old.config.channels self.old.opens pending reply in
+        ensures { let loaded = load_reply self.old.opens pending reply in
             OnOk result (self.new ≡ on_loads_answered request.now loaded self.old) }
     {
-        let defs = self.config.channels.get();
-        let sendings = load_reply(alloc, defs, &mut self.opens, pending, reply)?;
+        let sendings = load_reply(alloc, &mut self.opens, pending, reply)?;
         self.say_sendings(alloc, request, sendings)
     }
 
@@ -156,13 +155,12 @@ impl Machine {
         pending: SubscribePending,
         answer: Answer,
     ) -> Result<(), NoMemory>
-        ensures { let told = subscribe_reply self.old.config.channels self.old.config.lag self.old.subs pending answer in
+        ensures { let told = subscribe_reply self.old.config.lag self.old.subs pending answer in
             OnOk result (self.new ≡ on_subscriptions_answered request.now told self.old) }
     {
         let subs = taken_subs(alloc, self.subs.take())?;
-        let defs = self.config.channels.get();
         let lag = self.config.lag;
-        let (subs, sendings) = subscribe_reply(alloc, defs, lag, subs, pending, answer)?;
+        let (subs, sendings) = subscribe_reply(alloc, lag, subs, pending, answer)?;
         self.subs = Some(subs);
         self.say_sendings(alloc, request, sendings)
     }

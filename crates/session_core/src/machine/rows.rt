@@ -270,8 +270,7 @@ impl Machine {
         ensures state { let loading = load_outcome self.old.opens moment message in
             OnOk result (self.new ≡ (on_loads request loading self.old).state) }
     {
-        let defs = self.config.channels.get();
-        let outcome = load_outcome(alloc, defs, &mut self.opens, moment, message)?;
+        let outcome = load_outcome(alloc, &mut self.opens, moment, message)?;
         self.on_outcome(alloc, request, outcome)
     }
 
@@ -288,8 +287,7 @@ impl Machine {
             OnOk result (self.new ≡ (on_subscriptions request subscribing self.old).state) }
     {
         let mut subs = taken_subs(alloc, self.subs.take())?;
-        let defs = self.config.channels.get();
-        let outcome = subscribe_outcome(alloc, defs, &mut subs, message)?;
+        let outcome = subscribe_outcome(alloc, &mut subs, message)?;
         self.subs = Some(subs);
         self.on_outcome(alloc, request, outcome)
     }
