@@ -1,5 +1,5 @@
 //! Calls, by their words and the words of their items.
-use crate::items::{cuttings, ops, paths, points, ranges, space_puts, uris, wants};
+use crate::items::{cuttings, definitions, ops, paths, points, ranges, space_puts, uris, wants};
 use crate::staged::staged;
 use crate::words::{number, numbers};
 use etp_values::NoMemory;
@@ -51,6 +51,12 @@ fn named_call(alloc: Global, name: &str, items: &[&str]) -> Result<StoreCall, No
         }),
         "truncate" => Ok(StoreCall::Truncate {
             items: cuttings(alloc, items)?,
+        }),
+        "define" => Ok(StoreCall::Define {
+            items: definitions(alloc, items)?,
+        }),
+        "retire" => Ok(StoreCall::Retire {
+            items: uris(alloc, items)?,
         }),
         "range" => Ok(StoreCall::Range {
             items: ranges(alloc, items)?,

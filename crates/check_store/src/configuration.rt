@@ -5,7 +5,7 @@ use etp_values::{Id16, List, NoMemory, Shared, StoreUri, Text};
 use server_config::{ChannelDef, Config, ValueKind};
 use std::alloc::Global;
 
-fn kind_of(word: &str) -> ValueKind {
+pub(crate) fn kind_of(word: &str) -> ValueKind {
     match word {
         "boolean" => ValueKind::Boolean,
         "int" => ValueKind::Int,

@@ -1,9 +1,11 @@
 //! The items of calls, by their words.
+use crate::configuration::kind_of;
 use crate::keys::{array_key, uri_of};
 use crate::operations::op_of;
 use crate::values::{custom_of, value_of};
 use crate::words::{count, number, numbers, text_of, words_of};
 use etp_values::{ChannelPoint, List, Named, NoMemory, Point, StoreUri, Text};
+use server_config::ChannelDef;
 use std::alloc::Global;
 use store_machine::{Cutting, RangeAsk, SpacePut, Want};
 use tx_stage::Op;
@@ -196,6 +198,28 @@ pub(crate) fn uris(alloc: Global, items: &[&str]) -> Result<Named<StoreUri>, NoM
     let mut pairs = Vec::new(alloc);
     for item in items {
         pairs.push(uri(alloc, item)?)?;
+    }
+    Ok(Named::from_pairs(pairs)?.unwrap_or(Named::new(alloc)))
+}
+
+/// A definition: its name, the three words of its object, its kind, its channel's name and its unit.
+fn definition(alloc: Global, item: &str) -> Result<(Text, ChannelDef), NoMemory> {
+    let (name, uri) = uri(alloc, item)?;
+    let words = words_of(alloc, item)?;
+    let words = words.as_slice();
+    let def = ChannelDef {
+        uri,
+        name: text_of(alloc, at(words, 5))?,
+        kind: kind_of(at(words, 4)),
+        uom: text_of(alloc, at(words, 6))?,
+    };
+    Ok((name, def))
+}
+
+pub(crate) fn definitions(alloc: Global, items: &[&str]) -> Result<Named<ChannelDef>, NoMemory> {
+    let mut pairs = Vec::new(alloc);
+    for item in items {
+        pairs.push(definition(alloc, item)?)?;
     }
     Ok(Named::from_pairs(pairs)?.unwrap_or(Named::new(alloc)))
 }

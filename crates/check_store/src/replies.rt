@@ -3,7 +3,7 @@ use crate::looks::{print_looked, print_spaces};
 use crate::showing::print_value;
 use etp_values::{ChannelPoint, ErrorCode, Named};
 use std::io;
-use store_machine::{Answer, MetaReply, Reply, Verdict};
+use store_machine::{Answer, DefineReply, MetaReply, Reply, Verdict};
 
 /// How many points are printed one by one.
 const FEW: usize = 1000;
@@ -74,22 +74,35 @@ fn print_known(
     println!(rt; "")
 }
 
-fn print_meta(rt: &HostRuntime, name: &str, meta: MetaReply) -> io::Result<()> {
+fn print_meta(rt: &HostRuntime, name: &str, meta: &MetaReply) -> io::Result<()> {
     print!(rt; " {name} ")?;
     match meta {
         MetaReply::Known {
             channel,
             first,
             last,
-        } => print_known(rt, channel, first, last),
-        MetaReply::Refused(code) => print_refused(rt, code),
+            ..
+        } => print_known(rt, *channel, *first, *last),
+        MetaReply::Refused(code) => print_refused(rt, *code),
     }
+}
+
+fn print_defined(rt: &HostRuntime, replies: &Named<DefineReply>) -> io::Result<()> {
+    println!(rt; "defined {}", replies.len())?;
+    for pair in replies.as_slice() {
+        print!(rt; " {} ", pair.0.as_str())?;
+        match pair.1 {
+            DefineReply::Id(id) => println!(rt; "id {id}")?,
+            DefineReply::Refused(code) => print_refused(rt, code)?,
+        }
+    }
+    Ok(())
 }
 
 fn print_metas(rt: &HostRuntime, metas: &Named<MetaReply>) -> io::Result<()> {
     println!(rt; "metas {}", metas.len())?;
     for pair in metas.as_slice() {
-        print_meta(rt, pair.0.as_str(), pair.1)?;
+        print_meta(rt, pair.0.as_str(), &pair.1)?;
     }
     Ok(())
 }
@@ -105,6 +118,7 @@ fn print_reply(rt: &HostRuntime, reply: &Reply) -> io::Result<()> {
         Reply::Refused(code) => print_refused(rt, *code),
         Reply::Points(points) => print_points(rt, points.as_slice()),
         Reply::Metas(metas) => print_metas(rt, metas),
+        Reply::Defined(replies) => print_defined(rt, replies),
         Reply::Committed => println!(rt; "committed"),
         Reply::Conflict(place) => println!(rt; "conflict {place}"),
         Reply::Started(_) => println!(rt; "started"),

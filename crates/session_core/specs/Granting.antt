@@ -1,9 +1,9 @@
 -- What an event adds to what a session sends: where its subscriptions begin, and with which reply, what they are sent, and where they end.
-use Rattle.std.specs.Prelude.{ℕ, ℤ, ◌≡◌, ◌⊎◌, Bool, true, false, List, [], ◌∷◌, ◌++◌, Option, Some, None, Ok, length, map}
+use Rattle.std.specs.Prelude.{ℕ, ℤ, ◌≡◌, ◌⊎◌, Bool, true, false, List, [], ◌∷◌, ◌++◌, Option, Some, None, Ok, length, map, fold}
 use Rattle.std.specs.List.{AllByRecursion}
 use mathlib.Core.List.{IsPrefix}
 use Rattle.server_config.specs.declared.config.Config.{Config}
-use Rattle.channel_rows.specs.Notices.{notice, stop_response}
+use Rattle.channel_rows.specs.Notices.{after_told, notice, stop_response}
 use Rattle.channel_rows.specs.Subscriptions.{start_at, stop_one, subscribe_response}
 use Rattle.channel_store.specs.declared.change.ChannelChange.{ChannelChange}
 use Rattle.channel_store.specs.declared.change.What.{What}
@@ -209,7 +209,7 @@ IsMatter e v w sent (Begins h asked before decided changes) =
     IsRead e h (message.ChannelSubscribe (subscribe.SubscribeChannels asked)) × AreDecided before v w asked.channels decided × OnlyGranted v w asked.channels decided × AllByRecursion (IsFirstOf w asked.channels decided) changes
 IsMatter e v w sent (Ends h asked decided) =
     IsRead e h (message.ChannelSubscribe (subscribe.UnsubscribeChannels asked)) × (decided ≡ checked stop_one v asked.channel_ids) × (w ≡ checked_state stop_one v asked.channel_ids) × NoneBegins v w
-IsMatter e v w sent (Tells changes) = IsPoll e × (w.subs ≡ v.subs) × AllByRecursion (IsToldTo v) changes
+IsMatter e v w sent (Tells changes) = IsPoll e × (w.subs ≡ (fold (λ (x : Subbed) (c : ChannelChange). after_told c x) v changes).subs) × AreToldTo v changes
 IsMatter e v w sent (Stops lag ids) = IsPoll e × (w.subs ≡ [])
 
 -- ---- the law

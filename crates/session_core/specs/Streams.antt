@@ -23,8 +23,7 @@ use Rattle.msg_channel.specs.declared.indexes.IndexValue.{IndexValue}
 use Rattle.msg_channel.specs.declared.indexes.IndexValue.TheVariants as index
 use Rattle.msg_channel.specs.declared.points.DataItem.{DataItem}
 use Rattle.msg_channel.specs.declared.points.TruncateInfo.{TruncateInfo}
-use Rattle.entry_index.specs.Where.{first_where}
-use Rattle.store_machine.specs.Channels.{known_ids, retires}
+use Rattle.store_machine.specs.Channels.{known_ids, retirement_from}
 use Rattle.store_machine.specs.News.{dues, lag, stream}
 use Rattle.store_machine.specs.declared.journal.Entry.{Entry}
 use Rattle.subscribe_core.specs.Subscriptions.{Subbed}
@@ -152,7 +151,7 @@ HasTold config n h places es =
 
 -- the place of the first entry from the cursor before an event up to that after it that retires a channel
 abbrev pub retired_at : List Entry → Subbed → Subbed → ℤ → Option ℕ
-retired_at h v w channel = first_where (λ (e : Entry). retires channel e.act) v.cursor (drop v.cursor (take w.cursor h))
+retired_at h v w channel = retirement_from channel v.cursor (drop v.cursor (take w.cursor h))
 
 abbrev pub place_or : ℕ → Option ℕ → ℕ
 place_or cursor None = cursor

@@ -1,5 +1,5 @@
 -- The channels after a history: what its entries did to each of them.
-use Rattle.std.specs.Prelude.{ℕ, ℤ, pos, ◌+◌, Bool, true, false, List, [], ◌∷◌, ◌++◌, Option, Some, None, fold, length, map}
+use Rattle.std.specs.Prelude.{ℕ, ℤ, pos, ◌+◌, Bool, true, false, List, [], ◌∷◌, ◌++◌, Option, Some, None, fold, length, map, if◌then◌else◌}
 use Rattle.std.specs.List.{flat_map, list_any}
 use Rattle.etp_values.specs.declared.code.ErrorCode.{ErrorCode}
 use Rattle.etp_values.specs.declared.code.ErrorCode.TheVariants.{InvalidArgument, InvalidAppend, LimitExceeded, NotFound, RequestDenied}
@@ -114,6 +114,11 @@ channel_by d changes = record { def = d; known = known_by (whats_of changes); po
 -- the channels that were ever known, after a history
 unfoldable pub channels_of : Config → List Entry → List Channel
 channels_of config history = by_number (λ k d. channel_by d (channel_changes (pos k) history)) 0 (defs_of config history)
+
+-- the place of the first of these entries that retires the channel of an id; the first entry is at `place`
+abbrev pub retirement_from : ℤ → ℕ → List Entry → Option ℕ
+retirement_from id place [] = None
+retirement_from id place (e ∷ es) = if retires id e.act then Some place else retirement_from id (place + 1) es
 
 -- ---- refusals
 
