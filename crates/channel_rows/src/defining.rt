@@ -8,8 +8,8 @@ ghost use Rattle.channel_rows.specs.Loads.{checked_def, def_with, define_call, d
 use crate::loads::{LoadOutcome, LoadPending};
 use etp_values::{ErrorCode, List, Named, NoMemory, StoreUri, Text};
 use keyed_requests::{
-    Decision, Findings, Outcome, Plain, PlainReply, PlainRequest, Sending, keys_refusal, object_uri,
-    refused_outcome, request_outcome, request_reply,
+    Decision, Findings, Outcome, Plain, PlainReply, PlainRequest, Sending, keys_refusal,
+    object_uri, refused_outcome, request_outcome, request_reply,
 };
 use msg_channel::{
     ChannelDataKind, ChannelDataLoadMessage, ChannelMetadataRecord, DefineChannelsResponse,
@@ -45,36 +45,36 @@ fn value_kind(kind: ChannelDataKind) -> Option<ValueKind>
 }
 
 /// Whether the name and the unit of a record have the sizes that a channel may have.
-fn has_sizes(record: &ChannelMetadataRecord) -> bool
-    ensures { result ≡ has_sizes record.now }
+fn has_sizes(metadata: &ChannelMetadataRecord) -> bool
+    ensures { result ≡ has_sizes metadata.now }
 {
-    let name = record.channel_name.len();
-    0 < name && (name <= MAX_NAME && record.uom.len() <= MAX_UNIT)
+    let name = metadata.channel_name.len();
+    0 < name && (name <= MAX_NAME && metadata.uom.len() <= MAX_UNIT)
 }
 
 /// The definition of a record whose sizes are within the limits: its name and unit are moved out of it.
-fn def_with(record: ChannelMetadataRecord, uri: StoreUri) -> Decision<ChannelDef>
-    ensures { result ≡ def_with record uri (value_kind record.data_kind) }
+fn def_with(metadata: ChannelMetadataRecord, uri: StoreUri) -> Decision<ChannelDef>
+    ensures { result ≡ def_with metadata uri (value_kind metadata.data_kind) }
 {
-    let Some(kind) = value_kind(record.data_kind) else {
+    let Some(kind) = value_kind(metadata.data_kind) else {
         return Decision::Refused(ErrorCode::InvalidArgument);
     };
     Decision::Granted(ChannelDef {
         uri,
-        name: record.channel_name,
+        name: metadata.channel_name,
         kind,
-        uom: record.uom,
+        uom: metadata.uom,
     })
 }
 
 /// The definition of a record with this object.
-fn def_of(record: ChannelMetadataRecord, uri: StoreUri) -> Decision<ChannelDef>
-    ensures { result ≡ (if has_sizes record then def_with record uri (value_kind record.data_kind) else Decision.Refused ErrorCode.InvalidArgument) }
+fn def_of(metadata: ChannelMetadataRecord, uri: StoreUri) -> Decision<ChannelDef>
+    ensures { result ≡ (if has_sizes metadata then def_with metadata uri (value_kind metadata.data_kind) else Decision.Refused ErrorCode.InvalidArgument) }
 {
-    if !has_sizes(&record) {
+    if !has_sizes(&metadata) {
         return Decision::Refused(ErrorCode::InvalidArgument);
     }
-    def_with(record, uri)
+    def_with(metadata, uri)
 }
 
 /// The first half.
@@ -115,7 +115,11 @@ impl PlainReply for DefineChannelsReply {
 
     ghost response = { λ reply ids. define_response ids };
 
-    fn decide(&self, _alloc: Global, found: &(Text, DefineReply)) -> Result<Decision<i64>, NoMemory> {
+    fn decide(
+        &self,
+        _alloc: Global,
+        found: &(Text, DefineReply),
+    ) -> Result<Decision<i64>, NoMemory> {
         match found.1 {
             DefineReply::Id(id) => Ok(Decision::Granted(id)),
             DefineReply::Refused(code) => Ok(Decision::Refused(code)),
@@ -182,11 +186,5 @@ pub(crate) fn define_reply(
     ensures { IfOk result (λ l. l ≡ plain_reply defined_id define_response items replies) }
 {
     let findings = Findings::from_vec(replies.into_vec());
-    request_reply(
-        alloc,
-        &Plain(DefineChannelsReply),
-        &mut (),
-        items,
-        findings,
-    )
+    request_reply(alloc, &Plain(DefineChannelsReply), &mut (), items, findings)
 }

@@ -81,7 +81,6 @@ unfolding Found
 known-found cs id = by (is_some (channel_at cs id)) refl
   where
     by : (b : Bool) → is_some (channel_at cs id) ≡ b → Found (known_id cs) (cond b (Some id) None)
-    unfolding Found
     by true e = ap (λ b. cond b (Some id) None) e
     by false e = tt
 
