@@ -9,7 +9,7 @@ use Rattle.channel_store.specs.declared.error.ChannelError.{ChannelError}
 use Rattle.channel_store.specs.declared.error.ChannelError.TheVariants.{NoMemory}
 use Rattle.channel_store.specs.Channels.{Channel}
 use Rattle.channel_store.specs.Refusals.{append_refusal, channels_refusal, replace_refusal, truncate_refusal, verdict}
-use Rattle.channel_store.specs.Defining.{define_all_refusal}
+use Rattle.channel_store.specs.Defs.{define_all_refusal}
 use Rattle.channel_store.specs.Rows.{Row}
 use Rattle.channel_store.specs.Store.{Defines, IsNewPlace, appended, changed, defined, replaced, retired, truncated}
 use Rattle.channel_store.specs.Sweeps.{EndsAs, IsIdle, shown_of}

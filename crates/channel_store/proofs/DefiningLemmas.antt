@@ -12,7 +12,7 @@ use Rattle.server_config.specs.declared.config.ChannelDef.{ChannelDef}
 use Rattle.channel_store.specs.declared.error.ChannelError.{ChannelError}
 use Rattle.channel_store.specs.declared.error.ChannelError.TheVariants.{Taken, TooMany}
 use Rattle.channel_store.specs.Channels.{Channel, fresh}
-use Rattle.channel_store.specs.Defining.{define_all_refusal, define_refusal, first_id, id_before, id_or, ids_from, refused_as, uris_of, with_def}
+use Rattle.channel_store.specs.Defs.{define_all_refusal, define_refusal, first_id, id_before, id_or, ids_from, refused_as, uris_of, with_def}
 use Rattle.channel_store.specs.Refusals.{or_else}
 use Rattle.channel_store.specs.Rows.{Row, plain}
 use Rattle.channel_store.specs.Store.{defined, first_place, id_of, is_known}
@@ -24,10 +24,10 @@ use Rattle.channel_store.proofs.TableLemmas.{either-next}
 
 -- ---- a place among objects
 
-abbrev number_at : ℕ → Option ℕ → Option ℤ
+abbrev pub number_at : ℕ → Option ℕ → Option ℤ
 number_at n o = option_map (λ k. pos (n + k)) o
 
-abbrev at_end : ℕ → ℕ → Option ℕ
+abbrev pub at_end : ℕ → ℕ → Option ℕ
 at_end l len = cond (nat_lt l len) (Some l) None
 
 later-number : (n l len : ℕ) (b : Bool) → nat_lt l len ≡ b → number_at (suc n) (at_end l len) ≡ number_at n (at_end (1 + l) (suc len))

@@ -1,6 +1,6 @@
 pub mod Channels
 pub mod Copies
-pub mod Defining
+pub mod Defs
 pub mod Drafts
 pub mod Laws
 pub mod Marks

@@ -4,7 +4,7 @@ ghost use Rattle.std.specs.List.{list_any};
 ghost use Rattle.std.specs.Map.{lookup};
 ghost use Rattle.etp_values.specs.SameUri.{same_uri};
 ghost use Rattle.channel_store.specs.Channels.{fresh};
-ghost use Rattle.channel_store.specs.Defining.{define_all_refusal, define_refusal, first_id, id_before, id_or, ids_from, uris_of, with_def};
+ghost use Rattle.channel_store.specs.Defs.{define_all_refusal, define_refusal, first_id, id_before, id_or, ids_from, uris_of, with_def};
 ghost use Rattle.channel_store.specs.Refusals.{Refuses};
 ghost use Rattle.channel_store.specs.Rows.{Becomes, plain};
 ghost use Rattle.channel_store.specs.Store.{id_of};
@@ -56,7 +56,7 @@ impl Defining {
     /// How many there are.
     fn len(&self) -> usize
         ensures len { result ≡ length self.now }
-        ensures few { result ≤ MAX_CHANNELS }
+        ensures few { result ≤ 4096 }
     {
         self.uris.len()
     }

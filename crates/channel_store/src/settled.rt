@@ -5,7 +5,7 @@ ghost use Rattle.std.specs.Map.{lookup};
 ghost use Rattle.etp_values.specs.SameUri.{same_uri};
 ghost use Rattle.indexmap.specs.IndexMap.{spare};
 ghost use Rattle.channel_store.specs.Channels.{fresh};
-ghost use Rattle.channel_store.specs.Defining.{define_all_refusal, ids_from, uris_of};
+ghost use Rattle.channel_store.specs.Defs.{define_all_refusal, ids_from, uris_of};
 ghost use Rattle.channel_store.specs.Refusals.{channels_refusal, slot_at};
 ghost use Rattle.channel_store.specs.Rows.{plain};
 ghost use Rattle.channel_store.specs.Store.{IsNewPlace, changed, defined, id_of, retired};

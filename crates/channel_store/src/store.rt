@@ -3,7 +3,7 @@ ghost use Rattle.std.specs.Prelude.{◌≡◌, ◌<◌, ◌+◌, ◌==◌, [], �
 ghost use Rattle.std.specs.Option.{option_copied};
 ghost use Rattle.etp_values.specs.Gives.{Gives};
 ghost use Rattle.channel_store.specs.Channels.{fresh};
-ghost use Rattle.channel_store.specs.Defining.{define_all_refusal, define_refusal, id_or, ids_from};
+ghost use Rattle.channel_store.specs.Defs.{define_all_refusal, define_refusal, id_or, ids_from};
 ghost use Rattle.channel_store.specs.Refusals.{Refuses, append_refusal, channels_refusal, cut_refusal, points_at, replace_refusal, slot_at, truncate_refusal, verdict};
 ghost use Rattle.channel_store.specs.Marks.{marked};
 ghost use Rattle.channel_store.specs.Points.{Rises, first_of, index_from_end, last_of};

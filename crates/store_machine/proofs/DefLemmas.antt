@@ -9,7 +9,7 @@ use Rattle.server_config.specs.declared.config.ChannelDef.{ChannelDef}
 use Rattle.channel_store.specs.declared.error.ChannelError.{ChannelError}
 use Rattle.channel_store.specs.declared.error.ChannelError.TheVariants.{Doubled, NoChannel}
 use Rattle.channel_store.specs.Channels.{Channel}
-use Rattle.channel_store.specs.Defining.{define_all_refusal, define_refusal}
+use Rattle.channel_store.specs.Defs.{define_all_refusal, define_refusal}
 use Rattle.channel_store.specs.Refusals.{channel_at, channels_refusal, is_listed, or_else, unless}
 use Rattle.channel_store.specs.Store.{id_of}
 use Rattle.channel_store.proofs.LookLemmas.{id-known}

@@ -6,7 +6,7 @@ use Rattle.etp_values.specs.declared.uri.StoreUri.{StoreUri}
 use Rattle.server_config.specs.declared.config.ChannelDef.{ChannelDef}
 use Rattle.channel_store.specs.declared.error.ChannelError.{ChannelError}
 use Rattle.channel_store.specs.Channels.{Channel}
-use Rattle.channel_store.specs.Defining.{define_refusal}
+use Rattle.channel_store.specs.Defs.{define_refusal}
 use Rattle.channel_store.specs.Refusals.{channel_at, is_listed}
 use Rattle.channel_store.specs.Store.{id_of}
 use Rattle.store_machine.specs.declared.call.DefineReply.{DefineReply}

@@ -3,7 +3,7 @@ ghost use Rattle.std.specs.Prelude.{◌≡◌, ◌<◌, ◌+◌, ◌++◌, ◌�
 ghost use Rattle.std.specs.List.{list_any};
 ghost use Rattle.std.specs.Map.{values_of};
 ghost use Rattle.etp_values.specs.SameUri.{same_uri};
-ghost use Rattle.channel_store.specs.Defining.{define_all_refusal};
+ghost use Rattle.channel_store.specs.Defs.{define_all_refusal};
 ghost use Rattle.channel_store.specs.Refusals.{channels_refusal, is_listed};
 ghost use Rattle.channel_store.specs.Store.{IsNewPlace, changed, defined, id_of, retired};
 ghost use Rattle.store_machine.specs.Channels.{code_of};

@@ -1,6 +1,6 @@
 use Rattle.std.proofs.Common.{◌≡◌, ◌<◌, ◌≤◌, ◌+◌, ◌++◌, ◌∷◌, [], length, ap, sym, subst, ◌∙◌, arith, rules, Ok, Err, Some, None}
 use Rattle.std.specs.Prelude.{pos}
-use Rattle.channel_store.specs.Defining.{define_refusal, with_def}
+use Rattle.channel_store.specs.Defs.{define_refusal, with_def}
 use Rattle.channel_store.specs.Sweeps.{outcome, shown_of}
 use Rattle.channel_store.proofs.DefiningLemmas.{id-given, id-refused, new-def}
 use Rattle.channel_store.proofs.defining.check_def.Goals as goal

@@ -1,5 +1,5 @@
 use Rattle.std.proofs.Common.{◌≡◌, [], drop, ap, sym, ◌∙◌, arith}
-use Rattle.channel_store.specs.Defining.{define_all_refusal}
+use Rattle.channel_store.specs.Defs.{define_all_refusal}
 use Rattle.channel_store.specs.Refusals.{verdict}
 use Rattle.channel_store.specs.Sweeps.{shown_of}
 use Rattle.channel_store.proofs.DefiningLemmas.{defs-next, defs-stop}

@@ -1,5 +1,5 @@
 use Rattle.std.proofs.Common.{◌≡◌, [], drop}
-use Rattle.channel_store.specs.Defining.{define_all_refusal}
+use Rattle.channel_store.specs.Defs.{define_all_refusal}
 use Rattle.channel_store.specs.Sweeps.{shown_of}
 use Rattle.channel_store.proofs.defining.check_defs.Given as goal
 

@@ -1,5 +1,5 @@
 use Rattle.std.proofs.Common.{◌≡◌, ◌++◌, drop}
-use Rattle.channel_store.specs.Defining.{uris_of}
+use Rattle.channel_store.specs.Defs.{uris_of}
 use Rattle.channel_store.proofs.defining.copied_uris.Given as goal
 
 abbrev pub invariant-loop-def : goal.invariant-loop-def

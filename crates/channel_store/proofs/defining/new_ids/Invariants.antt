@@ -1,5 +1,5 @@
 use Rattle.std.proofs.Common.{◌≡◌, ◌+◌, ◌++◌, drop, length}
-use Rattle.channel_store.specs.Defining.{ids_from}
+use Rattle.channel_store.specs.Defs.{ids_from}
 use Rattle.channel_store.proofs.defining.new_ids.Given as goal
 
 abbrev pub invariant-loop-_def : goal.invariant-loop-_def

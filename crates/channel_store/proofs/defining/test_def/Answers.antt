@@ -1,7 +1,7 @@
 use Rattle.std.proofs.Common.{refl, ◌≡◌, ◌<◌, ◌≤◌, ◌+◌, true, false, length, ap, sym, subst, ◌∙◌, arith, rules, Some, None}
 use Rattle.std.specs.Prelude.{pos, nat_lt}
 use Rattle.std.proofs.lemmas.Bool.Decides.{nat_tests}
-use Rattle.channel_store.specs.Defining.{id_or}
+use Rattle.channel_store.specs.Defs.{id_or}
 use Rattle.channel_store.specs.Sweeps.{shown_of}
 use Rattle.channel_store.proofs.DefiningLemmas.{length-shown, refusal-is}
 use Rattle.channel_store.proofs.defining.test_def.Goals as goal

@@ -1,6 +1,6 @@
 use Rattle.std.proofs.Common.{refl, ◌≡◌, ◌<◌, ◌+◌, [], length, map, ap, sym, subst, ◌∙◌, arith, rules}
 use Rattle.channel_store.specs.Refusals.{verdict}
-use Rattle.channel_store.specs.Defining.{define_all_refusal, uris_of}
+use Rattle.channel_store.specs.Defs.{define_all_refusal, uris_of}
 use Rattle.channel_store.specs.Sweeps.{shown_of}
 use Rattle.channel_store.specs.Tables.{HasIds}
 use Rattle.channel_store.proofs.DefiningLemmas.{define-finds, few-defs, length-shown, rows-defined}

@@ -1,6 +1,6 @@
 use Rattle.std.proofs.Common.{◌≡◌, sym, subst, ap, ◌∙◌, length}
 use Rattle.std.specs.Prelude.{IfOk}
-use Rattle.channel_store.specs.Defining.{ids_from}
+use Rattle.channel_store.specs.Defs.{ids_from}
 use Rattle.channel_store.specs.Store.{IsNewPlace}
 use Rattle.channel_store.proofs.CallLemmas.{defined-called}
 use Rattle.channel_store.proofs.DefiningLemmas.{length-shown}

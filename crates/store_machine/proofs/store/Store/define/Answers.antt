@@ -4,7 +4,7 @@ use Rattle.std.proofs.lemmas.Int.{to_z-of_z}
 use Rattle.std.specs.Cmp.Lexicographic.{slice_cmp}
 use Rattle.std.specs.List.Sorted.{IsStrictlySortedBy}
 use Rattle.std.specs.Map.{keys_of, values_of}
-use Rattle.channel_store.specs.Defining.{define_all_refusal}
+use Rattle.channel_store.specs.Defs.{define_all_refusal}
 use Rattle.channel_store.specs.Store.{IsNewPlace, defined}
 use Rattle.etp_values.specs.Weight.{capped, weigh}
 use Rattle.store_machine.specs.declared.journal.Act.TheVariants.{Define}
