@@ -28,7 +28,13 @@ use Rattle.store_machine.specs.Answers.{answer, ranges_after}
 use Rattle.store_machine.specs.Channels.{channels_of, code_of}
 use Rattle.store_machine.specs.Loads.{IsRefusedBy}
 use Rattle.store_machine.specs.Ranging.{JoinsRange}
-use Rattle.store_machine.specs.Reads.{behind, behind_fitting, meta_under, range_reply, range_then, ranged, room_with, whole_room}
+use Rattle.server_config.specs.declared.config.ChannelDef.{ChannelDef}
+use Rattle.store_machine.specs.declared.call.MetaReply.TheVariants as meta
+use Rattle.etp_values.specs.declared.code.ErrorCode.TheVariants.{NotFound}
+use Rattle.std.specs.Option.{option_map}
+use Rattle.channel_store.specs.Points.{first_of, last_of}
+use Rattle.channel_store.specs.Refusals.{points_in}
+use Rattle.store_machine.specs.Reads.{behind, behind_fitting, meta_in, meta_under, range_reply, range_then, ranged, room_with, whole_room}
 
 -- ---- one range
 
@@ -143,3 +149,15 @@ pub metas-answer : (config : Config) (journal : List Entry) (cs : List Channel) 
 metas-answer config journal cs items metas mark m ch r =
     let told : metas ≡ map (meta_under (channels_of config journal)) items = r ∙ ap (λ (c : List Channel). map (meta_under c) items) ch in
     (λ j. record { mark = m j; reply = replied.Metas (told j) })
+
+-- ---- what is known about a channel
+
+pub meta-none : (id : ℤ) (o : Option Channel) → option_map (λ (c : Channel). c.def) o ≡ None → meta.Refused NotFound ≡ meta_in id o
+meta-none id None h = refl
+meta-none id (Some c) h = cc
+
+pub meta-some : (id : ℤ) (o : Option Channel) (d : ChannelDef) → option_map (λ (c : Channel). c.def) o ≡ Some d → meta.Known id (first_of (points_in o)) (last_of (points_in o)) d ≡ meta_in id o
+meta-some id None d h = cc
+meta-some id (Some c) d h =
+    let same : c.def ≡ d = cc in
+    ap (meta.Known id (first_of c.points) (last_of c.points)) (sym same)

@@ -170,12 +170,12 @@ fn meta_in(alloc: Global, channels: &ChannelStore, channel: i64) -> Result<MetaR
     let Some(def) = channels.def_of(channel) else {
         return Ok(MetaReply::Refused(ErrorCode::NotFound));
     };
-    let def = def.copy(alloc)?;
+    let copied = def.copy(alloc)?;
     Ok(MetaReply::Known {
         channel,
         first: channels.first_index(channel),
         last: channels.last_index(channel),
-        def,
+        def: copied,
     })
 }
 
