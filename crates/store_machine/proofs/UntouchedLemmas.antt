@@ -23,11 +23,13 @@ use Rattle.store_machine.specs.declared.journal.Entry.{Entry}
 use Rattle.store_machine.specs.Answers.{act_of, entered, entry, granted, has_room_for}
 use Rattle.store_machine.specs.Channels.{change_list, changes_from, channel_changes, channels_of, cut_of, defs_by, defs_of, known_ids, what_of}
 use Rattle.store_machine.specs.Cuts.{cuts_accepted, unless_cut_refused}
-use Rattle.store_machine.specs.Defs.{ids_accepted}
-use Rattle.store_machine.specs.Laws.{IdsGrow, UnknownAreUntouched}
+use Rattle.channel_store.specs.Defs.{define_all_refusal}
+use Rattle.channel_store.proofs.DefiningLemmas.{few-defs}
+use Rattle.store_machine.specs.Defs.{defs_accepted, ids_accepted}
+use Rattle.store_machine.specs.Laws.{IdsAreFew, IdsGrow, UnknownAreUntouched}
 use Rattle.store_machine.specs.Legal.{Legal, LegalFrom, door}
 use Rattle.store_machine.proofs.ChanneledLemmas.{defs-push}
-use Rattle.store_machine.proofs.DefLemmas.{ids-known}
+use Rattle.store_machine.proofs.DefLemmas.{defs-unrefused, ids-known}
 use Rattle.store_machine.proofs.DueAtLemmas.{channels-count}
 use Rattle.store_machine.proofs.StreamLemmas.{not_refused}
 
@@ -165,3 +167,55 @@ pub unknown-untouched : UnknownAreUntouched
 unknown-untouched config [] k legal h = absurd legal
 unknown-untouched config (e ∷ es) k legal h =
     (λ j. change_list 0 (pos k) (legal.0 j).at (what_of (legal.0 j).act (pos k)) ++ untouched-from config (e ∷ []) es 1 k legal.1 h j)
+
+-- ---- how many channels there are
+
+length-both : (xs ys : List ChannelDef) → length (xs ++ ys) ≡ length xs + length ys
+length-both [] ys = omega arith
+length-both (x ∷ xs) ys = let rest = length-both xs ys in omega (arith, rest)
+
+entered-defs : (config : Config) (history : List Entry) (by nth : ℕ) (at : ℤ) (kept defs : List ChannelDef)
+    → entered config history by nth at (act_of act.Define kept) ≡ record { by = by; nth = nth; at = at; act = act.Define defs } ∷ [] → kept ≡ defs
+entered-defs config history by nth at [] defs h = cc
+entered-defs config history by nth at (x ∷ xs) defs h = on (has_room_for config history (act.Define (x ∷ xs))) h
+  where
+    on : (b : Bool) → (if b then entry history by nth at (act.Define (x ∷ xs)) ∷ [] else []) ≡ record { by = by; nth = nth; at = at; act = act.Define defs } ∷ [] → x ∷ xs ≡ defs
+    on true g = cc
+    on false g = cc
+
+-- an entry that follows defines no more than there is room for
+act-few : (config : Config) (history : List Entry) (by nth : ℕ) (at : ℤ) (a : Act) (most : ℕ) → 4096 ≤ most → known_ids config history ≤ most
+    → entered config history by nth at (granted config history a) ≡ record { by = by; nth = nth; at = at; act = a } ∷ [] → known_ids config history + length (defs_by a) ≤ most
+act-few config history by nth at act.Enter most wide few e = omega (arith, few)
+act-few config history by nth at (act.PutSpaces puts) most wide few e = omega (arith, few)
+act-few config history by nth at (act.DropSpaces paths) most wide few e = omega (arith, few)
+act-few config history by nth at (act.Put ops) most wide few e = omega (arith, few)
+act-few config history by nth at (act.Commit staged) most wide few e = omega (arith, few)
+act-few config history by nth at (act.Append items) most wide few e = omega (arith, few)
+act-few config history by nth at (act.Replace ids from to items) most wide few e = omega (arith, few)
+act-few config history by nth at (act.Truncate cuts) most wide few e = omega (arith, few)
+act-few config history by nth at (act.Define defs) most wide few e =
+    let cs = channels_of config history in
+    let count = channels-count config history in
+    let kept : defs_accepted cs [] defs ≡ defs = entered-defs config history by nth at (defs_accepted cs [] defs) defs e in
+    let unrefused : define_all_refusal cs [] defs ≡ None = ap (define_all_refusal cs []) (sym kept) ∙ defs-unrefused cs [] defs in
+    let room : length cs + (0 + length defs) < suc most = few-defs (suc most) cs [] defs (omega (arith, wide)) (omega (arith, few, count)) unrefused in
+    omega (arith, room, count)
+act-few config history by nth at (act.Retire ids) most wide few e = omega (arith, few)
+
+few-from : (config : Config) (earlier es : List Entry) (most : ℕ) → 4096 ≤ most → LegalFrom config earlier es → known_ids config earlier ≤ most → known_ids config (earlier ++ es) ≤ most
+few-from config earlier [] most wide legal few =
+    let same : known_ids config (earlier ++ []) ≡ known_ids config earlier = ap (known_ids config) (append-nil earlier) in
+    omega (arith, same, few)
+few-from config earlier (e ∷ es) most wide legal few =
+    let one : known_ids config (earlier ++ e ∷ []) ≡ known_ids config earlier + length (defs_by e.act) = ap length (defs-push config earlier e) ∙ length-both (defs_of config earlier) (defs_by e.act) in
+    let room = act-few config earlier e.by e.nth e.at e.act most wide few legal.0.same in
+    let next : known_ids config (earlier ++ e ∷ []) ≤ most = omega (arith, one, room) in
+    subst (λ l. known_ids config l ≤ most) (append_assoc earlier (e ∷ []) es) (few-from config (earlier ++ e ∷ []) es most wide legal.1 next)
+
+pub ids-few : IdsAreFew
+ids-few config [] most legal fits wide = absurd legal
+ids-few config (e ∷ es) most legal fits wide =
+    let first : known_ids config (door ∷ []) ≡ length config.channels = ap length (append-nil config.channels) in
+    let begun : known_ids config (e ∷ []) ≤ most = subst (λ (d : Entry). known_ids config (d ∷ []) ≤ most) (sym legal.0) (omega (arith, first, fits)) in
+    few-from config (e ∷ []) es most wide legal.1 begun

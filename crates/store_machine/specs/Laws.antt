@@ -147,6 +147,10 @@ KnownAreNotRetired = (id : ℤ) (history : List Entry) → known_by (whats_of (c
 abbrev pub IdsGrow : Type 0
 IdsGrow = (config : Config) (earlier later : List Entry) → known_ids config earlier ≤ known_ids config (earlier ++ later)
 
+-- it has no more than the configuration has, or than 4,096
+abbrev pub IdsAreFew : Type 0
+IdsAreFew = (config : Config) (history : List Entry) (most : ℕ) → Legal config history → length config.channels ≤ most → 4096 ≤ most → known_ids config history ≤ most
+
 -- ---- transactions
 
 -- if no entry at or past a mark alters a key, its value is the same at every place from there on

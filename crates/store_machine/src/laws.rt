@@ -5,7 +5,7 @@ ghost use Rattle.store_machine.specs.Laws.{EntriesAreTheSessions, NextMayAsk, Ca
 ghost use Rattle.store_machine.specs.Laws.{ConflictIsFirst, NoConflictIsFree, ValuesStayBetween};
 ghost use Rattle.store_machine.specs.Laws.{FullStaysFull};
 ghost use Rattle.store_machine.specs.Laws.{NewsAreTheDue, NewsOfEach, NewsStayWithin, StreamIsCopied};
-ghost use Rattle.store_machine.specs.Laws.{IdsGrow, KnownAreNotRetired, UnknownAreUntouched};
+ghost use Rattle.store_machine.specs.Laws.{IdsAreFew, IdsGrow, KnownAreNotRetired, UnknownAreUntouched};
 ghost use Rattle.store_machine.specs.Growth.{CallsKeepLegal};
 
 use channel_store::{accepted_calls, copy_is_points};
@@ -54,9 +54,10 @@ pub fn news_laws()
     ensures each { NewsOfEach }
 {}
 
-/// The list of the channels only grows. Nothing happens to a channel before it is defined, and it is known as long as no entry retires it.
+/// The list of the channels only grows, and never past 4,096, unless the configuration has more. Nothing happens to a channel before it is defined, and it is known as long as no entry retires it.
 pub fn channel_laws()
     ensures grow { IdsGrow }
+    ensures few { IdsAreFew }
     ensures untouched { UnknownAreUntouched }
     ensures known { KnownAreNotRetired }
 {}
