@@ -104,6 +104,10 @@ id-refused id (Some f) e h = cc
 pub id-given : (id : ℤ) (r : Result ℤ ChannelError) (o : Option ChannelError) (x : ℤ) → r ≡ Ok x → r ≡ id_or id o → o ≡ None
 id-given id r o x e h = id-none x id o (sym e ∙ h)
 
+pub id-is : (id x : ℤ) (o : Option ChannelError) → Ok x ≡ id_or id o → x ≡ id
+id-is id x None h = cc
+id-is id x (Some e) h = cc
+
 -- ---- all definitions
 
 pub defs-next : (cs : List Channel) (earlier new : List StoreUri) (defs : List ChannelDef) (k : ℕ) (d : ChannelDef) → k < length defs → d ≡ get_or defs k d → with_def cs earlier d.uri ≡ Ok new

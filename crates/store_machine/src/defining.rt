@@ -98,8 +98,14 @@ fn take_def(
         draft.old.uris draft.new.uris) }
 {
     match channels.test_define(&draft.uris, &def.uri) {
-        Ok(id) => draft.take(alloc, name, id, def),
-        Err(error) => refuse_def(draft, name, error, def),
+        Ok(id) => {
+            draft.take(alloc, name, id, def)?;
+            Ok(())
+        }
+        Err(error) => {
+            refuse_def(draft, name, error, def)?;
+            Ok(())
+        }
     }
 }
 
@@ -208,7 +214,8 @@ fn take_uri(
         draft.old.accepted.items draft.new.accepted.items) }
 {
     let found = find(channels, draft.accepted.as_slice(), uri);
-    draft.note(name, found)
+    draft.note(name, found)?;
+    Ok(())
 }
 
 /// Judges retirements, each together with the accepted ones before it.
