@@ -281,6 +281,54 @@ fn refuses_intervals_and_what_lies_outside(rt: HostRuntime) -> Result<(), Fail> 
     Ok(())
 }
 
+fn defs(alloc: Global, paths: &[&str]) -> Result<List<ChannelDef>, NoMemory> {
+    let mut defs = Vec::new(alloc);
+    for path in paths {
+        defs.push(def(alloc, path)?)?;
+    }
+    Ok(List::from_vec(defs))
+}
+
+#[test]
+fn defines_channels_all_or_none(rt: HostRuntime) -> Result<(), Fail> {
+    let alloc = rt.alloc();
+    let mut store = two_channels(alloc)?;
+    let known = store.define(0, 10, &defs(alloc, &["c", "a"])?);
+    equal(&rt, known, Err(ChannelError::Taken(0)));
+    let twice = store.define(1, 10, &defs(alloc, &["c", "d", "c"])?);
+    equal(&rt, twice, Err(ChannelError::Taken(2)));
+    equal(&rt, store.channels(), 2);
+    let both = store.define(2, 10, &defs(alloc, &["c", "d"])?);
+    equal(&rt, both, Ok(ids(alloc, &[2, 3])?));
+    equal(&rt, store.channel_of(&uri(alloc, "d")?), Some(3));
+    Ok(())
+}
+
+#[test]
+fn retires_channels_for_good(rt: HostRuntime) -> Result<(), Fail> {
+    let alloc = rt.alloc();
+    let mut store = two_channels(alloc)?;
+    let one = items(alloc, &[(1, 5, 1)])?;
+    equal(&rt, store.append(0, 10, &one), Ok(()));
+    let doubled = store.retire(1, 10, &ids(alloc, &[0, 1, 0])?);
+    equal(&rt, doubled, Err(ChannelError::Doubled(0)));
+    equal(&rt, store.retire(2, 10, &ids(alloc, &[1])?), Ok(()));
+    equal(&rt, store.channel_of(&uri(alloc, "b")?), None);
+    equal(&rt, store.last_index(1), Some(5));
+    let later = items(alloc, &[(1, 6, 1)])?;
+    equal(
+        &rt,
+        store.append(3, 10, &later),
+        Err(ChannelError::NoChannel(1)),
+    );
+    let again = store.define(4, 10, &defs(alloc, &["b"])?);
+    equal(&rt, again, Ok(ids(alloc, &[2])?));
+    equal(&rt, store.channel_of(&uri(alloc, "b")?), Some(2));
+    let gone = store.retire(5, 10, &ids(alloc, &[1])?);
+    equal(&rt, gone, Err(ChannelError::NoChannel(1)));
+    Ok(())
+}
+
 /// Accepts only what may be moved to another thread.
 fn crossing<T: Send>(value: T) -> T {
     value
