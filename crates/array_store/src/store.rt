@@ -16,11 +16,12 @@ use etp_values::{AnyArray, List, NoMemory, StoreUri, Text};
 use indexmap::IndexMap;
 use std::alloc::Global;
 use std::marker::Model;
+use table_seed::Seed;
 
 /// Arrays by their keys. A contract sees them in the order of the table, and as `spare` how many more fit, and how many operations can be
 /// done, without allocating.
 pub struct ArrayStore {
-    arrays: IndexMap<ArrayKey, WeighedArray>,
+    arrays: IndexMap<ArrayKey, WeighedArray, Seed>,
     /// What a list of operations removes, while it is applied.
     going: GoingArrays,
 }

@@ -15,10 +15,11 @@ use crate::weighed::WeighedArray;
 use etp_values::{AnyArray, List, StoreUri, Text};
 use indexmap::IndexMap;
 use std::alloc::Global;
+use table_seed::Seed;
 
 /// Puts an array in place of the one with its key.
 pub(crate) fn put_array(
-    arrays: &mut IndexMap<ArrayKey, WeighedArray>,
+    arrays: &mut IndexMap<ArrayKey, WeighedArray, Seed>,
     key: ArrayKey,
     value: WeighedArray,
 ) -> Result<(), ArrayError>
@@ -41,7 +42,7 @@ pub(crate) fn put_array(
 /// Moves values into a region of the array of a key.
 pub(crate) fn patch_array(
     alloc: Global,
-    arrays: &mut IndexMap<ArrayKey, WeighedArray>,
+    arrays: &mut IndexMap<ArrayKey, WeighedArray, Seed>,
     key: &ArrayKey,
     starts: &[i64],
     counts: &[i64],
@@ -68,7 +69,7 @@ pub(crate) fn patch_array(
 
 /// Moves values into a region of the array of a key, if there is one. It does not allocate.
 pub(crate) fn patch_at(
-    arrays: &mut IndexMap<ArrayKey, WeighedArray>,
+    arrays: &mut IndexMap<ArrayKey, WeighedArray, Seed>,
     key: &ArrayKey,
     at: i64,
     starts: &List<i64>,
@@ -87,7 +88,7 @@ pub(crate) fn patch_at(
 }
 
 /// Notes when the array of a key was last written.
-pub(crate) fn set_written(arrays: &mut IndexMap<ArrayKey, WeighedArray>, key: &ArrayKey, at: i64)
+pub(crate) fn set_written(arrays: &mut IndexMap<ArrayKey, WeighedArray, Seed>, key: &ArrayKey, at: i64)
     requires { IsSome (array_among arrays.old.entries key.now) }
     ensures each { IfSome (array_among arrays.old.entries key.now)
         (λ r. SetsAmong arrays.old.entries arrays.new.entries key.now (table.rewritten r at)) }
@@ -101,7 +102,7 @@ pub(crate) fn set_written(arrays: &mut IndexMap<ArrayKey, WeighedArray>, key: &A
 }
 
 /// Takes out the arrays of an object.
-pub(crate) fn drop_object(arrays: &mut IndexMap<ArrayKey, WeighedArray>, uri: &StoreUri) -> u64
+pub(crate) fn drop_object(arrays: &mut IndexMap<ArrayKey, WeighedArray, Seed>, uri: &StoreUri) -> u64
     ensures each { DropsAmong arrays.old.entries arrays.new.entries (is_of_object uri.now) }
     ensures count { result ≡ length (filter (λ e. is_of_object uri.now e.0) arrays.old.entries) }
     ensures room { spare arrays.old ≤ spare arrays.new }
@@ -117,7 +118,7 @@ pub(crate) fn drop_object(arrays: &mut IndexMap<ArrayKey, WeighedArray>, uri: &S
 }
 
 /// Takes out the arrays of a dataspace.
-pub(crate) fn drop_space(arrays: &mut IndexMap<ArrayKey, WeighedArray>, path: &Text) -> u64
+pub(crate) fn drop_space(arrays: &mut IndexMap<ArrayKey, WeighedArray, Seed>, path: &Text) -> u64
     ensures each { DropsAmong arrays.old.entries arrays.new.entries (is_in_space path.now) }
     ensures count { result ≡ length (filter (λ e. is_in_space path.now e.0) arrays.old.entries) }
     ensures room { spare arrays.old ≤ spare arrays.new }
@@ -133,7 +134,7 @@ pub(crate) fn drop_space(arrays: &mut IndexMap<ArrayKey, WeighedArray>, path: &T
 }
 
 /// Keeps the arrays that are not removed.
-fn retain_staying(arrays: &mut IndexMap<ArrayKey, WeighedArray>, going: &GoingArrays)
+fn retain_staying(arrays: &mut IndexMap<ArrayKey, WeighedArray, Seed>, going: &GoingArrays)
     ensures each { DropsAmong arrays.old.entries arrays.new.entries (goes going.now) }
     ensures room { spare arrays.old ≤ spare arrays.new }
 {
@@ -146,7 +147,7 @@ fn retain_staying(arrays: &mut IndexMap<ArrayKey, WeighedArray>, going: &GoingAr
 }
 
 /// Takes out the arrays that are removed, in one pass, and in none if nothing is removed.
-pub(crate) fn drop_going(arrays: &mut IndexMap<ArrayKey, WeighedArray>, going: &GoingArrays)
+pub(crate) fn drop_going(arrays: &mut IndexMap<ArrayKey, WeighedArray, Seed>, going: &GoingArrays)
     ensures each { DropsAmong arrays.old.entries arrays.new.entries (goes going.now) }
     ensures room { spare arrays.old ≤ spare arrays.new }
 {
