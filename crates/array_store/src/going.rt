@@ -15,12 +15,13 @@ use indexmap::IndexSet;
 use std::alloc::Global;
 use std::collections::VecDeque;
 use std::marker::Model;
+use table_seed::Seed;
 
 /// The objects and the dataspaces whose arrays are removed, to be found by hash.
 #[derive(Drop)]
 pub(crate) struct GoingArrays {
-    objects: IndexSet<StoreUri>,
-    spaces: IndexSet<Text>,
+    objects: IndexSet<StoreUri, Seed>,
+    spaces: IndexSet<Text, Seed>,
 }
 
 impl Model for GoingArrays {
@@ -35,10 +36,10 @@ impl Model for GoingArrays {
 
 impl GoingArrays {
     /// Nothing is dropped.
-    pub(crate) fn new(alloc: Global) -> GoingArrays {
+    pub(crate) fn new(alloc: Global, seed: Seed) -> GoingArrays {
         GoingArrays {
-            objects: IndexSet::new(alloc),
-            spaces: IndexSet::new(alloc),
+            objects: IndexSet::with_hasher(alloc, seed),
+            spaces: IndexSet::with_hasher(alloc, seed),
         }
     }
 

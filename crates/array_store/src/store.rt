@@ -54,13 +54,20 @@ impl ArrayStore {
     ghost use Rattle.array_store.specs.Table.{array_in, put_array, patch_array, rewritten, Sets, PatchesAmong, Drops, is_of_object, is_in_space, how_many};
     ghost use Rattle.array_store.specs.Operations.{Applies, Continues};
 
-    /// A store without arrays.
+    /// A store without arrays, whose tables hash names with the fixed seed.
     pub fn new(alloc: Global) -> ArrayStore
         ensures { result.arrays ≡ [] }
     {
+        ArrayStore::with_seed(alloc, Seed::fixed())
+    }
+
+    /// The same with a seed.
+    pub fn with_seed(alloc: Global, seed: Seed) -> ArrayStore
+        ensures { result.arrays ≡ [] }
+    {
         ArrayStore {
-            arrays: IndexMap::new(alloc),
-            going: GoingArrays::new(alloc),
+            arrays: IndexMap::with_hasher(alloc, seed),
+            going: GoingArrays::new(alloc, seed),
         }
     }
 

@@ -30,7 +30,11 @@ fn space_made(
 }
 
 /// Puts a dataspace in place of the one with its path.
-pub(crate) fn put_space(spaces: &mut IndexMap<Text, SpaceRecord, Seed>, path: Text, space: SpaceRecord)
+pub(crate) fn put_space(
+    spaces: &mut IndexMap<Text, SpaceRecord, Seed>,
+    path: Text,
+    space: SpaceRecord,
+)
     requires { 0 < spare spaces.old }
     ensures each { PutsSpace path space spaces.old.entries spaces.new.entries }
     ensures room { spare spaces.old ≤ spare spaces.new + 1 }

@@ -2,7 +2,7 @@ use Rattle.std.proofs.Common.{arith, ◌≡◌, ◌∷◌, []}
 use Rattle.std.proofs.lemmas.Grind.{common_steps}
 use Rattle.store_machine.specs.Legal.{door}
 use Rattle.store_machine.proofs.LawfulLemmas.{keeps-first}
-use Rattle.store_machine.proofs.store.Store.new.Goals as goal
+use Rattle.store_machine.proofs.store.Store.with_seed.Goals as goal
 
 pub invariant_of-result : goal.invariant_of-result
 invariant_of-result c =
