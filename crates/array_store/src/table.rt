@@ -88,7 +88,11 @@ pub(crate) fn patch_at(
 }
 
 /// Notes when the array of a key was last written.
-pub(crate) fn set_written(arrays: &mut IndexMap<ArrayKey, WeighedArray, Seed>, key: &ArrayKey, at: i64)
+pub(crate) fn set_written(
+    arrays: &mut IndexMap<ArrayKey, WeighedArray, Seed>,
+    key: &ArrayKey,
+    at: i64,
+)
     requires { IsSome (array_among arrays.old.entries key.now) }
     ensures each { IfSome (array_among arrays.old.entries key.now)
         (λ r. SetsAmong arrays.old.entries arrays.new.entries key.now (table.rewritten r at)) }
@@ -102,7 +106,10 @@ pub(crate) fn set_written(arrays: &mut IndexMap<ArrayKey, WeighedArray, Seed>, k
 }
 
 /// Takes out the arrays of an object.
-pub(crate) fn drop_object(arrays: &mut IndexMap<ArrayKey, WeighedArray, Seed>, uri: &StoreUri) -> u64
+pub(crate) fn drop_object(
+    arrays: &mut IndexMap<ArrayKey, WeighedArray, Seed>,
+    uri: &StoreUri,
+) -> u64
     ensures each { DropsAmong arrays.old.entries arrays.new.entries (is_of_object uri.now) }
     ensures count { result ≡ length (filter (λ e. is_of_object uri.now e.0) arrays.old.entries) }
     ensures room { spare arrays.old ≤ spare arrays.new }
