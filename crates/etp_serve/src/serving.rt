@@ -17,6 +17,7 @@ use session_core::Session;
 use std::alloc::Global;
 use std::sync::Wait;
 use store_hub::{Hub, Pass, pass_laws};
+use table_seed::Seed;
 
 /// Takes an item from the link, and serves its message, if it is one. `None` if the session continues.
 fn receive<L: Link, C: Clock, R: Wait>(
@@ -94,11 +95,11 @@ fn poll<L: Link, R: Wait>(
 }
 
 /// The session of this number, before its first event.
-fn begin(alloc: Global, conf: &Config, number: u64) -> Result<Session, NoMemory>
+fn begin(alloc: Global, seed: Seed, conf: &Config, number: u64) -> Result<Session, NoMemory>
     ensures { IfOk result (λ s. s ≡ first_state conf.now number (pos 1)) }
 {
     let config = conf.copy(alloc)?;
-    Session::new(alloc, config, number, 1)
+    Session::with_seed(alloc, seed, config, number, 1)
 }
 
 /// A list in memory is not so long that one of its channels has no 64-bit id.
@@ -135,7 +136,7 @@ pub fn serve_session<L: Link, C: Clock, G: Gate, R: Wait>(
     pass_laws();
     laws();
     each_has_id(conf.channels.get().as_slice());
-    let Ok(mut session) = begin(alloc, conf, pass.number()) else {
+    let Ok(mut session) = begin(alloc, hub.seed(), conf, pass.number()) else {
         return Ended::NoMemory;
     };
     let mut turn: u64 = 0;

@@ -31,10 +31,13 @@ use std::alloc::Global;
 use std::marker::Model;
 use store_machine::{Answer, StoreCall};
 use subscribe_core::Subs;
+use table_seed::Seed;
 use tx_stage::Stage;
 
 /// Everything that is kept for a client. [`Session`](crate::session::Session) says how it is driven.
 pub(crate) struct Machine {
+    /// What transactions hash names with.
+    seed: Seed,
     config: Config,
     number: u64,
     phase: Phase,
@@ -57,6 +60,7 @@ pub(crate) struct Machine {
 impl Drop for Machine {
     fn drop(self) {
         let Machine {
+            seed: _,
             config,
             number: _,
             phase: _,
@@ -96,13 +100,20 @@ impl Model for Machine {
 
 impl Machine {
     /// A session of this number, in which no message has come yet. Its own message ids begin with `first_id`.
-    pub(crate) fn new(alloc: Global, config: Config, number: u64, first_id: i64) -> Machine
+    pub(crate) fn new(
+        alloc: Global,
+        seed: Seed,
+        config: Config,
+        number: u64,
+        first_id: i64,
+    ) -> Machine
         requires odd { int_rem first_id (pos 2) ≡ pos 1 }
         requires least { pos 1 ≤ℤ first_id }
         requires greatest { first_id ≤ℤ pos max_id }
         ensures { result ≡ first_state config number first_id }
     {
         Machine {
+            seed,
             config,
             number,
             phase: Phase::Live(Live::Waiting),

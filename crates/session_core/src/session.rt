@@ -13,6 +13,7 @@ use server_config::Config;
 use std::alloc::Global;
 use std::marker::Model;
 use store_machine::{Answer, StoreCall};
+use table_seed::Seed;
 
 /// A session. Whoever drives it passes in one event at a time with [`take`](Session::take) or [`poll`](Session::poll), has the store answer
 /// the call that comes out, passes the answer in with [`give`](Session::give), and sends what [`next_out`](Session::next_out) has, before
@@ -41,7 +42,8 @@ impl Model for Session {
 }
 
 impl Session {
-    /// A session of this number, in which no message has come yet. Its own message ids begin with `first_id`.
+    /// A session of this number, in which no message has come yet. Its own message ids begin with `first_id`. Its transactions hash names
+    /// with the fixed seed.
     pub fn new(
         alloc: Global,
         config: Config,
@@ -53,7 +55,23 @@ impl Session {
         requires greatest { first_id ≤ℤ pos max_id }
         ensures { IfOk result (λ s. s ≡ first_state config number first_id) }
     {
-        let machine = Machine::new(alloc, config, number, first_id);
+        Session::with_seed(alloc, Seed::fixed(), config, number, first_id)
+    }
+
+    /// The same with a seed. Nothing that the session does depends on it.
+    pub fn with_seed(
+        alloc: Global,
+        seed: Seed,
+        config: Config,
+        number: u64,
+        first_id: i64,
+    ) -> Result<Session, NoMemory>
+        requires odd { int_rem first_id (pos 2) ≡ pos 1 }
+        requires least { pos 1 ≤ℤ first_id }
+        requires greatest { first_id ≤ℤ pos max_id }
+        ensures { IfOk result (λ s. s ≡ first_state config number first_id) }
+    {
+        let machine = Machine::new(alloc, seed, config, number, first_id);
         Ok(Session {
             machine: Boxed::new(alloc, machine)?,
         })

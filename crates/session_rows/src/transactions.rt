@@ -14,6 +14,7 @@ use msg_core::{
 };
 use std::alloc::Global;
 use store_machine::{Reply, StoreCall};
+use table_seed::Seed;
 use tx_stage::Stage;
 
 /// The greatest number of dataspaces in a StartTransaction.
@@ -91,6 +92,7 @@ fn start_response(alloc: Global, transaction_uuid: Id16) -> TransactionMessage
 /// A transaction for these dataspaces is open, if each text named one.
 fn start_with(
     alloc: Global,
+    seed: Seed,
     instance: Id16,
     number: u64,
     starts: u64,
@@ -105,7 +107,7 @@ fn start_with(
             let id = transaction_id(alloc, instance, number, nth)?;
             let sendings = reply_alone(alloc, start_response(alloc, id))?;
             Ok(Transacting {
-                stage: Some(Stage::begin(alloc, id, read_only, spaces)),
+                stage: Some(Stage::with_seed(alloc, seed, id, read_only, spaces)),
                 starts: nth,
                 outcome: Outcome::Replies(sendings),
             })
@@ -117,6 +119,7 @@ fn start_with(
 /// Starts a transaction if none is open.
 fn start(
     alloc: Global,
+    seed: Seed,
     instance: Id16,
     number: u64,
     stage: Option<Stage>,
@@ -133,7 +136,15 @@ fn start(
         return refuses(alloc, None, starts, ErrorCode::LimitExceeded);
     }
     let spaces = space_paths(alloc, uris)?;
-    start_with(alloc, instance, number, starts, request.read_only, spaces)
+    start_with(
+        alloc,
+        seed,
+        instance,
+        number,
+        starts,
+        request.read_only,
+        spaces,
+    )
 }
 
 /// Whether this is the transaction's identifier.
@@ -209,6 +220,7 @@ fn rollback(
 /// A commit is over when the store is asked, whatever it answers.
 pub fn transaction_request(
     alloc: Global,
+    seed: Seed,
     instance: Id16,
     number: u64,
     stage: Option<Stage>,
@@ -219,7 +231,7 @@ pub fn transaction_request(
 {
     match message {
         TransactionMessage::StartTransaction(request) => {
-            start(alloc, instance, number, stage, starts, request)
+            start(alloc, seed, instance, number, stage, starts, request)
         }
         TransactionMessage::CommitTransaction(request) => {
             commit(alloc, stage, starts, request.transaction_uuid)

@@ -10,12 +10,15 @@ use etp_values::NoMemory;
 use std::alloc::Global;
 use std::sync::Wait;
 use store_machine::{Answer, Store, StoreCall};
+use table_seed::Seed;
 use turn_book::TurnBook;
 
 /// The one store of a server. The threads of its sessions share it by `&`, each with a pass of its own.
 #[derive(Drop)]
 pub struct Hub {
     pub(crate) book: TurnBook<StoreBook>,
+    /// What the store's tables hash names with.
+    seed: Seed,
 }
 
 impl Hub {
@@ -34,15 +37,21 @@ impl Hub {
         ensures config { IfOk result (λ t. config_of t.0 ≡ store.config) }
         ensures view { IfOk result (λ t. known t.1 ≡ first_view store.journal store.config) }
     {
+        let seed = store.seed();
         let (book, seat, entries) = turns::open(alloc, store)?;
         Ok((
-            Hub { book },
+            Hub { book, seed },
             Pass {
                 seat,
                 number: 0,
                 entries,
             },
         ))
+    }
+
+    /// What the store's tables hash names with.
+    pub fn seed(&self) -> Seed {
+        self.seed
     }
 
     /// Lets a session in at a moment, waiting until the store is free. The new pass has seen what `pass` had, and then the journal of that

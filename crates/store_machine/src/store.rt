@@ -32,6 +32,8 @@ use tx_stage::{Contents, Op, Staged, Want};
 /// A store. A contract sees its configuration and its journal.
 pub struct Store {
     config: Config,
+    /// What names are hashed with.
+    seed: Seed,
     journal: Vec<Entry>,
     /// What the entries count together.
     bytes: u64,
@@ -48,6 +50,7 @@ impl Drop for Store {
     fn drop(self) {
         let Store {
             config,
+            seed: _,
             journal,
             bytes: _,
             contents,
@@ -97,12 +100,18 @@ impl Store {
         let alterations = Alterations::new(alloc, seed);
         Ok(Store {
             config,
+            seed,
             journal,
             bytes: ENTRY_BYTES,
             contents,
             channels,
             alterations,
         })
+    }
+
+    /// What its tables hash names with.
+    pub fn seed(&self) -> Seed {
+        self.seed
     }
 
     /// How many entries the journal has.

@@ -17,6 +17,7 @@ use etp_values::{Copied, Id16, List, NoMemory, Text};
 use indexmap::IndexMap;
 use std::alloc::Global;
 use std::marker::Model;
+use table_seed::Seed;
 
 /// A transaction: what it was started for, its operations, and the keys that it touched. A contract sees these.
 pub struct Stage {
@@ -30,7 +31,7 @@ pub struct Stage {
     /// The keys that the operations alter, to be found.
     altered: AlteredKeys,
     /// The touched keys in order, each with its mark.
-    touched: IndexMap<Key, u64>,
+    touched: IndexMap<Key, u64, Seed>,
     /// Nothing, with room for all touched keys, so that a transaction can end without allocating.
     room: Vec<Touch>,
 }
@@ -76,8 +77,22 @@ impl Stage {
     ghost use Rattle.tx_stage.specs.Overlay.{overlay, there};
     ghost use Rattle.tx_stage.specs.Staging.{has_space, is_touched, note_refusal, noted, put_refusal, staged, unless};
 
-    /// A transaction that may touch these dataspaces; none means only the default one.
+    /// A transaction that may touch these dataspaces; none means only the default one. The keys that it touches are hashed with the fixed
+    /// seed.
     pub fn begin(alloc: Global, id: Id16, read_only: bool, spaces: List<Text>) -> Stage
+        ensures { result ≡ record { id = id; read_only = read_only; spaces = spaces; ops = []; touched = [] } }
+    {
+        Stage::with_seed(alloc, Seed::fixed(), id, read_only, spaces)
+    }
+
+    /// The same with a seed.
+    pub fn with_seed(
+        alloc: Global,
+        seed: Seed,
+        id: Id16,
+        read_only: bool,
+        spaces: List<Text>,
+    ) -> Stage
         ensures { result ≡ record { id = id; read_only = read_only; spaces = spaces; ops = []; touched = [] } }
     {
         Stage {
@@ -88,7 +103,7 @@ impl Stage {
             ops: Vec::new(alloc),
             bytes: 0,
             altered: AlteredKeys::new(alloc),
-            touched: IndexMap::new(alloc),
+            touched: IndexMap::with_hasher(alloc, seed),
             room: Vec::new(alloc),
         }
     }
@@ -241,7 +256,7 @@ impl Stage {
 }
 
 /// The touched keys as a list, in room for them.
-fn listed(touched: IndexMap<Key, u64>, room: Vec<Touch>) -> Vec<Touch>
+fn listed(touched: IndexMap<Key, u64, Seed>, room: Vec<Touch>) -> Vec<Touch>
     requires empty { room.items ≡ [] }
     requires enough { length touched.entries ≤ vec_capacity room }
     ensures { result.items ≡ touches touched.entries }

@@ -241,6 +241,7 @@ impl Machine {
         let stage = self.stage.take();
         let transacting = transaction_request(
             alloc,
+            self.seed,
             instance,
             number,
             stage,
