@@ -19,6 +19,7 @@ mod channel_subscribe_on_wire;
 mod data_calls;
 mod indexes;
 mod indexes_on_wire;
+mod plain;
 mod points;
 mod points_on_wire;
 
