@@ -13,7 +13,7 @@ use Rattle.msg_channel.specs.declared.indexes.IndexValue.{IndexValue}
 use Rattle.msg_channel.specs.declared.indexes.IndexValue.TheVariants as index
 use Rattle.msg_channel.specs.declared.points.DataItem.{DataItem}
 use Rattle.msg_channel.specs.ChannelRecords.{index_value_form, index_value_parts, index_value_whole, index_value_again, index_value_same, pass_indexed_depth_form, data_attribute_form, data_item_form}
-use Rattle.msg_channel.specs.Plain.{IsValue, IsItem}
+use Rattle.msg_channel.specs.Plain.{IsValue, IsItem, Takes, item_of_long}
 
 -- ---- bytes
 
@@ -126,12 +126,8 @@ indexes_is n front rest z read =
     single_is index_value_form.at (suc (suc (suc n))) (suc (suc (suc n))) n (2 ∷ 2 ∷ front) (2 ∷ front) (0 ∷ rest) rest (index.Long z)
     (some_bytes (2 ∷ 2 ∷ front) (pos 1, 2 ∷ front) (byte_2 (2 ∷ front))) (byte_2 (2 ∷ front)) refl (index_is n front (0 ∷ rest) z read) (byte_0 rest)
 
--- an item of one long index without attributes
-abbrev item_of : ℤ → ℤ → DataValue → DataItem
-item_of channel z v = record { channel_id = channel; indexes = index.Long z ∷ []; value = v; value_attributes = [] }
-
 whole_is : (bytes one two rest : List ℕ) (channel z : ℤ) (v : DataValue) → number_at bytes ≡ Ok (channel, 2 ∷ 2 ∷ one) → number_at one ≡ Ok (z, 0 ∷ two) → IsValue two v (0 ∷ rest)
-    → IsItem bytes (item_of channel z v) rest
+    → IsItem bytes (item_of_long channel z v) rest
 unfolding IsValue IsItem
 whole_is bytes one two rest channel z v first second third n =
     let attributes = field_is (list_form data_attribute_form) done (suc n) n n (0 ∷ rest) rest rest [] tt (none_is data_attribute_form n rest) refl in
@@ -145,10 +141,15 @@ whole_is bytes one two rest channel z v first second third n =
     record_is (long_form & list_form index_value_form & data_value_form & list_form data_attribute_form & done) (λ p. record { channel_id = p.0; indexes = p.1.0; value = p.1.1.0; value_attributes = p.1.1.1.0 })
     (suc (suc (suc (suc (suc (suc (suc (suc (suc n))))))))) n bytes rest (channel, (index.Long z ∷ [], (v, ([], tt)))) all
 
-pub item_is : (bytes front one behind two last rest : List ℕ) (channel z : ℤ) (v : DataValue) → number_at bytes ≡ Ok (channel, front) → front ≡ 2 ∷ 2 ∷ one → number_at one ≡ Ok (z, behind) → behind ≡ 0 ∷ two → IsValue two v last → last ≡ 0 ∷ rest
-    → IsItem bytes (item_of channel z v) rest
-item_is bytes front one behind two last rest channel z v first front_is second behind_is third last_is =
-    whole_is bytes one two rest channel z v (first ∙ ap (λ (l : List ℕ). Ok (channel, l)) front_is) (second ∙ ap (λ (l : List ℕ). Ok (z, l)) behind_is) (subst (λ (l : List ℕ). IsValue two v l) last_is third)
+pub item_is : (bytes front one behind two last rest : List ℕ) (channel z : ℤ) (v : DataValue) (x : DataItem) → number_at bytes ≡ Ok (channel, front) → front ≡ 2 ∷ 2 ∷ one → number_at one ≡ Ok (z, behind) → behind ≡ 0 ∷ two → IsValue two v last
+    → x ≡ item_of_long channel z v → last ≡ 0 ∷ rest → IsItem bytes x rest
+item_is bytes front one behind two last rest channel z v x first front_is second behind_is third item last_is =
+    subst (λ (y : DataItem). IsItem bytes y rest) (sym item)
+    (whole_is bytes one two rest channel z v (first ∙ ap (λ (l : List ℕ). Ok (channel, l)) front_is) (second ∙ ap (λ (l : List ℕ). Ok (z, l)) behind_is) (subst (λ (l : List ℕ). IsValue two v l) last_is third))
+
+-- an item that was pushed where there is room
+pub taken : (had room new : List DataItem) (bytes rest : List ℕ) (x : DataItem) → room ≡ had → new ≡ room ++ x ∷ [] → IsItem bytes x rest → Takes had new bytes rest
+taken had room new bytes rest x same pushed item = (x, pushed ∙ ap (λ (l : List DataItem). l ++ x ∷ []) same, item)
 
 -- ---- blocks
 

@@ -1,9 +1,14 @@
 -- Values and items that are spelled plainly.
-use Rattle.std.specs.Prelude.{◌≡◌, ℕ, suc, List, Ok}
+use Rattle.std.specs.Prelude.{◌≡◌, ℕ, suc, ℤ, List, [], ◌∷◌, ◌++◌, Ok}
 use Rattle.etp_values.specs.declared.data.DataValue.{DataValue}
 use Rattle.etp_schema.specs.DataValue.{data_value_form}
 use Rattle.msg_channel.specs.ChannelRecords.{data_item_form}
+use Rattle.msg_channel.specs.declared.indexes.IndexValue.TheVariants as index
 use Rattle.msg_channel.specs.declared.points.DataItem.{DataItem}
+
+-- an item of one long index without attributes
+abbrev pub item_of_long : ℤ → ℤ → DataValue → DataItem
+item_of_long channel z v = record { channel_id = channel; indexes = index.Long z ∷ []; value = v; value_attributes = [] }
 
 -- the value is at the front of the bytes, and takes three nodes
 unfoldable pub IsValue : List ℕ → DataValue → List ℕ → Type 0
@@ -12,3 +17,7 @@ IsValue bytes v rest = (n : ℕ) → data_value_form.at (suc (suc (suc n))) byte
 -- the item is at the front of the bytes, and takes ten nodes
 unfoldable pub IsItem : List ℕ → DataItem → List ℕ → Type 0
 IsItem bytes x rest = (n : ℕ) → data_item_form.at (suc (suc (suc (suc (suc (suc (suc (suc (suc (suc n)))))))))) bytes ≡ Ok ((x, n), rest)
+
+-- the item at the front of the bytes comes after the others
+abbrev pub Takes : List DataItem → List DataItem → List ℕ → List ℕ → Type 0
+Takes had new bytes rest = (x : DataItem) × (new ≡ had ++ x ∷ []) × IsItem bytes x rest

@@ -2,12 +2,12 @@
 //!
 //! A plain item has one index, a long, a value without memory of its own, and no attributes, each as it is written. Nothing is refused
 //! here: where a call returns `None`, the items are read like those of any list.
-ghost use Rattle.std.specs.Prelude.{◌≡◌, ◌∷◌, ◌++◌, ◌+◌, ◌*◌, ◌<◌, ◌≤◌, ℕ, [], IfSome, Ok, pos};
+ghost use Rattle.std.specs.Prelude.{◌≡◌, ◌∷◌, ◌+◌, ◌*◌, ◌<◌, ◌≤◌, ℕ, [], IfSome, Ok, pos};
 ghost use Rattle.avro_bin.specs.Along.{push_at};
 ghost use Rattle.avro_bin.specs.Reading.{items_at, number_at};
 ghost use Rattle.etp_schema.specs.Form.{list_at};
 ghost use Rattle.msg_channel.specs.ChannelRecords.{data_item_form};
-ghost use Rattle.msg_channel.specs.Plain.{IsItem, IsValue};
+ghost use Rattle.msg_channel.specs.Plain.{IsItem, IsValue, Takes, item_of_long};
 
 use crate::indexes::IndexValue;
 use crate::points::DataItem;
@@ -92,25 +92,49 @@ fn plain_value(bytes: &[u8]) -> Option<(DataValue, &[u8])>
     }
 }
 
-/// The plain item at the front, and what follows it.
-#[tactic(auto, using(crate::proofs::PlainLemmas::item_is))]
-fn plain_item(alloc: Global, bytes: &[u8]) -> Option<(DataItem, &[u8])>
-    ensures { IfSome result (λ x. IsItem bytes.now x.0 x.1.now) }
+/// The number at the front, and what follows it, if there is one.
+fn number_in(bytes: &[u8]) -> Option<(i64, &[u8])>
+    ensures { IfSome result (λ r. number_at bytes.now ≡ Ok (r.0, r.1.now)) }
 {
-    let Ok((channel_id, front)) = number(bytes) else {
-        return None;
-    };
-    let [2, 2, one @ ..] = front else {
-        return None;
-    };
-    let Ok((index, behind)) = number(one) else {
-        return None;
-    };
-    let [0, two @ ..] = behind else {
-        return None;
-    };
-    let (value, last) = plain_value(two)?;
-    let [0, rest @ ..] = last else {
+    match number(bytes) {
+        Ok(read) => Some(read),
+        Err(_) => None,
+    }
+}
+
+/// What follows the count of a single index, and its kind, a long.
+fn single_long(bytes: &[u8]) -> Option<&[u8]>
+    ensures { IfSome result (λ rest. bytes.now ≡ 2 ∷ 2 ∷ rest.now) }
+{
+    match bytes {
+        [2, 2, rest @ ..] => Some(rest),
+        _ => None,
+    }
+}
+
+/// What follows the end of a list.
+fn after_end(bytes: &[u8]) -> Option<&[u8]>
+    ensures { IfSome result (λ rest. bytes.now ≡ 0 ∷ rest.now) }
+{
+    match bytes {
+        [0, rest @ ..] => Some(rest),
+        _ => None,
+    }
+}
+
+/// The item of a long index, if it ends here without attributes, and what follows it.
+fn ended(
+    alloc: Global,
+    channel_id: i64,
+    index: i64,
+    value: DataValue,
+    last: &[u8],
+) -> Option<(DataItem, &[u8])>
+    ensures item { IfSome result (λ x. x.0 ≡ item_of_long channel_id index value) }
+    ensures end { IfSome result (λ x. last.now ≡ 0 ∷ x.1.now) }
+{
+    let Some(rest) = after_end(last) else {
+        drop(value);
         return None;
     };
     let item = DataItem {
@@ -120,6 +144,19 @@ fn plain_item(alloc: Global, bytes: &[u8]) -> Option<(DataItem, &[u8])>
         value_attributes: List::new(alloc),
     };
     Some((item, rest))
+}
+
+/// The plain item at the front, and what follows it.
+#[tactic(auto, using(crate::proofs::PlainLemmas::item_is))]
+fn plain_item(alloc: Global, bytes: &[u8]) -> Option<(DataItem, &[u8])>
+    ensures { IfSome result (λ x. IsItem bytes.now x.0 x.1.now) }
+{
+    let (channel_id, front) = number_in(bytes)?;
+    let one = single_long(front)?;
+    let (index, behind) = number_in(one)?;
+    let two = after_end(behind)?;
+    let (value, last) = plain_value(two)?;
+    ended(alloc, channel_id, index, value, last)
 }
 
 /// Room for so many items, and for no more than so many bytes can spell.
@@ -135,14 +172,16 @@ fn with_room(alloc: Global, count: u64, bytes: usize) -> Option<Vec<DataItem>>
 }
 
 /// Adds the plain item at the front, and returns what follows it.
+#[tactic(auto, using(crate::proofs::PlainLemmas::taken))]
 fn take_item<'a>(alloc: Global, bytes: &'a [u8], items: &mut Vec<DataItem>) -> Option<&'a [u8]>
-    ensures { IfSome result (λ rest. (x : DataItem) × (items.new.items ≡ items.old.items ++ x ∷ []) × IsItem bytes.now x rest.now) }
+    ensures { IfSome result (λ rest. Takes items.old.items items.new.items bytes.now rest.now) }
 {
-    let (item, rest) = plain_item(alloc, bytes)?;
-    match items.push(item) {
-        Ok(()) => Some(rest),
-        Err(_) => None,
+    if let Err(_) = items.reserve(1) {
+        return None;
     }
+    let (item, rest) = plain_item(alloc, bytes)?;
+    items.push_reserved(item);
+    Some(rest)
 }
 
 /// So many plain items, and what follows them.
@@ -166,13 +205,11 @@ fn plain_count(left: u32, bytes: &[u8]) -> Option<(u32, &[u8])>
     ensures some { IfSome result (λ r. 0 < r.0) }
     ensures room { IfSome result (λ r. 10 * r.0 ≤ left) }
 {
-    let Ok((count, rest)) = number(bytes) else {
-        return None;
-    };
-    if count <= 0 || count > (left / ITEM_NODES) as i64 {
-        return None;
+    let (count, rest) = number_in(bytes)?;
+    if 0 < count && count <= (left / ITEM_NODES) as i64 {
+        return Some((count as u32, rest));
     }
-    Some((count as u32, rest))
+    None
 }
 
 /// The items of a list of plain items that is spelled as one block with a count above 0 and the end, the number of nodes that are still
@@ -183,8 +220,6 @@ pub fn plain_items(alloc: Global, left: u32, bytes: &[u8]) -> Option<(List<DataI
 {
     let (count, front) = plain_count(left, bytes)?;
     let (items, behind) = block_of(alloc, count as u64, front)?;
-    let [0, rest @ ..] = behind else {
-        return None;
-    };
+    let rest = after_end(behind)?;
     Some((List::from_vec(items), left - ITEM_NODES * count, rest))
 }
