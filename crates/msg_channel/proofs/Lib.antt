@@ -1,2 +1,3 @@
 pub mod PlainLemmas
 pub mod LoadLemmas
+pub mod PutLemmas

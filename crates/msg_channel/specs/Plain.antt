@@ -1,6 +1,7 @@
 -- Values and items that are spelled plainly.
 use Rattle.std.specs.Prelude.{◌≡◌, ℕ, suc, ℤ, List, [], ◌∷◌, ◌++◌, Ok}
 use Rattle.etp_values.specs.declared.data.DataValue.{DataValue}
+use Rattle.avro_bin.specs.Number.{plain_number}
 use Rattle.etp_schema.specs.DataValue.{data_value_form}
 use Rattle.msg_channel.specs.ChannelRecords.{data_item_form}
 use Rattle.msg_channel.specs.declared.indexes.IndexValue.TheVariants as index
@@ -9,6 +10,10 @@ use Rattle.msg_channel.specs.declared.points.DataItem.{DataItem}
 -- an item of one long index without attributes
 abbrev pub item_of_long : ℤ → ℤ → DataValue → DataItem
 item_of_long channel z v = record { channel_id = channel; indexes = index.Long z ∷ []; value = v; value_attributes = [] }
+
+-- what is written of such an item before its value
+abbrev pub front_of_long : ℤ → ℤ → List ℕ
+front_of_long channel z = plain_number channel ++ 2 ∷ 2 ∷ plain_number z ++ 0 ∷ []
 
 -- the value is at the front of the bytes, and takes three nodes
 unfoldable pub IsValue : List ℕ → DataValue → List ℕ → Type 0

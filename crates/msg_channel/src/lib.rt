@@ -22,6 +22,7 @@ mod indexes_on_wire;
 mod plain;
 mod points;
 mod points_on_wire;
+mod put_plain;
 
 pub use channel_data_load_messages::{
     ChannelDataLoadMessage, ChannelsClosed, CloseChannels, LoadChannelData, OpenChannelInfo,
