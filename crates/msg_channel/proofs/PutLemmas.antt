@@ -1,9 +1,9 @@
 -- Plain items as they are appended.
-use Rattle.std.proofs.Common.{◌≡◌, ℕ, ℤ, suc, ◌+◌, ◌-◌, ◌%◌, ◌/◌, ◌<◌, ◌≤◌, ◌^◌, List, [], ◌∷◌, ◌++◌, length, FitsSigned, w64, refl, sym, ap, ◌∙◌, arith, append_assoc, append-nil}
+use Rattle.std.proofs.Common.{◌≡◌, ℕ, ℤ, suc, ◌+◌, ◌-◌, ◌%◌, ◌/◌, ◌<◌, ◌≤◌, List, [], ◌∷◌, ◌++◌, length, FitsSigned, w64, refl, sym, ap, ◌∙◌, arith, append_assoc, append-nil}
 use Rattle.std.proofs.lemmas.Bool.{le-ltb, lt-ltb}
 use Rattle.std.proofs.lemmas.List.{nil_from_length}
 use Rattle.etp_values.specs.declared.data.DataValue.{DataValue}
-use Rattle.avro_bin.specs.Number.{plain_number, shortest, unsigned}
+use Rattle.avro_bin.specs.Number.{plain_number, shortest}
 use Rattle.avro_bin.specs.Plain.{plain}
 use Rattle.avro_bin.specs.Shape.{FitsTree}
 use Rattle.etp_schema.specs.DataValue.{data_value_form}
@@ -11,7 +11,6 @@ use Rattle.etp_schema.specs.Form.{Holds}
 use Rattle.msg_channel.specs.ChannelRecords.{data_item_form}
 use Rattle.msg_channel.specs.Plain.{front_of_long, item_of_long}
 use Rattle.msg_channel.specs.declared.indexes.IndexValue.TheVariants as index
-use Rattle.msg_channel.specs.declared.points.DataAttribute.{DataAttribute}
 use Rattle.msg_channel.specs.declared.points.DataItem.{DataItem}
 
 -- ---- numbers, group by group

@@ -1,7 +1,7 @@
 //! Plain items, appended in one pass where there is room.
 //!
 //! Such an item has one index, a long, and no attributes. Where there is no room, it is appended like any record.
-ghost use Rattle.std.specs.Prelude.{◌≡◌, ◌∷◌, ◌++◌, ◌+◌, ◌≤◌, [], IfSome, OnOk, length};
+ghost use Rattle.std.specs.Prelude.{◌≡◌, ◌∷◌, ◌++◌, ◌+◌, ◌≤◌, [], IfSome, OnOk};
 ghost use Rattle.std.specs.Bool.{OnTrue};
 ghost use Rattle.std.specs.Vec.{vec_capacity, vec_len};
 ghost use Rattle.avro_bin.specs.Number.{plain_number};
