@@ -10,7 +10,7 @@ ghost use Rattle.avro_bin.specs.Shape.{FitsTree};
 ghost use Rattle.etp_schema.specs.Form.{Holds};
 ghost use Rattle.msg_channel.specs.ChannelRecords.{data_item_form};
 ghost use Rattle.msg_channel.specs.Plain.{front_of_long, item_of_long};
-ghost use Rattle.msg_channel.specs.declared.indexes.IndexValue.TheVariants as index;
+ghost use Rattle.msg_channel.specs.declared.indexes.IndexValue.TheVariants as index_item;
 
 use crate::indexes::IndexValue;
 use crate::points::DataItem;
@@ -23,7 +23,7 @@ const FRONT: usize = 23;
 
 /// The only index, if it is a long.
 fn only_long(indexes: &[IndexValue]) -> Option<i64>
-    ensures { IfSome result (λ z. indexes.now ≡ index.Long z ∷ []) }
+    ensures { IfSome result (λ z. indexes.now ≡ index_item.Long z ∷ []) }
 {
     match indexes {
         [IndexValue::Long(index)] => Some(*index),
