@@ -1,12 +1,11 @@
 -- A load whose items were read.
 use Rattle.std.proofs.Common.{◌≡◌, ◌-◌, ℕ, List, Ok, length}
 use Rattle.avro_bin.specs.Laws.{node_limit, read_value}
-use Rattle.etp_schema.specs.Form.{list_at, list_form, done}
+use Rattle.etp_schema.specs.Form.{list_at}
 use Rattle.etp_schema.specs.Reading.{ReadsAs}
 use Rattle.etp_schema.proofs.TypedLemmas.{typed_ok}
 use Rattle.msg_channel.specs.ChannelDataLoad.{load_channel_data_form}
 use Rattle.msg_channel.specs.ChannelRecords.{data_item_form}
-use Rattle.msg_channel.specs.declared.channel_data_load_messages.LoadChannelData.{LoadChannelData}
 use Rattle.msg_channel.specs.declared.points.DataItem.{DataItem}
 
 -- the items of a message come after two nodes

@@ -1,15 +1,14 @@
 -- Items that are spelled plainly, read from the front of bytes.
-use Rattle.std.proofs.Common.{◌≡◌, ◌∙◌, ◌+◌, ◌-◌, ◌*◌, ◌<◌, ◌≤◌, ◌++◌, ℕ, ℤ, zero, suc, pos, List, [], ◌∷◌, map, length, Ok, refl, sym, ap, subst, arith, inl, inr, Bool, true, false}
+use Rattle.std.proofs.Common.{◌≡◌, ◌∙◌, ◌+◌, ◌-◌, ◌*◌, ◌<◌, ◌≤◌, ◌++◌, ℕ, ℤ, zero, suc, pos, List, [], ◌∷◌, length, Ok, refl, sym, ap, subst, arith, inl, inr, Bool}
 use Rattle.std.specs.Int.{w32, w64}
 use Rattle.etp_values.specs.declared.data.DataValue.{DataValue}
 use Rattle.etp_values.specs.declared.data.DataValue.TheVariants as variant
-use Rattle.avro_bin.specs.Reading.{Read, ◌>>=◌, number_at, place_at, boolean_at, int_at, fixed_number_at, blocks_at, block_at, items_at, count}
-use Rattle.avro_bin.specs.Along.{along, seen, push_at}
+use Rattle.avro_bin.specs.Reading.{Read, number_at, place_at, boolean_at, int_at, fixed_number_at, blocks_at, items_at, count}
+use Rattle.avro_bin.specs.Along.{along, push_at}
 use Rattle.avro_bin.proofs.StepLemmas.{blocks_more, blocks_stop, items_done, items_next}
 use Rattle.etp_schema.specs.Form.{Form, Row, Choice, wrapped, union, list_form, list_at, last, null_form, long_form, double_form, ◌or◌, ◌&◌, done, leaf_at, node_at, record_at, bits_32, bits_64}
 use Rattle.etp_schema.specs.DataValue.{data_value_form, data_value_kinds, data_value_parts, data_value_whole, data_value_again, data_value_same}
 use Rattle.etp_schema.proofs.ItemLemmas.{push_is, single_is}
-use Rattle.msg_channel.specs.declared.indexes.IndexValue.{IndexValue}
 use Rattle.msg_channel.specs.declared.indexes.IndexValue.TheVariants as index
 use Rattle.msg_channel.specs.declared.points.DataItem.{DataItem}
 use Rattle.msg_channel.specs.ChannelRecords.{index_value_form, index_value_parts, index_value_whole, index_value_again, index_value_same, pass_indexed_depth_form, data_attribute_form, data_item_form}
