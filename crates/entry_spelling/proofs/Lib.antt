@@ -1,0 +1,5 @@
+pub mod ArrayLemmas
+pub mod ElementLemmas
+pub mod EntryLemmas
+pub mod FittingLemmas
+pub mod PartLemmas

@@ -1,0 +1,7 @@
+use Rattle.std.proofs.lemmas.Result.{err_from_is_err_and}
+use Rattle.entry_spelling.proofs.parts.spell_variant.Goals as goal
+
+pub returns-in_err-spell_parts-clause-fits : goal.returns-in_err-spell_parts-clause-fits
+returns-in_err-spell_parts-clause-fits g c =
+    let p = err_from_is_err_and c.from_residual-in_err-spell_parts.result c.from_residual-in_err-spell_parts.ensures.1 in
+    rw (p.1, p.2) c.in_err-spell_parts.ensures.fits

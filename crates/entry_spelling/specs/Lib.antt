@@ -1,0 +1,5 @@
+pub mod Spelling
+pub mod Elements
+pub mod Records
+pub mod Entries
+pub mod Laws
