@@ -168,6 +168,6 @@ module _ {A : Type 0} (value : ℕ → List ℕ → Read (A × ℕ)) where
   ordered_is n left bytes rest ps named read moved rise =
       let all = blocks_follow Ordered Apart (push_at (pair_at value)) (put_at value) pair_follows (suc (length bytes)) ([], n) bytes in
       let done = subst (λ (r : Read (List (List ℕ × A) × ℕ)). Follows Ordered Apart ([], n) r (λ t. blocks_at (put_at value) (suc (length bytes)) t bytes)) read all in
-      let u = (done (still_differ named ps (IsPermutation-sym ps named moved) (differ_if_rise named rise))).1 ([], n) (IsPermutation-refl [], none_rise, refl) in
+      let u = (done (still_differ named ps (IsPermutation-sym ps named moved) (differ_if_rise named rise))).1 ([], n) (IsPermutation-refl [], none_rise A, refl) in
       let same : u.0.0 ≡ named = one_order u.0.0 named u.1.1 rise (IsPermutation-trans u.0.0 ps named (IsPermutation-sym ps u.0.0 u.1.0) moved) in
       u.2 ∙ (λ j. Ok ((same j, sym u.1.2 j), rest))

@@ -27,9 +27,9 @@ Rise es = IsStrictlySortedBy (slice_cmp nat_cmp) (keys_of es)
 abbrev pub Differ : {A : Type 0} → List (List ℕ × A) → Type 0
 Differ es = IsDistinct bytes_eq (keys_of es)
 
-pub none_rise : {A : Type 0} → Rise {A = A} []
+pub none_rise : (A : Type 0) → Rise {A = A} []
 unfolding IsStrictlySortedBy
-none_rise = tt
+none_rise A = tt
 
 pub differ_if_rise : {A : Type 0} (es : List (List ℕ × A)) → Rise es → Differ es
 differ_if_rise es rise = subst (λ (same : List ℕ → List ℕ → Bool). IsDistinct same (keys_of es)) (λ j p q. sym (texts_ties p q) j) (IsDistinct-from_sorted cmp (keys_of es) rise)
