@@ -53,16 +53,16 @@ impl Spelled for u64 {
 
     fn take_spelled(from: &mut Reader<'_>) -> Result<u64, Fault> {
         let number: i64 = from.take()?;
-        Ok(number as u64)
+        Ok(number.cast_unsigned())
     }
 
     fn spell(&self, _alloc: Global, into: &mut Vec<u8>) -> Result<(), Unspelled> {
-        let number = *self as i64;
+        let number = self.cast_signed();
         spell_leaf(&number, into)
     }
 
     fn measure_spelled(&self, _alloc: Global) -> Result<Measure, NoMemory> {
-        Ok(Measure::of_number(*self as i64))
+        Ok(Measure::of_number(self.cast_signed()))
     }
 }
 
