@@ -27,7 +27,9 @@ _etptool() {
 
 _colmjurr() {
     if [ "$COMP_CWORD" -eq 1 ]; then
-        COMPREPLY=($(compgen -W 'ping spaces get put delete channels range follow load plot check-config catalog exporter bridge copy conformance' -- "$2"))
+        COMPREPLY=($(compgen -W 'ping spaces get put delete channels range follow load plot check-config catalog journal exporter bridge copy conformance' -- "$2"))
+    elif [ "${COMP_WORDS[1]}" = journal ] && [ "$COMP_CWORD" -eq 2 ]; then
+        COMPREPLY=($(compgen -W 'ls export' -- "$2"))
     else
         compopt -o filenames 2> /dev/null
         COMPREPLY=($(compgen -f -- "$2"))

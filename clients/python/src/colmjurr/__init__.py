@@ -11,8 +11,8 @@ Transfer Protocol is not the published ETP 1.2. Moments and indexes are microsec
 """
 from . import aio
 from .errors import (
-    CommitFailed, ConfigError, Conflict, DialError, EtpError, HandshakeError, LimitExceeded, LinkError, LinkLost, NotFound, PeerError,
-    Refused, SomeRefused, Stopped, TimeLimit, ValueRefused, WireError,
+    CommitFailed, ConfigError, Conflict, DialError, EtpError, HandshakeError, JournalError, LimitExceeded, LinkError, LinkLost, NotFound,
+    PeerError, Refused, SomeRefused, Stopped, TimeLimit, ValueRefused, WireError,
 )
 from .points import Points, index_of, time_of
 from .progress import Bar
@@ -25,7 +25,7 @@ from .watching import Append, Change, Copy, Gap, Replace, Restarted, Truncate
 
 __all__ = [
     "Append", "Bar", "Change", "CommitFailed", "ConfigError", "Conflict", "Copy", "DataObject", "DialError", "EtpError", "Gap", "HandshakeError",
-    "LimitExceeded", "LinkError", "LinkLost", "NotFound", "PeerError", "Points", "Refused", "Replace", "Restarted", "ServerInfo",
+    "JournalError", "LimitExceeded", "LinkError", "LinkLost", "NotFound", "PeerError", "Points", "Refused", "Replace", "Restarted", "ServerInfo",
     "SomeRefused", "Space", "Stopped", "TimeLimit", "Truncate", "ValueRefused", "WireError", "__version__", "aio", "connect",
     "index_of", "object_uri", "several", "space_uri", "time_of",
 ]

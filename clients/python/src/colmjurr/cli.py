@@ -25,13 +25,14 @@ from typing import Any, BinaryIO, Callable, Iterator, NoReturn, Optional, TextIO
 
 from . import aio, conformance
 from .bridge import Bridge, StreamError, plain_value
-from .configuration import catalog, read_configuration, read_configuration_file
+from .configuration import Configuration, catalog, read_configuration, read_configuration_file
 from .copying import Difference, copy, read_objects
 from .errors import (
-    ConfigError, DialError, EtpError, HandshakeError, LinkError, Refused, SomeRefused, Stopped, TimeLimit, ValueRefused, WireError,
+    ConfigError, DialError, EtpError, HandshakeError, JournalError, LinkError, Refused, SomeRefused, Stopped, TimeLimit, ValueRefused, WireError,
 )
 from .exporter import Exporter
-from .points import GREATEST, LEAST, Points, index_of, moment_text
+from .journal import Entry, Journal
+from .points import GREATEST, LEAST, Points, csv_lines, index_of, moment_text
 from .progress import Bar
 from .store import MOST_DATA
 from .sync import Channel, Store, connect
@@ -44,6 +45,8 @@ USAGE, CONFIG, FILE, REFUSED, LINK, PEER, INPUT, STOPPED, DIFFERS = 1, 2, 4, 9, 
 READ, FEW = 1 << 18, 100
 # The longest text or bytes of a point, and the longest line of an input, in bytes.
 LONGEST_VALUE, LONGEST_LINE = 32_768, 1 << 20
+# How many things that an entry touches are listed, unless all are.
+SHOWN = 4
 # The most bytes of a file that names things: a catalog, a list of objects, a password.
 LONGEST_FILE = 1 << 24
 
@@ -413,6 +416,78 @@ def catalog_(words: argparse.Namespace) -> None:
     file.flush()
 
 
+def journal_ls(words: argparse.Namespace) -> None:
+    settings = journal_settings(words)
+    with opened_journal(words, settings) as journal:
+        print(f"instance {journal.instance}")
+        for entry in journal.entries():
+            touched = [re.sub(r"[\t\r\n]", " ", each) for each in touches(entry, settings)]
+            if len(touched) > SHOWN and not words.all:
+                touched[SHOWN:] = [f"and {len(touched) - SHOWN} more"]
+            print("\t".join([str(entry.place), str(entry.offset), str(entry.size), moment_text(entry.at), str(entry.session), entry.act, ", ".join(touched)]))
+        print(end_of(journal))
+
+
+def journal_settings(words: argparse.Namespace) -> Optional[Configuration]:
+    return read_configuration_file(words.config) if words.config else None
+
+
+def opened_journal(words: argparse.Namespace, settings: Optional[Configuration]) -> Journal:
+    journal = Journal.open(words.file)
+    if settings is not None:
+        journal.check_instance(settings.instance)
+    return journal
+
+
+def touches(entry: Entry, settings: Optional[Configuration]) -> list[str]:
+    """What an entry touches, each in a few words."""
+    names = [each.name for each in settings.channels] if settings else []
+    made = [f"dataspace {uri}" for uri in entry.spaces] + [f"object {uri}" for uri in entry.objects]
+    made += [f"array {path} of {uri}" for uri, path in entry.arrays]
+    for channel, count in entry.channels.items():
+        name = f" {names[channel]}" if 0 <= channel < len(names) else ""
+        made.append(f"channel {channel}{name}" + (f": {count} point{'s' * (count != 1)}" if entry.act in ("Append", "Replace") else ""))
+    made += [f"channel {each['name']} {each['uri']}" for each in entry.defined] + [f"channel {each}" for each in entry.retired]
+    return made + ([f"{entry.read} key{'s' * (entry.read != 1)} used"] if entry.read else [])
+
+
+def end_of(journal: Journal) -> str:
+    """Where a journal that was read whole ends, and what follows."""
+    behind = journal.behind()
+    gate = f", its gate is {journal.gate}" if journal.gate else ""
+    tail = f"; the {behind} bytes from {journal.size - behind} on belong to no entry" if behind else ""
+    return f"entries end at byte {journal.end}{gate}{tail}"
+
+
+def journal_export(words: argparse.Namespace) -> None:
+    settings = journal_settings(words)
+    with opened_journal(words, settings) as journal:
+        if words.csv is None:
+            lines = journal.records()
+        else:
+            number, name = journal_channel(journal, words.csv, settings)
+            lines = csv_lines(journal.points(number), name, not words.microseconds)
+        file = output(words)
+        try:
+            file.writelines(lines)
+        finally:
+            # what stands before the damage is good
+            file.flush()
+
+
+def journal_channel(journal: Journal, text: str, settings: Optional[Configuration]) -> tuple[int, str]:
+    """The number and the name of a channel that is named by its number or its URI."""
+    configured = settings.channels if settings else []
+    number: Optional[int] = int(text) if re.fullmatch("[0-9]{1,19}", text) else None
+    if number is None and settings is None:
+        raise ValueRefused(f"{text}: entries name channels by their numbers: give --config, by which the number of a URI is known, or a number")
+    if number is None:
+        number = journal.channel_number(text, [each.uri for each in configured])
+    if number is None:
+        raise ValueRefused(f"{text}: neither the configuration nor the journal has a channel of this URI")
+    return number, configured[number].name if number < len(configured) else f"channel {number}"
+
+
 def uris_of(path: Optional[str]) -> list[str]:
     """The channels of a catalog, or of a server's configuration."""
     if path is None:
@@ -702,6 +777,8 @@ def add_other_commands(command: Callable[..., argparse.ArgumentParser]) -> None:
     made = command("catalog", catalog_, "writes the channels of a configuration as JSON", has_url=False)
     made.add_argument("file")
     made.add_argument("-o", "--output", metavar="FILE", help="write to a file instead of the standard output")
+    made = command("journal", journal_ls, "lists or exports a server's saved journal, without a server", has_url=False)
+    add_journal_commands(made.add_subparsers(required=True, metavar="ls|export", parser_class=Parser))
     made = command("exporter", exporter, "serves /metrics and /health of a server, of which it takes one session")
     made.add_argument("--catalog", metavar="FILE", help="a catalog, or a server's configuration: its channels are followed, at most 256")
     made.add_argument("--channel", action="append", default=[], metavar="URI")
@@ -729,10 +806,26 @@ def add_other_commands(command: Callable[..., argparse.ArgumentParser]) -> None:
     made.add_argument("--most", type=count, default=5, metavar="N", help="how many differences of a sample are shown (5)")
 
 
+def add_journal_commands(commands: Any) -> None:
+    for name, run, text in (
+            ("ls", journal_ls, "lists the entries: number, first byte, bytes, moment, session, kind, what it touches; and says where they end"),
+            ("export", journal_export, "writes the entries, one a line of JSON, or the points of a channel as CSV")):
+        made = commands.add_parser(name, help=text, description=text[:1].upper() + text[1:] + ".")
+        made.set_defaults(run=run)
+        made.add_argument("file")
+        made.add_argument("--config", metavar="FILE", help="the server's configuration: the journal has to be of its instance, and channels are named by it")
+        if name == "ls":
+            made.add_argument("--all", action="store_true", help=f"list all that an entry touches, and not the first {SHOWN}")
+        else:
+            made.add_argument("--csv", metavar="CHANNEL", help="lines time,NAME of the points that the channel has at the end; a number, or with --config a URI")
+            made.add_argument("--microseconds", action="store_true", help="in CSV, numbers instead of times")
+            made.add_argument("-o", "--output", metavar="FILE", help="write to a file instead of the standard output")
+
+
 def status_of(error: Exception) -> int:
     kinds = (
         ((Difference,), DIFFERS), ((Stopped,), STOPPED), ((Refused, SomeRefused), REFUSED), ((ConfigError,), CONFIG),
-        ((DialError, HandshakeError, TimeLimit), LINK), ((WireError, LinkError), PEER), ((InputError, ValueRefused, StreamError), INPUT),
+        ((DialError, HandshakeError, TimeLimit), LINK), ((WireError, LinkError), PEER), ((InputError, ValueRefused, StreamError, JournalError), INPUT),
         ((ImportError,), USAGE), ((OSError,), FILE),
     )
     return next((status for classes, status in kinds if isinstance(error, classes)), PEER)

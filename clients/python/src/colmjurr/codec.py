@@ -461,6 +461,12 @@ def _made(text: str) -> tuple[Read, Write]:
     return _record([(name, coder(part)) for name, part in schema.RECORDS[text]])
 
 
+def define(records: dict[str, tuple[tuple[str, str], ...]]) -> None:
+    """Makes records of another table known to `coder`, each after those that its fields name."""
+    for name, fields in records.items():
+        _KNOWN[name] = _record([(field, coder(part)) for field, part in fields])
+
+
 def encoded(text: str, value: Any) -> bytes:
     """The bytes of a value of a type of the schema."""
     out = bytearray()

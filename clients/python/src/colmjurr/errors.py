@@ -153,6 +153,15 @@ class ConfigError(EtpError):
         return f"{place + ': ' if place else ''}{self.key + ': ' if self.key else ''}{self.cause}{numbers}"
 
 
+class JournalError(EtpError):
+    """A file is not a journal, or is damaged. `cause` is `magic` (not a journal), `instance` (that of another instance) or `entry` (there is
+    no entry at a gate that says so), and `offset` the place in the file: for `entry` that of the gate. What stands before it is good."""
+
+    def __init__(self, text: str, cause: str, offset: int):
+        super().__init__(text)
+        self.cause, self.offset = cause, offset
+
+
 def refusal(code: int, text: str = "", key: Optional[str] = None, first_index: Optional[int] = None) -> Refused:
     """The error of a code."""
     kind = {11: NotFound, 12: LimitExceeded}.get(code, Refused)

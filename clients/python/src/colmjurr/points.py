@@ -193,11 +193,16 @@ class Points:
         if isinstance(file, (str, os.PathLike)):
             with open(file, "w", newline="", encoding="utf-8") as opened:
                 return self.to_csv(opened, time)
-        file.write(f"{'time' if time else 'index_us'},{_field(self.name)}\n")
-        for index, value in self:
-            plain = "" if value is None else value.hex() if isinstance(value, bytes) else _field(value) if isinstance(value, str) else value
-            file.write(f"{moment_text(index) if time else index},{plain}\n")
+        file.writelines(csv_lines(self, self.name, time))
         return len(self)
+
+
+def csv_lines(points: Iterable[tuple[int, Any]], name: str, time: bool = True) -> Iterator[str]:
+    """The line of heads, and one for each point."""
+    yield f"{'time' if time else 'index_us'},{_field(name)}\n"
+    for index, value in points:
+        plain = "" if value is None else value.hex() if isinstance(value, bytes) else _field(value) if isinstance(value, str) else value
+        yield f"{moment_text(index) if time else index},{plain}\n"
 
 
 def _field(text: str) -> str:

@@ -25,6 +25,8 @@ MESSAGE_LIMIT = 16_777_216
 REPLY_LIMIT, BLOBS_LIMIT, NOTICE_LIMIT = 1 << 30, 67_108_864, 1 << 29
 # A request has a second more for each so many bytes that are sent or arrive: a slow line is waited for, one that only drips is not.
 LEAST_RATE = 16_384
+# Seconds after which it is reckoned again how much time a request has left.
+RECKONED = 1.0
 # Seconds of silence after which a ping is sent, and after which the connection is given up. A longer time limit of requests counts instead,
 # since a server does not answer pings while it works on a request.
 PING_AFTER, GIVE_UP_AFTER = 30.0, 90.0
@@ -124,7 +126,7 @@ class Session:
 
     def __init__(self, link: WebSocket, timeout: float):
         self.link, self.timeout = link, timeout
-        self.sent_id = self.heard_id = self.sent_bytes = self.other_bytes = 0
+        self.sent_id = self.heard_id = self.sent_bytes = self.replied = 0
         self.asks: dict[int, tuple[Reply, asyncio.Future]] = {}
         # the requests that nobody waits for any more, with the bytes of their replies that have arrived
         self.abandoned: dict[int, int] = {}
@@ -198,7 +200,7 @@ class Session:
 
     async def _wait(self, future: asyncio.Future, name: str, limit: float, seen: Optional[Callable[[int], None]]) -> None:
         clock = asyncio.get_running_loop().time
-        begun, before = clock(), self.reply_bytes()
+        begun, before = clock(), self.replied
         while True:
             came = self.reply_bytes() - before
             left = begun + limit + came / LEAST_RATE - clock()
@@ -212,8 +214,9 @@ class Session:
 
     def reply_bytes(self) -> int:
         """The bytes that have arrived of replies: those that give a request more time. Control frames, notices, and messages of the session
-        itself do not."""
-        return self.link.reader.total - self.link.control_bytes - self.other_bytes
+        itself do not, nor does what has arrived and is not read yet. The message under way may be a reply, and counts until it is known to
+        be another."""
+        return self.replied + self.link.under_way()
 
     async def ping(self) -> None:
         """Returns when the server has answered, and so has taken all that was sent before."""
@@ -272,7 +275,6 @@ class Session:
         if body.name == "CloseSession":
             raise LinkLost(f"the server closed the session: {value['reason']}", 1000)
         if body.name in ("Acknowledge", "Ping"):
-            self.other_bytes += len(data)
             if body.name == "Ping" and self.link.has_room():
                 self.post("Pong", codec.encoded("long", now()), FINAL, header.id)
             return
@@ -281,7 +283,6 @@ class Session:
             raise PeerError(f"a {body.name} between the parts of another message")
         self.between = None if header.flags & FINAL else place
         if header.correlation == 0:
-            self.other_bytes += len(data)
             self._take_notice(header, body.name, value, len(data))
         else:
             self._take_reply(header, body.name, value, len(data))
@@ -305,6 +306,7 @@ class Session:
 
     def _take_reply(self, header: Header, name: str, value: dict, size: int) -> None:
         number = header.correlation
+        self.replied += size
         if number in self.abandoned:
             self.abandoned[number] += size
             if self.abandoned[number] > REPLY_LIMIT:

@@ -4,7 +4,6 @@ from __future__ import annotations
 import asyncio
 import base64
 import hashlib
-import itertools
 import os
 import ssl
 import urllib.parse
@@ -29,17 +28,27 @@ Certificate = Union[str, tuple[str, str]]
 
 
 class HeardReader(asyncio.StreamReader):
-    """A stream that knows how many bytes have arrived, and when the last one did."""
+    """A stream that knows how many bytes have arrived and are not read yet, and when the last one arrived."""
 
     def __init__(self, loop: asyncio.AbstractEventLoop):
         super().__init__(limit=1 << 20, loop=loop)
         self.clock = loop.time
-        self.total, self.heard = 0, loop.time()
+        self.unread, self.heard = 0, loop.time()
 
     def feed_data(self, data: Any) -> None:
-        self.total += len(data)
+        self.unread += len(data)
         self.heard = self.clock()
         super().feed_data(data)
+
+    async def readexactly(self, n: int) -> bytes:
+        data = await super().readexactly(n)
+        self.unread -= len(data)
+        return data
+
+    async def readuntil(self, separator: Any = b"\n") -> bytes:
+        data = await super().readuntil(separator)
+        self.unread -= len(data)
+        return data
 
 
 def masked(data: bytes, mask: bytes) -> bytes:
@@ -77,7 +86,9 @@ class WebSocket:
     def __init__(self, reader: HeardReader, writer: asyncio.StreamWriter):
         self.reader, self.writer = reader, writer
         self.is_closing = False
-        self.control_bytes = self.posted = 0
+        self.posted = self.frames = 0
+        # of the message under way: the bytes of its whole frames, and the size of the frame that is arriving
+        self.whole = self.arriving = 0
         self.write_limit = WRITE_LIMIT
 
     def post(self, data: bytes) -> None:
@@ -126,26 +137,31 @@ class WebSocket:
         `PeerError` for what a server may not send: a text, a masked frame, frames out of order, more than MESSAGE_LIMIT bytes or
         FRAMES_LIMIT frames."""
         parts: list[bytes] = []
-        size = 0
-        for count in itertools.count(1):
-            if count % TURN == 0:
-                # frames that are there already are read without waiting: let others have their turn, and time limits be seen
-                await asyncio.sleep(0)
-            last, opcode, data = await self._frame(size)
+        last = False
+        while not last:
+            last, opcode, data = await self._frame()
             if opcode in (CLOSE, PING, PONG):
                 self._take_control(last, opcode, data)
+                last = False
                 continue
             if (opcode == CONTINUATION) != bool(parts) or opcode not in (CONTINUATION, BINARY):
                 raise PeerError("a text message" if opcode == TEXT else f"a frame out of order, opcode {opcode}", 1002)
             parts.append(data)
-            size += len(data)
+            self.whole += len(data)
             if len(parts) > FRAMES_LIMIT:
                 raise PeerError(f"a message in more than {FRAMES_LIMIT} frames", 1009)
-            if last:
-                break
+        self.whole = 0
         return parts[0] if len(parts) == 1 else b"".join(parts)
 
-    async def _frame(self, before: int) -> tuple[bool, int, bytes]:
+    def under_way(self) -> int:
+        """The bytes that have arrived of a message that has not arrived whole, without the heads of its frames."""
+        return self.whole + min(self.arriving, self.reader.unread)
+
+    async def _frame(self) -> tuple[bool, int, bytes]:
+        self.frames += 1
+        if self.frames % TURN == 0:
+            # frames that are there already are read without waiting: let others have their turn, and time limits be seen
+            await asyncio.sleep(0)
         read = self.reader.readexactly
         try:
             first, second = await read(2)
@@ -156,9 +172,12 @@ class WebSocket:
                 raise PeerError("a long control frame", 1002)
             if size >= 126:
                 size = int.from_bytes(await read(2 if size == 126 else 8), "big")
-            if size + before > MESSAGE_LIMIT:
+            if size + self.whole > MESSAGE_LIMIT:
                 raise PeerError(f"a message of more than {MESSAGE_LIMIT} bytes", 1009)
-            return bool(first & 0x80), first & 0x0F, await read(size)
+            self.arriving = 0 if first & 0x08 else size
+            data = await read(size)
+            self.arriving = 0
+            return bool(first & 0x80), first & 0x0F, data
         except asyncio.IncompleteReadError:
             raise LinkLost("the connection broke off") from None
         except (ConnectionError, OSError, ssl.SSLError) as error:
@@ -167,7 +186,6 @@ class WebSocket:
             raise LinkLost(f"the connection broke off: {error}") from None
 
     def _take_control(self, last: bool, opcode: int, data: bytes) -> None:
-        self.control_bytes += 2 + len(data)
         if not last:
             raise PeerError("a control frame in pieces", 1002)
         if opcode == PING:
