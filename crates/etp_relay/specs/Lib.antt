@@ -1,0 +1,4 @@
+pub mod Filters
+pub mod Asking
+pub mod Rows
+pub mod Laws

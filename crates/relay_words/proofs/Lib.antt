@@ -1,0 +1,3 @@
+mod ColonLemmas
+mod CountLemmas
+mod NumeralLemmas
