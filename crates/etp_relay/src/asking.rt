@@ -183,11 +183,7 @@ fn replaces(
 }
 
 /// The asks for points that are added.
-pub(crate) fn append(
-    alloc: Global,
-    channel: i64,
-    points: Vec<Point>,
-) -> Result<List<Ask>, NoMemory>
+pub(crate) fn append(alloc: Global, channel: i64, points: Vec<Point>) -> Result<List<Ask>, NoMemory>
     ensures { IfOk result (λ l. l ≡ loads channel (grouped points.items)) }
 {
     let groups = grouped(alloc, points)?;

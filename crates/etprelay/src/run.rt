@@ -3,11 +3,10 @@ use etp_outside::{Status, StdSink, WallClock};
 use etp_relay::Filter;
 use outside_net::TcpDial;
 use relay_forms::{Streams, run_relay};
-use std::io;
 use std::net::{Net, TcpListener, TcpStream};
 use std::random::RandomSource;
 use std::sync::Wait;
-use std::time;
+use std::{io, time};
 
 /// Runs the relay that the words ask for. Without a filter the words are in no form.
 pub(crate) fn run_words<R>(rt: &R, words: &[String], filters: Vec<Box<dyn Filter>>) -> Status

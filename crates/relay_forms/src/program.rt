@@ -8,7 +8,8 @@ use std::alloc::Global;
 use std::process::ExitCode;
 
 /// What follows the line of `Usage`.
-const USAGE: &[u8] = b"\netprelay FROM TO URI COUNT FILTER\nFILTER is all, every:N or between:A:B\n";
+const USAGE: &[u8] =
+    b"\netprelay FROM TO URI COUNT FILTER\nFILTER is all, every:N or between:A:B\n";
 
 /// Writes to `errors` how the relay has ended, and returns its exit status. What can't be written is lost.
 pub fn finish<W: Sink>(alloc: Global, status: Status, errors: &mut W) -> ExitCode

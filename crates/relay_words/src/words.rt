@@ -56,11 +56,7 @@ fn five(
 }
 
 /// The form of what is watched at the source, if all is there.
-fn formed<'a>(
-    asking: Option<Asking<'a>>,
-    target: Option<Url>,
-    kind: Option<Kind>,
-) -> Option<Form>
+fn formed<'a>(asking: Option<Asking<'a>>, target: Option<Url>, kind: Option<Kind>) -> Option<Form>
     ensures { result ≡ formed (as_asking_option asking) target kind }
 {
     let Some(asking) = asking else {
