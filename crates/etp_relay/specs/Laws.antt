@@ -19,7 +19,7 @@ what_of (ask.Cut channel end) = Truncate end ∷ []
 what_of a = []
 
 abbrev pub whats_of : List Ask → List What
-whats_of as = flat_map what_of as
+whats_of rest = flat_map what_of rest
 
 -- the end of an interval is an index of 64 bits
 abbrev pub IsLong : What → Type 0

@@ -38,18 +38,18 @@ module _ {B : Type 0} (source : B → ℤ) where
   -- there is a row of a channel
   abbrev pub has_row : ℤ → List B → Bool
   has_row channel [] = false
-  has_row channel (a ∷ as) = int_eq (source a) channel || has_row channel as
+  has_row channel (a ∷ xs) = int_eq (source a) channel || has_row channel xs
 
   -- after this many others comes a row of a channel
   abbrev pub IsFirst : ℤ → List B → ℕ → Type 0
   IsFirst channel [] n = ⊥
-  IsFirst channel (a ∷ as) zero = int_eq (source a) channel ≡ true
-  IsFirst channel (a ∷ as) (suc n) = (int_eq (source a) channel ≡ false) × IsFirst channel as n
+  IsFirst channel (a ∷ xs) zero = int_eq (source a) channel ≡ true
+  IsFirst channel (a ∷ xs) (suc n) = (int_eq (source a) channel ≡ false) × IsFirst channel xs n
 
   -- where the first row of a channel is, if there is one
   abbrev pub IsPlace : ℤ → List B → Option ℕ → Type 0
-  IsPlace channel as None = has_row channel as ≡ false
-  IsPlace channel as (Some n) = IsFirst channel as n
+  IsPlace channel xs None = has_row channel xs ≡ false
+  IsPlace channel xs (Some n) = IsFirst channel xs n
 
 -- why a channel was added or not, if it was there before or not, and this many filters were left
 abbrev pub IsCause : Result (Unit {0}) RelayError → ℤ → Bool → ℕ → Type 0
@@ -69,8 +69,8 @@ module _ {B : Type 0} (r : Reading B) where
   -- rows that are what they were
   abbrev pub AllKept : List B → List B → Type 0
   AllKept [] [] = Unit {0}
-  AllKept (a ∷ as) (b ∷ bs) = Keeps (r.sums a) a b × AllKept as bs
-  AllKept as bs = ⊥
+  AllKept (a ∷ xs) (b ∷ bs) = Keeps (r.sums a) a b × AllKept xs bs
+  AllKept xs bs = ⊥
 
   -- a row of a channel
   abbrev pub is_of : ℤ → B → Bool
@@ -79,16 +79,16 @@ module _ {B : Type 0} (r : Reading B) where
   -- the asks for a change: those of the first row of its channel, if there is one
   abbrev pub asks_of : List B → ChangeMsg → List Ask
   asks_of [] c = []
-  asks_of (a ∷ as) c = if is_of c.channel a then asks (r.keeps a) (r.target a) c.what else asks_of as c
+  asks_of (a ∷ xs) c = if is_of c.channel a then asks (r.keeps a) (r.target a) c.what else asks_of xs c
 
   -- rows of which the first one of the change's channel has counted its points, and the others are what they were
   abbrev pub AllNoted : ChangeMsg → List B → List B → Type 0
   AllNoted c [] [] = Unit {0}
-  AllNoted c (a ∷ as) (b ∷ bs) =
-      if is_of c.channel a then Keeps (noted (r.keeps a) c.what (r.sums a)) a b × AllKept as bs
-      else Keeps (r.sums a) a b × AllNoted c as bs
-  AllNoted c as bs = ⊥
+  AllNoted c (a ∷ xs) (b ∷ bs) =
+      if is_of c.channel a then Keeps (noted (r.keeps a) c.what (r.sums a)) a b × AllKept xs bs
+      else Keeps (r.sums a) a b × AllNoted c xs bs
+  AllNoted c xs bs = ⊥
 
   -- the lines of rows, in their order
   abbrev pub lines_of : List B → List ℕ
-  lines_of as = flat_map (λ a. filter_line (r.sums a)) as
+  lines_of xs = flat_map (λ a. filter_line (r.sums a)) xs

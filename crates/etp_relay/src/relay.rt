@@ -131,6 +131,7 @@ fn feed_row(alloc: Global, row: &mut Row, change: &What) -> Result<List<Ask>, No
 }
 
 /// Where the row of a channel is, if it is there.
+#[tactic(auto, using(crate::proofs::RowLemmas::first_here, crate::proofs::RowLemmas::none_next, crate::proofs::RowLemmas::none_there))]
 fn place_of(rows: &[Row], channel: i64) -> Option<usize>
     ensures { IsPlace (λ s. s.source) channel rows.now result }
 {
@@ -179,6 +180,7 @@ impl Relay {
     }
 
     /// Relays a channel of the source into a channel of the target, by the next filter.
+    #[tactic(auto, using(crate::proofs::RowLemmas::place_there))]
     pub fn add(&mut self, source: i64, target: i64) -> Result<(), RelayError>
         ensures ok { OnOk result (self.new.rows.items ≡ self.old.rows.items ++ map (λ f. record { source = source; target = target; filter = f }) (take 1 self.old.spare.items)) }
         ensures left { OnOk result (self.new.spare.items ≡ drop 1 self.old.spare.items) }
@@ -216,6 +218,7 @@ impl Relay {
 
     /// The asks for a change of a channel of the source, which its filter counts; none if the channel is not relayed. If memory runs out,
     /// nothing is counted.
+    #[tactic(auto, using(crate::proofs::RowLemmas::none_asks, crate::proofs::RowLemmas::none_noted))]
     pub fn feed(&mut self, alloc: Global, change: &ChangeMsg) -> Result<List<Ask>, NoMemory>
         ensures asks { IfOk result (λ l. l ≡ asks_of (reading (λ s. s.source) (λ s. s.target) (λ s. (⟦<dyn Filter as Filter>⟧ s.filter.vtable).kept_by s.filter.value) (λ s. (⟦<dyn Filter as Filter>⟧ s.filter.vtable).sums s.filter.value)) self.old.rows.items change.now) }
         ensures ok { OnOk result (AllNoted (reading (λ s. s.source) (λ s. s.target) (λ s. (⟦<dyn Filter as Filter>⟧ s.filter.vtable).kept_by s.filter.value) (λ s. (⟦<dyn Filter as Filter>⟧ s.filter.vtable).sums s.filter.value)) change.now self.old.rows.items self.new.rows.items) }
@@ -229,6 +232,7 @@ impl Relay {
     }
 
     /// Drops the filter of a channel, and returns whether there was one.
+    #[tactic(auto, using(crate::proofs::RowLemmas::place_there))]
     pub fn stop(&mut self, source: i64) -> bool
         ensures rows { self.new.rows.items ≡ filter (λ s. not (int_eq s.source source)) self.old.rows.items }
         ensures there { result ≡ has_row (λ s. s.source) source self.old.rows.items }

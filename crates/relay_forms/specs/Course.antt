@@ -97,7 +97,7 @@ awaited Described = Source
 awaited (OpeningChannel source) = Target
 awaited (Subscribing row) = Source
 awaited (Watching row) = Source
-awaited (Answered row as changes) = Target
+awaited (Answered row rest changes) = Target
 awaited (Flushed row st) = Target
 
 abbrev pub is_target : Side → Bool

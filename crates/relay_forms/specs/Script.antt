@@ -118,9 +118,9 @@ module _ (uri : StoreUri) (count : ℕ) (keeps : Point → Bool) (first : Sums) 
   -- asks up to the first that has an answer; without such a one, what comes after them
   abbrev pub with_asks : Row → List Ask → List ChangeMsg → Plan → Plan
   with_asks row [] changes later = later
-  with_asks row (a ∷ as) changes later =
-      if is_load a then in_front (act.Ask Target a) (with_asks row as changes later)
-      else plan (Answered row as changes) (act.Ask Target a ∷ [])
+  with_asks row (a ∷ rest) changes later =
+      if is_load a then in_front (act.Ask Target a) (with_asks row rest changes later)
+      else plan (Answered row rest changes) (act.Ask Target a ∷ [])
 
   -- changes, one after another
   abbrev pub feeds : Row → List ChangeMsg → Plan
@@ -136,7 +136,7 @@ module _ (uri : StoreUri) (count : ℕ) (keeps : Point → Bool) (first : Sums) 
       plan (Subscribing (record { source = source; target = channel; sums = first; fed = 0 })) (act.Ask Source (ask.Subscribe source from_first) ∷ [])
   goes_by (Subscribing row) (got.Done id) gs = plan (Watching row) []
   goes_by (Watching row) (got.Change x) gs = feeds row (x ∷ changes_in gs)
-  goes_by (Answered row as changes) (got.Done id) gs = with_asks row as changes (after_change row (feeds row changes))
+  goes_by (Answered row rest changes) (got.Done id) gs = with_asks row rest changes (after_change row (feeds row changes))
   goes_by (Flushed row st) (got.Pong t) gs = plan (Flushed row st) (showing row st)
   goes_by stage g gs = plan stage []
 
