@@ -9,8 +9,8 @@ channels answers to the same requests. What the relay does is listed run by run.
 import pathlib
 import sys
 
-from check_ctl import GREATEST, LOWEST, Talk, shown
-from row_captures import NONE, channel, interval, item, long_index
+from check_ctl import Talk, shown
+from row_captures import channel, interval, item, long_index, opened
 
 
 class Side(Talk):
@@ -21,10 +21,9 @@ class Side(Talk):
         if other is not None:
             self.clock = other.clock
 
-    def begin_quietly(self):
-        """The session is asked for, and what is answered comes later, as `rest`."""
-        self.begin()
-        return self
+    def open_as(self, number, there):
+        """The channel of this number is opened, which has another number there."""
+        self.hear(22, 2, self.say(22, 1, dict(uris={"c": channel(number)})), dict(channels={"c": opened(there)}))
 
     def load_longs(self, number, *points):
         self.load(number, *[(index, (3, value)) for index, value in points])
@@ -42,18 +41,13 @@ class Side(Talk):
     def put_cut(self, number, end):
         self.hear(22, 10, self.ask_cut(number, end), dict(channelsTruncatedTime={"c": 4}))
 
-    def append_both(self, number, *messages):
-        """One notice for each of these lists of points."""
-        for points in messages:
-            self.append(number, *points)
-
 
 def opened_pair(number=0, other=1):
     """Both sides up to the subscription of the source's channel `number`; the target has `other` for it."""
     source = Side().begin()
     target = Side(source).begin()
     source.meta(number, 10, 20)
-    target.open_channel(other)
+    target.open_as(number, other)
     source.subscribe(number)
     return source, target
 
@@ -199,7 +193,7 @@ def refusals(runs):
     source = Side().begin()
     target = Side(source).begin()
     source.meta(0, 10, 20)
-    target.open_channel(1)
+    target.open_as(0, 1)
     source.refuse_keys(21, source.ask_subscription(0), {"c": 12})
     source.close()
     target.close()
