@@ -199,11 +199,31 @@ def runs():
     yield crowded, None
 
 
+# What the program writes where it is called in another way than it says here.
+USAGE = "usage\netpd CONFIG ADDRESS\netpd CONFIG ADDRESS SESSIONS\n= 1\n"
+# It is called as it should be, and can't listen: its store has the one entry that it makes itself.
+UNHEARD = "entries 1\nsession 0 writes 0\nlisten fault\n= 7\n"
+
+
+def calls():
+    """Pairs of the words with which the program is called, and what it writes and ends with."""
+    for words in "server.toml here", "server.toml here 1", "server.toml here 1000000":
+        yield words, UNHEARD
+    yield "absent.toml here 1", "read fault\n= 4\n"
+    yield "no_name.toml here 1", "config refused: key 2 of channel 0\n= 2\n"
+    malformed = ["", "server.toml", "server.toml here 1 1", "-x here", "server.toml -x", "server.toml here -1"]
+    malformed += [f"server.toml here {count}" for count in ("0", "01", "+1", "1.0", "1000001", "18446744073709551617", "few")]
+    for words in malformed:
+        yield words, USAGE
+
+
 def main():
     folder = pathlib.Path(sys.argv[1])
     for name, (text, _) in CONFIGS.items():
         (folder / "data" / name).write_text(text)
+    (folder / "data" / "no_name.toml").write_text(f'instance = "{INSTANCE}"\n')
     made = [(run.line(), run.answer(order)) for run, order in runs()] + list(spent_ids.cases())
+    made += [(" ".join(["etpd", *words.split()]), answer) for words, answer in calls()]
     (folder / "stdin").write_text("".join(line + "\n" for line, _ in made))
     (folder / "stdout").write_text("".join(answer for _, answer in made))
 

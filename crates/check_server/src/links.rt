@@ -45,6 +45,20 @@ pub(crate) fn door_of(alloc: Global, fails: &str, words: &[&str]) -> Result<MemD
     MemDoor::new(alloc, List::from_vec(links), only(alloc, fails)?)
 }
 
+/// A file of this name. The read whose number `read` denotes fails.
+pub(crate) fn file_of(
+    alloc: Global,
+    name: &str,
+    content: Vec<u8>,
+    read: &str,
+) -> Result<MemFile, NoMemory> {
+    Ok(MemFile {
+        name: Text::copy(alloc, name)?,
+        content: Blob::from_vec(content)?,
+        fails: only(alloc, read)?,
+    })
+}
+
 /// A host that has a file of this name. The opening and the read whose numbers these words denote fail.
 pub(crate) fn host_of(
     alloc: Global,
@@ -54,11 +68,7 @@ pub(crate) fn host_of(
     read: &str,
 ) -> Result<MemHost, NoMemory> {
     let mut files = Vec::new(alloc);
-    files.push(MemFile {
-        name: Text::copy(alloc, name)?,
-        content: Blob::from_vec(content)?,
-        fails: only(alloc, read)?,
-    })?;
+    files.push(file_of(alloc, name, content, read)?)?;
     Ok(MemHost::new(List::from_vec(files), only(alloc, opening)?))
 }
 

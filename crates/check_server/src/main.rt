@@ -10,17 +10,22 @@
 //!
 //! A line `ids FIRST MESSAGE ..` is a session alone: the first of its own ids, and the messages that it gets, each in hexadecimal.
 //!
+//! A line `etpd WORD ..` is the program, called with these words, over a listener that can't listen. What it writes to its output and to
+//! standard error is printed, and then its exit status.
+//!
 //! The lines and the expected output were made outside of this product (`outside/check_server.py`).
 #![tactic(auto)]
 
 mod gates;
 mod links;
+mod program;
 mod spent_ids;
 
 use etp_outside::{MemDoor, MemHost, MemLink, MemSink, StepClock};
 use etp_values::NoMemory;
 use gates::{Turns, gate_of};
 use links::{door_of, host_of, sink_of};
+use program::call;
 use server_forms::run_server;
 use spent_ids::play_from;
 use std::alloc::{AllocError, Global};
@@ -159,6 +164,7 @@ fn run_line<R: AllocGlobal + Files + Print + Threads + Wait + Sync>(
             run_case(rt, config, sessions, rules, links)
         }
         ["ids", first, messages @ ..] => play_from(rt, first, messages),
+        ["etpd", words @ ..] => call(rt, words),
         _ => println!(rt; "no run"),
     }
 }

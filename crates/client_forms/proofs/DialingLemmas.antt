@@ -1,15 +1,14 @@
 -- A command over a link that was dialed.
-use Rattle.std.proofs.Common.{◌≡◌, ◌≤◌, ◌<◌, ◌||◌, ℕ, ℤ, Bool, List, [], ◌++◌, Option, None, Some, arith, inl, inr, refl, ap, sym, subst, ◌∙◌, append-nil, IsSome, ◌⊎◌}
+use Rattle.std.proofs.Common.{◌≡◌, ◌≤◌, ◌<◌, ℕ, ℤ, Bool, List, [], ◌++◌, Option, None, Some, arith, inl, inr, refl, ap, sym, subst, ◌∙◌, append-nil, IsSome, ◌⊎◌}
 use Rattle.std.proofs.lemmas.Bool.{false≢true}
 use Rattle.std.proofs.KnownBytes.{Appends-nil}
-use Rattle.std.proofs.Math.Bool.{or-true}
 use Rattle.etp_outside.proofs.FaultLemmas.{rose_later}
 use mathlib.Core.List.{IsPrefix}
 use Rattle.etp_values.proofs.PrefixLemmas.{prefix_self}
 use Rattle.channel_store.specs.declared.copy.ChangeMsg.{ChangeMsg}
 use Rattle.url.specs.Parts.{Parts}
 use Rattle.etp_outside.specs.Dials.{HangsUp, IsDialed, address_of}
-use Rattle.etp_outside.specs.Faults.{Rose}
+use Rattle.etp_outside.specs.Faults.{Rose, counted_if, next_count}
 use Rattle.etp_outside.specs.Talk.{Talk}
 use Rattle.etp_outside.specs.Told.{Told}
 use Rattle.etp_outside.specs.declared.link.Address.{Address}
@@ -24,6 +23,7 @@ use Rattle.client_forms.specs.Work.{HasFailed, Input, IsLate, IsOwn, IsWhy, Line
 use Rattle.client_forms.specs.declared.stop.Cause.TheVariants as cause
 use Rattle.client_forms.specs.declared.stop.Stop.{Stop}
 use Rattle.client_forms.specs.declared.stop.Stop.TheVariants as stop
+use Rattle.client_forms.proofs.WorkLemmas.{no_less}
 
 -- ---- the link that came back
 
@@ -95,14 +95,14 @@ module _ (l m : Line) (told later : Option (List ℤ)) (o q : Output) (i j : Inp
   failed_so (inl rose) = inl (link_rose rose)
   failed_so (inr rose) = inr rose
 
-  ended_so : (s : Stop) (sent : List (List ℕ)) (written : List ℕ) (moments : List ℤ) (r : List ℤ → Course) → (e.ended ≡ (d.ended || m.ended)) → EndsBy s sent written moments r x y → ByStatus (status_of s) sent written moments r w z
+  ended_so : (s : Stop) (sent : List (List ℕ)) (written : List ℕ) (moments : List ℤ) (r : List ℤ → Course) → (e.ended ≡ counted_if m.ended d.ended) → EndsBy s sent written moments r x y → ByStatus (status_of s) sent written moments r w z
   ended_so (stop.Over st) sent written moments r over h = by_course sent written moments r st w z h
   ended_so (stop.Short st) sent written moments r over h = by_short sent written moments r st w z h.3 (h.0, h.1, failed_so h.2)
   ended_so (stop.Cut cause.Link) sent written moments r over h = h.0
   ended_so (stop.Cut cause.Output) sent written moments r over h = h.0
   ended_so (stop.Cut cause.Input) sent written moments r over h = h.0
   ended_so (stop.Cut cause.Memory) sent written moments r over h = h.0
-  ended_so stop.Left sent written moments r over h = inr (h.0, over ∙ ap (λ b. d.ended || b) h.1 ∙ or-true d.ended)
+  ended_so stop.Left sent written moments r over h = inr (h.0, subst (λ n. Rose d.ended n) (sym (over ∙ ap (λ b. counted_if b d.ended) h.1)) (no_less (next_count d.ended)))
 
   -- the causes
   own_fault : (st : Status) → IsOwn st → HasCause st w z
@@ -130,7 +130,7 @@ module _ (l m : Line) (told later : Option (List ℤ)) (o q : Output) (i j : Inp
   caused (stop.Cut cause.Memory) h = record { read = λ is. cc; write = λ is. cc; link = λ is. cc; form = λ is. cc }
   caused stop.Left h = record { read = λ is. cc; write = λ is. cc; link = λ is. cc; form = λ is. cc }
 
-  pub ran_over : (s : Stop) (server : Address) (shown : ℤ → List ChangeMsg → List ℕ) (job : Job) → (c : Ended s shown job x y) → IsDialed server l.talk l.faults l.ended → (IsSome d.backs → IsSome l.talk) → Told d.backs e.backs (HangsUp m.talk) → e.ended ≡ (d.ended || m.ended) → Runs (status_of s) server (ctl shown job) w z
+  pub ran_over : (s : Stop) (server : Address) (shown : ℤ → List ChangeMsg → List ℕ) (job : Job) → (c : Ended s shown job x y) → IsDialed server l.talk l.faults l.ended → (IsSome d.backs → IsSome l.talk) → Told d.backs e.backs (HangsUp m.talk) → e.ended ≡ counted_if m.ended d.ended → Runs (status_of s) server (ctl shown job) w z
   ran_over s server shown job c dialed tells back over = record {
     moments = c.moments;
     told = c.came.told;

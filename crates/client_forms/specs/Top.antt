@@ -1,5 +1,5 @@
 -- What the top call answers, by all that it was given and left.
-use Rattle.std.specs.Prelude.{◌≡◌, ◌≢◌, ◌⊎◌, ◌<◌, ◌≤◌, ℕ, ℤ, Bool, true, List, [], ◌∷◌, ◌++◌, length, Option, None, Some, IfSome, unwrap_or}
+use Rattle.std.specs.Prelude.{◌≡◌, ◌≢◌, ◌⊎◌, ◌<◌, ◌≤◌, ℕ, ℤ, List, [], ◌∷◌, ◌++◌, length, Option, None, Some, IfSome, unwrap_or}
 use Rattle.std.specs.Option.{option_map}
 use Rattle.std.specs.Io.KnownBytes.{Keeps, Appends, IsAtEnd}
 use Rattle.url.specs.Host.{host_text}
@@ -19,14 +19,14 @@ use Rattle.client_words.specs.Words.{Command, Form, Put, Get, Load, Watch, Ping,
 use Rattle.client_forms.specs.Ctl.{Course, Job, Putting, Getting, Loading, Watching, Pinging, Listing, Ranging, Deleting, Following, ctl}
 use Rattle.client_forms.specs.Work.{Input, Output}
 
--- what a dialer reveals: the links that came back, whether the peer of one had ended it, and how often it failed
+-- what a dialer reveals: the links that came back, of how many the peers had ended them, and how often it failed
 pub record Dials : Type 0 where
   pub backs : Option (List (Option Talk))
-  pub ended : Bool
+  pub ended : ℕ
   pub faults : ℕ
 
 -- a dialer that reveals this
-abbrev pub dials : Option (List (Option Talk)) → Bool → ℕ → Dials
+abbrev pub dials : Option (List (Option Talk)) → ℕ → ℕ → Dials
 dials backs ended faults = record { backs = backs; ended = ended; faults = faults }
 
 -- dialing took no link back
@@ -111,9 +111,9 @@ pub record Front (sent : List (List ℕ)) (written : List ℕ) (r : Course) : Ty
 abbrev pub ByCourse : Status → List (List ℕ) → List ℕ → List ℤ → (List ℤ → Course) → Type 0
 ByCourse st sent written moments r = (later : List ℤ) → Whole later sent written (r (moments ++ later)) × ((r (moments ++ later)).status ≡ Some st)
 
--- it still waited when the peer ended the link, and waits whatever moments were to follow
-abbrev pub LeftAlone : List (List ℕ) → List ℕ → List ℤ → (List ℤ → Course) → World → Type 0
-LeftAlone sent written moments r z = ((later : List ℤ) → Whole later sent written (r (moments ++ later)) × ((r (moments ++ later)).status ≡ None)) × (z.dials.ended ≡ true)
+-- it still waited when the peer ended its own link, and waits whatever moments were to follow
+abbrev pub LeftAlone : List (List ℕ) → List ℕ → List ℤ → (List ℤ → Course) → World → World → Type 0
+LeftAlone sent written moments r w z = ((later : List ℤ) → Whole later sent written (r (moments ++ later)) × ((r (moments ++ later)).status ≡ None)) × Rose w.dials.ended z.dials.ended
 
 -- it ended this way, and its last words did not get through
 abbrev pub CutShort : Status → List (List ℕ) → List ℕ → Course → World → World → Type 0
@@ -125,7 +125,7 @@ ByStatus status.ReadFault sent written moments r w z = Front sent written (r mom
 ByStatus status.WriteFault sent written moments r w z = Front sent written (r moments)
 ByStatus status.LinkFault sent written moments r w z = Front sent written (r moments)
 ByStatus status.NoMemory sent written moments r w z = Front sent written (r moments)
-ByStatus status.Peer sent written moments r w z = ByCourse status.Peer sent written moments r ⊎ LeftAlone sent written moments r z
+ByStatus status.Peer sent written moments r w z = ByCourse status.Peer sent written moments r ⊎ LeftAlone sent written moments r w z
 ByStatus (status.Refused code) sent written moments r w z = ByCourse (status.Refused code) sent written moments r ⊎ CutShort (status.Refused code) sent written (r moments) w z
 ByStatus status.Stopped sent written moments r w z = ByCourse status.Stopped sent written moments r ⊎ CutShort status.Stopped sent written (r moments) w z
 ByStatus st sent written moments r w z = ByCourse st sent written moments r

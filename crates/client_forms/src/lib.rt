@@ -8,6 +8,7 @@
 //! [`ranges_are_loaded`] says that what `range` writes is what `load` reads.
 //!
 //! [`run_client`] does what words ask for over any host, dialer, input, output and clock ([`Streams`]), and [`finish`] reports how that ended.
+//! [`run_program`] does both with a program's words, and is what a `main` calls.
 #![tactic(auto)]
 
 mod action;
@@ -33,5 +34,5 @@ mod watching;
 
 pub use io::Streams;
 pub use laws::ranges_are_loaded;
-pub use program::finish;
+pub use program::{finish, run_program};
 pub use run::run_client;

@@ -1,5 +1,5 @@
 //! The top call.
-ghost use Rattle.std.specs.Prelude.{◌≡◌, ◌≢◌, ◌⊎◌, ◌≤◌, ◌++◌, ◌∷◌, [], ℕ, ℤ, List, Err, IfErr, IfOk, IsSome, None, false, map, string_bytes};
+ghost use Rattle.std.specs.Prelude.{◌≡◌, ◌≢◌, ◌⊎◌, ◌≤◌, ◌++◌, ◌∷◌, ◌-◌, [], ℕ, ℤ, List, Err, IfErr, IfOk, IsSome, None, false, map, string_bytes};
 ghost use Rattle.std.specs.declared.option.Option.{Option};
 ghost use Rattle.channel_store.specs.declared.copy.ChangeMsg.{ChangeMsg};
 ghost use Rattle.client_words.specs.Words.{form_in};
@@ -206,6 +206,7 @@ fn run_over<J: Job, D: Dialer, C: Clock, W: Sink, R: Source, T: Wait>(
         (world (input (R.left streams.input) (R.faults streams.input)) (output (W.held streams.out) (W.faults streams.out)) (C.told streams.clock) (dials (D.backs dialer.old) (D.ended dialer.old) (D.faults dialer.old)))
         (world (input (R.left result.1.input) (R.faults result.1.input)) (output (W.held result.1.out) (W.faults result.1.out)) (C.told result.1.clock) (dials (D.backs dialer.new) (D.ended dialer.new) (D.faults dialer.new))) }
     ensures kept { D.faults dialer.old ≤ D.faults dialer.new }
+    ensures handed_back { D.out dialer.new ≡ D.out dialer.old - 1 }
 {
     let mut command = command;
     let Streams { input, out, clock } = streams;
@@ -265,6 +266,7 @@ fn run_at<J: Job, D: Dialer, C: Clock, W: Sink, R: Source, T: Wait>(
     ensures why { HasCause result.0
         (world (input (R.left streams.input) (R.faults streams.input)) (output (W.held streams.out) (W.faults streams.out)) (C.told streams.clock) (dials (D.backs dialer.old) (D.ended dialer.old) (D.faults dialer.old)))
         (world (input (R.left result.1.input) (R.faults result.1.input)) (output (W.held result.1.out) (W.faults result.1.out)) (C.told result.1.clock) (dials (D.backs dialer.new) (D.ended dialer.new) (D.faults dialer.new))) }
+    ensures handed_back { D.out dialer.new ≡ D.out dialer.old }
 {
     let (host, port) = server_of(address);
     match dialer.dial(alloc, host, port, address.path()) {
@@ -332,6 +334,7 @@ fn run<H: Host, D: Dialer, R: Source, W: Sink, C: Clock, T: Wait>(
     ensures read_cause { result.0 ≡ ReadFault → Rose (H.faults host.old) (H.faults host.new) ⊎ Rose (R.faults streams.input) (R.faults result.1.input) }
     ensures write_cause { result.0 ≡ WriteFault → Rose (W.faults streams.out) (W.faults result.1.out) }
     ensures link_cause { result.0 ≡ LinkFault → Rose (D.faults dialer.old) (D.faults dialer.new) }
+    ensures handed_back { D.out dialer.new ≡ D.out dialer.old }
 {
     let Form { address, command } = form;
     let Ok(mut board) = Board::of(alloc, 0, views) else {
@@ -401,6 +404,7 @@ pub fn run_client<H: Host, D: Dialer, R: Source, W: Sink, C: Clock, T: Wait>(
     ensures read_cause { result.0 ≡ ReadFault → Rose (H.faults host.old) (H.faults host.new) ⊎ Rose (R.faults streams.input) (R.faults result.1.input) }
     ensures write_cause { result.0 ≡ WriteFault → Rose (W.faults streams.out) (W.faults result.1.out) }
     ensures link_cause { result.0 ≡ LinkFault → Rose (D.faults dialer.old) (D.faults dialer.new) }
+    ensures handed_back { D.out dialer.new ≡ D.out dialer.old }
 {
     let plain = match words_of(alloc, words) {
         Ok(Some(plain)) => plain,

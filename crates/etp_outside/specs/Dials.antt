@@ -22,6 +22,12 @@ IfDialed (Link l) P = P l
 IfDialed Failed P = Unit {0}
 IfDialed NoMemory P = Unit {0}
 
+-- how many links were dialed: one or none
+abbrev pub new_links : {L : Type 0} → Dialed L → ℕ
+new_links (Link l) = 1
+new_links Failed = 0
+new_links NoMemory = 0
+
 -- a link that reveals this came back
 abbrev pub HangsUp : Option Talk → List (Option Talk) → List (Option Talk) → Type 0
 HangsUp talk before after = after ≡ before ++ talk ∷ []

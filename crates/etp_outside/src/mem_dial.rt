@@ -1,7 +1,7 @@
 //! A dialer in memory.
-ghost use Rattle.std.specs.Prelude.{◌≡◌, ◌<◌, ◌≤◌, ◌||◌, Some, IfOk, IsSome, vec_capacity, take, false};
-ghost use Rattle.etp_outside.specs.Faults.{Rose};
-ghost use Rattle.etp_outside.specs.Dials.{HangsUp, IfDialed, IsDialed, address_of};
+ghost use Rattle.std.specs.Prelude.{◌≡◌, ◌<◌, ◌≤◌, ◌+◌, ◌-◌, Some, IfOk, IsSome, vec_capacity, take, false};
+ghost use Rattle.etp_outside.specs.Faults.{Rose, counted_if};
+ghost use Rattle.etp_outside.specs.Dials.{HangsUp, IfDialed, IsDialed, address_of, new_links};
 ghost use Rattle.etp_outside.specs.MemDials.{IsDialAnswer, after_dial, after_hang_up, all_told, new_dialer, kept_within};
 
 use crate::dialer::{Dialed, Dialer};
@@ -23,19 +23,22 @@ pub struct MemDial {
     /// How many links it was made with.
     room: usize,
     all_back: Roll,
-    ended: bool,
+    /// How many links came back whose peers had ended them. The count stops at `u64::MAX`.
+    ended: u64,
+    /// How many links have not come back.
+    out: usize,
     script: Script,
 }
 
 impl Model for MemDial {
-    ghost use Rattle.std.specs.Prelude.{◌≡◌, ◌≤◌, take, vec_capacity};
+    ghost use Rattle.std.specs.Prelude.{◌≡◌, ◌+◌, ◌≤◌, length, take, vec_capacity};
     ghost use Rattle.etp_outside.specs.DialerState.{DialerState};
 
     ghost Value = { DialerState };
 
-    ghost view = { λ d. record { waiting = d.waiting.items; back = d.all_back; room = d.room; ended = d.ended; script = d.script } };
+    ghost view = { λ d. record { waiting = d.waiting.items; back = d.all_back; room = d.room; ended = d.ended; out = d.out; script = d.script } };
 
-    ghost invariant = { λ d. (d.back.items ≡ take d.room d.all_back) × (d.room ≤ vec_capacity d.back) };
+    ghost invariant = { λ d. (d.back.items ≡ take d.room d.all_back) × (d.room ≤ vec_capacity d.back) × (d.out + length d.waiting.items ≤ d.room) };
 }
 
 impl MemDial {
@@ -52,7 +55,8 @@ impl MemDial {
             back,
             room,
             all_back: Roll::new(),
-            ended: false,
+            ended: 0,
+            out: 0,
             script: Script::new(fails),
         })
     }
@@ -100,6 +104,8 @@ impl Dialer for MemDial {
 
     ghost ended = { λ d. d.ended };
 
+    ghost out = { λ d. d.out };
+
     ghost backs = { λ d. Some (all_told d.back) };
 
     fn dial(&mut self, alloc: Global, host: &str, port: u16, path: &str) -> Dialed<MemLink>
@@ -109,6 +115,7 @@ impl Dialer for MemDial {
         ensures tells { IfDialed result (λ l. IsSome (Some (all_told self.new.back)) → IsSome (Some l.talk)) }
         ensures usable { IfDialed result (λ l. l.closed ≡ false) }
         ensures ended { self.new.ended ≡ self.old.ended }
+        ensures out { self.new.out ≡ self.old.out + new_links result }
         ensures backs { Some (all_told self.new.back) ≡ Some (all_told self.old.back) }
         ensures kept { self.old.script.faults ≤ self.new.script.faults }
         ensures cause { result ≡ Dialed.Failed → Rose self.old.script.faults self.new.script.faults }
@@ -126,6 +133,7 @@ impl Dialer for MemDial {
             return Dialed::Failed;
         };
         self.script.passed();
+        self.out += 1;
         link.dialed(to);
         Dialed::Link(link)
     }
@@ -133,14 +141,18 @@ impl Dialer for MemDial {
     fn hang_up(&mut self, link: MemLink)
         ensures after { self.new ≡ after_hang_up self.old link }
         ensures back { HangsUp (Some link.talk) (all_told self.old.back) (all_told self.new.back) }
-        ensures ended { self.new.ended ≡ (self.old.ended || link.ended) }
+        ensures ended { self.new.ended ≡ counted_if link.ended self.old.ended }
+        ensures out { self.new.out ≡ self.old.out - 1 }
         ensures kept { self.old.script.faults ≤ self.new.script.faults }
         ensures cause { 0 < link.script.faults → Rose self.old.script.faults self.new.script.faults }
     {
         if link.faults() > 0 {
             self.script.fault();
         }
-        self.ended = self.ended || link.has_ended();
+        if link.has_ended() {
+            self.ended = self.ended.saturating_add(1);
+        }
+        self.out = self.out.saturating_sub(1);
         self.all_back = self.all_back.with(&link);
         keep(&mut self.back, self.room, link);
     }

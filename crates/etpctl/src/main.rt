@@ -1,6 +1,6 @@
 //! The client on the command line: `etpctl ping URL`, `etpctl put URL URI FILE` and the other forms of `client_words`.
-//! `client_forms` does the work and says what each does. A channel that is watched is shown by its last point, its last ten points, and
-//! counts.
+//! `client_forms` does the work and says what each does; here are its words, files, sockets, streams, clock and views. A channel that is
+//! watched is shown by its last point, its last ten points, and counts.
 //!
 //! If standard error is a terminal, [`Progress`] reports there how many points `load` has read and how many changes `watch` has seen, about
 //! once a second. It counts in the input that the run is given ([`CountedSource`]) and in an additional view that has no lines
@@ -9,31 +9,34 @@
 
 mod counted_changes;
 mod counted_source;
+mod parts;
 mod progress;
-mod run;
 
-use client_forms::finish;
+use client_forms::{Streams, finish, run_program};
 use counted_changes::CountedChanges;
-use etp_outside::{Status, StdSink};
-use etp_values::NoMemory;
+use counted_source::CountedSource;
+use etp_outside::{DirHost, Status, StdSink, StdSource, WallClock};
+use outside_net::TcpDial;
+use parts::{keep_memory, parts};
+use program_status::words;
 use progress::{Counted, Progress};
-use run::run_words;
-use std::alloc::Global;
-use std::io::IsTerminal;
+use std::io::{self, BufReader, IsTerminal};
 use std::process::ExitCode;
-use watch_views::{Counts, Latest, View, Window};
+use watch_views::View;
 
-/// How many points the window shows.
-const WINDOW_LEN: u64 = 10;
+/// How much of the input is read at a time.
+const READ_AHEAD: usize = 65_536;
 
 fn main(rt: HostRuntime) -> ExitCode {
     let alloc = rt.alloc();
+    let mut errors = StdSink::new(rt.stderr());
+    keep_memory(alloc);
     let Ok((latest, window, counts)) = parts(alloc) else {
-        return finish(alloc, Status::NoMemory, &mut StdSink::new(rt.stderr()));
+        return finish(alloc, Status::NoMemory, &mut errors);
     };
     let mut views: Vec<Box<dyn View>> = Vec::new(alloc);
     if views.push(latest).is_err() || views.push(window).is_err() || views.push(counts).is_err() {
-        return finish(alloc, Status::NoMemory, &mut StdSink::new(rt.stderr()));
+        return finish(alloc, Status::NoMemory, &mut errors);
     }
     let is_shown = rt.stderr().is_terminal();
     if is_shown {
@@ -44,16 +47,26 @@ fn main(rt: HostRuntime) -> ExitCode {
         }
     }
     let points = Progress::new(Counted::Points, is_shown, rt, StdSink::new(rt.stderr()));
-    let status = run_words(&rt, views, points);
-    finish(alloc, status, &mut StdSink::new(rt.stderr()))
-}
-
-/// What shows a channel.
-type Parts = (Box<Latest>, Box<Window>, Box<Counts>);
-
-fn parts(alloc: Global) -> Result<Parts, NoMemory> {
-    let latest = Box::new(alloc, Latest::new())?;
-    let window = Box::new(alloc, Window::new(alloc, WINDOW_LEN)?)?;
-    let counts = Box::new(alloc, Counts::new())?;
-    Ok((latest, window, counts))
+    let Ok(buffered) = BufReader::with_capacity(alloc, READ_AHEAD, rt.reader()) else {
+        return finish(alloc, Status::NoMemory, &mut errors);
+    };
+    let streams = Streams {
+        input: CountedSource::new(StdSource::new(buffered), points),
+        out: StdSink::new(io::writer(&rt)),
+        clock: WallClock::new(&rt),
+    };
+    let words = words(&rt);
+    let mut host = DirHost::new(&rt);
+    let mut dialer = TcpDial::new(&rt);
+    let (code, _) = run_program(
+        &rt,
+        alloc,
+        words,
+        &mut host,
+        &mut dialer,
+        streams,
+        views,
+        &mut errors,
+    );
+    code
 }

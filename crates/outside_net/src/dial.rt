@@ -1,5 +1,5 @@
 //! A dialer over TCP.
-ghost use Rattle.std.specs.Prelude.{◌≡◌, ◌≤◌, ◌||◌, None, false, IfOk};
+ghost use Rattle.std.specs.Prelude.{◌≡◌, ◌≤◌, ◌+◌, ◌-◌, None, false, IfOk};
 ghost use Rattle.etp_outside.specs.Faults.{Rose};
 
 use crate::bells::lone_post;
@@ -25,33 +25,40 @@ pub struct TcpDial<'a, R> {
     rt: &'a R,
     patience: Duration,
     faults: u64,
-    ended: bool,
+    /// How many links came back whose peers had ended them. The count stops at `u64::MAX`.
+    ended: u64,
+    /// How many links have not come back.
+    out: u64,
 }
 
 impl<'a, R: Net<Listener = TcpListener, Stream = TcpStream> + RandomSource + Sync> TcpDial<'a, R> {
     /// A dialer that has dialed nothing yet.
     pub fn new(rt: &'a R) -> TcpDial<'a, R>
         ensures faults { ⟦<TcpDial<'a, R> as Dialer>⟧.faults result ≡ 0 }
-        ensures ended { ⟦<TcpDial<'a, R> as Dialer>⟧.ended result ≡ false }
+        ensures ended { ⟦<TcpDial<'a, R> as Dialer>⟧.ended result ≡ 0 }
+        ensures out { ⟦<TcpDial<'a, R> as Dialer>⟧.out result ≡ 0 }
     {
         TcpDial {
             rt,
             patience: Duration::from_millis(PATIENCE),
             faults: 0,
-            ended: false,
+            ended: 0,
+            out: 0,
         }
     }
 
     /// The same with another timeout for a connection to an address, and for a read of the handshake.
     pub fn with_patience(rt: &'a R, patience: Duration) -> TcpDial<'a, R>
         ensures faults { ⟦<TcpDial<'a, R> as Dialer>⟧.faults result ≡ 0 }
-        ensures ended { ⟦<TcpDial<'a, R> as Dialer>⟧.ended result ≡ false }
+        ensures ended { ⟦<TcpDial<'a, R> as Dialer>⟧.ended result ≡ 0 }
+        ensures out { ⟦<TcpDial<'a, R> as Dialer>⟧.out result ≡ 0 }
     {
         TcpDial {
             rt,
             patience,
             faults: 0,
-            ended: false,
+            ended: 0,
+            out: 0,
         }
     }
 }
@@ -61,6 +68,7 @@ impl<'a, R: Net<Listener = TcpListener, Stream = TcpStream> + RandomSource> TcpD
         ensures rose { Rose self.old.faults self.new.faults }
         ensures kept { self.old.faults ≤ self.new.faults }
         ensures ended { self.new.ended ≡ self.old.ended }
+        ensures out { self.new.out ≡ self.old.out }
     {
         self.faults = self.faults.saturating_add(1);
     }
@@ -127,6 +135,8 @@ impl<'a, R: Net<Listener = TcpListener, Stream = TcpStream> + RandomSource + Syn
 
     ghost ended = { λ d. d.ended };
 
+    ghost out = { λ d. d.out };
+
     ghost backs = { λ d. None };
 
     fn dial(
@@ -136,8 +146,15 @@ impl<'a, R: Net<Listener = TcpListener, Stream = TcpStream> + RandomSource + Syn
         port: u16,
         path: &str,
     ) -> Dialed<ClientLink<'a, R>> {
+        if self.out == u64::MAX {
+            self.fault();
+            return Dialed::Failed;
+        }
         match self.call(alloc, host, port, path) {
-            Ok(link) => Dialed::Link(link),
+            Ok(link) => {
+                self.out += 1;
+                Dialed::Link(link)
+            }
             Err(Missed::NoMemory) => Dialed::NoMemory,
             Err(Missed::Fault) => {
                 self.fault();
@@ -150,7 +167,10 @@ impl<'a, R: Net<Listener = TcpListener, Stream = TcpStream> + RandomSource + Syn
         if link.faults() > 0 {
             self.fault();
         }
-        self.ended = self.ended || link.has_ended();
+        if link.has_ended() {
+            self.ended = self.ended.saturating_add(1);
+        }
+        self.out = self.out.saturating_sub(1);
         link.end();
     }
 }

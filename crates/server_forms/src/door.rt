@@ -12,14 +12,14 @@ use std::time::Clock;
 /// A listener over TCP that stops once the standard input has ended, and writes lines: `listening at port PORT` once it listens, or why it
 /// can't, and then one for each connection that is refused and each session that ends, at most ten a second.
 #[derive(Drop)]
-pub(crate) struct ToldDoor<'a, R, W> {
+pub struct ToldDoor<'a, R, W> {
     door: TcpDoor<'a, R>,
     log: Log<'a, R, W>,
 }
 
 impl<'a, R: Net<Listener = TcpListener, Stream = TcpStream> + Clock, W: Sink> ToldDoor<'a, R, W> {
     /// A door that does not listen yet.
-    pub(crate) fn new(alloc: Global, rt: &'a R, errors: W) -> ToldDoor<'a, R, W> {
+    pub fn new(alloc: Global, rt: &'a R, errors: W) -> ToldDoor<'a, R, W> {
         ToldDoor {
             door: TcpDoor::new(rt).until_input_ends(),
             log: Log::new(alloc, rt, errors),

@@ -1,88 +1,65 @@
-//! The server over the system: its words, files, sockets and streams, the status line, and the exit status.
-ghost use Rattle.std.specs.Prelude.{◌≡◌, ◌≤◌};
+//! The server as a program: its words, the status line, and the exit status.
+ghost use Rattle.std.specs.Prelude.{◌≡◌, ◌≤◌, IfErr, IfOk, map, string_bytes};
 ghost use Rattle.std.specs.Process.{exit_status};
 ghost use Rattle.etp_outside.specs.Status.{number_of};
-ghost use Rattle.program_status.specs.Told.{Ends, IsTold};
-ghost use Rattle.server_forms.specs.Program.{told};
+ghost use Rattle.program_status.specs.Told.{IsTold};
+ghost use Rattle.server_forms.specs.Program.{EndsWith, IsUntouched, Ran, RanTo, faults_of, told};
+ghost use Rattle.server_forms.specs.Top.{door_of, output_of};
+ghost use Rattle.server_forms.specs.Words.{command_in};
 
-use crate::door::ToldDoor;
 use crate::run::run_server;
-use etp_outside::{DirHost, NoGate, Sink, Status, StdSink, WallClock};
-use program_status::words;
-use std::alloc::{AllocError, Global};
-use std::io::{self, Write};
-use std::net::{Net, TcpListener, TcpStream};
+use etp_outside::{Clock, Host, Listener, NoGate, Sink, Status};
+use std::alloc::Global;
 use std::process::ExitCode;
-use std::rt::{Env, Files};
 use std::sync::Wait;
 use std::thread::Threads;
-use std::time;
 
 /// What follows the line of `Usage`.
 const USAGE: &[u8] = b"\netpd CONFIG ADDRESS\netpd CONFIG ADDRESS SESSIONS\n";
 
-/// This much memory is allocated once and freed before the run. The C library then keeps what is freed; otherwise it would return the
-/// memory of a large message to the system, and request it again page by page for the next.
-const KEPT_MEMORY: usize = 16_777_216;
-
-/// Runs the server with the program's words and its output. It writes to `ports` the port that it got, and to `errors` how it ended, as
-/// [`finish`] does.
-pub fn run_program<R, T, W>(rt: &R, ports: T, errors: &mut W) -> ExitCode
-where
-    R: AllocGlobal
-        + Env
-        + Files
-        + Print
-        + Net<Listener = TcpListener, Stream = TcpStream>
-        + time::Clock
-        + Threads
-        + Wait
-        + Sync,
-    T: Write + Drop,
-    W: Sink,
-    ensures told { Ends told (exit_status result) (W.held errors.old) (W.held errors.new) (W.faults errors.old) (W.faults errors.new) }
-    ensures kept { W.faults errors.old ≤ W.faults errors.new }
+/// Does what the program's words say, as [`run_server`] does, writes to `errors` how that ended, as [`finish`] does, and returns the exit
+/// status. If there are no words, but only a status that says why, nothing is done, and it ends with that status.
+pub fn run_program<H: Host, A: Listener, W: Sink, C: Clock, E: Sink, R: Threads + Wait + Sync>(
+    rt: &R,
+    alloc: Global,
+    words: Result<Vec<String>, Status>,
+    host: &mut H,
+    door: &mut A,
+    out: &mut W,
+    clock: &C,
+    errors: &mut E,
+) -> ExitCode
+    ensures ran { IfOk words (λ ws. RanTo (exit_status result) (command_in (map string_bytes ws.items)) (H.content host.old) (C.passes clock.now)
+        (door_of (A.given door.old) (A.given door.new) (A.backs door.old) (A.backs door.new)) (output_of (W.held out.old) (W.held out.new) (W.faults out.old) (W.faults out.new))
+        (A.stopped door.new) (A.at door.old) (A.at door.new) (faults_of (H.faults host.old) (H.faults host.new) (A.faults door.old) (A.faults door.new))
+        (E.held errors.old) (E.held errors.new) (E.faults errors.old) (E.faults errors.new)) }
+    ensures wordless { IfErr words (λ status. IsUntouched host.old host.new door.old door.new out.old out.new
+        × EndsWith status (exit_status result) (E.held errors.old) (E.held errors.new) (E.faults errors.old) (E.faults errors.new)) }
+    ensures kept { E.faults errors.old ≤ E.faults errors.new }
 {
-    let alloc = rt.alloc();
-    let kept: Result<Vec<u8>, AllocError> = Vec::with_capacity(alloc, KEPT_MEMORY);
-    drop(kept);
-    let status = run_words(rt, ports);
+    let status = run_words(rt, alloc, words, host, door, out, clock);
     finish(alloc, status, errors)
 }
 
-/// Runs the server with the program's words.
-fn run_words<R, T>(rt: &R, ports: T) -> Status
-where
-    R: AllocGlobal
-        + Env
-        + Files
-        + Print
-        + Net<Listener = TcpListener, Stream = TcpStream>
-        + time::Clock
-        + Threads
-        + Wait
-        + Sync,
-    T: Write + Drop,
+/// Does what the words say, if there are any.
+fn run_words<H: Host, A: Listener, W: Sink, C: Clock, R: Threads + Wait + Sync>(
+    rt: &R,
+    alloc: Global,
+    words: Result<Vec<String>, Status>,
+    host: &mut H,
+    door: &mut A,
+    out: &mut W,
+    clock: &C,
+) -> Status
+    ensures ran { IfOk words (λ ws. Ran result (command_in (map string_bytes ws.items)) (H.content host.old) (C.passes clock.now)
+        (door_of (A.given door.old) (A.given door.new) (A.backs door.old) (A.backs door.new)) (output_of (W.held out.old) (W.held out.new) (W.faults out.old) (W.faults out.new))
+        (A.stopped door.new) (A.at door.old) (A.at door.new) (faults_of (H.faults host.old) (H.faults host.new) (A.faults door.old) (A.faults door.new))) }
+    ensures wordless { IfErr words (λ status. IsUntouched host.old host.new door.old door.new out.old out.new × (result ≡ status)) }
 {
-    let alloc = rt.alloc();
-    let words = match words(rt) {
-        Ok(words) => words,
-        Err(status) => return status,
-    };
-    let mut out = StdSink::new(io::writer(rt));
-    let mut host = DirHost::new(rt);
-    let mut door = ToldDoor::new(alloc, rt, StdSink::new(ports));
-    let clock = WallClock::new(rt);
-    run_server(
-        rt,
-        alloc,
-        words.as_slice(),
-        &mut host,
-        &mut door,
-        &mut out,
-        &clock,
-        &NoGate,
-    )
+    match words {
+        Ok(words) => run_server(rt, alloc, words.as_slice(), host, door, out, clock, &NoGate),
+        Err(status) => status,
+    }
 }
 
 /// Writes to `errors` how the server has ended, and returns its exit status. What can't be written is lost.

@@ -1,5 +1,6 @@
-use Rattle.std.proofs.Common.{◌||◌, arith, IsSome, ap, sym, subst, ◌∙◌}
+use Rattle.std.proofs.Common.{arith, IsSome, ap, sym, subst, ◌∙◌}
 use Rattle.etp_outside.proofs.FaultLemmas.{rose_later}
+use Rattle.etp_outside.specs.Faults.{counted_if}
 use Rattle.client_forms.specs.Ctl.{ctl}
 use Rattle.client_forms.specs.Jobs.{HasRead}
 use Rattle.client_forms.specs.Runs.{Ended}
@@ -25,7 +26,7 @@ returns-clause-runs g c = λ shown job server d from dialed tells there.
     subst (λ st. Runs st server (ctl shown job) (world i o told d) (world j q later e)) (sym c.status_of.ensures)
     (ran_over l m told later o q i j d e dialed.fresh.faultless (omega (arith, from.faults, c.hang_up.ensures.kept)) (λ some. rose_later d.faults n.faults e.faults from.faults (c.hang_up.ensures.cause some))
     c.converse-stop.result server shown job (subst (λ y. Ended c.converse-stop.result shown job (outside l told o i) y) (sym c.io.view_is) (c.converse-stop.ensures.ended shown job there)) dialed (λ told_so. tells (subst IsSome (sym from.backs) told_so))
-    (told_from d.backs n.backs e.backs m.talk from.backs c.hang_up.ensures.back) (c.hang_up.ensures.ended ∙ ap (λ b. b || m.ended) from.ended))
+    (told_from d.backs n.backs e.backs m.talk from.backs c.hang_up.ensures.back) (c.hang_up.ensures.ended ∙ ap (counted_if m.ended) from.ended))
 
 pub returns-clause-read : goal.returns-clause-read
 returns-clause-read g c = λ is shown job there.

@@ -1,4 +1,14 @@
+use Rattle.std.proofs.Common.{subst}
+use Rattle.std.proofs.lemmas.Result.{IfErr-weaker, IfOk-weaker}
+use Rattle.server_forms.specs.Program.{EndsWith}
 use Rattle.server_forms.proofs.program.run_program.Goals as goal
 
-pub returns-clause-told : goal.returns-clause-told
-returns-clause-told g c = (c.run_words-status.result, c.finish.ensures.number, c.finish.ensures.told)
+pub returns-clause-ran : goal.returns-clause-ran
+returns-clause-ran g c = IfOk-weaker c.args.words _ _ (λ ws h. record {
+  status = c.run_words-status.result;
+  ran = h;
+  ends = record { number_is = c.finish.ensures.number; is_told = c.finish.ensures.told };
+}) c.run_words-status.ensures.ran
+
+pub returns-clause-wordless : goal.returns-clause-wordless
+returns-clause-wordless g c = IfErr-weaker c.args.words _ _ (λ e h. (h.0, subst (λ s. EndsWith s _ _ _ _ _) h.1 (record { number_is = c.finish.ensures.number; is_told = c.finish.ensures.told }))) c.run_words-status.ensures.wordless
