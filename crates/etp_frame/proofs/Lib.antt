@@ -4,7 +4,6 @@ pub mod RowLemmas
 pub mod ReadingLemmas
 pub mod CheckLemmas
 pub mod WireLemmas
-pub mod AgainLemmas
 pub mod PieceLemmas
 pub mod PlaceLemmas
 pub mod KeptLemmas

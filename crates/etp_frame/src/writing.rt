@@ -5,7 +5,6 @@ ghost use Rattle.avro_bin.specs.Shape.{FitsTree, HasSchema};
 ghost use Rattle.avro_bin.specs.Value.{nodes};
 ghost use Rattle.etp_schema.specs.declared.body.Side.{Side};
 ghost use Rattle.msg_channel.specs.ChannelSubscribe.{channel_subscribe_body};
-ghost use Rattle.etp_frame.specs.Laws.{IsReadOrRefused};
 ghost use Rattle.etp_frame.specs.Message.{message_body, Names};
 ghost use Rattle.avro_bin.specs.Laws.{node_limit};
 ghost use Rattle.etp_frame.specs.Wire.{IsPlain, Sends, IsMessage, message_bytes};
@@ -24,7 +23,6 @@ pub fn write_message(alloc: Global, header: &Header, message: &Message) -> Resul
     ensures bytes { IfOk result (λ b. b ≡ message_bytes header.now message.now) }
     ensures form { IfOk result (λ b. (side : Side) → Sends side header.now message.now → nodes (message_body message.now).value ≤ node_limit
         → IsMessage side header.now message.now b) }
-    ensures again { IfOk result (λ b. (side : Side) → IsReadOrRefused side header.now message.now) }
 {
     let size = header.measure().plus(message.measure()).bytes;
     write_in_room(alloc, size as usize, header, message)
@@ -42,7 +40,6 @@ pub fn write_in_room(
     ensures bytes { IfOk result (λ b. b ≡ message_bytes header.now message.now) }
     ensures form { IfOk result (λ b. (side : Side) → Sends side header.now message.now → nodes (message_body message.now).value ≤ node_limit
         → IsMessage side header.now message.now b) }
-    ensures again { IfOk result (λ b. (side : Side) → IsReadOrRefused side header.now message.now) }
 {
     let mut bytes = Vec::with_capacity(alloc, room)?;
     header.write(&mut bytes)?;

@@ -1,8 +1,6 @@
-use Rattle.std.proofs.Common.{◌≡◌, arith, sym, subst, rules}
-use Rattle.avro_bin.specs.Laws.{IsBytes}
+use Rattle.std.proofs.Common.{◌≡◌, sym, subst, rules}
 use Rattle.etp_frame.specs.Wire.{IsMessage, message_bytes}
-use Rattle.etp_frame.specs.Laws.{Fits, Typed}
-use Rattle.etp_frame.proofs.AgainLemmas.{read_or_refused}
+use Rattle.etp_frame.specs.Laws.{Fits}
 use Rattle.etp_frame.proofs.WireLemmas.{written_form}
 use Rattle.etp_frame.proofs.writing.write_in_room.Goals as goal
 
@@ -18,12 +16,3 @@ returns-clause-form c = λ side sent few.
       few = few;
     } in
     subst (IsMessage side h x) (sym same) (written_form side h x c.requires.plain c.requires.names sent fits)
-
-pub returns-clause-again : goal.returns-clause-again
-returns-clause-again c = λ side.
-    let h = c.args.header.now in
-    let x = c.args.message.now in
-    let same : c.in_ok-blob.blob ≡ message_bytes h x = search rules in
-    let bytes : IsBytes c.in_ok-blob.blob = λ i. omega (arith, c.from_vec-blob.type_inv.bytes i) in
-    let typed : Typed h x = record { header = c.in_ok-write.ensures.fits; typed = c.in_ok-append_body.ensures.typed; body = c.in_ok-append_body.ensures.fits } in
-    read_or_refused side h x c.requires.plain c.requires.names typed (subst IsBytes same bytes)
