@@ -6,17 +6,19 @@ ghost use Rattle.program_status.specs.Told.{Ends, IsTold};
 ghost use Rattle.server_forms.specs.Program.{told};
 
 use crate::door::ToldDoor;
-use crate::run::run_server;
+use crate::run::run_seeded;
 use etp_outside::{DirHost, NoGate, Sink, Status, StdSink, WallClock};
 use program_status::words;
 use std::alloc::{AllocError, Global};
 use std::io::{self, Write};
 use std::net::{Net, TcpListener, TcpStream};
 use std::process::ExitCode;
+use std::random::RandomSource;
 use std::rt::{Env, Files};
 use std::sync::Wait;
 use std::thread::Threads;
 use std::time;
+use table_seed::Seed;
 
 /// What follows the line of `Usage`.
 const USAGE: &[u8] = b"\netpd CONFIG ADDRESS\netpd CONFIG ADDRESS SESSIONS\n";
@@ -37,7 +39,8 @@ where
         + time::Clock
         + Threads
         + Wait
-        + Sync,
+        + Sync
+        + RandomSource,
     T: Write + Drop,
     W: Sink,
     ensures told { Ends told (exit_status result) (W.held errors.old) (W.held errors.new) (W.faults errors.old) (W.faults errors.new) }
@@ -61,7 +64,8 @@ where
         + time::Clock
         + Threads
         + Wait
-        + Sync,
+        + Sync
+        + RandomSource,
     T: Write + Drop,
 {
     let alloc = rt.alloc();
@@ -73,9 +77,10 @@ where
     let mut host = DirHost::new(rt);
     let mut door = ToldDoor::new(alloc, rt, StdSink::new(ports));
     let clock = WallClock::new(rt);
-    run_server(
+    run_seeded(
         rt,
         alloc,
+        Seed::drawn(rt),
         words.as_slice(),
         &mut host,
         &mut door,
