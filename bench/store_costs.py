@@ -7,6 +7,7 @@ ETPTOOL is the built tool, which replays captures. What a case costs is the diff
 calls that are measured: the processor time of each is the median of five runs. The cases are
 
     spaces      new dataspaces, put 1,000 a message
+    chosen      the same, with names that share a hash wherever `FoldHasher` has no seed
     behind      subscriptions that catch up with 65,536 entries at once, and polls of one that has no changes
     removed     objects that are removed from a store with very many arrays
     empty       slices of regions without elements, in a small array and in a large one
@@ -14,8 +15,11 @@ calls that are measured: the processor time of each is the median of five runs. 
     appends     points loaded after few and after many
 """
 import io
+import itertools
 import resource
 import statistics
+import string
+import struct
 import subprocess
 import sys
 import tempfile
@@ -63,11 +67,14 @@ class Session(row_load.Client):
         for _ in range(count):
             self.frame(2)
 
-    def put_spaces(self, first, count):
+    def put_named_spaces(self, paths):
         spaces = {
-            f"k{number}": dict(uri=f"eml:///dataspace('s{number}')", path="", storeLastWrite=0, storeCreated=0, customData={})
-            for number in range(first, first + count)}
+            f"k{nth}": dict(uri=f"eml:///dataspace('{path}')", path="", storeLastWrite=0, storeCreated=0, customData={})
+            for nth, path in enumerate(paths)}
         self.message(24, 3, dict(dataspaces=spaces))
+
+    def put_spaces(self, first, count):
+        self.put_named_spaces([f"s{number}" for number in range(first, first + count)])
 
     def put_objects(self, numbers):
         objects = {f"k{number}": row_load.data_object(number, b"") for number in numbers}
@@ -138,6 +145,40 @@ def spaces(measured):
     for count in (10_000, 100_000):
         spent = measured.seconds(write(count))
         print(f"{count:>9,} dataspaces, 1,000 a message: {spent:.3f} s, {spent / count * 1e6:.2f} us each")
+
+
+def fold(a, b):
+    """What `FoldHasher` makes of two words: the halves of their product, joined by xor."""
+    product = a * b
+    return product & (1 << 64) - 1 ^ product >> 64
+
+
+def sharing(count):
+    """Names of 32 characters, which `FoldHasher` hashes alike: the third word is what the hash is after two, so that their xor is 0, and
+    so is every product with it. The fourth word may then be anything."""
+    digits = string.ascii_letters + string.digits
+    allowed = set(digits.encode())
+    for nth in itertools.count():
+        front = f"{nth:016}".encode()
+        first, second = struct.unpack("<2Q", front)
+        state = fold(first ^ 0x243F_6A88_85A3_08D3 + 32, second ^ 0x9E37_79B9_7F4A_7C15)
+        third = struct.pack("<Q", state)
+        if allowed.issuperset(third):
+            return [f"{(front + third).decode()}{number:08}" for number in range(count)]
+
+
+def chosen(measured):
+    def write(paths):
+        def to(out):
+            session = Session(out)
+            for first in range(0, len(paths), 1_000):
+                session.put_named_spaces(paths[first:first + 1_000])
+        return to
+
+    for count in (5_000, 10_000, 20_000):
+        for kind, paths in (("any", [f"{number:032}" for number in range(count)]), ("chosen", sharing(count))):
+            spent = measured.seconds(write(paths))
+            print(f"{count:>9,} dataspaces with {kind} names: {spent:.3f} s, {spent / count * 1e6:.2f} us each")
 
 
 def behind(measured):
@@ -234,7 +275,7 @@ def appends(measured):
         print(f"{count:>9,} points, 100 a message: {spent:.3f} s, {spent / count * 1e9:.0f} ns each")
 
 
-CASES = dict(spaces=spaces, behind=behind, removed=removed, empty=empty, patches=patches, appends=appends)
+CASES = dict(spaces=spaces, chosen=chosen, behind=behind, removed=removed, empty=empty, patches=patches, appends=appends)
 
 
 def main():

@@ -1,7 +1,7 @@
 pub mod ApplyingLemmas
 pub mod CountLemmas
 pub mod ExchangeLemmas
-pub mod GatheredLemmas
+pub mod GroupLemmas
 pub mod KeyLemmas
 pub mod RowLemmas
 pub mod RegionLemmas

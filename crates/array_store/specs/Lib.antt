@@ -1,7 +1,9 @@
 pub mod Arrays
 pub mod Codes
-pub mod Going
+pub mod Groups
+pub mod Kept
 pub mod Operations
+pub mod Owner
 pub mod Refusals
 pub mod Region
 pub mod Shape

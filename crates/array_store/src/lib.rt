@@ -13,9 +13,10 @@
 mod element;
 mod elements;
 mod error;
-mod going;
+mod groups;
 mod key;
 mod op;
+mod owner;
 mod patch;
 mod record;
 mod refusals;

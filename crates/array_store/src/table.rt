@@ -1,24 +1,27 @@
 //! Single steps on the table.
-ghost use Rattle.std.specs.Prelude.{◌≡◌, ◌<◌, ◌+◌, ◌≤◌, Err, None, IsOk, IsSome, IfSome, OnOk, OnErr, true, not, filter, length};
-ghost use Rattle.std.specs.Option.{option_copied};
+ghost use Rattle.std.specs.Prelude.{◌≡◌, ◌<◌, ◌+◌, ◌≤◌, ◌++◌, ◌∷◌, [], Err, None, IsOk, IsSome, IfSome, OnOk, OnErr, Some, is_some, true, false, length, slice_get};
+ghost use Rattle.std.specs.Map.{keys_of};
 ghost use Rattle.indexmap.specs.IndexMap.{spare};
 ghost use Rattle.array_store.specs.Table as table;
-ghost use Rattle.array_store.specs.Table.{array_among, is_of_object, is_in_space, AllSound, DropsAmong, PatchesAmong, SetsAmong};
+ghost use Rattle.array_store.specs.Table.{array_among, AllSound, PatchesAmong, SetsAmong};
 ghost use Rattle.array_store.specs.Arrays.{is_bytes};
-ghost use Rattle.array_store.specs.Going.{goes};
+ghost use Rattle.array_store.specs.Owner.{numbers_of};
+ghost use Rattle.array_store.specs.declared.key.ArrayKey.{ArrayKey as AKey};
+ghost use Rattle.array_store.specs.declared.record.ArrayRecord.{ArrayRecord as ARecord};
 ghost use Rattle.array_store.specs.Refusals.{record_refusal, patch_refusal, Refuses};
 
 use crate::error::ArrayError;
-use crate::going::GoingArrays;
 use crate::key::ArrayKey;
+use crate::owner::Numbers;
 use crate::weighed::WeighedArray;
-use etp_values::{AnyArray, List, StoreUri, Text};
+use etp_values::{AnyArray, List};
 use indexmap::IndexMap;
 use std::alloc::Global;
+use table_seed::Seed;
 
 /// Puts an array in place of the one with its key.
 pub(crate) fn put_array(
-    arrays: &mut IndexMap<ArrayKey, WeighedArray>,
+    arrays: &mut IndexMap<ArrayKey, WeighedArray, Seed>,
     key: ArrayKey,
     value: WeighedArray,
 ) -> Result<(), ArrayError>
@@ -28,6 +31,8 @@ pub(crate) fn put_array(
     ensures same { OnErr result (arrays.new.entries ≡ arrays.old.entries) }
     ensures done { Refuses result (record_refusal value) }
     ensures sound { AllSound arrays.old.entries → AllSound arrays.new.entries }
+    ensures known { is_some (array_among arrays.old.entries key) ≡ true → OnOk result (keys_of arrays.new.entries ≡ keys_of arrays.old.entries) }
+    ensures new { is_some (array_among arrays.old.entries key) ≡ false → OnOk result (keys_of arrays.new.entries ≡ keys_of arrays.old.entries ++ key ∷ []) }
     ensures succeeds { 0 < spare arrays.old → IsOk result }
     ensures room { spare arrays.old ≤ spare arrays.new + 1 }
 {
@@ -41,7 +46,7 @@ pub(crate) fn put_array(
 /// Moves values into a region of the array of a key.
 pub(crate) fn patch_array(
     alloc: Global,
-    arrays: &mut IndexMap<ArrayKey, WeighedArray>,
+    arrays: &mut IndexMap<ArrayKey, WeighedArray, Seed>,
     key: &ArrayKey,
     starts: &[i64],
     counts: &[i64],
@@ -58,6 +63,7 @@ pub(crate) fn patch_array(
     ensures memory { IfSome (array_among arrays.old.entries key.now)
         (λ r. result ≡ Err ArrayError.NoMemory → is_bytes r.values ≡ true) }
     ensures sound { AllSound arrays.new.entries }
+    ensures keys { keys_of arrays.new.entries ≡ keys_of arrays.old.entries }
     ensures room { spare arrays.new ≡ spare arrays.old }
 {
     let Some(array) = arrays.get_mut(key) else {
@@ -68,7 +74,7 @@ pub(crate) fn patch_array(
 
 /// Moves values into a region of the array of a key, if there is one. It does not allocate.
 pub(crate) fn patch_at(
-    arrays: &mut IndexMap<ArrayKey, WeighedArray>,
+    arrays: &mut IndexMap<ArrayKey, WeighedArray, Seed>,
     key: &ArrayKey,
     at: i64,
     starts: &List<i64>,
@@ -77,6 +83,7 @@ pub(crate) fn patch_at(
 )
     ensures each { PatchesAmong arrays.old.entries arrays.new.entries key.now at starts.now counts.now values }
     ensures sound { AllSound arrays.old.entries → AllSound arrays.new.entries }
+    ensures keys { keys_of arrays.new.entries ≡ keys_of arrays.old.entries }
     ensures room { spare arrays.new ≡ spare arrays.old }
 {
     let alloc = *arrays.allocator();
@@ -87,11 +94,16 @@ pub(crate) fn patch_at(
 }
 
 /// Notes when the array of a key was last written.
-pub(crate) fn set_written(arrays: &mut IndexMap<ArrayKey, WeighedArray>, key: &ArrayKey, at: i64)
+pub(crate) fn set_written(
+    arrays: &mut IndexMap<ArrayKey, WeighedArray, Seed>,
+    key: &ArrayKey,
+    at: i64,
+)
     requires { IsSome (array_among arrays.old.entries key.now) }
     ensures each { IfSome (array_among arrays.old.entries key.now)
         (λ r. SetsAmong arrays.old.entries arrays.new.entries key.now (table.rewritten r at)) }
     ensures sound { AllSound arrays.old.entries → AllSound arrays.new.entries }
+    ensures keys { keys_of arrays.new.entries ≡ keys_of arrays.old.entries }
     ensures room { spare arrays.new ≡ spare arrays.old }
 {
     let Some(array) = arrays.get_mut(key) else {
@@ -100,58 +112,17 @@ pub(crate) fn set_written(arrays: &mut IndexMap<ArrayKey, WeighedArray>, key: &A
     array.set_written(at);
 }
 
-/// Takes out the arrays of an object.
-pub(crate) fn drop_object(arrays: &mut IndexMap<ArrayKey, WeighedArray>, uri: &StoreUri) -> u64
-    ensures each { DropsAmong arrays.old.entries arrays.new.entries (is_of_object uri.now) }
-    ensures count { result ≡ length (filter (λ e. is_of_object uri.now e.0) arrays.old.entries) }
-    ensures room { spare arrays.old ≤ spare arrays.new }
+/// The numbers of the array at an index.
+pub(crate) fn numbers_at(
+    seed: Seed,
+    arrays: &IndexMap<ArrayKey, WeighedArray, Seed>,
+    index: usize,
+) -> Numbers
+    requires { index < length arrays.now.entries }
+    ensures { (e : AKey × ARecord) → slice_get arrays.now.entries index ≡ Some e → result ≡ numbers_of seed e.0 }
 {
-    let before = arrays.len();
-    arrays.retain(
-        |key: &ArrayKey, array: &mut WeighedArray| -> bool
-            ensures { (result ≡ not (is_of_object uri.entry.now key.now))
-                × (array.new ≡ array.old) }
-        { !uri.same(&key.uri) },
-    );
-    (before - arrays.len()) as u64
-}
-
-/// Takes out the arrays of a dataspace.
-pub(crate) fn drop_space(arrays: &mut IndexMap<ArrayKey, WeighedArray>, path: &Text) -> u64
-    ensures each { DropsAmong arrays.old.entries arrays.new.entries (is_in_space path.now) }
-    ensures count { result ≡ length (filter (λ e. is_in_space path.now e.0) arrays.old.entries) }
-    ensures room { spare arrays.old ≤ spare arrays.new }
-{
-    let held = arrays.len();
-    arrays.retain(
-        |key: &ArrayKey, array: &mut WeighedArray| -> bool
-            ensures { (result ≡ not (is_in_space path.entry.now key.now))
-                × (array.new ≡ array.old) }
-        { *path != key.uri.space },
-    );
-    (held - arrays.len()) as u64
-}
-
-/// Keeps the arrays that are not removed.
-fn retain_staying(arrays: &mut IndexMap<ArrayKey, WeighedArray>, going: &GoingArrays)
-    ensures each { DropsAmong arrays.old.entries arrays.new.entries (goes going.now) }
-    ensures room { spare arrays.old ≤ spare arrays.new }
-{
-    arrays.retain(
-        |key: &ArrayKey, array: &mut WeighedArray| -> bool
-            ensures { (result ≡ not (goes going.entry.now key.now))
-                × (array.new ≡ array.old) }
-        { !going.has(key) },
-    );
-}
-
-/// Takes out the arrays that are removed, in one pass, and in none if nothing is removed.
-pub(crate) fn drop_going(arrays: &mut IndexMap<ArrayKey, WeighedArray>, going: &GoingArrays)
-    ensures each { DropsAmong arrays.old.entries arrays.new.entries (goes going.now) }
-    ensures room { spare arrays.old ≤ spare arrays.new }
-{
-    if going.is_empty() {
-        return;
-    }
-    retain_staying(arrays, going);
+    let Some((key, _)) = arrays.get_index(index) else {
+        unreachable!();
+    };
+    Numbers::of(seed, key)
 }

@@ -10,6 +10,7 @@ use std::process::ExitCode;
 use std::rt::Files;
 use std::sync::Wait;
 use std::thread::Threads;
+use table_seed::Seed;
 
 /// The configurations that the host has.
 const CONFIGS: [&str; 2] = ["server.toml", "no_name.toml"];
@@ -59,6 +60,7 @@ pub(crate) fn call<R: AllocGlobal + Files + Print + Threads + Wait + Sync>(
     let code = run_program(
         rt,
         alloc,
+        Seed::fixed(),
         Ok(words),
         &mut host,
         &mut door,

@@ -12,12 +12,13 @@ use indexmap::IndexMap;
 use std::alloc::Global;
 use std::hash::Hash;
 use std::marker::Model;
+use table_seed::Seed;
 
 /// The places of the entries at which each key was noted. A contract sees these, as `past` a place past all of them, and as `spare` how
 /// many keys can be noted without allocating.
 pub struct EntryIndex<K: Eq + Hash> {
     /// The number of each key's latest chain.
-    latest: IndexMap<K, usize>,
+    latest: IndexMap<K, usize, Seed>,
     chains: Chains,
     past: u64,
 }
@@ -50,7 +51,7 @@ impl<K: Eq + Hash> Model for EntryIndex<K> {
 }
 
 /// The number of a key's latest chain.
-fn number_of<K: Eq + Hash>(latest: &IndexMap<K, usize>, key: &K) -> usize
+fn number_of<K: Eq + Hash>(latest: &IndexMap<K, usize, Seed>, key: &K) -> usize
     ensures { result ≡ number_in K.eq latest.now.entries key.now }
 {
     match latest.get(key) {
@@ -70,7 +71,7 @@ fn is_place(last: Option<u64>, place: u64) -> bool
 
 /// Notes a key at a place, unless it is noted there already.
 fn note_key<K: Eq + Hash + Drop>(
-    latest: &mut IndexMap<K, usize>,
+    latest: &mut IndexMap<K, usize, Seed>,
     chains: &mut Chains,
     place: u64,
     key: K,
@@ -94,7 +95,7 @@ fn note_key<K: Eq + Hash + Drop>(
 
 /// Notes keys at a place.
 fn note_keys<K: Eq + Hash + Drop>(
-    latest: &mut IndexMap<K, usize>,
+    latest: &mut IndexMap<K, usize, Seed>,
     chains: &mut Chains,
     place: u64,
     keys: List<K>,
@@ -114,13 +115,13 @@ fn note_keys<K: Eq + Hash + Drop>(
 }
 
 impl<K: Eq + Hash> EntryIndex<K> {
-    /// An index without keys.
-    pub fn new(alloc: Global) -> EntryIndex<K>
+    /// An index without keys, which hashes them with a seed.
+    pub fn new(alloc: Global, seed: Seed) -> EntryIndex<K>
         ensures places { result.places ≡ [] }
         ensures past { result.past ≡ 0 }
     {
         EntryIndex {
-            latest: IndexMap::new(alloc),
+            latest: IndexMap::with_hasher(alloc, seed),
             chains: Chains::new(alloc),
             past: 0,
         }

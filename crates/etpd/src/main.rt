@@ -8,6 +8,7 @@ use server_forms::{ToldDoor, run_program};
 use std::alloc::AllocError;
 use std::io;
 use std::process::ExitCode;
+use table_seed::Seed;
 
 /// This much memory is allocated once and freed before the run. The C library then keeps what is freed; otherwise it would return the
 /// memory of a large message to the system, and request it again page by page for the next.
@@ -26,6 +27,7 @@ fn main(rt: HostRuntime) -> ExitCode {
     run_program(
         &rt,
         alloc,
+        Seed::drawn(&rt),
         words,
         &mut host,
         &mut door,

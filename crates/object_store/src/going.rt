@@ -12,11 +12,12 @@ use indexmap::IndexSet;
 use std::alloc::Global;
 use std::collections::VecDeque;
 use std::marker::Model;
+use table_seed::Seed;
 
 /// The dataspaces that are dropped with everything in them, to be found by hash.
 #[derive(Drop)]
 pub(crate) struct GoingSpaces {
-    spaces: IndexSet<Text>,
+    spaces: IndexSet<Text, Seed>,
 }
 
 impl Model for GoingSpaces {
@@ -30,9 +31,9 @@ impl Model for GoingSpaces {
 
 impl GoingSpaces {
     /// Nothing is dropped.
-    pub(crate) fn new(alloc: Global) -> GoingSpaces {
+    pub(crate) fn new(alloc: Global, seed: Seed) -> GoingSpaces {
         GoingSpaces {
-            spaces: IndexSet::new(alloc),
+            spaces: IndexSet::with_hasher(alloc, seed),
         }
     }
 

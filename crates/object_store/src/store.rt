@@ -12,12 +12,13 @@ use etp_values::{List, Named, NoMemory, SpacePath, StoreUri, Text};
 use indexmap::IndexMap;
 use std::alloc::Global;
 use std::marker::Model;
+use table_seed::Seed;
 
 /// Dataspaces by their path and objects by their URI. A contract sees the two tables, and as `spare` how many operations can be done
 /// without allocating.
 pub struct ObjectStore {
-    spaces: IndexMap<Text, SpaceRecord>,
-    objects: IndexMap<StoreUri, ObjectRecord>,
+    spaces: IndexMap<Text, SpaceRecord, Seed>,
+    objects: IndexMap<StoreUri, ObjectRecord, Seed>,
     /// The dataspaces that a list of operations drops, while it is applied.
     going: GoingSpaces,
 }
@@ -54,11 +55,18 @@ impl ObjectStore {
     ghost use Rattle.object_store.specs.Tables.{space_in, object_in, ListsSpaces, SameTables, IsFirst};
     ghost use Rattle.object_store.specs.Changes.{Applies, Continues};
 
-    /// A store with only the default dataspace, created at time 0.
+    /// A store with only the default dataspace, created at time 0, whose tables hash names with the fixed seed.
     pub fn new(alloc: Global) -> Result<ObjectStore, NoMemory>
         ensures { IfOk result IsFirst }
     {
-        let mut spaces = IndexMap::new(alloc);
+        ObjectStore::with_seed(alloc, Seed::fixed())
+    }
+
+    /// The same with a seed.
+    pub fn with_seed(alloc: Global, seed: Seed) -> Result<ObjectStore, NoMemory>
+        ensures { IfOk result IsFirst }
+    {
+        let mut spaces = IndexMap::with_hasher(alloc, seed);
         let record = SpaceRecord {
             path: SpacePath::new(alloc, Text::new(alloc))?,
             written: 0,
@@ -68,8 +76,8 @@ impl ObjectStore {
         spaces.insert(Text::new(alloc), record)?;
         Ok(ObjectStore {
             spaces,
-            objects: IndexMap::new(alloc),
-            going: GoingSpaces::new(alloc),
+            objects: IndexMap::with_hasher(alloc, seed),
+            going: GoingSpaces::new(alloc, seed),
         })
     }
 

@@ -12,10 +12,11 @@ use crate::going::GoingSpaces;
 use crate::records::{ObjectRecord, SpaceRecord};
 use etp_values::{StoreUri, Text};
 use indexmap::IndexMap;
+use table_seed::Seed;
 
 /// The record as it is put: it keeps the time at which the previous one was created.
 fn space_made(
-    spaces: &IndexMap<Text, SpaceRecord>,
+    spaces: &IndexMap<Text, SpaceRecord, Seed>,
     path: &Text,
     mut space: SpaceRecord,
 ) -> SpaceRecord
@@ -29,7 +30,11 @@ fn space_made(
 }
 
 /// Puts a dataspace in place of the one with its path.
-pub(crate) fn put_space(spaces: &mut IndexMap<Text, SpaceRecord>, path: Text, space: SpaceRecord)
+pub(crate) fn put_space(
+    spaces: &mut IndexMap<Text, SpaceRecord, Seed>,
+    path: Text,
+    space: SpaceRecord,
+)
     requires { 0 < spare spaces.old }
     ensures each { PutsSpace path space spaces.old.entries spaces.new.entries }
     ensures room { spare spaces.old ≤ spare spaces.new + 1 }
@@ -39,7 +44,7 @@ pub(crate) fn put_space(spaces: &mut IndexMap<Text, SpaceRecord>, path: Text, sp
 }
 
 /// Takes out the dataspace with a path.
-pub(crate) fn drop_space(spaces: &mut IndexMap<Text, SpaceRecord>, path: &Text)
+pub(crate) fn drop_space(spaces: &mut IndexMap<Text, SpaceRecord, Seed>, path: &Text)
     ensures each { DropsSpace path.now spaces.old.entries spaces.new.entries }
     ensures room { spare spaces.old ≤ spare spaces.new }
 {
@@ -48,7 +53,7 @@ pub(crate) fn drop_space(spaces: &mut IndexMap<Text, SpaceRecord>, path: &Text)
 
 /// The record as it is put: it keeps the time at which the previous one was created.
 fn object_made(
-    objects: &IndexMap<StoreUri, ObjectRecord>,
+    objects: &IndexMap<StoreUri, ObjectRecord, Seed>,
     uri: &StoreUri,
     mut object: ObjectRecord,
 ) -> ObjectRecord
@@ -63,7 +68,7 @@ fn object_made(
 
 /// The object with a URI.
 pub(crate) fn object_at<'a>(
-    objects: &'a IndexMap<StoreUri, ObjectRecord>,
+    objects: &'a IndexMap<StoreUri, ObjectRecord, Seed>,
     uri: &StoreUri,
 ) -> Option<&'a ObjectRecord>
     ensures { option_copied result ≡ lookup (same_uri uri.now) objects.now.entries }
@@ -73,7 +78,7 @@ pub(crate) fn object_at<'a>(
 
 /// Puts an object in place of the one with its URI.
 pub(crate) fn put_object(
-    objects: &mut IndexMap<StoreUri, ObjectRecord>,
+    objects: &mut IndexMap<StoreUri, ObjectRecord, Seed>,
     uri: StoreUri,
     object: ObjectRecord,
 )
@@ -86,7 +91,7 @@ pub(crate) fn put_object(
 }
 
 /// Takes out the object with a URI.
-pub(crate) fn drop_object(objects: &mut IndexMap<StoreUri, ObjectRecord>, uri: &StoreUri)
+pub(crate) fn drop_object(objects: &mut IndexMap<StoreUri, ObjectRecord, Seed>, uri: &StoreUri)
     ensures each { DropsObject uri.now objects.old.entries objects.new.entries }
     ensures room { spare objects.old ≤ spare objects.new }
 {
@@ -94,7 +99,7 @@ pub(crate) fn drop_object(objects: &mut IndexMap<StoreUri, ObjectRecord>, uri: &
 }
 
 /// Takes out the objects of a dataspace.
-pub(crate) fn drop_objects_in(objects: &mut IndexMap<StoreUri, ObjectRecord>, path: &Text)
+pub(crate) fn drop_objects_in(objects: &mut IndexMap<StoreUri, ObjectRecord, Seed>, path: &Text)
     ensures each { DropsObjectsIn path.now objects.old.entries objects.new.entries }
     ensures room { spare objects.old ≤ spare objects.new }
 {
@@ -106,7 +111,7 @@ pub(crate) fn drop_objects_in(objects: &mut IndexMap<StoreUri, ObjectRecord>, pa
 }
 
 /// Keeps the dataspaces that are not dropped.
-fn retain_spaces(spaces: &mut IndexMap<Text, SpaceRecord>, going: &GoingSpaces)
+fn retain_spaces(spaces: &mut IndexMap<Text, SpaceRecord, Seed>, going: &GoingSpaces)
     ensures each { LosesSpaces going.now spaces.old.entries spaces.new.entries }
     ensures room { spare spaces.old ≤ spare spaces.new }
 {
@@ -118,7 +123,7 @@ fn retain_spaces(spaces: &mut IndexMap<Text, SpaceRecord>, going: &GoingSpaces)
 }
 
 /// Keeps the objects whose dataspace is not dropped.
-fn retain_objects(objects: &mut IndexMap<StoreUri, ObjectRecord>, going: &GoingSpaces)
+fn retain_objects(objects: &mut IndexMap<StoreUri, ObjectRecord, Seed>, going: &GoingSpaces)
     ensures each { LosesObjects going.now objects.old.entries objects.new.entries }
     ensures room { spare objects.old ≤ spare objects.new }
 {
@@ -131,8 +136,8 @@ fn retain_objects(objects: &mut IndexMap<StoreUri, ObjectRecord>, going: &GoingS
 
 /// Takes out the dropped dataspaces, and all objects in them: in one pass over each table, and in none if nothing is dropped.
 pub(crate) fn drop_going(
-    spaces: &mut IndexMap<Text, SpaceRecord>,
-    objects: &mut IndexMap<StoreUri, ObjectRecord>,
+    spaces: &mut IndexMap<Text, SpaceRecord, Seed>,
+    objects: &mut IndexMap<StoreUri, ObjectRecord, Seed>,
     going: &GoingSpaces,
 )
     ensures spaces { LosesSpaces going.now spaces.old.entries spaces.new.entries }

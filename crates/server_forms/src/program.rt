@@ -7,12 +7,13 @@ ghost use Rattle.server_forms.specs.Program.{EndsWith, IsUntouched, Ran, RanTo, 
 ghost use Rattle.server_forms.specs.Top.{door_of, output_of};
 ghost use Rattle.server_forms.specs.Words.{command_in};
 
-use crate::run::run_server;
+use crate::run::run_seeded;
 use etp_outside::{Clock, Host, Listener, NoGate, Sink, Status};
 use std::alloc::Global;
 use std::process::ExitCode;
 use std::sync::Wait;
 use std::thread::Threads;
+use table_seed::Seed;
 
 /// What follows the line of `Usage`.
 const USAGE: &[u8] = b"\netpd CONFIG ADDRESS\netpd CONFIG ADDRESS SESSIONS\n";
@@ -22,6 +23,7 @@ const USAGE: &[u8] = b"\netpd CONFIG ADDRESS\netpd CONFIG ADDRESS SESSIONS\n";
 pub fn run_program<H: Host, A: Listener, W: Sink, C: Clock, E: Sink, R: Threads + Wait + Sync>(
     rt: &R,
     alloc: Global,
+    seed: Seed,
     words: Result<Vec<String>, Status>,
     host: &mut H,
     door: &mut A,
@@ -37,7 +39,7 @@ pub fn run_program<H: Host, A: Listener, W: Sink, C: Clock, E: Sink, R: Threads 
         × EndsWith status (exit_status result) (E.held errors.old) (E.held errors.new) (E.faults errors.old) (E.faults errors.new)) }
     ensures kept { E.faults errors.old ≤ E.faults errors.new }
 {
-    let status = run_words(rt, alloc, words, host, door, out, clock);
+    let status = run_words(rt, alloc, seed, words, host, door, out, clock);
     finish(alloc, status, errors)
 }
 
@@ -45,6 +47,7 @@ pub fn run_program<H: Host, A: Listener, W: Sink, C: Clock, E: Sink, R: Threads 
 fn run_words<H: Host, A: Listener, W: Sink, C: Clock, R: Threads + Wait + Sync>(
     rt: &R,
     alloc: Global,
+    seed: Seed,
     words: Result<Vec<String>, Status>,
     host: &mut H,
     door: &mut A,
@@ -57,7 +60,17 @@ fn run_words<H: Host, A: Listener, W: Sink, C: Clock, R: Threads + Wait + Sync>(
     ensures wordless { IfErr words (λ status. IsUntouched host.old host.new door.old door.new out.old out.new × (result ≡ status)) }
 {
     match words {
-        Ok(words) => run_server(rt, alloc, words.as_slice(), host, door, out, clock, &NoGate),
+        Ok(words) => run_seeded(
+            rt,
+            alloc,
+            seed,
+            words.as_slice(),
+            host,
+            door,
+            out,
+            clock,
+            &NoGate,
+        ),
         Err(status) => status,
     }
 }

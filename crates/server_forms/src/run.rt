@@ -25,15 +25,59 @@ use std::sync::Wait;
 use std::thread::Threads;
 use store_hub::{Hub, Pass};
 use store_machine::Store;
+use table_seed::Seed;
 
 /// Does what the words say, and returns how that ended. The forms are `CONFIG ADDRESS` and `CONFIG ADDRESS SESSIONS`: the configuration of
 /// that name is read, and links that come at that address are served, until the listener stops, or for that many links, 1 to 1,000,000.
 /// Then the report is written to the output; it also follows a listener's failure and running out of memory, as far as there is memory for
 /// it. The first cause counts: if the listener failed, a report that could not be written changes nothing.
-#[tactic(auto, using(crate::proofs::ServingLemmas::at_most_same, crate::proofs::ServingLemmas::no_memory, crate::proofs::ServingLemmas::there_same, crate::proofs::ServingLemmas::untouched))]
 pub fn run_server<H: Host, A: Listener, W: Sink, C: Clock, G: Gate, R: Threads + Wait + Sync>(
     rt: &R,
     alloc: Global,
+    words: &[String],
+    host: &mut H,
+    door: &mut A,
+    out: &mut W,
+    clock: &C,
+    gate: &G,
+) -> Status
+    ensures usage { result ≡ Usage → command_in (map string_bytes words.now) ≡ None }
+    ensures no_form { command_in (map string_bytes words.now) ≡ None → result ≢ Status.NoMemory → result ≡ Usage }
+    ensures answers { Answers result (command_in (map string_bytes words.now)) (H.content host.old) (C.passes clock.now)
+        (door_of (A.given door.old) (A.given door.new) (A.backs door.old) (A.backs door.new)) (output_of (W.held out.old) (W.held out.new) (W.faults out.old) (W.faults out.new)) }
+    ensures most { AtMost (command_in (map string_bytes words.now)) (A.given door.old) (A.given door.new) }
+    ensures there { ListensThere (command_in (map string_bytes words.now)) (A.given door.old) (A.given door.new) (A.at door.old) (A.at door.new) }
+    ensures over { result ≡ Done → IsOver (command_in (map string_bytes words.now)) (A.stopped door.new) (A.given door.old) (A.given door.new) }
+    ensures read_cause { result ≡ ReadFault → Rose (H.faults host.old) (H.faults host.new) }
+    ensures write_cause { result ≡ WriteFault → Rose (W.faults out.old) (W.faults out.new) }
+    ensures listen_cause { result ≡ ListenFault → Rose (A.faults door.old) (A.faults door.new) }
+{
+    run_seeded(
+        rt,
+        alloc,
+        Seed::fixed(),
+        words,
+        host,
+        door,
+        out,
+        clock,
+        gate,
+    )
+}
+
+/// The same over a store whose tables hash names with a seed. Nothing that anybody is sent depends on it.
+#[tactic(auto, using(crate::proofs::ServingLemmas::at_most_same, crate::proofs::ServingLemmas::no_memory, crate::proofs::ServingLemmas::there_same, crate::proofs::ServingLemmas::untouched))]
+pub(crate) fn run_seeded<
+    H: Host,
+    A: Listener,
+    W: Sink,
+    C: Clock,
+    G: Gate,
+    R: Threads + Wait + Sync,
+>(
+    rt: &R,
+    alloc: Global,
+    seed: Seed,
     words: &[String],
     host: &mut H,
     door: &mut A,
@@ -58,7 +102,7 @@ pub fn run_server<H: Host, A: Listener, W: Sink, C: Clock, G: Gate, R: Threads +
         Err(_) => return Status::NoMemory,
     };
     match command_of(plain.as_slice()) {
-        Some(command) => run(rt, alloc, command, host, door, out, clock, gate),
+        Some(command) => run(rt, alloc, seed, command, host, door, out, clock, gate),
         None => Status::Usage,
     }
 }
@@ -67,6 +111,7 @@ pub fn run_server<H: Host, A: Listener, W: Sink, C: Clock, G: Gate, R: Threads +
 fn run<H: Host, A: Listener, W: Sink, C: Clock, G: Gate, R: Threads + Wait + Sync>(
     rt: &R,
     alloc: Global,
+    seed: Seed,
     command: Command,
     host: &mut H,
     door: &mut A,
@@ -88,6 +133,7 @@ fn run<H: Host, A: Listener, W: Sink, C: Clock, G: Gate, R: Threads + Wait + Syn
         Ok(config) => serve(
             rt,
             alloc,
+            seed,
             command.address,
             command.sessions,
             &config,
@@ -104,6 +150,7 @@ fn run<H: Host, A: Listener, W: Sink, C: Clock, G: Gate, R: Threads + Wait + Syn
 fn serve<A: Listener, W: Sink, C: Clock, G: Gate, R: Threads + Wait + Sync>(
     rt: &R,
     alloc: Global,
+    seed: Seed,
     address: &str,
     most: Option<u64>,
     config: &Config,
@@ -122,7 +169,7 @@ fn serve<A: Listener, W: Sink, C: Clock, G: Gate, R: Threads + Wait + Sync>(
 {
     // For the proof only: what became of links also holds over the journal in the end.
     closing_laws();
-    let Ok((hub, pass)) = open(alloc, config) else {
+    let Ok((hub, pass)) = open(alloc, seed, config) else {
         return Status::NoMemory;
     };
     let mut pass = pass;
@@ -136,13 +183,13 @@ fn serve<A: Listener, W: Sink, C: Clock, G: Gate, R: Threads + Wait + Sync>(
 }
 
 /// A hub over a new store, and the pass of the door.
-fn open(alloc: Global, config: &Config) -> Result<(Hub, Pass), NoMemory>
+fn open(alloc: Global, seed: Seed, config: &Config) -> Result<(Hub, Pass), NoMemory>
     ensures own { IfOk result (λ t. IsPassOf t.0 t.1) }
     ensures config { IfOk result (λ t. config_of t.0 ≡ config.now) }
     ensures view { IfOk result (λ t. known t.1 ≡ first_view (door ∷ []) config.now) }
 {
     let config = config.copy(alloc)?;
-    let store = Store::new(alloc, config)?;
+    let store = Store::with_seed(alloc, config, seed)?;
     Hub::new(alloc, store)
 }
 

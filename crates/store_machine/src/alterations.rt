@@ -17,6 +17,7 @@ use array_store::ArrayKey;
 use entry_index::EntryIndex;
 use etp_values::{Copied, List, NoMemory, Text};
 use std::alloc::Global;
+use table_seed::Seed;
 use tx_stage::{Key, Op, OpWhat, Touch};
 
 /// The keys that an act alters: each that it sets or removes itself, and those that it removes with everything in them.
@@ -151,14 +152,14 @@ impl Altered {
 }
 
 impl Alterations {
-    /// With only the door's entry.
-    pub(crate) fn new(alloc: Global) -> Alterations
+    /// With only the door's entry, in tables that hash keys with a seed.
+    pub(crate) fn new(alloc: Global, seed: Seed) -> Alterations
         ensures { Marks result (door ∷ []) }
     {
         let watches = Vec::new(alloc);
         Alterations {
-            own: EntryIndex::new(alloc),
-            whole: EntryIndex::new(alloc),
+            own: EntryIndex::new(alloc, seed),
+            whole: EntryIndex::new(alloc, seed),
             watches,
         }
     }

@@ -26,6 +26,7 @@ use etp_values::{ErrorCode, List, Named, NoMemory, StoreUri, Text};
 use server_config::Config;
 use std::alloc::Global;
 use std::marker::Model;
+use table_seed::Seed;
 use tx_stage::{Contents, Op, Staged, Want};
 
 /// A store. A contract sees its configuration and its journal.
@@ -73,11 +74,18 @@ impl Model for Store {
 }
 
 impl Store {
-    /// A store whose journal has only the door's entry.
+    /// A store whose journal has only the door's entry, and whose tables hash names with the fixed seed.
     pub fn new(alloc: Global, config: Config) -> Result<Store, NoMemory>
         ensures { IfOk result (λ s. s ≡ record { config = config; journal = door ∷ [] }) }
     {
-        let contents = Contents::new(alloc)?;
+        Store::with_seed(alloc, config, Seed::fixed())
+    }
+
+    /// The same with a seed. No answer depends on it.
+    pub fn with_seed(alloc: Global, config: Config, seed: Seed) -> Result<Store, NoMemory>
+        ensures { IfOk result (λ s. s ≡ record { config = config; journal = door ∷ [] }) }
+    {
+        let contents = Contents::new(alloc, seed)?;
         let channels = ChannelStore::new(alloc, &config)?;
         let mut journal = Vec::new(alloc);
         journal.push(Entry {
@@ -86,7 +94,7 @@ impl Store {
             at: 0,
             act: Act::Enter,
         })?;
-        let alterations = Alterations::new(alloc);
+        let alterations = Alterations::new(alloc, seed);
         Ok(Store {
             config,
             journal,

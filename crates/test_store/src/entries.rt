@@ -5,6 +5,7 @@ use etp_values::{List, NoMemory};
 use std::alloc::Global;
 use std::process::Abort;
 use std::test::Fail;
+use table_seed::Seed;
 
 fn keys(alloc: Global, first: u32, second: u32, third: u32) -> Result<List<u32>, NoMemory>
     ensures { IfOk result (λ l. length l ≡ 3) }
@@ -36,7 +37,7 @@ fn first_is(rt: &impl Abort, index: &EntryIndex<u32>, key: u32, from: u64, expec
 
 #[test]
 fn finds_the_first_entry_from_a_place_on(rt: HostRuntime) -> Result<(), Fail> {
-    let mut index = EntryIndex::new(rt.alloc());
+    let mut index = EntryIndex::new(rt.alloc(), Seed::of_key(b"a key"));
     note(rt.alloc(), &mut index, 1, [5, 7, 5])?;
     note(rt.alloc(), &mut index, 4, [5, 8, 9])?;
     first_is(&rt, &index, 5, 0, Some(1));

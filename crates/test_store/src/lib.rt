@@ -1,4 +1,4 @@
-//! Tests of channels, of their points and subscriptions, and of the index of entries.
+//! Tests of channels, of their points and subscriptions, of the index of entries, and of what names are hashed with.
 #![tactic(auto)]
 
 #[cfg(test)]
@@ -11,5 +11,7 @@ mod copies;
 mod entries;
 #[cfg(test)]
 mod points;
+#[cfg(test)]
+mod seeds;
 #[cfg(test)]
 mod subscriptions;

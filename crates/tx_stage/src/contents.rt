@@ -28,6 +28,7 @@ use array_store::{ArrayKey, ArrayRecord, ArrayStore, WeighedArray, has_numbers, 
 use etp_values::{AnyArray, ErrorCode, List, NoMemory, StoreUri, Text};
 use object_store::{ObjectRecord, ObjectStore, SpaceRecord};
 use std::alloc::Global;
+use table_seed::Seed;
 
 /// Dataspaces, objects and arrays.
 pub struct Contents {
@@ -45,13 +46,13 @@ impl Drop for Contents {
 }
 
 impl Contents {
-    /// The default dataspace, and nothing else.
-    pub fn new(alloc: Global) -> Result<Contents, NoMemory>
+    /// The default dataspace, and nothing else, in tables that hash names with a seed.
+    pub fn new(alloc: Global, seed: Seed) -> Result<Contents, NoMemory>
         ensures { IfOk result (λ t. (key : AKey) → state_in t key ≡ first key) }
     {
         Ok(Contents {
-            objects: ObjectStore::new(alloc)?,
-            arrays: ArrayStore::new(alloc),
+            objects: ObjectStore::with_seed(alloc, seed)?,
+            arrays: ArrayStore::with_seed(alloc, seed),
         })
     }
 

@@ -67,3 +67,6 @@ returns-clause-sound c =
 
 pub returns-clause-room : goal.returns-clause-room
 returns-clause-room c = (c.get_mut.follows.holds c.patch_array.new.self).6
+
+pub returns-clause-keys : goal.returns-clause-keys
+returns-clause-keys c = (c.get_mut.follows.holds c.patch_array.new.self).1

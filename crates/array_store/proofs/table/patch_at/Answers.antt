@@ -38,3 +38,6 @@ returns-clause-sound c = λ all.
     let raw : lookup (ghosts.eq key) old ≡ Some array = sym c.in-Some.ensures.value in
     let updates = (c.get_mut.follows.holds w).3 (ap is_some raw) in
     sound-set old new key w all (c.patch_in_place.ensures.sound (all key array (found_is old key array raw))) (λ q. written_is old new key q w (updates.0 q))
+
+pub returns-clause-keys : goal.returns-clause-keys
+returns-clause-keys c = (c.get_mut.follows.holds c.patch_in_place.new.self).1

@@ -39,3 +39,6 @@ returns-clause-sound c = λ all.
 
 pub returns-clause-room : goal.returns-clause-room
 returns-clause-room c = (c.get_mut.follows.holds c.set_written.new.self).6
+
+pub returns-clause-keys : goal.returns-clause-keys
+returns-clause-keys c = (c.get_mut.follows.holds c.set_written.new.self).1

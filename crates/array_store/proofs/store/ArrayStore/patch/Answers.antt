@@ -7,16 +7,18 @@ use Rattle.array_store.specs.Arrays.{is_bytes}
 use Rattle.array_store.specs.Refusals.{patch_refusal, Refuses}
 use Rattle.array_store.specs.Table as table
 use Rattle.array_store.specs.Table.{same_key, array_in}
+use Rattle.array_store.proofs.GroupLemmas.{kept-keys}
 use Rattle.array_store.proofs.store.ArrayStore.patch.Goals as goal
 
 pub patch_array-requires : goal.patch_array-requires
 patch_array-requires c = record {
   there = subst (λ t. IsSome (array_in t c.args.key.now)) (sym c.self.view_is) c.requires;
-  sound = c.self.invariant;
+  sound = c.self.invariant.sound;
 }
 
 pub invariant_of-self : goal.invariant_of-self
-invariant_of-self c = c.patch_array.ensures.sound
+invariant_of-self c =
+    kept-keys c.self.inside.arrays.entries c.patch_array.new.arrays.entries c.self.inside.by_object.groups c.self.inside.by_space.groups c.self.invariant c.patch_array.ensures.sound c.patch_array.ensures.keys
 
 pub returns-clause-done : goal.returns-clause-done
 returns-clause-done c =

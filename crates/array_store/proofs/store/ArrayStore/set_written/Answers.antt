@@ -5,13 +5,15 @@ use Rattle.std.specs.Map.{lookup}
 use Rattle.array_store.specs.declared.key.ArrayKey.{ArrayKey}
 use Rattle.array_store.specs.Table as table
 use Rattle.array_store.specs.Table.{same_key, array_in}
+use Rattle.array_store.proofs.GroupLemmas.{kept-keys}
 use Rattle.array_store.proofs.store.ArrayStore.set_written.Goals as goal
 
 pub set_written-requires : goal.set_written-requires
 set_written-requires c = subst (λ t. IsSome (array_in t c.args.key.now)) (sym c.self.view_is) c.requires
 
 pub invariant_of-self : goal.invariant_of-self
-invariant_of-self c = c.set_written.ensures.sound c.self.invariant
+invariant_of-self c =
+    kept-keys c.self.inside.arrays.entries c.set_written.new.arrays.entries c.self.inside.by_object.groups c.self.inside.by_space.groups c.self.invariant (c.set_written.ensures.sound c.self.invariant.sound) c.set_written.ensures.keys
 
 pub returns-clause-each : goal.returns-clause-each
 returns-clause-each c =

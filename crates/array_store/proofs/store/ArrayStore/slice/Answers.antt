@@ -8,4 +8,4 @@ use Rattle.array_store.proofs.store.ArrayStore.slice.Goals as goal
 pub slice_record-requires : goal.slice_record-requires
 slice_record-requires c =
     let found : lookup (ghosts.eq c.args.key.now) c.self.inside.arrays.entries ≡ Some c.in-Some.array.now = search rules in
-    ap record_refusal c.as_record.ensures ∙ c.self.invariant c.args.key.now c.in-Some.array.now (subst (λ eq. lookup (eq c.args.key.now) c.self.inside.arrays.entries ≡ Some c.in-Some.array.now) key_test found)
+    ap record_refusal c.as_record.ensures ∙ c.self.invariant.sound c.args.key.now c.in-Some.array.now (subst (λ eq. lookup (eq c.args.key.now) c.self.inside.arrays.entries ≡ Some c.in-Some.array.now) key_test found)
