@@ -32,13 +32,13 @@ pub filter-swap_remove : {X : Type 0} (p : X → Bool) (xs : List X) (i : ℕ) (
 filter-swap_remove p xs i x at =
     let sum = sum_by-swap_remove (λ y. cond (p y) 1 0) xs i x (slice_get_within xs i x at) in
     let there = get_or_from_slice_get xs i x x at in
-    let one = ap (λ y. cond (p y) 1 0) there in
+    let one = ap {B = ℕ} (λ y. cond (p y) 1 0) there in
     omega (arith, sum, one, length-filter p (swap_remove xs i x), length-filter p xs)
 
 filter-push : {X : Type 0} (p : X → Bool) (xs : List X) (x : X) → length (filter p (xs ++ x ∷ [])) ≡ length (filter p xs) + cond (p x) 1 0
 filter-push p [] x = by (p x)
   where
-    by : (b : Bool) → length (cond b (x ∷ []) []) ≡ cond b 1 0
+    by : (b : Bool) → length (cond b (x ∷ []) []) ≡ 0 + cond b 1 0
     by true = refl
     by false = refl
 filter-push p (y ∷ ys) x = by (p y) (filter-push p ys x)
@@ -83,7 +83,7 @@ length-taken xs i x =
 
 swapped-from : {X : Type 0} (P : X → Type 0) (xs : List X) (i j : ℕ) (x : X) → i < length xs → i ≤ j → j < length xs - 1
     → ((k : ℕ) (y : X) → i + 1 ≤ k → slice_get xs k ≡ Some y → P y) → (y : X) → slice_get (swap_remove xs i x) j ≡ Some y → P y
-swapped-from P xs i j x within from below rest y at =
+swapped-from {X = X} P xs i j x within from below rest y at =
     let last = slice_index_or xs (length xs - 1) x in
     let read : get_or (slice_set xs i last) j x ≡ y = sym (get_or-take (length xs - 1) (slice_set xs i last) j x below) ∙ get_or_from_slice_get (swap_remove xs i x) j y x at in
     by last (slice_get-get_or xs (length xs - 1) x (omega (arith, within))) (nat_eq j i) refl read
@@ -147,7 +147,7 @@ pub taken-loses : (goes : ArrayKey → Bool) (old new : List (ArrayKey × ArrayR
     → ((q : ArrayKey) → lookup (same_key q) new ≡ cond (same_key e.0 q) None (lookup (same_key q) old)) → goes e.0 ≡ true → Loses goes old new
 taken-loses goes old new i e at taken each gone =
     let one = filter-swap_remove (λ (f : ArrayKey × ArrayRecord). goes f.0) old i e at in
-    let mine = ap (λ b. cond b 1 0) gone in
+    let mine = ap {B = ℕ} (λ b. cond b 1 0) gone in
     let within = slice_get_within old i e at in
     record {
       others = λ q stays. each q ∙ kept-other goes e.0 q (same_key e.0 q) (lookup (same_key q) old) refl gone stays;
@@ -191,10 +191,6 @@ pub counts-keys : (number : ArrayKey → ℕ) (old new : List (ArrayKey × Array
 counts-keys number old new groups counts same = λ n.
     counts n ∙ filter-keys (λ k. nat_eq n (number k)) old ∙ ap (λ ks. length (filter (λ k. nat_eq n (number k)) ks)) (sym same) ∙ sym (filter-keys (λ k. nat_eq n (number k)) new)
 
--- the same arrays, in groups that count the same
-pub counts-same : (number : ArrayKey → ℕ) (es : List (ArrayKey × ArrayRecord)) (old new : List (ℕ × Group)) → CountsArrays number es old → SameCounts old new → CountsArrays number es new
-counts-same number es old new counts same = λ n. same n ∙ counts n
-
 added-to : (n m count here there : ℕ) (b : Bool) → nat_eq n m ≡ b → count ≡ cond b (there + 1) here → (n ≡ m → here ≡ there) → count ≡ here + cond b 1 0
 added-to n m count here there true same is eq = omega (arith, is, eq (eqb-true n m same))
 added-to n m count here there false other is eq = omega (arith, is)
@@ -203,7 +199,7 @@ added-to n m count here there false other is eq = omega (arith, is)
 pub counts-push : (number : ArrayKey → ℕ) (old new : List (ArrayKey × ArrayRecord)) (key : ArrayKey) (groups more : List (ℕ × Group)) → CountsArrays number old groups
     → keys_of new ≡ keys_of old ++ key ∷ [] → Adds groups more (number key) → CountsArrays number new more
 counts-push number old new key groups more counts keys adds = λ n.
-    let test = λ k. nat_eq n (number k) in
+    let test = λ (k : ArrayKey). nat_eq n (number k) in
     let pushed = filter-keys test new ∙ ap (λ ks. length (filter test ks)) keys ∙ filter-push test (keys_of old) key in
     let held = counts n ∙ filter-keys test old in
     let one = added-to n (number key) (count_among more n) (count_among groups n) (count_among groups (number key)) (nat_eq n (number key)) refl (adds n) (ap (count_among groups)) in

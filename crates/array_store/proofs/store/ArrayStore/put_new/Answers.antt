@@ -16,5 +16,5 @@ pub returns-in-Ok-clause-ok : goal.returns-in-Ok-clause-ok
 returns-in-Ok-clause-ok c =
     subst (λ es. SetsAmong es c.put_reserved.new.self.arrays c.args.key (table.put_array (array_among es c.args.key) c.args.value)) c.make_room.ensures.same c.put_reserved.ensures.each
 
-pub returns-clause-done : goal.returns-clause-done
-returns-clause-done c = ap (λ f. unwrap_or f NoMemory) (sym c.requires.sound)
+pub returns-in-Err-clause-done : goal.returns-in-Err-clause-done
+returns-in-Err-clause-done c = ap (λ f. unwrap_or f NoMemory) (sym c.requires.sound)

@@ -16,8 +16,8 @@ push-requires c =
       fits = counts-fit (object_of s.seed) s.arrays.entries s.by_object.groups c.of-numbers.result.object c.self.invariant.by_object small;
     }
 
-pub push-2-requires : goal.push-2-requires
-push-2-requires c =
+pub push-requires-2 : goal.push-requires-2
+push-requires-2 c =
     let s = c.self.inside in
     let room = room-in (spare s.arrays) s.by_object.spare s.by_space.spare (subst (λ (t : Arrays). 1 ≤ t.spare) (sym c.self.view_is) c.requires.room) in
     let small : length s.arrays.entries < 2 ^ 63 = search rules in
