@@ -3,6 +3,7 @@ use crate::log::DoorLog;
 use mio::unix::SourceFd;
 use mio::{Events, Interest, Poll, Token, Waker};
 use std::alloc::{AllocError, Global};
+use std::io;
 use std::net::{Net, SocketAddr};
 use std::os::fd::RawFd;
 use std::sync::atomic::{AtomicBool, AtomicU64, Ordering};
@@ -192,14 +193,10 @@ fn wake(place: &OnceLock<Waker>) {
 }
 
 /// A post without a bell.
-pub(crate) fn lone_post(net: &impl Net, alloc: Global) -> Option<Post> {
-    let Ok(poll) = Poll::new(net) else {
-        return None;
-    };
-    let Ok(events) = Events::with_capacity(alloc, 4) else {
-        return None;
-    };
-    Some(Post {
+pub(crate) fn lone_post(net: &impl Net, alloc: Global) -> io::Result<Post> {
+    let poll = Poll::new(net)?;
+    let events = Events::with_capacity(alloc, 4)?;
+    Ok(Post {
         poll,
         events,
         bell: None,
@@ -284,7 +281,7 @@ impl Posts {
     }
 
     fn make(&mut self, net: &impl Net, alloc: Global) -> Option<Post> {
-        let mut post = lone_post(net, alloc)?;
+        let mut post = lone_post(net, alloc).ok()?;
         let place = self.made;
         let Some(slot) = self.bells.wakers.get(place as usize) else {
             return Some(post);

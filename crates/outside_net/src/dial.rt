@@ -73,17 +73,16 @@ impl<'a, R: Net<Listener = TcpListener, Stream = TcpStream> + RandomSource> TcpD
         self.faults = self.faults.saturating_add(1);
     }
 
-    /// A connection to the first address of a host that accepts one.
-    fn connect(&self, host: &str, port: u16) -> Option<TcpStream> {
-        let Ok(addresses) = (without_brackets(host), port).to_socket_addrs(self.rt) else {
-            return None;
-        };
-        for address in addresses {
-            if let Ok(stream) = TcpStream::connect_timeout(self.rt, &address, self.patience) {
-                return Some(stream);
+    /// A connection to the first address of a host that accepts one; otherwise why the last address has none.
+    fn connect(&self, host: &str, port: u16) -> Result<TcpStream, Missed> {
+        let mut missed = Missed::Fault;
+        for address in (without_brackets(host), port).to_socket_addrs(self.rt)? {
+            match TcpStream::connect_timeout(self.rt, &address, self.patience) {
+                Ok(stream) => return Ok(stream),
+                Err(error) => missed = Missed::from(error),
             }
         }
-        None
+        Err(missed)
     }
 
     /// A link over a new connection, whose handshake is done.
@@ -99,13 +98,9 @@ impl<'a, R: Net<Listener = TcpListener, Stream = TcpStream> + RandomSource> TcpD
         ensures closed { IfOk result (λ l. l.closed ≡ false) }
     {
         let url = url_of(alloc, host, port, path)?;
-        let Some(stream) = self.connect(host, port) else {
-            return Err(Missed::Fault);
-        };
+        let stream = self.connect(host, port)?;
         let socket = ask_for_upgrade(alloc, stream, self.rt, url.as_str(), self.patience)?;
-        let Some(post) = lone_post(self.rt, alloc) else {
-            return Err(Missed::Fault);
-        };
+        let post = lone_post(self.rt, alloc)?;
         let stream = socket.into_inner().into_stream();
         let keys = RandomKeys::new(self.rt);
         match WsLink::new(alloc, Role::Client, stream, keys, Vec::new(alloc), post) {

@@ -119,7 +119,7 @@ impl<'a, R: Net<Listener = TcpListener, Stream = TcpStream> + Clock> TcpDoor<'a,
     {
         match &mut self.posts {
             Some(posts) => posts.take(self.rt, alloc, peer),
-            None => lone_post(self.rt, alloc),
+            None => lone_post(self.rt, alloc).ok(),
         }
     }
 

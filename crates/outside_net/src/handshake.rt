@@ -9,12 +9,13 @@ use crate::head_only::HeadOnly;
 use http::{HeaderName, HeaderValue, Request};
 use httparse::Header;
 use std::alloc::{AllocError, Global};
-use std::io;
+use std::io::{self, ErrorKind};
 use std::net::TcpStream;
 use std::random::RandomSource;
 use std::time::Duration;
 use tungstenite::handshake::client;
 use tungstenite::{Error, HandshakeError, RandomKeys, WebSocket, WebSocketConfig};
+use websocket::handshake::HandshakeError as HeadError;
 use websocket::handshake::server::write_response;
 
 /// The subprotocol that a client offers, and that a server chooses if it is offered.
@@ -30,8 +31,11 @@ pub(crate) enum Missed {
 }
 
 impl From<io::Error> for Missed {
-    fn from(_error: io::Error) -> Missed {
-        Missed::Fault
+    fn from(error: io::Error) -> Missed {
+        match error.kind() {
+            ErrorKind::OutOfMemory => Missed::NoMemory,
+            _ => Missed::Fault,
+        }
     }
 }
 
@@ -84,7 +88,8 @@ fn acceptance_with(alloc: Global, accept: &[u8; 28], extra: &[Header]) -> Option
 /// Why there is no WebSocket.
 fn why_missed(error: &Error) -> Missed {
     match error {
-        Error::OutOfMemory => Missed::NoMemory,
+        Error::OutOfMemory | Error::Handshake(HeadError::OutOfMemory) => Missed::NoMemory,
+        Error::Io(error) => Missed::from(*error),
         _ => Missed::Fault,
     }
 }
