@@ -13,14 +13,17 @@ use Rattle.channel_store.specs.declared.change.ChannelChange.{ChannelChange}
 use Rattle.channel_store.specs.declared.change.What.{What}
 use Rattle.channel_store.specs.declared.subscription.Sub.{Sub}
 use Rattle.client_core.specs.Asking.{begun}
-use Rattle.client_core.specs.Laws.{Asks, CopiesAreFolds, Takes}
+use Rattle.client_core.specs.Laws.{Asks, CopiesAreFolds, Takes, stepped}
 use Rattle.client_core.specs.Laws.{Event as ClientEvent}
 use Rattle.client_core.specs.Messages.{keyed, subscription_of}
-use Rattle.client_core.specs.Taking.{is_silent}
+use Rattle.client_core.specs.State.{is_ended}
+use Rattle.client_core.specs.State.{State as ClientState}
+use Rattle.client_core.specs.Taking.{by_phase, hears, is_silent, on_bytes}
 use Rattle.client_laws.specs.Parts.{Sent}
 use Rattle.etp_schema.specs.declared.body.Side.TheVariants.{Client, Server}
 use Rattle.etp_schema.specs.Form.{long_form}
 use Rattle.etp_frame.specs.Grouping.{entry_amount, groups}
+use Rattle.etp_frame.specs.Laws.{IsReadOrRefused}
 use Rattle.etp_frame.specs.Reading.{read_of}
 use Rattle.etp_frame.specs.Splitting.{parts}
 use Rattle.etp_frame.specs.declared.error.FrameError.{FrameError}
@@ -63,7 +66,7 @@ use Rattle.both_ends.proofs.AsideLemmas.{is_aside}
 use Rattle.both_ends.proofs.BeginLemmas.{reply_of}
 use Rattle.both_ends.proofs.BlockLemmas.{all_ended, asides_sent, grant_carries, granted, news_carry, parts_quiet, quiet_sent, some_reply}
 use Rattle.both_ends.proofs.CopyLemmas.{handed_has_points, idle_has_points}
-use Rattle.both_ends.proofs.FollowLemmas.{Carries, Delivers, Flows, Follows, IsMinor, asides_carry, carries_more, carries_none, silents_carry, stops_carry}
+use Rattle.both_ends.proofs.FollowLemmas.{Carries, Delivers, Flows, Follows, IsMinor, asides_carry, carries_more, carries_none, lives_before, silents_carry, stops_carry}
 use Rattle.both_ends.proofs.HearLemmas.{all_heard, hear_sent, more_heard}
 use Rattle.both_ends.proofs.NewsLemmas.{all_sent, as_sent, is_none, numbered_one}
 use Rattle.both_ends.proofs.PutLemmas.{IsModest, AreModest, Rising, all_at, begun_known, channel_named, out_puts, put_bytes, puts_modest, rising_puts}
@@ -86,13 +89,33 @@ sent_more xs ys = map-append as_sent xs ys
 
 -- ---- what is read
 
-delivered : (es : List ClientEvent) (os : List Outgoing) → flat_map bytes_taken es ≡ bytes_sent os → AllByRecursion (λ (o : Outgoing). IsPassed Server o.header o.message) os → Delivers es (all_sent os)
-delivered [] [] is pass = tt
-delivered [] (o ∷ os) is pass = none_not ⊥ is
-delivered (Asks a moment ∷ es) [] is pass = delivered es [] is pass
-delivered (Asks a moment ∷ es) (o ∷ os) is pass = delivered es (o ∷ os) is pass
-delivered (Takes bytes ∷ es) [] is pass = none_not ⊥ (sym is)
-delivered (Takes bytes ∷ es) (o ∷ os) is pass = (ap (read_of Server) (ap first_bytes is) ∙ pass.0, delivered es os (ap rest_bytes is) pass.1)
+-- a client that refused bytes as no message has ended
+refused_ends : (s : ClientState) (bytes : List ℕ) (e : FrameError) → read_of Server bytes ≡ Err e → is_ended (stepped s (Takes bytes)).heard.phase ≡ true
+unfolding hears
+refused_ends s bytes e refused = by (is_ended s.heard.phase)
+  where
+    by : (b : Bool) → is_ended (by_phase b bytes s.heard).state.phase ≡ true
+    by true = refl
+    by false = subst (λ (r : Result (Header × Message) FrameError). is_ended (on_bytes r s.heard).state.phase ≡ true) (sym refused) refl
+
+abbrev Again : List Outgoing → Type 0
+Again os = AllByRecursion (λ (o : Outgoing). IsReadOrRefused Server o.header o.message) os
+
+-- a client that has not ended refused nothing, so it read each message as it was written
+delivered : (s : ClientState) (es : List ClientEvent) (os : List Outgoing) → flat_map bytes_taken es ≡ bytes_sent os → Again os → is_ended (fold stepped s es).heard.phase ≡ false → Delivers es (all_sent os)
+delivered s [] [] is again lives = tt
+delivered s [] (o ∷ os) is again lives = none_not ⊥ is
+delivered s (Asks a moment ∷ es) [] is again lives = delivered (stepped s (Asks a moment)) es [] is again lives
+delivered s (Asks a moment ∷ es) (o ∷ os) is again lives = delivered (stepped s (Asks a moment)) es (o ∷ os) is again lives
+delivered s (Takes bytes ∷ es) [] is again lives = none_not ⊥ (sym is)
+delivered s (Takes bytes ∷ es) (o ∷ os) is again lives = (read again.0, delivered (stepped s (Takes bytes)) es os (ap rest_bytes is) again.1 lives)
+  where
+    read : IsReadOrRefused Server o.header o.message → read_of Server bytes ≡ Ok (o.header, o.message)
+    read (inl same) = ap (read_of Server) (ap first_bytes is) ∙ same
+    read (inr refused) =
+        absurd
+        (false≢true
+        (sym (lives_before (stepped s (Takes bytes)) es lives) ∙ refused_ends s bytes refused.0 (ap (read_of Server) (ap first_bytes is) ∙ refused.1)))
 
 -- a session is given these messages, as it reads them, and polls between
 abbrev Gives : List Event → List Put → Type 0
@@ -410,7 +433,7 @@ client_is_handed streams replied law config n h places es moment events channel 
     let rising : Rising 2 all = rising_puts moment events in
     let given : Gives es all = gives es all d.given.0 (d.given.1 ∙ out_puts moment events) d.put_passes in
     let served = served_all law streams replied config n h places small rises all rising (puts_modest moment events) [] es [] all refl given alive (carries_none all rising (λ c. false) (λ c. silence)) in
-    let follows = served (begun moment) (λ c. None) events (begins_followed moment events) (delivered events r.sent d.taken d.sent_passes) (begun_known moment events).0 d.lives in
+    let follows = served (begun moment) (λ c. None) events (begins_followed moment events) (delivered (begun moment) events r.sent d.taken d.sent_again d.lives) (begun_known moment events).0 d.lives in
     flow_handed (has_sub channel r.state.subs.subs) _ _ (fold (hear_sent channel) silence (all_sent r.sent)) (ap is_some stands) (follows.flows channel)
     ∙ ap (λ (k : Told). Some k.told) (sym (all_heard channel r.sent silence))
 

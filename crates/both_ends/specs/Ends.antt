@@ -12,6 +12,7 @@ use Rattle.client_core.specs.Messages.{message_of, request_message}
 use Rattle.client_core.specs.Notices.{copy_of}
 use Rattle.client_core.specs.State.{first_state, is_ended, is_open}
 use Rattle.client_core.specs.State.{State as ClientState}
+use Rattle.etp_frame.specs.Laws.{IsReadOrRefused}
 use Rattle.etp_frame.specs.Reading.{read_of}
 use Rattle.etp_frame.specs.Wire.{message_bytes}
 use Rattle.etp_frame.specs.declared.header.Header.{Header}
@@ -86,12 +87,12 @@ puts moment events = puts_of 2 2 (pieces first_state (request_message moment)) +
 
 -- ---- both ends
 
--- The client took all that the session sent, and no more; the session was given a prefix of what the client sent; each message was read as
--- it was written; and the client has not ended.
+-- The client took all that the session sent, and no more; the session was given a prefix of what the client sent; what the session sent is
+-- read as it was written, or refused, and what the client sent is read as it was written; and the client has not ended.
 pub record IsDelivered (sent : List Outgoing) (es : List Event) (moment : ℤ) (events : List ClientEvent) : Type 0 where
   pub taken : flat_map bytes_taken events ≡ bytes_sent sent
   pub given : IsPrefix (flat_map bytes_given es) (fold stepped (begun moment) events).out
-  pub sent_passes : AllByRecursion (λ (o : Outgoing). IsPassed Server o.header o.message) sent
+  pub sent_again : AllByRecursion (λ (o : Outgoing). IsReadOrRefused Server o.header o.message) sent
   pub put_passes : AllByRecursion (λ (p : Put). IsPassed Client (put_header p) p.message) (puts moment events)
   pub lives : is_ended (fold stepped (begun moment) events).heard.phase ≡ false
 

@@ -4,6 +4,7 @@ pub mod RowLemmas
 pub mod ReadingLemmas
 pub mod CheckLemmas
 pub mod WireLemmas
+pub mod AgainLemmas
 pub mod PieceLemmas
 pub mod PlaceLemmas
 pub mod KeptLemmas

@@ -1,5 +1,5 @@
 -- The laws of messages.
-use Rattle.std.specs.Prelude.{◌≡◌, ◌↔◌, ◌≤◌, List, ℕ, ℤ, Some, Ok, Err}
+use Rattle.std.specs.Prelude.{◌≡◌, ◌⊎◌, ◌↔◌, ◌≤◌, List, ℕ, ℤ, Some, Ok, Err}
 use Rattle.avro_bin.specs.Value.{nodes}
 use Rattle.avro_bin.specs.Shape.{HasSchema, FitsTree}
 use Rattle.avro_bin.specs.Laws.{IsBytes, node_limit}
@@ -40,6 +40,20 @@ pub record Fits (h : Header) (x : Message) : Type 0 where
   pub typed : HasSchema (message_body x).schema (message_body x).value
   pub body : FitsTree (message_body x).value
   pub few : nodes (message_body x).value ≤ node_limit
+
+-- a message's types can hold it, however many nodes it has
+pub record Typed (h : Header) (x : Message) : Type 0 where
+  pub header : FitsTree (header_form.as_value h)
+  pub typed : HasSchema (message_body x).schema (message_body x).value
+  pub body : FitsTree (message_body x).value
+
+-- what is written for a header and a message is read as they are by this side, or is refused
+abbrev pub IsReadOrRefused : Side → Header → Message → Type 0
+IsReadOrRefused side h x = (read_of side (message_bytes h x) ≡ Ok (h, x)) ⊎ ((e : FrameError) × (read_of side (message_bytes h x) ≡ Err e))
+
+-- what is written for a header and the message that it names is never read as another header or message
+abbrev pub WrittenIsReadOrRefused : Type 0
+WrittenIsReadOrRefused = (side : Side) (h : Header) (x : Message) → IsPlain h → Names h x → Typed h x → IsBytes (message_bytes h x) → IsReadOrRefused side h x
 
 -- what is written for a header and the message that it names is of the wire form, and reads back as they are
 abbrev pub WrittenIsRead : Type 0

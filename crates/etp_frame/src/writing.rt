@@ -5,6 +5,7 @@ ghost use Rattle.avro_bin.specs.Shape.{FitsTree, HasSchema};
 ghost use Rattle.avro_bin.specs.Value.{nodes};
 ghost use Rattle.etp_schema.specs.declared.body.Side.{Side};
 ghost use Rattle.msg_channel.specs.ChannelSubscribe.{channel_subscribe_body};
+ghost use Rattle.etp_frame.specs.Laws.{IsReadOrRefused, Typed};
 ghost use Rattle.etp_frame.specs.Message.{message_body, Names};
 ghost use Rattle.avro_bin.specs.Laws.{node_limit};
 ghost use Rattle.etp_frame.specs.Wire.{IsPlain, Sends, IsMessage, message_bytes};
@@ -23,6 +24,7 @@ pub fn write_message(alloc: Global, header: &Header, message: &Message) -> Resul
     ensures bytes { IfOk result (λ b. b ≡ message_bytes header.now message.now) }
     ensures form { IfOk result (λ b. (side : Side) → Sends side header.now message.now → nodes (message_body message.now).value ≤ node_limit
         → IsMessage side header.now message.now b) }
+    ensures again { IfOk result (λ b. (side : Side) → IsReadOrRefused side header.now message.now) }
 {
     let size = header.measure().plus(message.measure()).bytes;
     write_in_room(alloc, size as usize, header, message)
@@ -40,13 +42,24 @@ pub fn write_in_room(
     ensures bytes { IfOk result (λ b. b ≡ message_bytes header.now message.now) }
     ensures form { IfOk result (λ b. (side : Side) → Sends side header.now message.now → nodes (message_body message.now).value ≤ node_limit
         → IsMessage side header.now message.now b) }
+    ensures again { IfOk result (λ b. (side : Side) → IsReadOrRefused side header.now message.now) }
 {
     let mut bytes = Vec::with_capacity(alloc, room)?;
     header.write(&mut bytes)?;
     append_body(message, &mut bytes)?;
+    again(&bytes, header, message);
     let blob = Blob::from_vec(bytes)?;
     Ok(blob)
 }
+
+/// Does nothing. What is written for a message that its types can hold is read as it was by either side, or refused.
+fn again(bytes: &[u8], header: &Header, message: &Message)
+    requires names { Names header.now message.now }
+    requires plain { IsPlain header.now }
+    requires typed { Typed header.now message.now }
+    requires bytes { bytes.now ≡ message_bytes header.now message.now }
+    ensures { (side : Side) → IsReadOrRefused side header.now message.now }
+{}
 
 /// Appends the written spelling of the message's body. What there is after `NoMemory` is unspecified.
 fn append_body(message: &Message, into: &mut Vec<u8>) -> Result<(), NoMemory>

@@ -1,6 +1,8 @@
 -- What callers see of a session.
-use Rattle.std.specs.Prelude.{ℕ, List, Option, Some, None}
+use Rattle.std.specs.Prelude.{ℕ, List, Option, Some, None, IfSome}
 use Rattle.std.specs.Option.{option_map}
+use Rattle.etp_schema.specs.declared.body.Side.{Side}
+use Rattle.etp_frame.specs.Laws.{IsReadOrRefused}
 use Rattle.etp_frame.specs.Wire.{message_bytes}
 use Rattle.session_core.specs.declared.state.Outgoing.{Outgoing}
 use Rattle.session_core.specs.declared.state.Phase.{Phase}
@@ -12,6 +14,14 @@ use Rattle.session_core.specs.Sending.{first_of, rest_of}
 -- a message as it is sent
 abbrev pub bytes_of : Outgoing → List ℕ
 bytes_of o = message_bytes o.header o.message
+
+-- whoever reads a message as it is sent reads the same, or refuses it
+abbrev pub IsReadAgain : Outgoing → Type 0
+IsReadAgain o = (side : Side) → IsReadOrRefused side o.header o.message
+
+-- that holds of the first of these messages
+abbrev pub IsFirstReadAgain : List Outgoing → Type 0
+IsFirstReadAgain out = IfSome (first_of out) IsReadAgain
 
 -- the first message as it is sent
 abbrev pub next_bytes : List Outgoing → Option (List ℕ)

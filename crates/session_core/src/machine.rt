@@ -6,7 +6,7 @@ ghost use Rattle.session_core.specs.Arriving.{Receives, Polls, request_of};
 ghost use Rattle.session_core.specs.Machine.{accepting, acknowledged, by_event, by_phase, may_acknowledge, on_fresh, on_message, on_poll};
 ghost use Rattle.session_core.specs.Run.{Asks, hears, takes};
 ghost use Rattle.session_core.specs.Sending.{IsWritable, max_id};
-ghost use Rattle.session_core.specs.Session.{bytes_of, end_of, next_bytes, sent_one};
+ghost use Rattle.session_core.specs.Session.{IsFirstReadAgain, IsReadAgain, bytes_of, end_of, next_bytes, sent_one};
 ghost use Rattle.session_core.specs.State.{first_state};
 
 mod answering;
@@ -163,6 +163,7 @@ impl Machine {
     pub(crate) fn next_out(&mut self, alloc: Global) -> Result<Option<Blob>, NoMemory>
         ensures bytes { IfOk result (λ bytes. bytes ≡ next_bytes self.old.out) }
         ensures state { OnOk result (self.new ≡ sent_one self.old) }
+        ensures again { IfOk result (λ _. IsFirstReadAgain self.old.out) }
     {
         let Some(outgoing) = self.out.pop() else {
             return Ok(None);
@@ -363,7 +364,8 @@ fn may_acknowledge_core(message: &CoreMessage) -> bool
 
 fn bytes_of(alloc: Global, room: usize, outgoing: Outgoing) -> Result<Blob, NoMemory>
     requires { IsWritable outgoing }
-    ensures { IfOk result (λ bytes. bytes ≡ bytes_of outgoing) }
+    ensures bytes { IfOk result (λ bytes. bytes ≡ bytes_of outgoing) }
+    ensures again { IfOk result (λ _. IsReadAgain outgoing) }
 {
     let written = write_in_room(alloc, room, &outgoing.header, &outgoing.message);
     drop(outgoing);

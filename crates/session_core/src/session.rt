@@ -3,7 +3,7 @@ ghost use Rattle.std.specs.Prelude.{◌≡◌, pos, IfOk, IfSome, OnOk, ◌≤�
 ghost use Rattle.session_core.specs.Arriving.{Receives, Polls};
 ghost use Rattle.session_core.specs.Run.{Asks, hears, takes};
 ghost use Rattle.session_core.specs.Sending.{max_id};
-ghost use Rattle.session_core.specs.Session.{end_of, next_bytes, sent_one};
+ghost use Rattle.session_core.specs.Session.{IsFirstReadAgain, end_of, next_bytes, sent_one};
 ghost use Rattle.session_core.specs.State.{first_state};
 
 use crate::machine::Machine;
@@ -95,6 +95,7 @@ impl Session {
     pub fn next_out(&mut self, alloc: Global) -> Result<Option<Blob>, NoMemory>
         ensures bytes { IfOk result (λ bytes. bytes ≡ next_bytes self.old.out) }
         ensures state { OnOk result (self.new ≡ sent_one self.old) }
+        ensures again { IfOk result (λ _. IsFirstReadAgain self.old.out) }
     {
         self.machine.get_mut().next_out(alloc)
     }

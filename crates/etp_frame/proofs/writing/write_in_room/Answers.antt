@@ -16,3 +16,15 @@ returns-clause-form c = λ side sent few.
       few = few;
     } in
     subst (IsMessage side h x) (sym same) (written_form side h x c.requires.plain c.requires.names sent fits)
+
+pub again-requires : goal.again-requires
+again-requires c = record {
+  names = c.requires.names;
+  plain = c.requires.plain;
+  typed = record {
+    header = c.in_ok-write.ensures.fits;
+    typed = c.in_ok-append_body.ensures.typed;
+    body = c.in_ok-append_body.ensures.fits;
+  };
+  bytes = search rules;
+}
