@@ -13,7 +13,7 @@ use crate::ranges::ranges_outcome;
 use crate::subscribing::{begin_reply, begin_request};
 use crate::unsubscribing::stop_request;
 use channel_store::{ChannelChange, Sub};
-use etp_values::{ChannelPoint, ErrorCode, List, Named, NoMemory, StoreUri, Text};
+use etp_values::{ErrorCode, List, Named, NoMemory, StoreUri, Text};
 use keyed_requests::{
     Decision, Findings, Outcome, Plain, PlainReply, PlainRequest, Sending, keys_refusal,
     object_uri, refusal_alone, refused_outcome, reply_alone, request_outcome, request_reply,
@@ -23,7 +23,7 @@ use msg_channel::{
 };
 use server_config::ChannelDef;
 use std::alloc::Global;
-use store_machine::{Answer, MetaReply, Reply, StartAsk, StartReply, StoreCall};
+use store_machine::{Answer, MetaReply, RangedPoints, Reply, StartAsk, StartReply, StoreCall};
 use subscribe_core::{StopCause, Subs, stop_cause};
 
 /// What a request of the ChannelSubscribe protocol, or a poll, keeps while the store is asked.
@@ -234,13 +234,13 @@ fn metas_reply(
 fn points_reply(
     alloc: Global,
     pending: SubscribePending,
-    points: List<ChannelPoint>,
+    points: RangedPoints,
 ) -> Result<List<Sending<ChannelSubscribeMessage>>, NoMemory>
     ensures { IfOk result (λ l. l ≡ points_reply pending points) }
 {
     match pending {
         SubscribePending::Ranges => {
-            let payload = channel_items(alloc, points)?;
+            let payload = channel_items(alloc, points.to_list(alloc)?)?;
             let response = GetRangesResponse { payload };
             reply_alone(alloc, ChannelSubscribeMessage::GetRangesResponse(response))
         }

@@ -75,6 +75,15 @@ pub fn copy_inside(
     points.copy_between(alloc, start, count)
 }
 
+/// The points from `from` to `to`, in chunks that share the memory of these.
+pub fn run_inside(alloc: Global, points: &Chunks, from: i64, to: i64) -> Result<PointRun, NoMemory>
+    requires { Rises points.now.points }
+    ensures { IfOk result (λ r. r ≡ inside from to points.now.points) }
+{
+    let (start, count) = place_inside(points, from, to);
+    points.run_between(alloc, start, count)
+}
+
 /// The size of the points from `from` to `to`.
 pub fn size_inside(points: &Chunks, from: i64, to: i64) -> PointSize
     requires { Rises points.now.points }

@@ -242,6 +242,19 @@ impl ChannelStore {
         Ok(track.range(self.alloc, from, to)?)
     }
 
+    /// A channel's points from `from` to `to`, in chunks that share its memory.
+    pub fn range_run(&self, channel: i64, from: i64, to: i64) -> Result<PointRun, ChannelError>
+        ensures { Gives ChannelError.NoMemory result (range_of self.now channel from to) }
+    {
+        let Some(track) = track_at(self.tracks.as_slice(), channel) else {
+            return Err(ChannelError::NoChannel(channel));
+        };
+        if from > to {
+            return Err(ChannelError::Interval);
+        }
+        Ok(track.range_run(self.alloc, from, to)?)
+    }
+
     /// How many points a channel has from `from` to `to`, and what they count.
     pub fn range_size(&self, channel: i64, from: i64, to: i64) -> Result<PointSize, ChannelError>
         ensures { result ≡ sized (range_of self.now channel from to) }

@@ -12,8 +12,8 @@ use crate::draft::{Way, check, join};
 use crate::error::ChannelError;
 use crate::places::{change_at, mark_changes, next_place};
 use crate::points::{
-    PointSize, apply, copy_inside, index_from_end, run_past, size_inside, size_inside_within,
-    size_past, size_past_within,
+    PointSize, apply, copy_inside, index_from_end, run_inside, run_past, size_inside,
+    size_inside_within, size_past, size_past_within,
 };
 use channel_points::{Chunks, PointRun, Points, Rows};
 use etp_values::{Copied, List, NoMemory, Point, StoreUri};
@@ -147,6 +147,13 @@ impl Track {
         ensures { IfOk result (λ r. r ≡ inside from to self.now.shown.points) }
     {
         copy_inside(alloc, &self.points, from, to)
+    }
+
+    /// The points from `from` to `to`, in chunks that share the memory of the channel's.
+    pub fn range_run(&self, alloc: Global, from: i64, to: i64) -> Result<PointRun, NoMemory>
+        ensures { IfOk result (λ r. r ≡ inside from to self.now.shown.points) }
+    {
+        run_inside(alloc, &self.points, from, to)
     }
 
     /// The change whose entry is at a place of the journal.

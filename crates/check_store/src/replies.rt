@@ -2,6 +2,7 @@
 use crate::looks::{print_looked, print_spaces};
 use crate::showing::print_value;
 use etp_values::{ChannelPoint, ErrorCode, Named};
+use std::alloc::AllocError;
 use std::io;
 use store_machine::{Answer, MetaReply, Reply, Verdict};
 
@@ -103,7 +104,10 @@ fn print_reply(rt: &HostRuntime, reply: &Reply) -> io::Result<()> {
         Reply::Written => println!(rt; "written"),
         Reply::JournalFull => println!(rt; "journal full"),
         Reply::Refused(code) => print_refused(rt, *code),
-        Reply::Points(points) => print_points(rt, points.as_slice()),
+        Reply::Points(points) => {
+            let points = points.to_list(rt.alloc()).map_err(|_| AllocError)?;
+            print_points(rt, points.as_slice())
+        }
         Reply::Metas(metas) => print_metas(rt, metas),
         Reply::Committed => println!(rt; "committed"),
         Reply::Conflict(place) => println!(rt; "conflict {place}"),

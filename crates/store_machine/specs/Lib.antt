@@ -3,6 +3,7 @@ pub mod Dataspaces
 pub mod Counted
 pub mod Channels
 pub mod Cuts
+pub mod Runs
 pub mod Reads
 pub mod Ranging
 pub mod Starts

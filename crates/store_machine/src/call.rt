@@ -162,8 +162,8 @@ pub enum Reply {
     JournalFull,
     /// The call is refused as a whole.
     Refused(ErrorCode),
-    /// The points of the intervals, in order.
-    Points(List<ChannelPoint>),
+    /// The points of the intervals, in order, which share the memory of the channels'.
+    Points(RangedPoints),
     /// What is known about each channel.
     Metas(Named<MetaReply>),
     /// Where each subscription starts.

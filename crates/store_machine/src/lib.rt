@@ -17,6 +17,7 @@ mod laws;
 mod load;
 mod looks;
 mod news;
+mod ranged;
 mod reads;
 mod spaces;
 mod starts;
@@ -35,6 +36,7 @@ pub use laws::{
     conflict_laws, growth_laws, news_laws, number_laws, room_laws, state_laws, stream_laws,
 };
 pub use news::{MAX_CHANGE_BYTES, MAX_CHANGES};
+pub use ranged::RangedPoints;
 pub use reads::{MAX_POINT_BYTES, MAX_POINTS};
 pub use store::Store;
 pub use tx_stage::{Looked, Want};

@@ -9,8 +9,9 @@ ghost use Rattle.store_machine.specs.Ranging.{JoinsRange};
 
 use crate::call::{MetaReply, RangeAsk, Reply};
 use crate::codes::refusal_code;
+use crate::ranged::RangedPoints;
 use channel_store::{ChannelStore, PointSize};
-use etp_values::{ChannelPoint, ErrorCode, List, NoMemory, Point, StoreUri, Text};
+use etp_values::{ErrorCode, List, NoMemory, StoreUri, Text};
 use std::alloc::Global;
 
 /// The greatest number of points in an answer.
@@ -72,35 +73,20 @@ impl Room {
     }
 }
 
-/// Adds the points of a channel to others.
-fn push_points(
-    items: &mut Vec<ChannelPoint>,
-    channel: i64,
-    points: List<Point>,
-) -> Result<(), NoMemory>
-    ensures { OnOk result (items.new.items ≡ items.old.items ++ map (of_channel channel) points) }
-{
-    items.reserve(points.len())?;
-    for point in points.into_vec() {
-        items.push(ChannelPoint { channel, point })?;
-    }
-    Ok(())
-}
-
 /// Adds the points of a range to others.
 fn push_range(
     channels: &ChannelStore,
     ask: &RangeAsk,
-    items: &mut Vec<ChannelPoint>,
+    items: &mut RangedPoints,
 ) -> Result<(), NoMemory>
     ensures { OnOk result ((points : Items APoint)
         → range_of channels.now ask.now.channel ask.now.from ask.now.to ≡ Ok points
-        → items.new.items ≡ items.old.items ++ map (of_channel ask.now.channel) points) }
+        → items.new ≡ items.old ++ map (of_channel ask.now.channel) points) }
 {
-    let Ok(points) = channels.range(ask.channel, ask.from, ask.to) else {
+    let Ok(points) = channels.range_run(ask.channel, ask.from, ask.to) else {
         return Err(NoMemory);
     };
-    push_points(items, ask.channel, points)
+    items.push(ask.channel, points)
 }
 
 /// Adds the points of a range to those of the ranges before it, if they fit; they are of this size, or too many.
@@ -109,13 +95,13 @@ fn take_sized(
     ask: &RangeAsk,
     size: Option<PointSize>,
     room: &mut Room,
-    items: &mut Vec<ChannelPoint>,
+    items: &mut RangedPoints,
 ) -> Result<Option<ErrorCode>, NoMemory>
     requires within { room.old.bytes ≤ MAX_POINT_BYTES }
     requires size { Ok size ≡ sized_within room.old.points
         (range_of channels.now ask.now.channel ask.now.from ask.now.to) }
     ensures joins { IfOk result (λ r.
-        JoinsRange r channels.now ask.now room.old room.new items.old.items items.new.items) }
+        JoinsRange r channels.now ask.now room.old room.new items.old items.new) }
     ensures within { room.new.bytes ≤ MAX_POINT_BYTES }
 {
     let Some(left) = room.left_by(size) else {
@@ -131,11 +117,11 @@ fn take_range(
     channels: &ChannelStore,
     ask: &RangeAsk,
     room: &mut Room,
-    items: &mut Vec<ChannelPoint>,
+    items: &mut RangedPoints,
 ) -> Result<Option<ErrorCode>, NoMemory>
     requires { room.old.bytes ≤ MAX_POINT_BYTES }
     ensures joins { IfOk result (λ r.
-        JoinsRange r channels.now ask.now room.old room.new items.old.items items.new.items) }
+        JoinsRange r channels.now ask.now room.old room.new items.old items.new) }
     ensures within { room.new.bytes ≤ MAX_POINT_BYTES }
 {
     match channels.range_size_within(ask.channel, ask.from, ask.to, room.points()) {
@@ -153,13 +139,13 @@ pub(crate) fn ranges(
     ensures { IfOk result (λ r. r ≡ range_reply (ranged channels.now whole_room asks.now)) }
 {
     let mut room = Room::whole();
-    let mut items = Vec::new(alloc);
+    let mut items = RangedPoints::new(alloc);
     for ask in asks.as_slice() {
         if let Some(code) = take_range(channels, ask, &mut room, &mut items)? {
             return Ok(Reply::Refused(code));
         }
     }
-    Ok(Reply::Points(List::from_vec(items)))
+    Ok(Reply::Points(items))
 }
 
 fn meta(channels: &ChannelStore, uri: &StoreUri) -> MetaReply

@@ -4,6 +4,6 @@ use Rattle.store_machine.proofs.reads.ranges.Given as goal
 
 abbrev pub invariant-loop-ask : goal.invariant-loop-ask
 invariant-loop-ask l = record {
-  joins : behind l.items.items (ranged l.channels l.room (drop l.ask-index l.ask-items)) ≡ ranged l.channels whole_room l.asks;
+  joins : behind l.items (ranged l.channels l.room (drop l.ask-index l.ask-items)) ≡ ranged l.channels whole_room l.asks;
   within : l.room.bytes ≤ 67108864;
 }

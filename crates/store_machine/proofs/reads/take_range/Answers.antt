@@ -13,4 +13,4 @@ returns-in_ok-refusal_code-in-Err-clause-joins c =
     let to : FitsSigned w64 a.to = search rules in
     let size : Err c.in-Err.error ≡ sized_within c.args.room.now.points (range_of c.args.channels.now a.channel a.from a.to) =
     c.in-Err.ensures ∙ (λ j. sized_within (c.points.ensures j) (range_of c.args.channels.now (to_z-of_z w64 a.channel channel j) (to_z-of_z w64 a.from from j) (to_z-of_z w64 a.to to j))) in
-    joins-refused c.args.channels.now a c.args.room.now c.args.room.now c.args.items.now.items c.args.items.now.items c.in-Err.error _ size c.in_ok-refusal_code-in-Err.ensures
+    joins-refused c.args.channels.now a c.args.room.now c.args.room.now c.args.items.now c.args.items.now c.in-Err.error _ size c.in_ok-refusal_code-in-Err.ensures
