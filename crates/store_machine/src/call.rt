@@ -1,4 +1,5 @@
 //! What a store is asked, and what it answers.
+use crate::ranged::RangedPoints;
 use channel_points::PointRun;
 use channel_store::{ChannelChange, Sub};
 use etp_values::{
