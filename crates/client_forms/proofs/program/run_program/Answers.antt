@@ -1,6 +1,5 @@
-use Rattle.std.proofs.Common.{subst}
+use Rattle.std.proofs.Common.{sym}
 use Rattle.std.proofs.lemmas.Result.{IfErr-weaker, IfOk-weaker}
-use Rattle.client_forms.specs.Program.{EndsWith}
 use Rattle.client_forms.proofs.program.run_program.Goals as goal
 
 pub returns-clause-ran : goal.returns-clause-ran
@@ -11,4 +10,4 @@ returns-clause-ran g c = IfOk-weaker c.args.words _ _ (λ ws h. record {
 }) c.run_words-streams.ensures.ran
 
 pub returns-clause-wordless : goal.returns-clause-wordless
-returns-clause-wordless g c = IfErr-weaker c.args.words _ _ (λ status h. (h.0, subst (λ s. EndsWith s _ _ _ _ _) h.1 (record { number_is = c.finish.ensures.number; is_told = c.finish.ensures.told }))) c.run_words-streams.ensures.wordless
+returns-clause-wordless g c = IfErr-weaker c.args.words _ _ (λ status h. (h.0, rw (sym h.1) (record { number_is = c.finish.ensures.number; is_told = c.finish.ensures.told }))) c.run_words-streams.ensures.wordless
