@@ -179,6 +179,13 @@ def write_structs(schema, file):
 # ---- Rust: bytes
 
 
+# What is tried before the fields of these records are written one by one.
+SHORT_WAYS = {
+    "DataItem": "        if let Some(index) = index_in_room(self, into) {\n"
+                "            return put_plain(self.channel_id, index, &self.value, into);\n        }\n",
+}
+
+
 def record_bytes(record):
     names = [each.rust for each in record.fields]
     made = f"{record.name} {{ {', '.join(names)} }}" if names else record.name
@@ -186,7 +193,7 @@ def record_bytes(record):
     return (f"impl OnWire for {record.name} {{\n    {RECORD_READ}\n"
             f"    fn read(from: &mut Reader<'_>) -> Result<{record.name}, Fault> {{\n"
             f"        let {nested(names)} = from.fields()?;\n        Ok({made})\n    }}\n\n"
-            f"    {HOLDS}\n    fn write(&self, into: &mut Vec<u8>) -> Result<(), NoMemory> {{\n"
+            f"    {HOLDS}\n    fn write(&self, into: &mut Vec<u8>) -> Result<(), NoMemory> {{\n{SHORT_WAYS.get(record.name, '')}"
             f"        write_fields({pairs}, into)\n    }}\n\n"
             f"    fn measure(&self) -> Measure {{\n        measure_fields({pairs})\n    }}\n}}")
 

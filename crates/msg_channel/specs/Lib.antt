@@ -1,3 +1,4 @@
 pub mod ChannelRecords
 pub mod ChannelSubscribe
 pub mod ChannelDataLoad
+pub mod Plain

@@ -19,8 +19,10 @@ mod channel_subscribe_on_wire;
 mod data_calls;
 mod indexes;
 mod indexes_on_wire;
+mod plain;
 mod points;
 mod points_on_wire;
+mod put_plain;
 
 pub use channel_data_load_messages::{
     ChannelDataLoadMessage, ChannelsClosed, CloseChannels, LoadChannelData, OpenChannelInfo,

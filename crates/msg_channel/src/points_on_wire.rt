@@ -3,6 +3,7 @@
 //! `schema/write` writes all below the imports from `schema/messages.txt`.
 
 use crate::points::{DataAttribute, DataItem, TruncateInfo};
+use crate::put_plain::{index_in_room, put_plain};
 use avro_bin::Fault;
 use etp_schema::{Measure, OnWire, Reader, measure_fields, write_fields};
 use etp_values::NoMemory;
@@ -41,6 +42,9 @@ impl OnWire for DataItem {
 
     #[tactic(auto, unfolding(etp_schema::specs::Form::Holds))]
     fn write(&self, into: &mut Vec<u8>) -> Result<(), NoMemory> {
+        if let Some(index) = index_in_room(self, into) {
+            return put_plain(self.channel_id, index, &self.value, into);
+        }
         write_fields(
             (
                 &self.channel_id,

@@ -1,0 +1,67 @@
+-- Plain items as they are appended.
+use Rattle.std.proofs.Common.{◌≡◌, ℕ, ℤ, suc, ◌+◌, ◌-◌, ◌%◌, ◌/◌, ◌<◌, ◌≤◌, List, [], ◌∷◌, ◌++◌, length, FitsSigned, w64, refl, sym, ap, ◌∙◌, arith, append_assoc, append-nil}
+use Rattle.std.proofs.lemmas.Bool.{le-ltb, lt-ltb}
+use Rattle.std.proofs.lemmas.List.{nil_from_length}
+use Rattle.etp_values.specs.declared.data.DataValue.{DataValue}
+use Rattle.avro_bin.specs.Number.{plain_number, shortest}
+use Rattle.avro_bin.specs.Plain.{plain}
+use Rattle.avro_bin.specs.Shape.{FitsTree}
+use Rattle.etp_schema.specs.DataValue.{data_value_form}
+use Rattle.etp_schema.specs.Form.{Holds}
+use Rattle.msg_channel.specs.ChannelRecords.{data_item_form}
+use Rattle.msg_channel.specs.Plain.{front_of_long, item_of_long}
+use Rattle.msg_channel.specs.declared.indexes.IndexValue.TheVariants as index
+use Rattle.msg_channel.specs.declared.points.DataItem.{DataItem}
+
+-- ---- numbers, group by group
+
+-- a group that isn't the last
+pub push_step : (i left : ℕ) (now new all : List ℕ) → i < 9 → 128 ≤ left → new ≡ now ++ (left % 128 + 128) ∷ [] → now ++ shortest (9 - i) left ≡ all → new ++ shortest (9 - (i + 1)) (left / 128) ≡ all
+push_step i left now new all lt le pushed so_far =
+    let k : 9 - i ≡ suc (9 - (i + 1)) = omega arith in
+    let one : shortest (9 - i) left ≡ (left % 128 + 128) ∷ shortest (9 - (i + 1)) (left / 128) = rw (k, le-ltb left 128 le) refl in
+    let others : List ℕ = shortest (9 - (i + 1)) (left / 128) in
+    let split : (now ++ (left % 128 + 128) ∷ []) ++ others ≡ now ++ (left % 128 + 128) ∷ others = simp append_assoc in
+    ap (λ (l : List ℕ). l ++ others) pushed ∙ split ∙ ap (λ (l : List ℕ). now ++ l) (sym one) ∙ so_far
+
+-- the last group
+pub push_last : (i left : ℕ) (now new all : List ℕ) → i < 9 → left < 128 → new ≡ now ++ left ∷ [] → now ++ shortest (9 - i) left ≡ all → new ≡ all
+push_last i left now new all lt small pushed so_far =
+    let k : 9 - i ≡ suc (9 - (i + 1)) = omega arith in
+    let one : shortest (9 - i) left ≡ left ∷ [] = rw (k, lt-ltb left 128 small) refl in
+    pushed ∙ ap (λ (l : List ℕ). now ++ l) (sym one) ∙ so_far
+
+-- the tenth group
+pub push_tenth : (i left : ℕ) (now new all : List ℕ) → 9 ≤ i → new ≡ now ++ left ∷ [] → now ++ shortest (9 - i) left ≡ all → new ≡ all
+push_tenth i left now new all past pushed so_far =
+    let k : 9 - i ≡ 0 = omega arith in
+    let one : shortest (9 - i) left ≡ left ∷ [] = rw k refl in
+    pushed ∙ ap (λ (l : List ℕ). now ++ l) (sym one) ∙ so_far
+
+-- ---- items
+
+-- an item without attributes whose only index is a long
+pub is_plain : (x : DataItem) (z : ℤ) → length x.value_attributes ≡ 0 → x.indexes ≡ index.Long z ∷ [] → x ≡ item_of_long x.channel_id z x.value
+is_plain x z none one =
+    let nothing : x.value_attributes ≡ [] = nil_from_length x.value_attributes none in
+    λ i. record { channel_id = x.channel_id; indexes = one i; value = x.value; value_attributes = nothing i }
+
+pub front_written : (channel z : ℤ) (old a b c d new : List ℕ) → a ≡ old ++ plain_number channel → b ≡ a ++ 2 ∷ [] → c ≡ b ++ 2 ∷ [] → d ≡ c ++ plain_number z → new ≡ d ++ 0 ∷ [] → new ≡ old ++ front_of_long channel z
+front_written channel z old a b c d new first two three fourth last = rw (last, fourth, three, two, first) (simp append_assoc)
+
+regroup : (p q v : List ℕ) → p ++ (2 ∷ (((2 ∷ q) ++ []) ++ []) ++ 0 ∷ []) ++ v ++ (0 ∷ []) ++ [] ≡ (p ++ 2 ∷ 2 ∷ q ++ 0 ∷ []) ++ v ++ 0 ∷ []
+regroup p q v = simp (append_assoc, append-nil)
+
+spelled : (channel z : ℤ) (v : DataValue) → plain (data_item_form.as_value (item_of_long channel z v)) ≡ front_of_long channel z ++ plain (data_value_form.as_value v) ++ 0 ∷ []
+unfolding plain_number
+spelled channel z v = regroup (plain_number channel) (plain_number z) (plain (data_value_form.as_value v))
+
+pub item_written : (channel z : ℤ) (v : DataValue) (old a b new : List ℕ) → a ≡ old ++ front_of_long channel z → b ≡ a ++ plain (data_value_form.as_value v) → new ≡ b ++ 0 ∷ [] → new ≡ old ++ plain (data_item_form.as_value (item_of_long channel z v))
+item_written channel z v old a b new front value end = rw (end, value, front, spelled channel z v) (simp append_assoc)
+
+pub item_holds : (channel z : ℤ) (v : DataValue) → Holds data_value_form v → Holds data_item_form (item_of_long channel z v)
+unfolding Holds
+item_holds channel z v h = (tt, (((omega arith, tt), tt), tt), h, tt, tt)
+
+pub item_fits : (channel z : ℤ) (v : DataValue) → FitsSigned w64 channel → FitsSigned w64 z → FitsTree (data_value_form.as_value v) → FitsTree (data_item_form.as_value (item_of_long channel z v))
+item_fits channel z v c i h = (c, (omega arith, (i, tt), tt), h, (omega arith, tt), tt)
