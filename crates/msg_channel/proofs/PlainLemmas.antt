@@ -66,12 +66,12 @@ union_is : {A B : Type 0} (c : Choice A) (parts : B → A) (whole : A → B) (ag
 union_is c parts whole again same p n m bytes front after x place branch = rw (place, branch) refl
 
 -- a field and the others
-field_is : {A B : Type 0} (f : Form A) (r : Row B) (n m k : ℕ) (bytes front after : List ℕ) (x : A) (y : B)
+pub field_is : {A B : Type 0} (f : Form A) (r : Row B) (n m k : ℕ) (bytes front after : List ℕ) (x : A) (y : B)
     → f.at n bytes ≡ Ok ((x, m), front) → r.at m front ≡ Ok ((y, k), after) → (f & r).at n bytes ≡ Ok (((x, y), k), after)
 field_is f r n m k bytes front after x y one others = rw (one, others) refl
 
 -- a record
-record_is : {A B : Type 0} (r : Row A) (whole : A → B) (n m : ℕ) (bytes after : List ℕ) (x : A) → r.at n bytes ≡ Ok ((x, m), after) → node_at (record_at r whole) (suc n) bytes ≡ Ok ((whole x, m), after)
+pub record_is : {A B : Type 0} (r : Row A) (whole : A → B) (n m : ℕ) (bytes after : List ℕ) (x : A) → r.at n bytes ≡ Ok ((x, m), after) → node_at (record_at r whole) (suc n) bytes ≡ Ok ((whole x, m), after)
 record_is r whole n m bytes after x all = rw all refl
 
 -- a value of one node

@@ -1,5 +1,5 @@
 -- Plain items as they are appended.
-use Rattle.std.proofs.Common.{◌≡◌, ℕ, ℤ, suc, ◌+◌, ◌-◌, ◌%◌, ◌/◌, ◌<◌, ◌≤◌, List, [], ◌∷◌, ◌++◌, length, FitsSigned, w64, refl, sym, ap, ◌∙◌, arith, append_assoc, append-nil}
+use Rattle.std.proofs.Common.{◌≡◌, ℕ, ℤ, suc, ◌+◌, ◌-◌, ◌%◌, ◌/◌, ◌^◌, ◌<◌, ◌≤◌, List, [], ◌∷◌, ◌++◌, length, FitsSigned, w64, refl, sym, ap, ◌∙◌, arith, append_assoc, append-nil}
 use Rattle.std.proofs.lemmas.Bool.{le-ltb, lt-ltb}
 use Rattle.std.proofs.lemmas.List.{nil_from_length}
 use Rattle.etp_values.specs.declared.data.DataValue.{DataValue}
@@ -49,8 +49,10 @@ is_plain x z none one =
 pub front_written : (channel z : ℤ) (old a b c d new : List ℕ) → a ≡ old ++ plain_number channel → b ≡ a ++ 2 ∷ [] → c ≡ b ++ 2 ∷ [] → d ≡ c ++ plain_number z → new ≡ d ++ 0 ∷ [] → new ≡ old ++ front_of_long channel z
 front_written channel z old a b c d new first two three fourth last = rw (last, fourth, three, two, first) (simp append_assoc)
 
-regroup : (p q v : List ℕ) → p ++ (2 ∷ (((2 ∷ q) ++ []) ++ []) ++ 0 ∷ []) ++ v ++ (0 ∷ []) ++ [] ≡ (p ++ 2 ∷ 2 ∷ q ++ 0 ∷ []) ++ v ++ 0 ∷ []
-regroup p q v = simp (append_assoc, append-nil)
+regroup : (p q v : List ℕ) → p ++ ((2 ∷ (((2 ∷ q) ++ []) ++ []) ++ 0 ∷ []) ++ (v ++ (0 ∷ [] ++ []))) ≡ (p ++ 2 ∷ 2 ∷ q ++ 0 ∷ []) ++ v ++ 0 ∷ []
+regroup p q v =
+    let same : (q ++ []) ++ [] ≡ q = append-nil (q ++ []) ∙ append-nil q in
+    ap (λ (l : List ℕ). p ++ ((2 ∷ 2 ∷ l ++ 0 ∷ []) ++ (v ++ 0 ∷ []))) same ∙ simp append_assoc
 
 spelled : (channel z : ℤ) (v : DataValue) → plain (data_item_form.as_value (item_of_long channel z v)) ≡ front_of_long channel z ++ plain (data_value_form.as_value v) ++ 0 ∷ []
 unfolding plain_number
@@ -61,7 +63,12 @@ item_written channel z v old a b new front value end = rw (end, value, front, sp
 
 pub item_holds : (channel z : ℤ) (v : DataValue) → Holds data_value_form v → Holds data_item_form (item_of_long channel z v)
 unfolding Holds
-item_holds channel z v h = (tt, (((omega arith, tt), tt), tt), h, tt, tt)
+item_holds channel z v h =
+    let below : 1 < 4 = omega arith in
+    (tt, ((((below, tt), tt), tt), (h, (tt, tt))))
 
 pub item_fits : (channel z : ℤ) (v : DataValue) → FitsSigned w64 channel → FitsSigned w64 z → FitsTree (data_value_form.as_value v) → FitsTree (data_item_form.as_value (item_of_long channel z v))
-item_fits channel z v c i h = (c, (omega arith, (i, tt), tt), h, (omega arith, tt), tt)
+item_fits channel z v c i h =
+    let one : 1 < 2 ^ 63 = omega arith in
+    let nothing : 0 < 2 ^ 63 = omega arith in
+    (c, ((one, ((i, tt), tt)), (h, ((nothing, tt), tt))))

@@ -26,6 +26,13 @@ const SHORTEST: usize = 7;
 /// The nodes of a plain item.
 const ITEM_NODES: u32 = 10;
 
+#[tactic(auto, using(crate::proofs::PlainLemmas::null_value))]
+fn null_value(bytes: &[u8]) -> Option<(DataValue, &[u8])>
+    ensures { IfSome result (λ x. IsValue (0 ∷ bytes.now) x.0 x.1.now) }
+{
+    Some((DataValue::Null, bytes))
+}
+
 #[tactic(auto, using(crate::proofs::PlainLemmas::boolean_value))]
 fn boolean_value(bytes: &[u8]) -> Option<(DataValue, &[u8])>
     ensures { IfSome result (λ x. IsValue (2 ∷ bytes.now) x.0 x.1.now) }
@@ -77,12 +84,11 @@ fn double_value(bytes: &[u8]) -> Option<(DataValue, &[u8])>
 }
 
 /// The value at the front, of a kind that takes no memory, and what follows it.
-#[tactic(auto, using(crate::proofs::PlainLemmas::null_value))]
 fn plain_value(bytes: &[u8]) -> Option<(DataValue, &[u8])>
     ensures { IfSome result (λ x. IsValue bytes.now x.0 x.1.now) }
 {
     match bytes {
-        [0, rest @ ..] => Some((DataValue::Null, rest)),
+        [0, rest @ ..] => null_value(rest),
         [2, rest @ ..] => boolean_value(rest),
         [4, rest @ ..] => int_value(rest),
         [6, rest @ ..] => long_value(rest),

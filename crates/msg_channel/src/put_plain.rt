@@ -68,7 +68,7 @@ fn push_number(into: &mut Vec<u8>, x: i64)
     ensures room { vec_capacity into.new ≡ vec_capacity into.old }
 {
     let mut left = unsigned_of(x);
-    for _ in 0..9 {
+    for _ in 0..9u64 {
         if left < 128 {
             into.push_reserved(left as u8);
             return;
