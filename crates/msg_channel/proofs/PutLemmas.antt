@@ -1,10 +1,11 @@
 -- Plain items as they are appended.
-use Rattle.std.proofs.Common.{◌≡◌, ℕ, ℤ, suc, ◌+◌, ◌-◌, ◌%◌, ◌/◌, ◌^◌, ◌<◌, ◌≤◌, List, [], ◌∷◌, ◌++◌, length, FitsSigned, w64, refl, sym, ap, ◌∙◌, arith, append_assoc, append-nil}
+use Rattle.std.proofs.Common.{◌≡◌, ℕ, ℤ, suc, ◌+◌, ◌-◌, ◌%◌, ◌/◌, ◌^◌, ◌<◌, ◌≤◌, List, [], ◌∷◌, ◌++◌, length, FitsSigned, w64, Result, Err, refl, sym, ap, subst, ◌∙◌, arith, append_assoc, append-nil}
 use Rattle.std.proofs.lemmas.Bool.{le-ltb, lt-ltb}
 use Rattle.std.proofs.lemmas.List.{nil_from_length}
+use Rattle.std.specs.Io.{StartsWith}
 use Rattle.etp_values.specs.declared.data.DataValue.{DataValue}
 use Rattle.avro_bin.specs.Number.{plain_number, shortest}
-use Rattle.avro_bin.specs.Plain.{plain}
+use Rattle.avro_bin.specs.Plain.{plain, Writes}
 use Rattle.avro_bin.specs.Shape.{FitsTree}
 use Rattle.etp_schema.specs.DataValue.{data_value_form}
 use Rattle.etp_schema.specs.Form.{Holds}
@@ -58,8 +59,12 @@ spelled : (channel z : ℤ) (v : DataValue) → plain (data_item_form.as_value (
 unfolding plain_number
 spelled channel z v = regroup (plain_number channel) (plain_number z) (plain (data_value_form.as_value v))
 
+joined : (old front value whole a b new : List ℕ) → a ≡ old ++ front → b ≡ a ++ value → new ≡ b ++ 0 ∷ [] → whole ≡ front ++ value ++ 0 ∷ [] → new ≡ old ++ whole
+joined old front value whole a b new first second end is = rw (end, second, first, is) (simp append_assoc)
+
 pub item_written : (channel z : ℤ) (v : DataValue) (old a b new : List ℕ) → a ≡ old ++ front_of_long channel z → b ≡ a ++ plain (data_value_form.as_value v) → new ≡ b ++ 0 ∷ [] → new ≡ old ++ plain (data_item_form.as_value (item_of_long channel z v))
-item_written channel z v old a b new front value end = rw (end, value, front, spelled channel z v) (simp append_assoc)
+item_written channel z v old a b new front value end =
+    joined old (front_of_long channel z) (plain (data_value_form.as_value v)) (plain (data_item_form.as_value (item_of_long channel z v))) a b new front value end (spelled channel z v)
 
 pub item_holds : (channel z : ℤ) (v : DataValue) → Holds data_value_form v → Holds data_item_form (item_of_long channel z v)
 unfolding Holds
@@ -72,3 +77,7 @@ item_fits channel z v c i h =
     let one : 1 < 2 ^ 63 = omega arith in
     let nothing : 0 < 2 ^ 63 = omega arith in
     (c, ((one, ((i, tt), tt)), (h, ((nothing, tt), tt))))
+
+-- memory ran out
+pub item_failed : {E : Type 0} (text old new : List ℕ) (r : Result (Unit {0}) E) (e : E) → r ≡ Err e → StartsWith new old → Writes text old new r
+item_failed {E} text old new r e is kept = subst (λ (x : Result (Unit {0}) E). Writes text old new x) (sym is) kept
