@@ -26,6 +26,7 @@ import subprocess
 import sys
 import tempfile
 import termios
+import textwrap
 import time
 import unittest
 import urllib.error
@@ -37,6 +38,7 @@ DEPLOY = Path(__file__).resolve().parent
 ROOT = DEPLOY.parent
 sys.path[:0] = [str((ROOT / "outside/wire.py").parent), str(ROOT / "clients/page/tests")]
 
+import walk  # noqa: E402
 import web_socket  # noqa: E402
 import wire  # noqa: E402
 
@@ -82,6 +84,44 @@ def wait_for_port(port):
             return
         time.sleep(0.05)
     raise AssertionError(f"nobody listens at {port}")
+
+
+class Walk(unittest.TestCase):
+    """walk.py finds in OPERATING.md what it does. This does none of it, so it needs nothing."""
+
+    def setUp(self):
+        self.text = walk.DOCUMENT.read_text()
+
+    def commands(self, text):
+        """Each command that the walk finds, by its name and number."""
+        found = vars(walk.Document(text))
+        return {(name, number): words for name, several in found.items() if name not in ("sections", "prose", "packages")
+                for number, words in enumerate([several] if isinstance(several, str) else several)}
+
+    def test_finds_all_its_commands(self):
+        for (name, _), words in self.commands(self.text).items():
+            told = run("bash", "-n", input=words)
+            self.assertEqual((told.returncode, told.stdout), (0, ""), f"{name}: {words}")
+        version = (ROOT / "VERSION").read_text().strip()
+        self.assertEqual(walk.Document(self.text).packages, {f"colmjurr_{version}_amd64.deb"})
+
+    def test_finds_them_wherever_the_lines_break(self):
+        parts = self.text.split("\n\n")
+        for width in (20, 70, 10_000):
+            wrapped = [textwrap.fill(part, width, break_long_words=False, break_on_hyphens=False) if re.match(r"[A-Za-z`]", part) and "```" not in part else part
+                       for part in parts]
+            self.assertNotEqual(wrapped, parts)
+            self.assertEqual(self.commands("\n\n".join(wrapped)), self.commands(self.text))
+        self.assertEqual(self.commands(textwrap.indent(self.text, "   ")), self.commands(self.text))
+        first = self.text[self.text.index("## Install"):]
+        self.assertEqual(self.commands(first), self.commands(self.text))
+
+    def test_misses_each_that_is_gone(self):
+        for gone in ("## Install\n", "apt install ./colm", "openssl passwd -6", "editor /etc/colmjurr/12in.toml", "| etpctl load ws://127.0.0.1:9002", "colmjurr range",
+                     "etpctl put", "colmjurr copy FROM", "colmjurr exporter", "etpctl watch", "stunnel-office.conf", "editor /etc/stunnel"):
+            self.assertIn(gone, self.text)
+            with self.subTest(gone), self.assertRaises(AssertionError):
+                walk.Document(self.text.replace(gone, "gone"))
 
 
 @wants("dpkg", "dpkg-deb", "strip", "/usr/bin/python3")
