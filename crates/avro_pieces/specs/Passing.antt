@@ -22,6 +22,10 @@ TurnsTo nodes all level n bytes (t.Over m rest) = GoesOn nodes all level n bytes
 TurnsTo nodes all level n bytes (t.Into one m rest) = GoesOn nodes all level n bytes (one ∷ []) m rest.now × IsLevel nodes all one
 TurnsTo nodes all level n bytes (t.Inside outer inner m rest) = GoesOn nodes all level n bytes (outer ∷ inner ∷ []) m rest.now × IsLevel nodes all outer × IsLevel nodes all inner
 
+-- not that the bytes end
+abbrev pub IsFinal : Fault → Type 0
+IsFinal e = (left : ℕ) → e ≡ fault.At why.Short left → ⊥
+
 -- a fault of the part that no further bytes mend, unless memory ran out
 abbrev pub TurnFails : List Node → ℕ → Level → ℕ → List ℕ → Fault → Type 0
 TurnFails nodes all level n bytes fault.Memory = Unit {0}

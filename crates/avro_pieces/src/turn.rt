@@ -1,12 +1,12 @@
 //! One step into a value: the innermost part of what is still to come is skipped, opened, or found to be short.
-ghost use Rattle.std.specs.Prelude.{◌≡◌, ◌≤◌, ◌<◌, ℕ, length, IfOk, IfErr, Err, true, false};
+ghost use Rattle.std.specs.Prelude.{◌≡◌, ◌≤◌, ◌<◌, ℕ, List, [], ◌∷◌, Option, length, IfOk, IfErr, IfSome, Ok, true, false};
 ghost use Rattle.std.specs.List.{AllByRecursion};
 ghost use Rattle.avro_bin.specs.Along.{pass_at};
 ghost use Rattle.avro_bin.specs.Reading.{value_at, Fails};
+ghost use Rattle.avro_bin.specs.Laws.{IsBytes};
 ghost use Rattle.avro_bin.specs.Schema.{schema, IsTable};
-ghost use Rattle.avro_bin.specs.declared.fault.Why.TheVariants.{Short as ends_inside};
 ghost use Rattle.avro_pieces.specs.Levels.{IsLevel, Begins, level_at};
-ghost use Rattle.avro_pieces.specs.Passing.{TurnsTo, TurnFails};
+ghost use Rattle.avro_pieces.specs.Passing.{GoesOn, TurnsTo, IsFinal, TurnFails};
 ghost use Rattle.avro_pieces.specs.declared.level.Level.TheVariants as level;
 
 use crate::head::next_head;
@@ -16,6 +16,9 @@ use avro_bin::{Fault, Node, Table, Why, pass};
 use etp_values::Text;
 use std::alloc::Global;
 use std::collections::BTreeMap;
+
+/// A node in front of more bytes than these is opened at once, since trying it whole would look at them all.
+const TRIED_WHOLE: usize = 1_024;
 
 /// What a step made of a part. The number is how many nodes are still allowed, and the bytes are those that were not skipped.
 #[derive(Drop)]
@@ -49,7 +52,28 @@ fn refused<'a>(
     }
 }
 
-/// Opens a node in which the bytes end.
+/// Skips a node that is not opened, or leaves it as it is.
+#[tactic(auto, using(crate::proofs::OpenLemmas::node_over))]
+fn leaf<'a>(
+    alloc: Global,
+    table: &Table,
+    id: u32,
+    allowed: u32,
+    all: usize,
+    bytes: &'a [u8],
+) -> Result<Turn<'a>, Fault>
+    requires table { IsTable table.now.nodes.now }
+    requires there { id < length table.now.nodes.now }
+    ensures turns { IfOk result (TurnsTo table.now.nodes.now all (level.Node id) allowed bytes.now) }
+    ensures fails { IfErr result (TurnFails table.now.nodes.now all (level.Node id) allowed bytes.now) }
+{
+    match pass(alloc, table, id, allowed, bytes) {
+        Ok((left, rest)) => Ok(Turn::Over(left, rest)),
+        Err(fault) => refused(table, Level::Node(id), allowed, all, bytes, fault),
+    }
+}
+
+/// Opens a node that has parts.
 #[tactic(auto, using(crate::proofs::OpenLemmas::none_allowed))]
 fn open<'a>(
     alloc: Global,
@@ -62,7 +86,6 @@ fn open<'a>(
     requires table { IsTable table.now.nodes.now }
     requires there { id < length table.now.nodes.now }
     requires within { length bytes.now ≤ all }
-    requires short { (left : ℕ) × (pass_at (value_at (schema table.now.nodes.now id)) allowed bytes.now ≡ Err (ends_inside, left)) }
     ensures turns { IfOk result (TurnsTo table.now.nodes.now all (level.Node id) allowed bytes.now) }
     ensures fails { IfErr result (TurnFails table.now.nodes.now all (level.Node id) allowed bytes.now) }
 {
@@ -91,15 +114,15 @@ fn open<'a>(
                 allowed - 1,
                 rest,
             )),
-            Err(_) => Ok(Turn::Short(Level::Node(id))),
+            Err(_) => leaf(alloc, table, id, allowed, all, bytes),
         },
-        _ => Ok(Turn::Short(Level::Node(id))),
+        _ => leaf(alloc, table, id, allowed, all, bytes),
     }
 }
 
 /// Skips a node, or opens it if the bytes end inside it.
 #[tactic(auto, using(crate::proofs::OpenLemmas::node_over))]
-fn node<'a>(
+fn tried<'a>(
     alloc: Global,
     table: &Table,
     id: u32,
@@ -118,6 +141,27 @@ fn node<'a>(
         Err(Fault::At(Why::Short, _)) => open(alloc, table, id, allowed, all, bytes),
         Err(fault) => Err(fault),
     }
+}
+
+/// Skips a node, or opens it if the bytes end inside it, or if there are many.
+fn node<'a>(
+    alloc: Global,
+    table: &Table,
+    id: u32,
+    allowed: u32,
+    all: usize,
+    bytes: &'a [u8],
+) -> Result<Turn<'a>, Fault>
+    requires table { IsTable table.now.nodes.now }
+    requires there { id < length table.now.nodes.now }
+    requires within { length bytes.now ≤ all }
+    ensures turns { IfOk result (TurnsTo table.now.nodes.now all (level.Node id) allowed bytes.now) }
+    ensures fails { IfErr result (TurnFails table.now.nodes.now all (level.Node id) allowed bytes.now) }
+{
+    if bytes.len() > TRIED_WHOLE {
+        return open(alloc, table, id, allowed, all, bytes);
+    }
+    tried(alloc, table, id, allowed, all, bytes)
 }
 
 /// The next field of a record.
@@ -144,9 +188,39 @@ fn field<'a>(
     Ok(Turn::Inside(outer, Level::Node(places[next]), allowed, bytes))
 }
 
-/// The next item of an array, or the head of its next block.
-#[tactic(auto, using(crate::proofs::TurnLemmas::item_turn, crate::proofs::TurnLemmas::items_over, crate::proofs::TurnLemmas::items_into, crate::proofs::TurnLemmas::items_fail))]
-fn items<'a>(
+/// Skips the items of a block of `count` that are whole: how many are left, how many nodes are still allowed, and the bytes after the items.
+fn whole_items<'a>(
+    alloc: Global,
+    table: &Table,
+    child: u32,
+    count: u64,
+    allowed: u32,
+    bytes: &'a [u8],
+) -> Result<(u64, u32, &'a [u8]), Fault>
+    requires table { IsTable table.now.nodes.now }
+    requires there { child < length table.now.nodes.now }
+    ensures goes { (all : ℕ) (block : Option Block) → IfOk result (λ x.
+        GoesOn table.now.nodes.now all (level.Items child count block) allowed bytes.now (level.Items child x.0 block ∷ []) x.1 x.2.now) }
+    ensures fails { (all : ℕ) (block : Option Block) → IfErr result (TurnFails table.now.nodes.now all (level.Items child count block) allowed bytes.now) }
+{
+    let mut still = allowed;
+    let mut rest = bytes;
+    for passed in 0..count {
+        match pass(alloc, table, child, still, rest) {
+            Ok((after_still, after)) => {
+                still = after_still;
+                rest = after;
+            }
+            Err(Fault::At(Why::Short, _)) => return Ok((count - passed, still, rest)),
+            Err(fault) => return Err(fault),
+        }
+    }
+    Ok((0, still, rest))
+}
+
+/// Skips the items of a block that are whole, and goes into the first that is not.
+fn some_items<'a>(
+    alloc: Global,
     table: &Table,
     child: u32,
     left: u64,
@@ -155,6 +229,33 @@ fn items<'a>(
     all: usize,
     bytes: &'a [u8],
 ) -> Result<Turn<'a>, Fault>
+    requires table { IsTable table.now.nodes.now }
+    requires there { child < length table.now.nodes.now }
+    requires begins { Begins all block }
+    ensures turns { IfOk result (TurnsTo table.now.nodes.now all (level.Items child left block) allowed bytes.now) }
+    ensures fails { IfErr result (TurnFails table.now.nodes.now all (level.Items child left block) allowed bytes.now) }
+{
+    let (more, still, rest) = whole_items(alloc, table, child, left, allowed, bytes)?;
+    if more == 0 {
+        return Ok(Turn::Into(Level::Items(child, 0, block), still, rest));
+    }
+    let outer = Level::Items(child, more - 1, block);
+    Ok(Turn::Inside(outer, Level::Node(child), still, rest))
+}
+
+/// The next items of an array, or the head of its next block.
+#[tactic(auto, using(crate::proofs::TurnLemmas::items_over, crate::proofs::TurnLemmas::items_into, crate::proofs::TurnLemmas::items_fail))]
+fn items<'a>(
+    alloc: Global,
+    table: &Table,
+    child: u32,
+    left: u64,
+    block: Option<Block>,
+    allowed: u32,
+    all: usize,
+    bytes: &'a [u8],
+) -> Result<Turn<'a>, Fault>
+    requires table { IsTable table.now.nodes.now }
     requires there { child < length table.now.nodes.now }
     requires begins { Begins all block }
     requires within { length bytes.now ≤ all }
@@ -162,8 +263,7 @@ fn items<'a>(
     ensures fails { IfErr result (TurnFails table.now.nodes.now all (level.Items child left block) allowed bytes.now) }
 {
     if left > 0 {
-        let outer = Level::Items(child, left - 1, block);
-        return Ok(Turn::Inside(outer, Level::Node(child), allowed, bytes));
+        return some_items(alloc, table, child, left, block, allowed, all, bytes);
     }
     let (count, next, rest) = match next_head(block, all, bytes) {
         Ok(head) => head,
@@ -184,6 +284,51 @@ fn items<'a>(
     Ok(Turn::Into(Level::Items(child, count, next), allowed, rest))
 }
 
+/// Skips a value, unless the bytes end inside it.
+fn whole_value<'a>(
+    alloc: Global,
+    table: &Table,
+    id: u32,
+    allowed: u32,
+    bytes: &'a [u8],
+) -> Result<Option<(u32, &'a [u8])>, Fault>
+    requires table { IsTable table.now.nodes.now }
+    requires there { id < length table.now.nodes.now }
+    ensures passes { IfOk result (λ o. IfSome o (λ x. pass_at (value_at (schema table.now.nodes.now id)) allowed bytes.now ≡ Ok (x.0, x.1.now))) }
+    ensures fails { IfErr result (λ e. Fails e (pass_at (value_at (schema table.now.nodes.now id)) allowed bytes.now) × IsFinal e) }
+{
+    match pass(alloc, table, id, allowed, bytes) {
+        Ok(found) => Ok(Some(found)),
+        Err(Fault::At(Why::Short, _)) => Ok(None),
+        Err(fault) => Err(fault),
+    }
+}
+
+/// Skips the value of an entry whose name has joined the others, or goes into it if the bytes end inside it.
+fn entry_value<'a>(
+    alloc: Global,
+    table: &Table,
+    entries: Entries,
+    allowed: u32,
+    all: usize,
+    bytes: &'a [u8],
+) -> Result<Turn<'a>, Fault>
+    requires table { IsTable table.now.nodes.now }
+    requires there { entries.child < length table.now.nodes.now }
+    requires begins { Begins all entries.block }
+    ensures turns { (was : Level) (n : ℕ) (before : List ℕ) → GoesOn table.now.nodes.now all was n before (level.Entries entries ∷ level.Node entries.child ∷ []) allowed bytes.now
+        → IfOk result (TurnsTo table.now.nodes.now all was n before) }
+    ensures fails { (was : Level) (n : ℕ) (before : List ℕ) → IsBytes before
+        → GoesOn table.now.nodes.now all was n before (level.Entries entries ∷ level.Node entries.child ∷ []) allowed bytes.now
+        → IfErr result (TurnFails table.now.nodes.now all was n before) }
+{
+    let child = entries.child;
+    let Some((left, rest)) = whole_value(alloc, table, child, allowed, bytes)? else {
+        return Ok(Turn::Inside(Level::Entries(entries), Level::Node(child), allowed, bytes));
+    };
+    Ok(Turn::Into(Level::Entries(entries), left, rest))
+}
+
 /// The next entry of a block of a map: its name joins the others before its value is skipped, which does not look at them.
 fn entry<'a>(
     alloc: Global,
@@ -193,6 +338,7 @@ fn entry<'a>(
     all: usize,
     bytes: &'a [u8],
 ) -> Result<Turn<'a>, Fault>
+    requires table { IsTable table.now.nodes.now }
     requires there { entries.child < length table.now.nodes.now }
     requires begins { Begins all entries.block }
     requires some { 0 < entries.left }
@@ -214,13 +360,13 @@ fn entry<'a>(
         mut names,
     } = entries;
     names.insert(name, ())?;
-    let outer = Level::Entries(Entries {
+    let others = Entries {
         child,
         left: left - 1,
         block,
         names,
-    });
-    Ok(Turn::Inside(outer, Level::Node(child), allowed, rest))
+    };
+    entry_value(alloc, table, others, allowed, all, rest)
 }
 
 /// The next entry of a map, or the head of its next block.
@@ -232,6 +378,7 @@ fn entries<'a>(
     all: usize,
     bytes: &'a [u8],
 ) -> Result<Turn<'a>, Fault>
+    requires table { IsTable table.now.nodes.now }
     requires there { entries.child < length table.now.nodes.now }
     requires begins { Begins all entries.block }
     requires within { length bytes.now ≤ all }
@@ -281,7 +428,9 @@ pub(crate) fn step<'a>(
     match level {
         Level::Node(id) => node(alloc, table, id, allowed, all, bytes),
         Level::Fields(it) => field(table, it, allowed, all, bytes),
-        Level::Items(child, left, block) => items(table, child, left, block, allowed, all, bytes),
+        Level::Items(child, left, block) => items(
+            alloc, table, child, left, block, allowed, all, bytes,
+        ),
         Level::Entries(it) => entries(alloc, table, it, allowed, all, bytes),
     }
 }
