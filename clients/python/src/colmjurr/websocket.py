@@ -100,7 +100,8 @@ class WebSocket:
     def _write(self, opcode: int, data: bytes) -> None:
         head, rest = frame(opcode, data)
         self.posted += len(head) + len(rest)
-        self.writer.writelines((head, rest))
+        # Not `writelines`: in Python 3.13.0 `drain` does not wait for what it leaves unsent.
+        self.writer.write(b"".join((head, rest)))
 
     def waiting(self) -> int:
         """How many bytes wait to be sent."""
